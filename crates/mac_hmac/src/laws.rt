@@ -1,0 +1,16 @@
+//! Laws of the definitions, as functions whose contracts state them.
+ghost use Rattle.std.specs.Prelude.{◌≡◌, List, ℕ, [], ◌∷◌, ◌++◌};
+ghost use Rattle.mac_hmac.specs.Hmac.{hmac};
+ghost use Rattle.mac_hmac.specs.Chain.{chain, extended};
+
+/// A caveat appended to a chain replaces its signature s by HMAC(s, caveat).
+pub fn chain_of_one_more()
+    ensures { (key identifier caveat : List ℕ) (caveats : List (List ℕ)) →
+        chain key identifier (caveats ++ caveat ∷ []) ≡ hmac (chain key identifier caveats) caveat }
+{}
+
+/// Caveats folded on in two runs are those folded on in one.
+pub fn extended_in_two_runs()
+    ensures { (signature : List ℕ) (first second : List (List ℕ)) →
+        extended signature (first ++ second) ≡ extended (extended signature first) second }
+{}

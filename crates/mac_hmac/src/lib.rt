@@ -1,0 +1,13 @@
+//! HMAC with SHA-256, root keys, and the chain of HMACs that signs a macaroon.
+//!
+//! No call of this crate takes memory, and each always answers.
+#![tactic(auto)]
+
+mod hmac_state;
+mod key;
+pub mod laws;
+mod signature;
+
+pub use hmac_state::{HmacState, hmac};
+pub use key::{RootKey, root_key};
+pub use signature::{Sig, extend, same, start};

@@ -1,0 +1,49 @@
+//! The token of libmacaroons' README, with no caveat and with one.
+use crate::{RootKey, Sig, extend, root_key, same, start};
+
+const SECRET: &[u8; 52] = b"this is our super secret key; only we should know it";
+
+const IDENTIFIER: &[u8; 22] = b"we used our secret key";
+
+/// HMAC with SHA-256 of the secret under the key generator, by Python's `hmac`.
+const ROOT: [u8; 32] = [
+    0xa9, 0x61, 0x73, 0x39, 0x1e, 0x6b, 0xfa, 0x03, 0x56, 0xbb, 0xf0, 0x95, 0x62, 0x1b, 0x8a, 0xf1,
+    0x51, 0x09, 0x68, 0xe7, 0x70, 0xe4, 0xd2, 0x7d, 0x62, 0x10, 0x9b, 0x7d, 0xc3, 0x74, 0x81, 0x4b,
+];
+
+/// The signatures that libmacaroons' README prints.
+const SIGNATURE: [u8; 32] = [
+    0xe3, 0xd9, 0xe0, 0x29, 0x08, 0x52, 0x6c, 0x4c, 0x00, 0x39, 0xae, 0x15, 0x11, 0x41, 0x15, 0xd9,
+    0x7f, 0xdd, 0x68, 0xbf, 0x2b, 0xa3, 0x79, 0xb3, 0x42, 0xaa, 0xf0, 0xf6, 0x17, 0xd0, 0x55, 0x2f,
+];
+
+const NARROWED: [u8; 32] = [
+    0x19, 0x7b, 0xac, 0x7a, 0x04, 0x4a, 0xf3, 0x33, 0x32, 0x86, 0x5b, 0x92, 0x66, 0xe2, 0x6d, 0x49,
+    0x3b, 0xdd, 0x66, 0x8a, 0x66, 0x0e, 0x44, 0xd8, 0x8c, 0xe1, 0xa9, 0x98, 0xc2, 0x3d, 0xbd, 0x67,
+];
+
+#[test]
+fn readme_token(rt: HostRuntime) {
+    let key = root_key(SECRET);
+    assert_eq!(rt; key.bytes(), ROOT);
+    let signature = start(&key, IDENTIFIER);
+    assert_eq!(rt; signature.bytes(), SIGNATURE);
+    let narrowed = extend(signature, b"test = caveat");
+    assert_eq!(rt; narrowed.bytes(), NARROWED);
+}
+
+#[test]
+fn bytes_and_back(rt: HostRuntime) {
+    assert_eq!(rt; RootKey::from_bytes(ROOT), root_key(SECRET));
+    assert_eq!(rt; Sig::from_bytes(SIGNATURE).bytes(), SIGNATURE);
+}
+
+#[test]
+fn same_signatures(rt: HostRuntime) {
+    let signature = Sig::from_bytes(SIGNATURE);
+    assert!(rt; same(&signature, &signature));
+    assert!(rt; !same(&signature, &Sig::from_bytes(NARROWED)));
+    let mut last = SIGNATURE;
+    last[31] ^= 1;
+    assert!(rt; !same(&signature, &Sig::from_bytes(last)));
+}
