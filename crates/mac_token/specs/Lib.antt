@@ -4,3 +4,4 @@ pub mod Limits
 pub mod RawToken
 pub mod Reads
 pub mod Location
+pub mod V1

@@ -7,6 +7,7 @@ pub mod limits;
 mod location;
 pub mod raw;
 pub mod token;
+mod v1;
 
 pub use fault::{NoMemory, TokenFault};
 pub use form::Form;

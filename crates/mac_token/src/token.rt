@@ -1,9 +1,9 @@
 //! A token of first-party caveats, within the limits.
 
-ghost use Rattle.std.specs.Prelude.{◌≡◌, ◌<◌, ◌≤◌, ◌↔◌, length, map, All, IsTrue, IfErr, IfSome, OkIff, slice_get, string_bytes, option_map, vec_len};
+ghost use Rattle.std.specs.Prelude.{◌≡◌, ◌<◌, ◌≤◌, ◌↔◌, length, IsTrue, IfErr, IfSome, OkIff, slice_get, string_bytes, option_map};
 ghost use Rattle.mac_token.specs.declared.fault.TokenFault.TheVariants.{Limit};
 ghost use Rattle.mac_token.specs.RawToken.{token_parts, byte_lists};
-ghost use Rattle.mac_token.specs.Limits.{IsWithinLimits};
+ghost use Rattle.mac_token.specs.Limits.{IsWithinLimits, AreShort};
 
 use crate::fault::TokenFault;
 use crate::limits::{CAVEAT_MAX, CAVEATS_MAX, IDENTIFIER_MAX, LOCATION_MAX};
@@ -32,7 +32,7 @@ impl Model for Token {
 }
 
 fn are_short(caveats: &[Vec<u8>]) -> bool
-    ensures { IsTrue result ↔ All (λ c. length c ≤ CAVEAT_MAX) (byte_lists caveats.now) }
+    ensures { IsTrue result ↔ AreShort (byte_lists caveats.now) }
 {
     caveats.iter().all(|caveat| caveat.len() <= CAVEAT_MAX)
 }
@@ -92,6 +92,14 @@ impl Token {
     {
         let caveat = self.caveats.get(i)?;
         Some(caveat.as_slice())
+    }
+
+    /// The caveats, in order.
+    pub(crate) fn caveat_buffers(&self) -> &[Vec<u8>]
+        ensures value { byte_lists result.now ≡ self.now.caveats }
+        ensures within { IsWithinLimits self.now }
+    {
+        &self.caveats
     }
 
     /// The signature.
