@@ -1,0 +1,6 @@
+pub mod Fault
+pub mod Line
+pub mod Named
+pub mod Refusal
+pub mod Table
+pub mod Taken

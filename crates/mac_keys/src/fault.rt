@@ -1,0 +1,87 @@
+//! Why a key file can't be read.
+ghost use Rattle.std.specs.Prelude.{◌≡◌, ◌≢◌, MatchOption};
+ghost use Rattle.mac_keys.specs.declared.fault.LineFault.{LineFault};
+ghost use Rattle.mac_keys.specs.Fault.{code_of};
+
+use crate::line::NAME_MAX;
+use crate::table::NAMES_MAX;
+use std::fmt;
+use thiserror::Error;
+
+/// What is wrong with a line of a key file.
+#[derive(Clone, Copy, Debug, PartialEq, Eq, Error)]
+pub enum LineFault {
+    /// The name is empty or too long, or has a byte that no name has.
+    #[error("the name is not 1 to {} letters, digits, dots, underscores or dashes", NAME_MAX)]
+    BadName,
+    /// The digits of the secret are no bytes in hexadecimal.
+    #[error("the secret is not in hexadecimal, two digits a byte")]
+    BadHex,
+    /// The secret has no digits.
+    #[error("the secret is empty")]
+    EmptySecret,
+    /// An earlier line gives the name a secret.
+    #[error("the name stands on an earlier line")]
+    Twice,
+    /// The table has as many names as it may.
+    #[error("the name is one more than the {} that a table holds", NAMES_MAX)]
+    TooMany,
+    /// The line isn't of the form `key NAME HEX`.
+    #[error("the line is not of the form `key NAME HEX`")]
+    BadLine,
+}
+
+impl LineFault {
+    /// The number of this kind of fault, 1 to 6. No kind's number ever changes.
+    pub fn code(&self) -> u8
+        ensures { result ≡ code_of self.now }
+    {
+        match self {
+            LineFault::BadName => 1,
+            LineFault::BadHex => 2,
+            LineFault::EmptySecret => 3,
+            LineFault::Twice => 4,
+            LineFault::TooMany => 5,
+            LineFault::BadLine => 6,
+        }
+    }
+
+    /// The kind of fault that has this number.
+    pub fn from_code(code: u8) -> Option<LineFault>
+        ensures { MatchOption result ((fault : LineFault) → code_of fault ≢ code) (λ fault. code_of fault ≡ code) }
+    {
+        match code {
+            1 => Some(LineFault::BadName),
+            2 => Some(LineFault::BadHex),
+            3 => Some(LineFault::EmptySecret),
+            4 => Some(LineFault::Twice),
+            5 => Some(LineFault::TooMany),
+            6 => Some(LineFault::BadLine),
+            _ => None,
+        }
+    }
+}
+
+/// Why [`KeyTable::read`](crate::KeyTable::read) gave no table.
+#[derive(Clone, Copy, Debug, PartialEq, Eq, Error)]
+pub enum KeyFault {
+    /// The first line that has a fault, counted from 1, and the fault's number: see [`LineFault::from_code`].
+    #[error("line {line}: {}", Meaning(.kind))]
+    Line { line: u64, kind: u8 },
+    /// Memory ran out.
+    #[error("there is no memory for the key table")]
+    Memory,
+}
+
+/// A kind of fault by its number, to be printed.
+#[derive(Clone, Copy)]
+struct Meaning<'a>(&'a u8);
+
+impl fmt::Display for Meaning<'_> {
+    fn fmt<W: fmt::Write>(&self, f: &mut fmt::Formatter<W>) -> fmt::Result {
+        match LineFault::from_code(*self.0) {
+            Some(fault) => write!(f, "{fault}"),
+            None => write!(f, "a fault of no known kind"),
+        }
+    }
+}

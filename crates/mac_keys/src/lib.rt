@@ -1,0 +1,15 @@
+//! The key table: which name's requests are signed with which root key.
+//!
+//! A key file is text, a line for each name. [`KeyTable::read`] takes it whole and keeps of each secret the root
+//! key that is derived from it; [`KeyTable::find`] looks a name up. [`laws`] says in other words what a file means.
+#![tactic(auto)]
+
+mod fault;
+mod line;
+mod table;
+#[cfg(test)]
+mod tests;
+
+pub use fault::{KeyFault, LineFault};
+pub use line::NAME_MAX;
+pub use table::{KeyTable, NAMES_MAX};

@@ -1,0 +1,146 @@
+//! One line of a key file.
+//!
+//! ```text
+//! line   = "" / "#" *any / "key " name " " secret
+//! name   = 1*64 (letter / digit / "." / "_" / "-")
+//! secret = 1* (digit digit), hexadecimal digits of either case
+//! ```
+ghost use Rattle.std.specs.Prelude.{◌≡◌, ◌+◌, ◌^◌, ◌<◌, ◌==◌, length, position, option_map, IfSome};
+ghost use Rattle.std.specs.List.{list_all};
+ghost use Rattle.mac_keys.specs.Line.{is_ignored, is_name_byte, is_name, parted, fields_of, secret_of, line_of};
+ghost use Rattle.mac_keys.specs.Refusal.{Says, seen};
+ghost use Rattle.mac_keys.specs.Taken.{fault_of_line};
+ghost use Rattle.mac_keys.specs.declared.line.Refusal.TheVariants.{Memory};
+
+use crate::fault::{KeyFault, LineFault};
+use hex::FromHexError;
+use std::alloc::{AllocError, AllocFailed, Global};
+
+/// The greatest number of bytes in a name.
+pub const NAME_MAX: usize = 64;
+
+/// A name, and the secret that the line gives it.
+#[derive(Drop)]
+pub(crate) struct KeyLine<'a> {
+    pub(crate) name: &'a [u8],
+    pub(crate) secret: Vec<u8>,
+}
+
+/// Why a line isn't taken.
+#[derive(Debug, Drop)]
+pub(crate) enum Refusal {
+    Line(LineFault),
+    Memory,
+}
+
+impl Refusal {
+    /// The fault of the line at an index, counted from 0.
+    pub(crate) fn at_line(self, index: usize) -> KeyFault
+        requires { index + 1 < 2 ^ 64 }
+        ensures { result ≡ fault_of_line index self }
+    {
+        match self {
+            Refusal::Line(fault) => KeyFault::Line {
+                line: index as u64 + 1,
+                kind: fault.code(),
+            },
+            Refusal::Memory => KeyFault::Memory,
+        }
+    }
+}
+
+impl From<AllocError> for Refusal {
+    ghost from_gives = { λ _ refusal. refusal ≡ Memory };
+
+    fn from(_error: AllocError) -> Refusal {
+        Refusal::Memory
+    }
+}
+
+impl<T: Drop> From<AllocFailed<T>> for Refusal {
+    ghost from_gives = { λ _ refusal. refusal ≡ Memory };
+
+    fn from(_error: AllocFailed<T>) -> Refusal {
+        Refusal::Memory
+    }
+}
+
+/// What a line says by itself: nothing, or a name's secret.
+pub(crate) fn read_line<'a>(alloc: Global, line: &'a [u8]) -> Result<Option<KeyLine<'a>>, Refusal>
+    ensures { Says (option_map seen) result (line_of line.now) }
+{
+    if is_ignored(line) {
+        return Ok(None);
+    }
+    let Some((name, digits)) = fields(line) else {
+        return Err(Refusal::Line(LineFault::BadLine));
+    };
+    if !is_name(name) {
+        return Err(Refusal::Line(LineFault::BadName));
+    }
+    let secret = secret(alloc, digits)?;
+    Ok(Some(KeyLine { name, secret }))
+}
+
+fn is_ignored(line: &[u8]) -> bool
+    ensures { result ≡ is_ignored line.now }
+{
+    match line.first() {
+        None => true,
+        Some(first) => *first == b'#',
+    }
+}
+
+/// The name and the digits behind `key `, as the next space parts them.
+fn fields(line: &[u8]) -> Option<(&[u8], &[u8])>
+    ensures { option_map (λ found. (found.0.now, found.1.now)) result ≡ fields_of line.now }
+{
+    parted(line.strip_prefix(b"key ")?)
+}
+
+/// What stands before the first space, and behind it.
+fn parted(rest: &[u8]) -> Option<(&[u8], &[u8])>
+    ensures { option_map (λ found. (found.0.now, found.1.now)) result ≡ parted rest.now }
+{
+    let space = first_space(rest)?;
+    Some((&rest[..space], &rest[space + 1..]))
+}
+
+fn first_space(rest: &[u8]) -> Option<usize>
+    ensures place { result ≡ position (λ b. b == 32) rest.now }
+    ensures within { IfSome result (λ space. space < length rest.now) }
+{
+    rest.iter().position(|byte| *byte == b' ')
+}
+
+fn is_name(name: &[u8]) -> bool
+    ensures { result ≡ is_name name.now }
+{
+    !name.is_empty() && name.len() <= NAME_MAX && has_name_bytes(name)
+}
+
+fn has_name_bytes(name: &[u8]) -> bool
+    ensures { result ≡ list_all is_name_byte name.now }
+{
+    name.iter().all(|byte| is_name_byte(*byte))
+}
+
+fn is_name_byte(byte: u8) -> bool
+    ensures { result ≡ is_name_byte byte }
+{
+    byte.is_ascii_alphanumeric() || byte == b'.' || byte == b'_' || byte == b'-'
+}
+
+/// The bytes of a secret.
+fn secret(alloc: Global, digits: &[u8]) -> Result<Vec<u8>, Refusal>
+    ensures { Says (λ secret. secret.items) result (secret_of digits.now) }
+{
+    if digits.is_empty() {
+        return Err(Refusal::Line(LineFault::EmptySecret));
+    }
+    match hex::decode(alloc, digits) {
+        Ok(secret) => Ok(secret),
+        Err(FromHexError::OutOfMemory) => Err(Refusal::Memory),
+        Err(_) => Err(Refusal::Line(LineFault::BadHex)),
+    }
+}
