@@ -1,1 +1,4 @@
 pub mod Lists
+pub mod Devices
+pub mod Text
+pub mod FieldLoop

@@ -18,7 +18,7 @@ pub record Arrivals : Type 0 where
 
 -- the payload's length that a stream's first four bytes tell
 abbrev pub told_length : List ℕ → ℕ
-told_length stream = from_be_bytes w32 stream
+told_length stream = from_be_bytes w32 (take 4 stream)
 
 -- some arrivals, and then those of the rest of the stream
 abbrev pub followed_by : List Arrival → Arrivals → Arrivals

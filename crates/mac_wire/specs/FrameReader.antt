@@ -7,27 +7,32 @@ use Rattle.mac_wire.specs.declared.frame.Stage.{Stage}
 use Rattle.mac_wire.specs.declared.frame.Stage.TheVariants as stage
 use Rattle.mac_wire.specs.Frame.{Arrivals, arrivals_of, followed_by}
 
--- what a stage makes of the rest of the stream: an open one puts what it holds in front, an ended one reads nothing
-abbrev pub ContinuesWith : Stage → List ℕ → Arrivals → Type 0
-ContinuesWith (stage.Open held) more total = total ≡ arrivals_of (held ++ more)
-ContinuesWith stage.Oversize more total = total ≡ record { arrived = []; ending = ending.Oversize }
-ContinuesWith stage.Broken more total = ⊥
+-- At this stage a reader was fed the stream and handed out the arrivals: however the stream goes on, its arrivals
+-- are these, and then those of the bytes that are held and of what comes. After an Oversize nothing comes.
+abbrev pub HasReadTo : Stage → List ℕ → List Arrival → Type 0
+HasReadTo (stage.Open held) stream handed =
+    (more : List ℕ) → arrivals_of (stream ++ more) ≡ followed_by handed (arrivals_of (held ++ more))
+HasReadTo stage.Oversize stream handed =
+    (more : List ℕ) → arrivals_of (stream ++ more) ≡ record { arrived = handed; ending = ending.Oversize }
+HasReadTo stage.Broken stream handed = ⊥
 
--- The reader was fed this stream and handed out these arrivals: however the stream goes on, its arrivals are
--- these, and then what the reader makes of the rest.
+-- the reader was fed this stream and handed out these arrivals, and no feed failed
 abbrev pub HasRead : FrameReader → List ℕ → List Arrival → Type 0
-HasRead reader stream handed = (more : List ℕ) → (rest : Arrivals)
-    × ContinuesWith reader.stage more rest × (arrivals_of (stream ++ more) ≡ followed_by handed rest)
+HasRead reader stream handed = HasReadTo reader.stage stream handed
 
 -- each further feed answers Ended
-abbrev pub StageHasEnded : Stage → Type 0
-StageHasEnded (stage.Open held) = ⊥
-StageHasEnded stage.Oversize = Unit {0}
-StageHasEnded stage.Broken = Unit {0}
+abbrev pub HasEndedAt : Stage → Type 0
+HasEndedAt (stage.Open held) = ⊥
+HasEndedAt stage.Oversize = Unit {0}
+HasEndedAt stage.Broken = Unit {0}
 
 abbrev pub HasEnded : FrameReader → Type 0
-HasEnded reader = StageHasEnded reader.stage
+HasEnded reader = HasEndedAt reader.stage
 
 -- a feed answered want of memory
 abbrev pub IsBroken : FrameReader → Type 0
 IsBroken reader = reader.stage ≡ stage.Broken
+
+-- cutting a piece, behind the bytes that were held, gave these arrivals and left this stage
+abbrev pub Cuts : List ℕ → List ℕ → List Arrival → Stage → Type 0
+Cuts held piece arrivals stage = HasReadTo stage (held ++ piece) arrivals

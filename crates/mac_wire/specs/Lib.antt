@@ -1,6 +1,11 @@
 pub mod Device
+pub mod Memory
 pub mod Frame
+pub mod Partial
+pub mod Steps
 pub mod FrameReader
 pub mod Request
 pub mod Reading
+pub mod Parsing
+pub mod Streams
 pub mod Reply

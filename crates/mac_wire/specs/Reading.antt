@@ -27,16 +27,19 @@ abbrev pub number_at : Width → List ℕ → Option (ℕ × List ℕ)
 number_at w bytes = if nat_lt (length bytes) (byte_len w) then None
   else Some (from_be_bytes w (take (byte_len w) bytes), drop (byte_len w) bytes)
 
+-- a field behind a length of one byte
 unfoldable pub short_field_at : List ℕ → Option (List ℕ × List ℕ)
 short_field_at bytes = do
   n ← byte_at bytes
   bytes_at n.0 n.1
 
+-- a field behind a length of two bytes
 unfoldable pub long_field_at : List ℕ → Option (List ℕ × List ℕ)
 long_field_at bytes = do
   n ← number_at w16 bytes
   bytes_at n.0 n.1
 
+-- that many fields
 unfoldable pub fields_at : ℕ → List ℕ → Option (List (List ℕ) × List ℕ)
 fields_at zero bytes = Some ([], bytes)
 fields_at (suc n) bytes = do
@@ -44,11 +47,19 @@ fields_at (suc n) bytes = do
   others ← fields_at n first.1
   Some (first.0 ∷ others.0, others.1)
 
-unfoldable pub counted_fields_at : List ℕ → Option (List (List ℕ) × List ℕ)
-counted_fields_at bytes = do
-  n ← byte_at bytes
-  fields_at n.0 n.1
+-- a field that is UTF-8
+unfoldable pub text_field_at : List ℕ → Option (List ℕ × List ℕ)
+text_field_at bytes = do
+  text ← long_field_at bytes
+  if is_utf8 text.0 then Some text else None
 
+-- a count that isn't above that number, and that many fields
+unfoldable pub counted_fields_at : ℕ → List ℕ → Option (List (List ℕ) × List ℕ)
+counted_fields_at most bytes = do
+  n ← byte_at bytes
+  if nat_le n.0 most then fields_at n.0 n.1 else None
+
+-- the form of a byte
 unfoldable pub form_of : ℕ → Option TokenForm
 form_of n = if n == 1 then Some form.V1Text
   else if n == 2 then Some form.V2Binary
@@ -56,6 +67,7 @@ form_of n = if n == 1 then Some form.V1Text
   else if n == 4 then Some form.V2Text
   else None
 
+-- a form's byte
 unfoldable pub form_at : List ℕ → Option (TokenForm × List ℕ)
 form_at bytes = do
   n ← byte_at bytes
@@ -66,50 +78,58 @@ form_at bytes = do
 abbrev pub at_end : {A : Type 0} → A → List ℕ → Option A
 at_end x bytes = if length bytes == 0 then Some x else None
 
+-- what follows the number of a mint
 unfoldable pub mint_of : List ℕ → Option Asked
 mint_of bytes = do
   form ← form_at bytes
   key ← short_field_at form.1
-  location ← long_field_at key.1
+  location ← text_field_at key.1
   identifier ← long_field_at location.1
-  caveats ← counted_fields_at identifier.1
-  request ← at_end (mint form.0 key.0 location.0 identifier.0 caveats.0) caveats.1
-  if is_utf8 location.0 then Some request else None
+  caveats ← counted_fields_at 255 identifier.1
+  at_end (mint form.0 key.0 location.0 identifier.0 caveats.0) caveats.1
 
+-- what follows the number of an attenuate
 unfoldable pub attenuate_of : List ℕ → Option Asked
 attenuate_of bytes = do
   form ← form_at bytes
   token ← long_field_at form.1
-  caveats ← counted_fields_at token.1
+  caveats ← counted_fields_at 255 token.1
   at_end (attenuate form.0 token.0 caveats.0) caveats.1
 
+-- what follows the number of a verify
 unfoldable pub verify_of : List ℕ → Option Asked
 verify_of bytes = do
   key ← short_field_at bytes
   token ← long_field_at key.1
   moment ← number_at w64 token.1
-  facts ← counted_fields_at moment.1
-  request ← at_end (verify key.0 token.0 moment.0 facts.0) facts.1
-  if nat_le (length facts.0) FACTS_MAX then Some request else None
+  facts ← counted_fields_at FACTS_MAX moment.1
+  at_end (verify key.0 token.0 moment.0 facts.0) facts.1
 
 -- the request that a whole payload asks, if there is one
 unfoldable pub request_of : List ℕ → Option Asked
-request_of [] = None
-request_of (kind ∷ rest) =
-  if kind == 1 then mint_of rest
-  else if kind == 2 then attenuate_of rest
-  else if kind == 3 then verify_of rest
-  else None
+request_of payload = do
+  kind ← byte_at payload
+  if kind.0 == 1 then mint_of kind.1
+    else if kind.0 == 2 then attenuate_of kind.1
+    else if kind.0 == 3 then verify_of kind.1
+    else None
 
--- the first part of what was read
-abbrev pub first_of : {A B : Type 0} → Option (A × B) → Option A
-first_of None = None
-first_of (Some x) = Some x.0
+-- a field behind a length of one byte, without what follows it
+unfoldable pub name_at : List ℕ → Option (List ℕ)
+name_at bytes = do
+  name ← short_field_at bytes
+  Some name.0
 
--- the key name in a payload's front: after a mint's number and any byte for a form, or after a verify's number
+-- the name behind a mint's form, which may be any byte
+unfoldable pub mint_name_at : List ℕ → Option (List ℕ)
+mint_name_at bytes = do
+  form ← byte_at bytes
+  name_at form.1
+
+-- the key name in a payload's front: behind a mint's number and form, or behind a verify's number
 unfoldable pub key_name_of : List ℕ → Option (List ℕ)
-key_name_of [] = None
-key_name_of (kind ∷ rest) =
-  if kind == 1 then first_of (short_field_at (drop 1 rest))
-  else if kind == 3 then first_of (short_field_at rest)
-  else None
+key_name_of payload = do
+  kind ← byte_at payload
+  if kind.0 == 1 then mint_name_at kind.1
+    else if kind.0 == 3 then name_at kind.1
+    else None

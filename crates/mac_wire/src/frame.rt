@@ -1,24 +1,20 @@
 //! Frames out of a stream that comes in pieces.
 
-ghost use Rattle.std.specs.Prelude.{◌≡◌};
+ghost use Rattle.std.specs.Prelude.{◌≡◌, ◌↔◌, ℕ, List, [], ◌++◌, IfOk, IsErrOf};
+ghost use Rattle.mac_wire.specs.Frame.{arrivals_of};
 
-use std::alloc::Global;
-use std::marker::Model;
+use crate::arrival::{Arrival, Ending};
+use crate::partial::Partial;
+use std::alloc::{AllocError, AllocFailed, Global};
+use thiserror::Error;
 
-/// What has come of an unfinished frame.
-#[derive(Debug, Drop)]
-struct Partial {
-    length: [u8; 4],
-    have: usize,
-    payload: Vec<u8>,
-}
-
-impl Model for Partial {
-    ghost use Rattle.std.specs.Prelude.{ℕ, List, take, ◌++◌};
-
-    ghost Value = { List ℕ };
-
-    ghost view = { λ p. take p.have p.length ++ p.payload.items };
+/// Why a piece was not read.
+#[derive(Clone, Copy, Debug, PartialEq, Eq, Error)]
+pub enum FeedFault {
+    #[error("memory ran out")]
+    NoMemory,
+    #[error("the stream has ended")]
+    Ended,
 }
 
 /// How far a reader has come.

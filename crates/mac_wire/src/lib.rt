@@ -8,17 +8,31 @@ mod arrival;
 mod byte_lists;
 mod bytes;
 mod device;
+mod fields;
 mod frame;
+mod mem_sink;
+mod mem_source;
+mod parse;
+mod partial;
+mod reader_source;
 mod reply;
 mod request;
+mod send;
+mod writer_sink;
 
 pub use arrival::{Arrival, Ending, FRAME_MAX};
 pub use byte_lists::ByteLists;
 pub use bytes::Bytes;
 pub use device::{DeviceFault, Sink, Source};
-pub use frame::FrameReader;
-pub use reply::{REPLY_TOKEN_MAX, Refusal, Reply};
-pub use request::{FACTS_MAX, Request, TokenForm};
+pub use frame::{FeedFault, FrameReader};
+pub use mem_sink::MemSink;
+pub use mem_source::MemSource;
+pub use parse::{key_name, parse_request};
+pub use reader_source::ReaderSource;
+pub use reply::{REPLY_TOKEN_MAX, Refusal, Reply, reply_bytes};
+pub use request::{FACTS_MAX, Request, RequestFault, TokenForm};
+pub use send::send_all;
+pub use writer_sink::WriterSink;
 
 /// Want of memory.
 pub type NoMemory = std::alloc::AllocError;

@@ -2,13 +2,17 @@
 
 ghost use Rattle.std.specs.Prelude.{◌≡◌};
 ghost use Rattle.mac_wire.specs.Request.{form_code};
-ghost use Rattle.mac_wire.specs.Reading.{form_of};
+ghost use Rattle.mac_wire.specs.Parsing.{fault_code};
+ghost use Rattle.mac_wire.specs.declared.request.RequestFault.TheVariants.{Memory};
 
 use crate::byte_lists::ByteLists;
 use crate::bytes::Bytes;
+use crate::reply::Refusal;
+use std::alloc::{AllocError, AllocFailed};
+use thiserror::Error;
 
 /// The greatest number of facts in a verify request.
-pub const FACTS_MAX: usize = 128;
+pub const FACTS_MAX: u8 = 128;
 
 /// The form that a token is asked for in.
 #[derive(Clone, Copy, Debug, PartialEq, Eq)]
@@ -61,4 +65,41 @@ pub enum Request {
         moment: u64,
         facts: ByteLists,
     },
+}
+
+/// Why a payload was not read as a request.
+#[derive(Clone, Copy, Debug, PartialEq, Eq, Error)]
+pub enum RequestFault {
+    #[error("the payload is no request")]
+    BadRequest,
+    #[error("memory ran out")]
+    Memory,
+}
+
+impl RequestFault {
+    /// The number that the fault is answered with. Want of memory has none.
+    pub fn code(self) -> Option<u8>
+        ensures { result ≡ fault_code self }
+    {
+        match self {
+            RequestFault::BadRequest => Some(Refusal::BadRequest.code()),
+            RequestFault::Memory => None,
+        }
+    }
+}
+
+impl From<AllocError> for RequestFault {
+    ghost from_gives = { λ _ e. e ≡ Memory };
+
+    fn from(_e: AllocError) -> RequestFault {
+        RequestFault::Memory
+    }
+}
+
+impl<T: Drop> From<AllocFailed<T>> for RequestFault {
+    ghost from_gives = { λ _ e. e ≡ Memory };
+
+    fn from(_e: AllocFailed<T>) -> RequestFault {
+        RequestFault::Memory
+    }
 }
