@@ -1,3 +1,10 @@
 pub mod Lists
 pub mod Texts
 pub mod Packets
+pub mod Steps
+pub mod Hex
+pub mod V1Fields
+pub mod V1Caveats
+pub mod CaveatLoop
+pub mod V1Laws
+pub mod V1Written

@@ -5,3 +5,5 @@ pub mod RawToken
 pub mod Reads
 pub mod Location
 pub mod V1
+pub mod Steps
+pub mod V1Reading

@@ -15,9 +15,13 @@ abbrev pub Reads : {X Y : Type 0} → (X → Y) → (Y → Type 0) → Result X 
 Reads view Spelled (Ok x) = Spelled (view x)
 Reads view Spelled (Err fault) = Refuses Spelled fault
 
--- what is read, seen by view, is what a reading of lists gives; Malformed where that gives nothing
+-- Malformed only where a reading of lists gives nothing; no other refusal but want of memory
+abbrev pub Fails : {Y : Type 0} → TokenFault → Option Y → Type 0
+Fails Malformed reading = reading ≡ None
+Fails Memory reading = Unit {0}
+Fails _ reading = ⊥
+
+-- what is read, seen by view, is what a reading of lists gives
 abbrev pub Gives : {X Y : Type 0} → (X → Y) → Result X TokenFault → Option Y → Type 0
 Gives view (Ok x) reading = reading ≡ Some (view x)
-Gives view (Err Malformed) reading = reading ≡ None
-Gives view (Err Memory) reading = Unit {0}
-Gives view (Err _) reading = ⊥
+Gives view (Err fault) reading = Fails fault reading

@@ -11,6 +11,7 @@
 //! ```
 
 mod key;
+mod reading;
 mod writing;
 
 pub(crate) use writing::{v1_len, write_v1};
