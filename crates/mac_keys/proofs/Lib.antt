@@ -1,3 +1,7 @@
 pub mod FaultLemmas
+pub mod FileMeaning
+pub mod KeyMeaning
 pub mod Lines
 pub mod Names
+pub mod Numbered
+pub mod Spelling

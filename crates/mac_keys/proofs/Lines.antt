@@ -22,7 +22,7 @@ use Rattle.mac_keys.specs.Taken.{keys_with, IsFor, fault_of_line}
 use Rattle.mac_keys.proofs.Names.{order, order-IsAntisymmetric}
 
 -- a name that has no fault has no key
-new_name : (keys : Keys) (name : List ℕ) → fault_of_name keys name ≡ None → map.get keys name ≡ None
+pub new_name : (keys : Keys) (name : List ℕ) → fault_of_name keys name ≡ None → map.get keys name ≡ None
 new_name keys name none =
     elim (map.get keys name) as (λ found. cond (is_some found) (Some Twice) (cond (nat_le NAMES_MAX (map.len keys)) (Some TooMany) None) ≡ None → found ≡ None) [
       | None ↦ λ _. refl

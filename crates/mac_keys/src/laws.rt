@@ -1,0 +1,36 @@
+//! Laws of the definitions, as functions whose contracts state them.
+ghost use Rattle.std.specs.Prelude.{◌≡◌, ◌≢◌, ◌↔◌, List, ℕ, Some, Ok, Err};
+ghost use Rattle.std.specs.List.{Any};
+ghost use Rattle.std.specs.FinMap as map;
+ghost use Rattle.mac_keys.specs.declared.fault.KeyFault.TheVariants.{Line, Memory};
+ghost use Rattle.mac_keys.specs.Line.{Given, line_of};
+ghost use Rattle.mac_keys.specs.Table.{Keys, lines_of, keys_of, table_of};
+ghost use Rattle.mac_keys.specs.Meaning.{Spells, GivesKey, AreFaultless, IsFirstFault};
+
+/// A line gives a name a secret exactly where it spells them.
+pub fn line_gives_what_it_spells()
+    ensures { (line : List ℕ) (given : Given) → (line_of line ≡ Ok (Some given)) ↔ Spells line given }
+{}
+
+/// A table has, at each name, the root key of the secret that a line gives the name, and nothing else.
+pub fn table_has_the_keys_of_its_lines()
+    ensures { (text : List ℕ) (keys : Keys) → table_of text ≡ Ok keys →
+        (name key : List ℕ) → (map.get keys name ≡ Some key) ↔ Any (GivesKey name key) (lines_of text) }
+{}
+
+/// A text makes a table exactly where none of its lines has a fault.
+pub fn table_is_made_of_faultless_lines()
+    ensures { (text : List ℕ) (keys : Keys) →
+        (table_of text ≡ Ok keys) ↔ (AreFaultless (lines_of text) × (keys ≡ keys_of (lines_of text))) }
+{}
+
+/// The fault that is told is that of the first line that has one.
+pub fn first_fault_is_told()
+    ensures { (text : List ℕ) (number code : ℕ) →
+        (table_of text ≡ Err (Line number code)) ↔ IsFirstFault (lines_of text) number code }
+{}
+
+/// No text has want of memory for its fault.
+pub fn no_text_lacks_memory()
+    ensures { (text : List ℕ) → table_of text ≢ Err Memory }
+{}
