@@ -8,3 +8,4 @@ pub mod V1Caveats
 pub mod CaveatLoop
 pub mod V1Laws
 pub mod V1Written
+pub mod Within

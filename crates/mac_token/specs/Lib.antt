@@ -7,3 +7,5 @@ pub mod Location
 pub mod V1
 pub mod Steps
 pub mod V1Reading
+pub mod Answers
+pub mod Push

@@ -1,12 +1,14 @@
 //! A token of first-party caveats, within the limits.
 
-ghost use Rattle.std.specs.Prelude.{◌≡◌, ◌<◌, ◌≤◌, ◌↔◌, length, IsTrue, IfErr, IfSome, OkIff, slice_get, string_bytes, option_map};
+ghost use Rattle.std.specs.Prelude.{◌≡◌, ◌<◌, ◌≤◌, ◌↔◌, ◌++◌, ◌∷◌, [], length, IsTrue, IfErr, OkIff, OnOk, OnErr, slice_get, string_bytes, option_map};
 ghost use Rattle.mac_token.specs.declared.fault.TokenFault.TheVariants.{Limit};
 ghost use Rattle.mac_token.specs.RawToken.{token_parts, byte_lists};
-ghost use Rattle.mac_token.specs.Limits.{IsWithinLimits, AreShort};
+ghost use Rattle.mac_token.specs.Limits.{IsWithinLimits, PartsFit, AreShort, within};
+ghost use Rattle.mac_token.specs.Push.{Pushes, with_caveats};
 
-use crate::fault::TokenFault;
+use crate::fault::{NoMemory, TokenFault};
 use crate::limits::{CAVEAT_MAX, CAVEATS_MAX, IDENTIFIER_MAX, LOCATION_MAX};
+use std::alloc::Global;
 use std::marker::Model;
 
 /// A token: a location, an identifier, first-party caveats and a signature, each within its limit.
@@ -37,6 +39,40 @@ fn are_short(caveats: &[Vec<u8>]) -> bool
     caveats.iter().all(|caveat| caveat.len() <= CAVEAT_MAX)
 }
 
+fn is_within(location: &str, identifier: &[u8], caveats: &[Vec<u8>]) -> bool
+    ensures { IsTrue result ↔ PartsFit location.now identifier.now (byte_lists caveats.now) }
+{
+    location.len() <= LOCATION_MAX
+        && identifier.len() <= IDENTIFIER_MAX
+        && caveats.len() <= CAVEATS_MAX
+        && are_short(caveats)
+}
+
+fn append_copy(list: &mut Vec<Vec<u8>>, alloc: Global, bytes: &[u8]) -> Result<(), NoMemory>
+    ensures ok { OnOk result (byte_lists list.new.items ≡ byte_lists list.old.items ++ bytes.now ∷ []) }
+    ensures err { OnErr result (byte_lists list.new.items ≡ byte_lists list.old.items) }
+{
+    let copy = Vec::from_slice(alloc, bytes)?;
+    list.push(copy)?;
+    Ok(())
+}
+
+/// Appends copies, or nothing where memory is refused.
+fn append_copies(list: &mut Vec<Vec<u8>>, alloc: Global, added: &[Vec<u8>]) -> Result<(), NoMemory>
+    ensures ok { OnOk result (byte_lists list.new.items ≡ byte_lists list.old.items ++ byte_lists added.now) }
+    ensures err { OnErr result (byte_lists list.new.items ≡ byte_lists list.old.items) }
+{
+    let before = list.len();
+    list.reserve_exact(added.len())?;
+    for bytes in added {
+        if let Err(refused) = append_copy(list, alloc, bytes) {
+            list.truncate(before);
+            return Err(refused);
+        }
+    }
+    Ok(())
+}
+
 impl Token {
     /// The token of these parts; it takes no memory. `Limit` where a part passes its limit.
     pub fn new(
@@ -46,21 +82,39 @@ impl Token {
         sig: [u8; 32],
     ) -> Result<Token, TokenFault>
         ensures made { let parts = token_parts (string_bytes location) identifier.items (byte_lists caveats.items) sig in OkIff result (IsWithinLimits parts) parts }
-        ensures refused { IfErr result (λ fault. fault ≡ Limit) }
+        ensures answer { result ≡ within (token_parts (string_bytes location) identifier.items (byte_lists caveats.items) sig) }
     {
-        if location.len() <= LOCATION_MAX
-            && identifier.len() <= IDENTIFIER_MAX
-            && caveats.len() <= CAVEATS_MAX
-            && are_short(&caveats)
-        {
-            Ok(Token {
-                location,
-                identifier,
-                caveats,
-                sig,
-            })
-        } else {
-            Err(TokenFault::Limit)
+        if !is_within(&location, &identifier, &caveats) {
+            return Err(TokenFault::Limit);
+        }
+        Ok(Token {
+            location,
+            identifier,
+            caveats,
+            sig,
+        })
+    }
+
+    /// The token with copies of these caveats behind its own, and with this signature. `Limit` where a
+    /// caveat or the new number of caveats passes its limit, tested before memory is taken; `Memory`
+    /// where it is refused. A refusal hands the token back as it was.
+    pub fn push(
+        mut self,
+        alloc: Global,
+        caveats: &[Vec<u8>],
+        sig: [u8; 32],
+    ) -> Result<Token, (TokenFault, Token)>
+        ensures { Pushes self (with_caveats self (byte_lists caveats.now) sig) result }
+    {
+        if caveats.len() > CAVEATS_MAX - self.caveats.len() || !are_short(caveats) {
+            return Err((TokenFault::Limit, self));
+        }
+        match append_copies(&mut self.caveats, alloc, caveats) {
+            Ok(()) => {
+                self.sig = sig;
+                Ok(self)
+            }
+            Err(_) => Err((TokenFault::Memory, self)),
         }
     }
 
