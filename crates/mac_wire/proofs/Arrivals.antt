@@ -1,12 +1,13 @@
 -- The arrivals of a stream, by what its front is.
-use Rattle.std.proofs.Common.{◌≡◌, ℕ, zero, suc, ◌+◌, ◌<◌, ◌≤◌, ◌⊎◌, inl, inr, cond, eqb, ltb, List, [], ◌∷◌, ◌++◌, length, take, drop, refl, sym, ap, subst, ◌∙◌, arith}
-use Rattle.std.specs.Int.{w32, from_be_bytes}
+use Rattle.std.proofs.Common.{◌≡◌, ℕ, zero, suc, ◌+◌, ◌<◌, ◌≤◌, ◌^◌, ◌⊎◌, inl, inr, cond, eqb, ltb, List, [], ◌∷◌, ◌++◌, length, take, drop, refl, sym, ap, subst, ◌∙◌, arith}
+use Rattle.std.specs.Int.{w32, from_be_bytes, to_be_bytes}
 use Rattle.std.proofs.lemmas.Bool.{lt-ltb, le-ltb, ne_eqb, eq-eqb, cases_lt}
-use Rattle.std.proofs.lemmas.List.{take_all, take_at, drop_at, take-append-le, drop-append-le, length-append, length-drop, append-nil}
+use Rattle.std.proofs.lemmas.List.{take_all, take_at, drop_at, take-take, take-append-le, drop-append-le, length-append, length-take, length-drop}
+use Rattle.std.proofs.lemmas.Nat.{from_be_bytes-to_be_bytes_4}
 use Rattle.mac_wire.specs.declared.arrival.Arrival.TheVariants as arrival
 use Rattle.mac_wire.specs.declared.arrival.Ending.TheVariants as ending
 use Rattle.mac_wire.specs.declared.arrival.TheConstants.{FRAME_MAX}
-use Rattle.mac_wire.specs.Frame.{Arrivals, told_length, followed_by, arrivals_within, arrivals_of}
+use Rattle.mac_wire.specs.Frame.{Arrivals, frame, told_length, followed_by, arrivals_within, arrivals_of}
 use Rattle.mac_wire.specs.Partial.{IsUnfinished, IsWhole, IsTooLong}
 
 -- the arrivals of a stream of that length, whose first frame tells a length and would have a payload, and of the rest
@@ -86,3 +87,35 @@ arrivals_of-whole bytes payload more h =
     ∙ ap (λ p. step (length stream) told p (arrivals_of (drop (4 + told) stream))) body
     ∙ ap (λ r. step (length stream) told payload (arrivals_of r)) rest
     ∙ step-whole (length stream) told payload (arrivals_of more) h.allowed (omega (arith, h.complete, length-append bytes more))
+
+-- the length that a frame tells
+told_length-frame : (payload : List ℕ) → length payload < 2 ^ 32 → told_length (frame payload) ≡ length payload
+told_length-frame payload fits =
+    ap (from_be_bytes w32) (take_at (to_be_bytes w32 (length payload)) payload 4 refl) ∙ from_be_bytes-to_be_bytes_4 (length payload) fits
+
+-- a whole frame and its payload
+pub IsWhole-frame : (payload : List ℕ) → length payload ≤ FRAME_MAX → IsWhole (frame payload) payload
+IsWhole-frame payload fits =
+    let told : told_length (frame payload) ≡ length payload = told_length-frame payload (omega arith) in
+    record {
+      long = omega (arith, length-append (to_be_bytes w32 (length payload)) payload);
+      allowed = subst (λ n. n ≤ FRAME_MAX) (sym told) fits;
+      complete = subst (λ n. length (frame payload) ≡ 4 + n) (sym told) (length-append (to_be_bytes w32 (length payload)) payload);
+      is_payload = sym (drop_at (to_be_bytes w32 (length payload)) payload 4 refl);
+    }
+
+-- a part of a frame
+pub IsUnfinished-part : (payload : List ℕ) (n : ℕ) → length payload ≤ FRAME_MAX → n < length (frame payload) → IsUnfinished (take n (frame payload))
+IsUnfinished-part payload n fits part long =
+    let len = length-take n (frame payload) in
+    let told : told_length (take n (frame payload)) ≡ length payload =
+        ap (from_be_bytes w32) (take-take 4 n (frame payload) (omega (arith, len))) ∙ told_length-frame payload (omega arith) in
+    subst (λ k. (k ≤ FRAME_MAX) × (length (take n (frame payload)) < 4 + k)) (sym told)
+        (fits, omega (arith, length-append (to_be_bytes w32 (length payload)) payload))
+
+-- a length that passes the greatest
+pub IsTooLong-told : (n : ℕ) → FRAME_MAX < n → n < 2 ^ 32 → IsTooLong (to_be_bytes w32 n)
+IsTooLong-told n passed fits = record {
+  long = omega arith;
+  passed = subst (λ k. FRAME_MAX < k) (sym (from_be_bytes-to_be_bytes_4 n fits)) passed;
+}

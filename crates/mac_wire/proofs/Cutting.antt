@@ -52,20 +52,6 @@ is_oversize stream handed held rest after so_far taken parts long more =
 pub is_open : (stream : List ℕ) (handed : List Arrival) (held rest : List ℕ) → IsCutTo stream handed held rest → rest ≡ [] → HasReadTo (stage.Open held) stream handed
 is_open stream handed held rest so_far none more = so_far more ∙ ap (λ r. followed_by handed (arrivals_of (held ++ (r ++ more)))) none
 
-joined : (stream piece held : List ℕ) (handed : List Arrival) → HasReadTo (stage.Open held) stream handed → (more : List ℕ)
-    → arrivals_of ((stream ++ piece) ++ more) ≡ followed_by handed (arrivals_of ((held ++ piece) ++ more))
-joined stream piece held handed so_far more =
-    ap arrivals_of (append_assoc stream piece more) ∙ so_far (piece ++ more) ∙ ap (λ s. followed_by handed (arrivals_of s)) (sym (append_assoc held piece more))
-
--- a piece that is cut goes on where the stream was
-pub goes_on : (next : Stage) (stream piece held : List ℕ) (handed arrivals : List Arrival) → HasReadTo (stage.Open held) stream handed
-    → HasReadTo next (held ++ piece) arrivals → HasReadTo next (stream ++ piece) (handed ++ arrivals)
-goes_on (stage.Open left) stream piece held handed arrivals so_far cut =
-    λ more. joined stream piece held handed so_far more ∙ ap (followed_by handed) (cut more) ∙ followed_by-append handed arrivals (arrivals_of (left ++ more))
-goes_on stage.Oversize stream piece held handed arrivals so_far cut =
-    λ more. joined stream piece held handed so_far more ∙ ap (followed_by handed) (cut more)
-goes_on stage.Broken stream piece held handed arrivals so_far cut = cut
-
 -- the stream's arrivals at its end, by what is held
 pub ended : (stream held : List ℕ) (handed : List Arrival) (ending : Ending) → HasReadTo (stage.Open held) stream handed
     → arrivals_of held ≡ record { arrived = []; ending = ending } → arrivals_of stream ≡ record { arrived = handed; ending = ending }

@@ -5,3 +5,6 @@ pub mod FieldLoop
 pub mod Partials
 pub mod Arrivals
 pub mod Cutting
+pub mod Spelling
+pub mod Asking
+pub mod Replies

@@ -1,5 +1,5 @@
 -- Requests, and the one payload that each is asked by. The format is this project's own.
-use Rattle.std.specs.Prelude.{◌≡◌, ℕ, ◌<◌, ◌≤◌, ◌^◌, List, [], ◌∷◌, ◌++◌, length, All, string_bytes}
+use Rattle.std.specs.Prelude.{◌≡◌, ℕ, ◌<◌, ◌≤◌, ◌^◌, List, [], ◌∷◌, ◌++◌, length, slice_index, All, string_bytes, Option, Some, None}
 use Rattle.std.specs.Int.{w16, w64, to_be_bytes}
 use Rattle.std.specs.List.{flat_map}
 use Rattle.std.specs.Str.{IsUtf8}
@@ -20,6 +20,12 @@ abbrev pub asked : Request → Asked
 asked (request.Mint form key location identifier caveats) = mint form key (string_bytes location) identifier caveats
 asked (request.Attenuate form token caveats) = attenuate form token caveats
 asked (request.Verify key token moment facts) = verify key token moment facts
+
+-- the name of the key that a request is about; an attenuate names none
+abbrev pub key_of : Asked → Option (List ℕ)
+key_of (mint form key location identifier caveats) = Some key
+key_of (attenuate form token caveats) = None
+key_of (verify key token moment facts) = Some key
 
 -- the byte of a form
 abbrev pub form_code : TokenForm → ℕ
@@ -62,6 +68,10 @@ IsRequest (attenuate form token caveats) =
     (length token < 2 ^ 16) × (length caveats < 2 ^ 8) × AreFields caveats
 IsRequest (verify key token moment facts) =
     (length key < 2 ^ 8) × (length token < 2 ^ 16) × (moment < 2 ^ 64) × (length facts ≤ FACTS_MAX) × AreFields facts
+
+-- each number of the list is a byte
+abbrev pub IsBytes : List ℕ → Type 0
+IsBytes bytes = (i : ℕ) → slice_index bytes i < 2 ^ 8
 
 -- the whole payload is the request
 pub record Asks (payload : List ℕ) (request : Asked) : Type 0 where

@@ -10,6 +10,7 @@ mod bytes;
 mod device;
 mod fields;
 mod frame;
+pub mod laws;
 mod mem_sink;
 mod mem_source;
 mod parse;

@@ -1,8 +1,8 @@
 //! Payloads as requests.
 
-ghost use Rattle.std.specs.Prelude.{◌≡◌};
+ghost use Rattle.std.specs.Prelude.{◌≡◌, Some, IfOk};
 ghost use Rattle.std.specs.Option.{option_copied};
-ghost use Rattle.mac_wire.specs.Request.{asked};
+ghost use Rattle.mac_wire.specs.Request.{Asked, asked, Asks};
 ghost use Rattle.mac_wire.specs.Reading.{key_name_of, name_at, request_of, mint_of, attenuate_of, verify_of};
 ghost use Rattle.mac_wire.specs.Parsing.{Gives};
 
@@ -44,9 +44,21 @@ fn name(bytes: &[u8]) -> Option<&[u8]>
 }
 
 /// The request that a whole payload asks. It costs the time and the memory of the payload's bytes.
-#[tactic(auto, unfolding(crate::specs::Reading::request_of))]
 pub fn parse_request(alloc: Global, payload: &[u8]) -> Result<Request, RequestFault>
+    // What is parsed is asked.
+    ensures found { IfOk result (λ r. Asks payload.now (asked r)) }
+    // What is asked is parsed, unless memory runs out.
+    ensures only { (q : Asked) → Asks payload.now q → Gives asked result (Some q) }
+    // Nothing else is, unless memory runs out.
     ensures exact { Gives asked result (request_of payload.now) }
+{
+    request(alloc, payload)
+}
+
+// the number of the kind, and its fields
+#[tactic(auto, unfolding(crate::specs::Reading::request_of))]
+fn request(alloc: Global, payload: &[u8]) -> Result<Request, RequestFault>
+    ensures { Gives asked result (request_of payload.now) }
 {
     let (kind, rest) = byte(payload).ok_or(RequestFault::BadRequest)?;
     match kind {
