@@ -1,3 +1,4 @@
+pub mod Bounded
 pub mod FaultLemmas
 pub mod FileMeaning
 pub mod KeyMeaning

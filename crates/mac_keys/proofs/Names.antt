@@ -11,7 +11,7 @@ use Rattle.std.specs.BTreeMap.{is_at, insert_entry}
 use Rattle.std.specs.Cmp.Lexicographic.{slice_cmp, nat_list_cmp_total}
 use Rattle.std.specs.FinMap as map
 use Rattle.std.specs.FinMap.Entries.{find, put, by_order, find-put}
-use Rattle.mac_keys.specs.Named.{by_name}
+use Rattle.mac_keys.specs.Keys.{by_name}
 
 -- the order of names, and that of their vectors
 abbrev pub order : List ℕ → List ℕ → Ordering

@@ -1,9 +1,7 @@
 -- A key file as a whole: the table that its lines make, or the first of them that has a fault (the project's own format).
-use Rattle.std.specs.Prelude.{ℕ, ◌+◌, ◌==◌, nat_le, if◌then◌else◌, List, [], ◌∷◌, take, Option, Some, None, option_map, Result, Ok, Err}
+use Rattle.std.specs.Prelude.{ℕ, ◌+◌, ◌==◌, nat_le, Bool, if◌then◌else◌, List, [], ◌∷◌, take, Option, Some, None, option_map, Result, Ok, Err}
 use Rattle.std.specs.List.{filter_map, enumerate_from, slice_split}
-use Rattle.std.specs.Ordering.{nat_cmp}
-use Rattle.std.specs.Cmp.Lexicographic.{slice_cmp}
-use Rattle.std.specs.FinMap.{FinMap, from_entries, contains_key, len}
+use Rattle.std.specs.FinMap.{from_entries, contains_key, len}
 use Rattle.mac_hmac.specs.Chain.{root_of}
 use Rattle.mac_keys.specs.declared.table.TheConstants.{NAMES_MAX}
 use Rattle.mac_keys.specs.declared.fault.LineFault.{LineFault}
@@ -12,19 +10,20 @@ use Rattle.mac_keys.specs.declared.fault.KeyFault.{KeyFault}
 use Rattle.mac_keys.specs.declared.fault.KeyFault.TheVariants as faults
 use Rattle.mac_keys.specs.Fault.{code_of}
 use Rattle.mac_keys.specs.Line.{Given, line_of}
+pub use Rattle.mac_keys.specs.Keys.{Keys}
 
--- a finite map from names to root keys, each as its bytes
-abbrev pub Keys : Type 0
-Keys = FinMap (slice_cmp nat_cmp) (List ℕ)
+abbrev pub is_line_feed : ℕ → Bool
+is_line_feed b = b == 10
 
 -- the lines: what stands between the line feeds. Behind a last line feed stands an empty line, which says nothing
 abbrev pub lines_of : List ℕ → List (List ℕ)
-lines_of text = slice_split (λ b. b == 10) text
+lines_of text = slice_split is_line_feed text
 
 -- a name with the root key that is derived from its secret
 abbrev pub entry : Given → List ℕ × List ℕ
 entry g = (g.name, root_of g.secret)
 
+-- the entry of what a line says, if it gives a name a secret
 abbrev pub entry_said : Result (Option Given) LineFault → Option (List ℕ × List ℕ)
 entry_said (Ok said) = option_map entry said
 entry_said (Err fault) = None

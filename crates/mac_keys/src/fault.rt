@@ -65,9 +65,14 @@ impl LineFault {
 /// Why [`KeyTable::read`](crate::KeyTable::read) gave no table.
 #[derive(Clone, Copy, Debug, PartialEq, Eq, Error)]
 pub enum KeyFault {
-    /// The first line that has a fault, counted from 1, and the fault's number: see [`LineFault::from_code`].
-    #[error("line {line}: {}", Meaning(.kind))]
-    Line { line: u64, kind: u8 },
+    /// A line has a fault, and no earlier line has any.
+    #[error("line {line}: {}", KindText(.kind))]
+    Line {
+        /// The line, counted from 1.
+        line: u64,
+        /// The number of its fault: see [`LineFault::from_code`].
+        kind: u8,
+    },
     /// Memory ran out.
     #[error("there is no memory for the key table")]
     Memory,
@@ -75,9 +80,9 @@ pub enum KeyFault {
 
 /// A kind of fault by its number, to be printed.
 #[derive(Clone, Copy)]
-struct Meaning<'a>(&'a u8);
+struct KindText<'a>(&'a u8);
 
-impl fmt::Display for Meaning<'_> {
+impl fmt::Display for KindText<'_> {
     fn fmt<W: fmt::Write>(&self, f: &mut fmt::Formatter<W>) -> fmt::Result {
         match LineFault::from_code(*self.0) {
             Some(fault) => write!(f, "{fault}"),

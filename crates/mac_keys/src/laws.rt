@@ -1,7 +1,8 @@
 //! Laws of the definitions, as functions whose contracts state them.
-ghost use Rattle.std.specs.Prelude.{◌≡◌, ◌≢◌, ◌↔◌, List, ℕ, Some, Ok, Err};
+ghost use Rattle.std.specs.Prelude.{◌≡◌, ◌≢◌, ◌≤◌, ◌↔◌, List, ℕ, Some, Ok, Err};
 ghost use Rattle.std.specs.List.{Any};
 ghost use Rattle.std.specs.FinMap as map;
+ghost use Rattle.mac_keys.specs.declared.table.TheConstants.{NAMES_MAX};
 ghost use Rattle.mac_keys.specs.declared.fault.KeyFault.TheVariants.{Line, Memory};
 ghost use Rattle.mac_keys.specs.Line.{Given, line_of};
 ghost use Rattle.mac_keys.specs.Table.{Keys, lines_of, keys_of, table_of};
@@ -33,4 +34,9 @@ pub fn first_fault_is_told()
 /// No text has want of memory for its fault.
 pub fn no_text_lacks_memory()
     ensures { (text : List ℕ) → table_of text ≢ Err Memory }
+{}
+
+/// A table has no more names than it may.
+pub fn table_has_at_most_names_max()
+    ensures { (text : List ℕ) (keys : Keys) → table_of text ≡ Ok keys → map.len keys ≤ NAMES_MAX }
 {}

@@ -1,4 +1,4 @@
-//! The key table: which name's requests are signed with which root key.
+//! The key table: the root keys of the names that requests give.
 //!
 //! A key file is text, a line for each name. [`KeyTable::read`] takes it whole and keeps of each secret the root
 //! key that is derived from it; [`KeyTable::find`] looks a name up. [`laws`] says in other words what a file means.

@@ -5,9 +5,9 @@
 //! name   = 1*64 (letter / digit / "." / "_" / "-")
 //! secret = 1* (digit digit), hexadecimal digits of either case
 //! ```
-ghost use Rattle.std.specs.Prelude.{◌≡◌, ◌+◌, ◌^◌, ◌<◌, ◌==◌, length, position, option_map, IfSome};
+ghost use Rattle.std.specs.Prelude.{◌≡◌, ◌+◌, ◌^◌, ◌<◌, length, position, option_map, IfSome};
 ghost use Rattle.std.specs.List.{list_all};
-ghost use Rattle.mac_keys.specs.Line.{is_ignored, is_name_byte, is_name, parted, fields_of, secret_of, line_of};
+ghost use Rattle.mac_keys.specs.Line.{is_ignored, is_name_byte, is_name, is_space, parted, fields_of, secret_of, line_of};
 ghost use Rattle.mac_keys.specs.Refusal.{Says, seen};
 ghost use Rattle.mac_keys.specs.Taken.{fault_of_line};
 ghost use Rattle.mac_keys.specs.declared.line.Refusal.TheVariants.{Memory};
@@ -107,7 +107,7 @@ fn parted(rest: &[u8]) -> Option<(&[u8], &[u8])>
 }
 
 fn first_space(rest: &[u8]) -> Option<usize>
-    ensures place { result ≡ position (λ b. b == 32) rest.now }
+    ensures place { result ≡ position is_space rest.now }
     ensures within { IfSome result (λ space. space < length rest.now) }
 {
     rest.iter().position(|byte| *byte == b' ')

@@ -24,14 +24,11 @@ pub struct KeyTable {
 }
 
 impl Model for KeyTable {
-    ghost use Rattle.std.specs.Prelude.{List, ℕ};
-    ghost use Rattle.std.specs.Ordering.{nat_cmp};
-    ghost use Rattle.std.specs.Cmp.Lexicographic.{slice_cmp};
     ghost use Rattle.std.specs.Coded.{coded_list, coded_ℕ};
     ghost use Rattle.std.specs.FinMap as map;
-    ghost use Rattle.mac_keys.specs.Named.{by_name};
+    ghost use Rattle.mac_keys.specs.Keys.{Keys, by_name};
 
-    ghost Value = { map.FinMap (slice_cmp nat_cmp) (List ℕ) };
+    ghost Value = { Keys };
 
     ghost coded = { map.code (coded_list coded_ℕ) (coded_list coded_ℕ) };
 
@@ -41,7 +38,7 @@ impl Model for KeyTable {
 impl KeyTable {
     /// The table of a key file, or the first line that has a fault.
     ///
-    /// Takes time in line with the length of the text, and keeps memory for the names and their keys alone.
+    /// Takes time in line with the length of the text, and memory for the table and for one secret at a time.
     pub fn read(alloc: Global, text: &[u8]) -> Result<KeyTable, KeyFault>
         ensures table { IfOk result (λ table. table_of text.now ≡ Ok table) }
         ensures fault { IfErr result (λ fault. (fault ≡ Memory) ⊎ (table_of text.now ≡ Err fault)) }

@@ -3,7 +3,7 @@ use Rattle.std.proofs.lemmas.List.{length_push}
 use Rattle.std.proofs.lemmas.Iterator.Consumers.{YieldsList-from_enumerate, YieldsList-at, YieldsList-turn, YieldsList-end}
 use Rattle.std.proofs.lemmas.Iterator.Splits.{YieldsList-from_slice_split}
 use Rattle.std.specs.FinMap as map
-use Rattle.mac_keys.specs.Named.{by_name}
+use Rattle.mac_keys.specs.Keys.{by_name}
 use Rattle.mac_keys.specs.Table.{lines_of}
 use Rattle.mac_keys.proofs.Lines.{turn, SoFar-push, SoFar-refused, SoFar-all}
 use Rattle.mac_keys.proofs.table.KeyTable.read.Goals as goal
