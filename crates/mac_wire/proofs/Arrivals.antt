@@ -1,8 +1,8 @@
 -- The arrivals of a stream, by what its front is.
-use Rattle.std.proofs.Common.{◌≡◌, ℕ, zero, suc, ◌+◌, ◌<◌, ◌≤◌, ◌^◌, ◌⊎◌, inl, inr, cond, eqb, ltb, List, [], ◌∷◌, ◌++◌, length, take, drop, refl, sym, ap, subst, ◌∙◌, arith}
+use Rattle.std.proofs.Common.{◌≡◌, ℕ, zero, suc, ◌+◌, ◌<◌, ◌≤◌, ◌^◌, inl, inr, cond, eqb, ltb, List, [], ◌∷◌, ◌++◌, length, take, drop, refl, sym, ap, subst, ◌∙◌, arith}
 use Rattle.std.specs.Int.{w32, from_be_bytes, to_be_bytes}
 use Rattle.std.proofs.lemmas.Bool.{lt-ltb, le-ltb, ne_eqb, eq-eqb, cases_lt}
-use Rattle.std.proofs.lemmas.List.{take_all, take_at, drop_at, take-take, take-append-le, drop-append-le, length-append, length-take, length-drop}
+use Rattle.std.proofs.lemmas.List.{take_at, drop_at, take-take, take-append-le, drop-append-le, length-append, length-take, length-drop}
 use Rattle.std.proofs.lemmas.Nat.{from_be_bytes-to_be_bytes_4}
 use Rattle.mac_wire.specs.declared.arrival.Arrival.TheVariants as arrival
 use Rattle.mac_wire.specs.declared.arrival.Ending.TheVariants as ending
@@ -71,7 +71,7 @@ pub arrivals_of-too_long : (bytes more : List ℕ) → IsTooLong bytes → arriv
 arrivals_of-too_long bytes more h =
     let stream : List ℕ = bytes ++ more in
     by_frame stream ∙ step-too_long (length stream) (told_length stream) (take (told_length stream) (drop 4 stream)) (arrivals_of (drop (4 + told_length stream) stream)) (omega (arith, h.long, length-append bytes more))
-        (subst (λ n. FRAME_MAX < n) (sym (told_length-append bytes more h.long)) h.passed)
+    (subst (λ n. FRAME_MAX < n) (sym (told_length-append bytes more h.long)) h.passed)
 
 -- after a whole frame the rest is read
 pub arrivals_of-whole : (bytes payload more : List ℕ) → IsWhole bytes payload → arrivals_of (bytes ++ more) ≡ followed_by (arrival.Payload payload ∷ []) (arrivals_of more)
@@ -81,7 +81,7 @@ arrivals_of-whole bytes payload more h =
     let same : told_length stream ≡ told = told_length-append bytes more h.long in
     let rest : drop (4 + told) stream ≡ more = drop_at bytes more (4 + told) h.complete in
     let body : take told (drop 4 stream) ≡ payload =
-        ap (take told) (drop-append-le 4 bytes more h.long) ∙ take_at (drop 4 bytes) more told (omega (arith, length-drop 4 bytes, h.complete)) ∙ sym h.is_payload in
+    ap (take told) (drop-append-le 4 bytes more h.long) ∙ take_at (drop 4 bytes) more told (omega (arith, length-drop 4 bytes, h.complete)) ∙ sym h.is_payload in
     by_frame stream
     ∙ ap (λ n. step (length stream) n (take n (drop 4 stream)) (arrivals_of (drop (4 + n) stream))) same
     ∙ ap (λ p. step (length stream) told p (arrivals_of (drop (4 + told) stream))) body
@@ -109,9 +109,9 @@ pub IsUnfinished-part : (payload : List ℕ) (n : ℕ) → length payload ≤ FR
 IsUnfinished-part payload n fits part long =
     let len = length-take n (frame payload) in
     let told : told_length (take n (frame payload)) ≡ length payload =
-        ap (from_be_bytes w32) (take-take 4 n (frame payload) (omega (arith, len))) ∙ told_length-frame payload (omega arith) in
+    ap (from_be_bytes w32) (take-take 4 n (frame payload) (omega (arith, len))) ∙ told_length-frame payload (omega arith) in
     subst (λ k. (k ≤ FRAME_MAX) × (length (take n (frame payload)) < 4 + k)) (sym told)
-        (fits, omega (arith, length-append (to_be_bytes w32 (length payload)) payload))
+    (fits, omega (arith, length-append (to_be_bytes w32 (length payload)) payload))
 
 -- a length that passes the greatest
 pub IsTooLong-told : (n : ℕ) → FRAME_MAX < n → n < 2 ^ 32 → IsTooLong (to_be_bytes w32 n)

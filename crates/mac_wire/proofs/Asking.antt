@@ -1,5 +1,5 @@
 -- A payload asks a request exactly where it is read as that request.
-use Rattle.std.proofs.Common.{◌≡◌, ℕ, suc, ◌<◌, ◌≤◌, ◌^◌, Bool, true, false, cond, eqb, List, [], ◌∷◌, ◌++◌, length, Option, Some, None, Result, Ok, Err, refl, sym, ap, subst, ◌∙◌, append_assoc, arith, ◌⊎◌, inl, inr}
+use Rattle.std.proofs.Common.{◌≡◌, ℕ, suc, ◌^◌, eqb, List, [], ◌∷◌, ◌++◌, Some, None, Result, Ok, Err, refl, sym, ap, subst, ◌∙◌, arith, inl, inr}
 use Rattle.std.specs.Prelude.{IfOk}
 use Rattle.std.specs.Int.{w64, to_be_bytes}
 use Rattle.std.proofs.lemmas.Bool.{eqb-true}
@@ -10,9 +10,9 @@ use Rattle.mac_wire.specs.declared.request.Request.{Request}
 use Rattle.mac_wire.specs.declared.request.RequestFault.{RequestFault}
 use Rattle.mac_wire.specs.declared.request.TheConstants.{FACTS_MAX}
 use Rattle.mac_wire.specs.Request.{Asked, mint, attenuate, verify, IsBytes, form_code, short_field, long_field, counted_fields, payload_of, IsRequest, Asks, asked, key_of}
-use Rattle.mac_wire.specs.Reading.{◌>>=◌, byte_at, number_at, short_field_at, long_field_at, text_field_at, counted_fields_at, form_at, at_end, mint_of, attenuate_of, verify_of, request_of, name_at, mint_name_at, key_name_of}
+use Rattle.mac_wire.specs.Reading.{number_at, short_field_at, long_field_at, text_field_at, counted_fields_at, form_at, mint_of, attenuate_of, verify_of, request_of, name_at, mint_name_at, key_name_of}
 use Rattle.mac_wire.specs.Parsing.{Gives}
-use Rattle.mac_wire.proofs.Spelling.{bind_some, some_is, chosen, Takes, Takes-then, wide64, number_takes, number_again, short_takes, short_again, long_takes, long_again, text_takes, text_again, counted_take, counted_again, form_takes, form_again, ended}
+use Rattle.mac_wire.proofs.Spelling.{bind_some, chosen, Takes, Takes-then, wide64, number_takes, number_again, short_takes, short_again, long_takes, long_again, text_takes, text_again, counted_take, counted_again, form_takes, form_again, ended}
 
 -- what was taken is all, behind the number of the kind
 whole : (kind : ℕ) (bytes body rest : List ℕ) → Takes bytes body rest → rest ≡ [] → kind ∷ bytes ≡ kind ∷ body
@@ -93,12 +93,12 @@ asks-request_of (kind ∷ bytes) q fits e =
     elim (chosen (eqb kind 1) (mint_of bytes) _ (Some q) e) [
       | inl a ↦ subst (λ (k : ℕ). Asks (k ∷ bytes) q) (sym (eqb-true kind 1 a.0)) (mint_takes bytes q rest a.1)
       | inr b ↦ elim (chosen (eqb kind 2) (attenuate_of bytes) _ (Some q) b.1) [
-          | inl a ↦ subst (λ (k : ℕ). Asks (k ∷ bytes) q) (sym (eqb-true kind 2 a.0)) (attenuate_takes bytes q rest a.1)
-          | inr c ↦ elim (chosen (eqb kind 3) (verify_of bytes) None (Some q) c.1) [
-              | inl a ↦ subst (λ (k : ℕ). Asks (k ∷ bytes) q) (sym (eqb-true kind 3 a.0)) (verify_takes bytes q rest a.1)
-              | inr d ↦ absurd cc
-            ]
+        | inl a ↦ subst (λ (k : ℕ). Asks (k ∷ bytes) q) (sym (eqb-true kind 2 a.0)) (attenuate_takes bytes q rest a.1)
+        | inr c ↦ elim (chosen (eqb kind 3) (verify_of bytes) None (Some q) c.1) [
+          | inl a ↦ subst (λ (k : ℕ). Asks (k ∷ bytes) q) (sym (eqb-true kind 3 a.0)) (verify_takes bytes q rest a.1)
+          | inr d ↦ absurd cc
         ]
+      ]
     ]
 
 -- ---- what is asked is read

@@ -5,7 +5,6 @@ use Rattle.mac_wire.specs.declared.arrival.Arrival.{Arrival}
 use Rattle.mac_wire.specs.declared.arrival.Arrival.TheVariants as arrival
 use Rattle.mac_wire.specs.declared.arrival.Ending.{Ending}
 use Rattle.mac_wire.specs.declared.arrival.Ending.TheVariants as ending
-use Rattle.mac_wire.specs.declared.frame.Stage.{Stage}
 use Rattle.mac_wire.specs.declared.frame.Stage.TheVariants as stage
 use Rattle.mac_wire.specs.declared.partial.Step.TheVariants as step
 use Rattle.mac_wire.specs.Frame.{Arrivals, followed_by, arrivals_of}

@@ -1,5 +1,5 @@
 -- What a call does to a device over memory.
-use Rattle.std.proofs.Common.{◌≡◌, ℕ, ◌+◌, ◌-◌, min, ◌⊎◌, inl, inr, Bool, true, false, ◌&&◌, ◌||◌, eqb, ltb, List, ◌++◌, length, take, drop, refl, sym}
+use Rattle.std.proofs.Common.{◌≡◌, ℕ, ◌+◌, ◌-◌, min, ◌⊎◌, inl, inr, Bool, true, false, ◌&&◌, ◌||◌, eqb, ltb, List, length, take, drop, refl, sym}
 use Rattle.std.proofs.Math.Seq.{take-add}
 use Rattle.std.proofs.lemmas.Bool.{eqb-true, ne_eqb}
 use Rattle.std.proofs.lemmas.List.{length-drop, drop-drop}
@@ -8,7 +8,7 @@ use Rattle.mac_wire.specs.Memory.{SourceState, read_count, after_read}
 -- a source that stands at a place of its bytes
 abbrev pub source_at : List ℕ → (place piece fails : ℕ) → Bool → ℕ → SourceState
 source_at bytes place piece fails has_ended faults =
-  record { given = take place bytes; left = drop place bytes; piece = piece; fails = fails; has_ended = has_ended; fault_count = faults }
+    record { given = take place bytes; left = drop place bytes; piece = piece; fails = fails; has_ended = has_ended; fault_count = faults }
 
 -- a read that gave something, or had no room, isn't the end
 stays : (has_ended : Bool) (n room : ℕ) → (n ≡ 0 → ⊥) ⊎ (eqb room 0 ≡ true) → (has_ended || (eqb n 0 && ltb 0 room)) ≡ has_ended

@@ -3,7 +3,6 @@ use Rattle.std.proofs.Common.{◌≡◌, ℕ, ◌+◌, ◌<◌, ◌≤◌, inl, 
 use Rattle.std.specs.Int.{w32, from_be_bytes}
 use Rattle.std.proofs.lemmas.Bool.{cases_eq}
 use Rattle.std.proofs.lemmas.List.{take_all, take_at, length-append, length-take}
-
 use Rattle.mac_wire.specs.declared.arrival.TheConstants.{FRAME_MAX}
 use Rattle.mac_wire.specs.declared.arrival.Ending.TheVariants as ending
 use Rattle.mac_wire.specs.Frame.{told_length, arrivals_of}
@@ -43,5 +42,5 @@ pub ends_torn : (told : List ℕ) (have : ℕ) (payload : List ℕ) → IsPartia
     → arrivals_of (take have told ++ payload) ≡ record { arrived = []; ending = ending.Torn }
 ends_torn told have payload parts some =
     arrivals_of-unfinished (take have told ++ payload)
-        (omega (arith, parts.have_fits, parts.four, length-append (take have told) payload, length-take have told))
-        (is_unfinished told have payload parts)
+    (omega (arith, parts.have_fits, parts.four, length-append (take have told) payload, length-take have told))
+    (is_unfinished told have payload parts)

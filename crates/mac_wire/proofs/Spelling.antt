@@ -1,10 +1,10 @@
 -- A field that is read is the field that was written, and what was written is read again.
-use Rattle.std.proofs.Common.{◌≡◌, ℕ, zero, suc, ◌+◌, ◌^◌, ◌<◌, ◌≤◌, Bool, true, false, cond, ltb, leb, eqb, List, [], ◌∷◌, ◌++◌, length, get_or, take, drop, Option, Some, None, refl, sym, ap, subst, ◌∙◌, append_assoc, arith, ◌⊎◌, inl, inr}
+use Rattle.std.proofs.Common.{◌≡◌, ℕ, zero, suc, ◌+◌, ◌^◌, ◌<◌, ◌≤◌, Bool, true, false, cond, ltb, leb, eqb, List, [], ◌∷◌, ◌++◌, length, take, drop, Option, Some, None, refl, sym, ap, subst, ◌∙◌, append_assoc, arith, ◌⊎◌, inl, inr}
 use Rattle.std.specs.Int.{Width, w16, w64, byte_len, from_be_bytes, to_be_bytes}
 use Rattle.std.specs.List.{flat_map, AllByRecursion}
 use Rattle.std.specs.Str.{IsUtf8, is_utf8}
 use Rattle.std.proofs.lemmas.Bool.{cases_lt, ltb-false, le-ltb, leb-true, le-leb, eqb-true}
-use Rattle.std.proofs.lemmas.List.{take_at, drop_at, take-append-drop, length-append, length-take, get_or-drop, get_or-take, get_or_past, append-nil, nil_from_length}
+use Rattle.std.proofs.lemmas.List.{take_at, drop_at, take-append-drop, length-append, length-take, get_or-drop, get_or-take, get_or_past, nil_from_length}
 use Rattle.std.proofs.lemmas.List.Concat.{flat_map-cons}
 use Rattle.std.proofs.lemmas.Nat.{be_bytes_2, be_bytes_8, from_be_bytes-to_be_bytes_2, from_be_bytes-to_be_bytes_8}
 use Rattle.std.proofs.lemmas.Str.{IsUtf8-from_is_utf8, is_utf8-from_IsUtf8}
@@ -67,7 +67,7 @@ bytes_take n bytes text rest fits e =
     let g = unless_some (ltb (length bytes) n) (take n bytes, drop n bytes) (text, rest) e in
     let long : n ≤ length bytes = ltb-false _ _ g.0 in
     subst (λ (p : List ℕ × List ℕ). Takes bytes p.0 p.1 × (length p.0 ≡ n)) g.1
-        (record { parts = sym (take-append-drop n bytes); rest_fits = IsBytes-drop n bytes fits }, omega (arith, length-take n bytes))
+    (record { parts = sym (take-append-drop n bytes); rest_fits = IsBytes-drop n bytes fits }, omega (arith, length-take n bytes))
 
 bytes_again : (text rest : List ℕ) → bytes_at (length text) (text ++ rest) ≡ Some (text, rest)
 bytes_again text rest =
@@ -159,7 +159,7 @@ fields_take : (n : ℕ) (bytes : List ℕ) (fields : List (List ℕ)) (rest : Li
 unfolding fields_at
 fields_take zero bytes fields rest fits e =
     subst (λ (y : List (List ℕ) × List ℕ). Takes bytes (flat_map long_field y.0) y.1 × (length y.0 ≡ 0) × AllByRecursion (λ field. length field < 2 ^ 16) y.0)
-        (some_is ([], bytes) (fields, rest) e) (record { parts = refl; rest_fits = fits }, refl, tt)
+    (some_is ([], bytes) (fields, rest) e) (record { parts = refl; rest_fits = fits }, refl, tt)
 fields_take (suc n) bytes fields rest fits e =
     let a = bind_some (long_field_at bytes) (λ first. fields_at n first.1 >>= λ others. Some (first.0 ∷ others.0, others.1)) (fields, rest) e in
     let b = bind_some (fields_at n a.0.1) (λ others. Some (a.0.0 ∷ others.0, others.1)) (fields, rest) a.2 in
@@ -167,7 +167,7 @@ fields_take (suc n) bytes fields rest fits e =
     let second = fields_take n a.0.1 b.0.0 b.0.1 first.0.rest_fits b.1 in
     let both = Takes-then bytes (long_field a.0.0) a.0.1 (flat_map long_field b.0.0) b.0.1 first.0 second.0 in
     subst (λ (y : List (List ℕ) × List ℕ). Takes bytes (flat_map long_field y.0) y.1 × (length y.0 ≡ suc n) × AllByRecursion (λ field. length field < 2 ^ 16) y.0)
-        (some_is (a.0.0 ∷ b.0.0, b.0.1) (fields, rest) b.2) (rw flat_map-cons both, ap suc second.1, (first.1, second.2))
+    (some_is (a.0.0 ∷ b.0.0, b.0.1) (fields, rest) b.2) (rw flat_map-cons both, ap suc second.1, (first.1, second.2))
 
 fields_again : (fields : List (List ℕ)) (rest : List ℕ) → AllByRecursion (λ field. length field < 2 ^ 16) fields → fields_at (length fields) (flat_map long_field fields ++ rest) ≡ Some (fields, rest)
 unfolding fields_at
@@ -212,15 +212,15 @@ code-form_of n f e =
     elim (chosen (eqb n 1) (Some form.V1Text) _ (Some f) e) [
       | inl a ↦ sym (eqb-true n 1 a.0 ∙ ap form_code (some_is form.V1Text f a.1))
       | inr b ↦ elim (chosen (eqb n 2) (Some form.V2Binary) _ (Some f) b.1) [
-          | inl a ↦ sym (eqb-true n 2 a.0 ∙ ap form_code (some_is form.V2Binary f a.1))
-          | inr c ↦ elim (chosen (eqb n 3) (Some form.V2Json) _ (Some f) c.1) [
-              | inl a ↦ sym (eqb-true n 3 a.0 ∙ ap form_code (some_is form.V2Json f a.1))
-              | inr d ↦ elim (chosen (eqb n 4) (Some form.V2Text) None (Some f) d.1) [
-                  | inl a ↦ sym (eqb-true n 4 a.0 ∙ ap form_code (some_is form.V2Text f a.1))
-                  | inr e ↦ absurd cc
-                ]
-            ]
+        | inl a ↦ sym (eqb-true n 2 a.0 ∙ ap form_code (some_is form.V2Binary f a.1))
+        | inr c ↦ elim (chosen (eqb n 3) (Some form.V2Json) _ (Some f) c.1) [
+          | inl a ↦ sym (eqb-true n 3 a.0 ∙ ap form_code (some_is form.V2Json f a.1))
+          | inr d ↦ elim (chosen (eqb n 4) (Some form.V2Text) None (Some f) d.1) [
+            | inl a ↦ sym (eqb-true n 4 a.0 ∙ ap form_code (some_is form.V2Text f a.1))
+            | inr e ↦ absurd cc
+          ]
         ]
+      ]
     ]
 
 pub form_takes : (bytes : List ℕ) (f : TokenForm) (rest : List ℕ) → IsBytes bytes → form_at bytes ≡ Some (f, rest) → Takes bytes (form_code f ∷ []) rest

@@ -30,11 +30,11 @@ followed_by front rest = record { arrived = front ++ rest.arrived; ending = rest
 unfoldable pub arrivals_within : ℕ → List ℕ → Arrivals
 arrivals_within zero stream = record { arrived = []; ending = ending.Clean }
 arrivals_within (suc frames) stream =
-  if length stream == 0 then record { arrived = []; ending = ending.Clean }
-  else if nat_lt (length stream) 4 then record { arrived = []; ending = ending.Torn }
-  else if nat_lt FRAME_MAX (told_length stream) then record { arrived = arrival.Oversize ∷ []; ending = ending.Oversize }
-  else if nat_lt (length stream) (4 + told_length stream) then record { arrived = []; ending = ending.Torn }
-  else followed_by (arrival.Payload (take (told_length stream) (drop 4 stream)) ∷ [])
+    if length stream == 0 then record { arrived = []; ending = ending.Clean }
+    else if nat_lt (length stream) 4 then record { arrived = []; ending = ending.Torn }
+    else if nat_lt FRAME_MAX (told_length stream) then record { arrived = arrival.Oversize ∷ []; ending = ending.Oversize }
+    else if nat_lt (length stream) (4 + told_length stream) then record { arrived = []; ending = ending.Torn }
+    else followed_by (arrival.Payload (take (told_length stream) (drop 4 stream)) ∷ [])
     (arrivals_within frames (drop (4 + told_length stream) stream))
 
 -- the arrivals of a stream: no frame is empty, so a stream has at most as many frames as bytes

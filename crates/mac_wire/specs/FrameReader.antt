@@ -1,11 +1,11 @@
 -- What a reader of frames was fed, and what it handed out.
-use Rattle.std.specs.Prelude.{◌≡◌, ℕ, List, [], ◌++◌}
+use Rattle.std.specs.Prelude.{◌≡◌, ℕ, List, ◌++◌}
 use Rattle.mac_wire.specs.declared.arrival.Arrival.{Arrival}
 use Rattle.mac_wire.specs.declared.arrival.Ending.TheVariants as ending
 use Rattle.mac_wire.specs.declared.frame.FrameReader.{FrameReader}
 use Rattle.mac_wire.specs.declared.frame.Stage.{Stage}
 use Rattle.mac_wire.specs.declared.frame.Stage.TheVariants as stage
-use Rattle.mac_wire.specs.Frame.{Arrivals, arrivals_of, followed_by}
+use Rattle.mac_wire.specs.Frame.{arrivals_of, followed_by}
 
 -- At this stage a reader was fed the stream and handed out the arrivals: however the stream goes on, its arrivals
 -- are these, and then those of the bytes that are held and of what comes. After an Oversize nothing comes.

@@ -1,5 +1,5 @@
 -- Devices over memory as their callers see them, and what one call does.
-use Rattle.std.specs.Prelude.{ℕ, ◌+◌, ◌-◌, min, Bool, true, false, ◌||◌, ◌&&◌, ◌==◌, nat_lt, if◌then◌else◌, List, ◌++◌, length, take, drop, Result, Ok, Err}
+use Rattle.std.specs.Prelude.{ℕ, ◌+◌, ◌-◌, min, Bool, ◌||◌, ◌&&◌, ◌==◌, nat_lt, if◌then◌else◌, List, ◌++◌, length, take, drop, Result, Ok, Err}
 use Rattle.mac_wire.specs.declared.device.DeviceFault.{DeviceFault}
 
 -- a source over memory
@@ -24,13 +24,13 @@ read_result s room = if s.fails == 1 then Err (record {}) else Ok (read_count s 
 -- the source after the next read: a fault is counted, and else the front of what is left was given
 abbrev pub after_read : SourceState → ℕ → SourceState
 after_read s room =
-  if s.fails == 1 then record s { fails = 0; fault_count = s.fault_count + 1 }
-  else record s {
-    given = s.given ++ take (read_count s room) s.left;
-    left = drop (read_count s room) s.left;
-    fails = s.fails - 1;
-    has_ended = s.has_ended || (read_count s room == 0 && nat_lt 0 room);
-  }
+    if s.fails == 1 then record s { fails = 0; fault_count = s.fault_count + 1 }
+    else record s {
+      given = s.given ++ take (read_count s room) s.left;
+      left = drop (read_count s room) s.left;
+      fails = s.fails - 1;
+      has_ended = s.has_ended || (read_count s room == 0 && nat_lt 0 room);
+    }
 
 -- a sink over memory
 pub record SinkState : Type 0 where
@@ -57,9 +57,9 @@ write_result s offered = if write_fails s then Err (record {}) else Ok (write_co
 -- the sink after the next write: a fault is counted, and else the front of the bytes was taken
 abbrev pub after_write : SinkState → List ℕ → SinkState
 after_write s bytes =
-  if write_fails s then record s { fails = s.fails - 1; fault_count = s.fault_count + 1 }
-  else record s {
-    kept = s.kept ++ take (write_count s (length bytes)) bytes;
-    room = s.room - write_count s (length bytes);
-    fails = s.fails - 1;
-  }
+    if write_fails s then record s { fails = s.fails - 1; fault_count = s.fault_count + 1 }
+    else record s {
+      kept = s.kept ++ take (write_count s (length bytes)) bytes;
+      room = s.room - write_count s (length bytes);
+      fails = s.fails - 1;
+    }

@@ -25,7 +25,7 @@ byte_at (b ∷ bytes) = Some (b, bytes)
 -- a number, and the bytes after it
 abbrev pub number_at : Width → List ℕ → Option (ℕ × List ℕ)
 number_at w bytes = if nat_lt (length bytes) (byte_len w) then None
-  else Some (from_be_bytes w (take (byte_len w) bytes), drop (byte_len w) bytes)
+    else Some (from_be_bytes w (take (byte_len w) bytes), drop (byte_len w) bytes)
 
 -- a field behind a length of one byte
 unfoldable pub short_field_at : List ℕ → Option (List ℕ × List ℕ)
@@ -62,10 +62,10 @@ counted_fields_at most bytes = do
 -- the form of a byte
 unfoldable pub form_of : ℕ → Option TokenForm
 form_of n = if n == 1 then Some form.V1Text
-  else if n == 2 then Some form.V2Binary
-  else if n == 3 then Some form.V2Json
-  else if n == 4 then Some form.V2Text
-  else None
+    else if n == 2 then Some form.V2Binary
+    else if n == 3 then Some form.V2Json
+    else if n == 4 then Some form.V2Text
+    else None
 
 -- a form's byte
 unfoldable pub form_at : List ℕ → Option (TokenForm × List ℕ)
@@ -110,9 +110,9 @@ unfoldable pub request_of : List ℕ → Option Asked
 request_of payload = do
   kind ← byte_at payload
   if kind.0 == 1 then mint_of kind.1
-    else if kind.0 == 2 then attenuate_of kind.1
-    else if kind.0 == 3 then verify_of kind.1
-    else None
+      else if kind.0 == 2 then attenuate_of kind.1
+      else if kind.0 == 3 then verify_of kind.1
+      else None
 
 -- a field behind a length of one byte, without what follows it
 unfoldable pub name_at : List ℕ → Option (List ℕ)
@@ -131,5 +131,5 @@ unfoldable pub key_name_of : List ℕ → Option (List ℕ)
 key_name_of payload = do
   kind ← byte_at payload
   if kind.0 == 1 then mint_name_at kind.1
-    else if kind.0 == 3 then name_at kind.1
-    else None
+      else if kind.0 == 3 then name_at kind.1
+      else None

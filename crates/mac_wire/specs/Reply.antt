@@ -1,5 +1,5 @@
 -- Replies, and their payloads and frames. The format is this project's own.
-use Rattle.std.specs.Prelude.{◌≡◌, ◌⊎◌, ℕ, ◌<◌, ◌≤◌, ◌^◌, List, [], ◌∷◌, ◌++◌, length}
+use Rattle.std.specs.Prelude.{◌≡◌, ◌⊎◌, ℕ, ◌<◌, ◌≤◌, ◌^◌, List, [], ◌∷◌, length}
 use Rattle.std.specs.Int.{w16, to_be_bytes}
 use Rattle.mac_wire.specs.declared.reply.Refusal.{Refusal}
 use Rattle.mac_wire.specs.declared.reply.Refusal.TheVariants as refusal

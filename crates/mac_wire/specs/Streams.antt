@@ -1,5 +1,4 @@
 -- What devices over readers and writers are made of.
-use Rattle.std.specs.Prelude.{Bool, ℕ}
 use Rattle.mac_wire.specs.declared.reader_source.ReaderSource.{ReaderSource}
 use Rattle.mac_wire.specs.declared.writer_sink.WriterSink.{WriterSink}
 

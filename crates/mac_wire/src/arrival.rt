@@ -1,6 +1,10 @@
 //! What comes out of a stream of frames.
 
+ghost use Rattle.std.specs.Prelude.{◌≡◌, IfOk};
+
+use crate::NoMemory;
 use crate::bytes::Bytes;
+use std::alloc::Global;
 
 /// The greatest payload of a frame, in bytes.
 pub const FRAME_MAX: usize = 65_536;
@@ -12,6 +16,18 @@ pub enum Arrival {
     Payload(Bytes),
     /// A frame that tells a greater length than [`FRAME_MAX`]. Nothing after it is read.
     Oversize,
+}
+
+impl Arrival {
+    /// A copy of the arrival, at the cost of its bytes.
+    pub fn copy(&self, alloc: Global) -> Result<Arrival, NoMemory>
+        ensures { IfOk result (λ arrival. arrival ≡ self.now) }
+    {
+        match self {
+            Arrival::Payload(payload) => Ok(Arrival::Payload(payload.copy(alloc)?)),
+            Arrival::Oversize => Ok(Arrival::Oversize),
+        }
+    }
 }
 
 /// How a stream ended.

@@ -32,7 +32,8 @@ impl ByteLists {
     pub fn into_vec(self) -> Vec<Vec<u8>>
         ensures { map (λ v. v.items) result.items ≡ self }
     {
-        self.held
+        let ByteLists { held } = self;
+        held
     }
 
     /// The lists, lent.

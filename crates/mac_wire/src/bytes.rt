@@ -34,7 +34,8 @@ impl Bytes {
     pub fn into_vec(self) -> Vec<u8>
         ensures { result.items ≡ self }
     {
-        self.held
+        let Bytes { held } = self;
+        held
     }
 
     /// The bytes, lent.

@@ -69,3 +69,6 @@ pub trait Sink {
     fn faults(&self) -> u64
         ensures { result ≡ faults self.now };
 }
+
+#[cfg(test)]
+mod tests;

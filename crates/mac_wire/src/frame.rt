@@ -131,3 +131,6 @@ fn cut(alloc: Global, held: Partial, piece: &[u8]) -> Result<(Vec<Arrival>, Stag
     }
     Ok((arrivals, Stage::Open(partial)))
 }
+
+#[cfg(test)]
+mod tests;

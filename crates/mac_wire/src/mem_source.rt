@@ -75,10 +75,7 @@ impl Source for MemSource {
             return Err(DeviceFault);
         }
         self.fails = self.fails.saturating_sub(1);
-        let count = self
-            .piece
-            .min(buf.len())
-            .min(self.bytes.len() - self.at);
+        let count = self.piece.min(buf.len()).min(self.bytes.len() - self.at);
         copy_front(buf, &self.bytes[self.at..self.at + count]);
         self.at += count;
         if count == 0 && !buf.is_empty() {

@@ -13,7 +13,9 @@ use std::alloc::Global;
 
 // The first byte of each kind of request.
 const MINT: u8 = 1;
+
 const ATTENUATE: u8 = 2;
+
 const VERIFY: u8 = 3;
 
 /// The key name in a payload's front: after a mint's number and any byte for a form, or after a verify's
@@ -128,3 +130,6 @@ fn verify(alloc: Global, bytes: &[u8]) -> Result<Request, RequestFault>
         facts,
     })
 }
+
+#[cfg(test)]
+mod tests;

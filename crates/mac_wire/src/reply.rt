@@ -108,3 +108,6 @@ fn put_payload(frame: &mut Vec<u8>, reply: &Reply) -> Result<(), NoMemory>
     }
     Ok(())
 }
+
+#[cfg(test)]
+mod tests;

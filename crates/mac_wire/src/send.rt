@@ -23,3 +23,6 @@ pub fn send_all<W: Sink>(sink: &mut W, bytes: &[u8]) -> Result<(), (DeviceFault,
     }
     Ok(())
 }
+
+#[cfg(test)]
+mod tests;

@@ -1,4 +1,4 @@
-use Rattle.std.proofs.Common.{arith, sym, subst}
+use Rattle.std.proofs.Common.{arith, subst}
 use Rattle.mac_wire.specs.Request.{asked}
 use Rattle.mac_wire.specs.Parsing.{Gives}
 use Rattle.mac_wire.proofs.Asking.{Gives-asks, request_of-asks}

@@ -1,4 +1,4 @@
-use Rattle.std.proofs.Common.{◌≡◌, map, nat_eq, ap, sym, ◌∙◌}
+use Rattle.std.proofs.Common.{map, nat_eq, ap, ◌∙◌}
 use Rattle.std.specs.Cmp.Lexicographic.{pointwise}
 use Rattle.mac_wire.proofs.Lists.{pointwise-map}
 use Rattle.mac_wire.proofs.byte_lists.ByteListsPartialEq.eq.Goals as goal
