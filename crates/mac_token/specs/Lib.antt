@@ -9,3 +9,16 @@ pub mod Steps
 pub mod V1Reading
 pub mod Answers
 pub mod Push
+pub mod Base64Text
+pub mod Base64Reading
+pub mod Json
+pub mod JsonMembers
+pub mod Writes
+pub mod JsonReading
+pub mod Varint
+pub mod V2
+pub mod V2Reading
+pub mod V2Whole
+pub mod Spells
+pub mod Written
+pub mod Read

@@ -50,9 +50,10 @@ first_party caveat = record { id = caveat; vid = None; location = None }
 abbrev pub raw_of : TokenParts → RawParts
 raw_of t = record { location = t.location; identifier = t.identifier; caveats = map first_party t.caveats; sig = t.sig }
 
--- what is true of a token whose parts are bytes: the location is text, the signature has 32 bytes
+-- what is true of each `Token`: its parts are bytes, its location is text, its signature has 32 bytes
 pub record IsToken (t : TokenParts) : Type 0 where
   pub location : IsUtf8 t.location
+  pub location_bytes : IsBytes t.location
   pub identifier : IsBytes t.identifier
   pub caveats : All IsBytes t.caveats
   pub sig : IsBytes t.sig

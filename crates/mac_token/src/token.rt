@@ -163,3 +163,6 @@ impl Token {
         self.sig
     }
 }
+
+#[cfg(test)]
+mod tests;

@@ -1,4 +1,4 @@
-use Rattle.std.proofs.Common.{◌≡◌, ◌<◌, ◌≤◌, ◌-◌, ◌++◌, string_bytes, length, refl, sym, ap, arith, rules, length-append}
+use Rattle.std.proofs.Common.{◌≡◌, ◌<◌, ◌≤◌, ◌-◌, ◌++◌, string_bytes, length, refl, inr, sym, ap, arith, rules, length-append}
 use Rattle.mac_token.specs.RawToken.{token_parts, byte_lists}
 use Rattle.mac_token.specs.Push.{with_caveats}
 use Rattle.mac_token.specs.Limits.{PartsFit, AreShort}
@@ -23,7 +23,7 @@ returns-then-caveats-len c =
       | then-caveats-len-via-else-caveats-len+then-not-are_short w ↦ λ fit. let short = fit_short location identifier caveats added fit in search rules
     ] in
     let parts = token_parts location identifier (caveats ++ added) c.args.sig in
-    (rw (← c.self.view_is) (within-Err parts fails), refl)
+    (inr (rw (← c.self.view_is) (within-Err parts fails)), refl)
 
 pub invariant_of-self : goal.invariant_of-self
 invariant_of-self c =
