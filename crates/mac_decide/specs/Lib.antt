@@ -1,0 +1,5 @@
+pub mod Time
+pub mod Minted
+pub mod Verdict
+pub mod Reading
+pub mod Answer
