@@ -67,7 +67,7 @@ fn read_carried(alloc: Global, bytes: &[u8]) -> Result<RawToken, TokenFault>
 }
 
 #[tactic(auto, unfolding(crate::specs::Read::raw_read_of))]
-fn raw(alloc: Global, bytes: &[u8]) -> Result<RawToken, TokenFault>
+fn raw_token(alloc: Global, bytes: &[u8]) -> Result<RawToken, TokenFault>
     ensures { Answers (λ raw. raw) result (raw_read_of bytes.now) }
 {
     if bytes.len() > TOKEN_MAX {
@@ -83,7 +83,7 @@ pub fn read_raw(alloc: Global, bytes: &[u8]) -> Result<RawToken, TokenFault>
     ensures answer { Answers (λ raw. raw) result (raw_read_of bytes.now) }
     ensures meaning { Ends (λ raw. raw) result (ReadRaw bytes.now) }
 {
-    raw(alloc, bytes)
+    raw_token(alloc, bytes)
 }
 
 fn has_vid(raw: &RawToken) -> bool

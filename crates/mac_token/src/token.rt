@@ -110,10 +110,7 @@ impl Token {
             return Err((TokenFault::Limit, self));
         }
         match append_copies(&mut self.caveats, alloc, caveats) {
-            Ok(()) => {
-                self.sig = sig;
-                Ok(self)
-            }
+            Ok(()) => Ok(Token { sig, ..self }),
             Err(_) => Err((TokenFault::Memory, self)),
         }
     }
@@ -137,7 +134,7 @@ impl Token {
         ensures value { result ≡ length self.now.caveats }
         ensures within { IsWithinLimits self.now }
     {
-        self.caveats.len()
+        self.caveat_buffers().len()
     }
 
     /// The caveat at place `i`, counted from 0.

@@ -39,7 +39,7 @@ mint_takes bytes q fits e =
     let from_l = Takes-then k.0.1 (long_field l.0.0) l.0.1 tail c.0.1 lt.0 from_i in
     let from_k = Takes-then f.0.1 (short_field k.0.0) k.0.1 (long_field l.0.0 ++ tail) c.0.1 kt.0 from_l in
     let all = Takes-then bytes (form_code f.0.0 ∷ []) f.0.1 (short_field k.0.0 ++ (long_field l.0.0 ++ tail)) c.0.1 ft from_k in
-    subst (Asks (1 ∷ bytes)) end.1 (record {
+    subst (Asks (1 ∷ bytes)) {x = mint f.0.0 k.0.0 l.0.0 i.0.0 c.0.0} end.1 (record {
       is_request = (kt.1, lt.1, lt.2, it.1, ct.2, All-from_recursion _ c.0.0 ct.3);
       is_payload = whole 1 bytes (form_code f.0.0 ∷ (short_field k.0.0 ++ (long_field l.0.0 ++ tail))) c.0.1 all end.0;
     })
@@ -56,7 +56,7 @@ attenuate_takes bytes q fits e =
     let ct = counted_take 255 t.0.1 c.0.0 c.0.1 tt.0.rest_fits c.1 in
     let from_t = Takes-then f.0.1 (long_field t.0.0) t.0.1 (counted_fields c.0.0) c.0.1 tt.0 ct.0 in
     let all = Takes-then bytes (form_code f.0.0 ∷ []) f.0.1 (long_field t.0.0 ++ counted_fields c.0.0) c.0.1 ft from_t in
-    subst (Asks (2 ∷ bytes)) end.1 (record {
+    subst (Asks (2 ∷ bytes)) {x = attenuate f.0.0 t.0.0 c.0.0} end.1 (record {
       is_request = (tt.1, ct.2, All-from_recursion _ c.0.0 ct.3);
       is_payload = whole 2 bytes (form_code f.0.0 ∷ (long_field t.0.0 ++ counted_fields c.0.0)) c.0.1 all end.0;
     })
@@ -77,7 +77,7 @@ verify_takes bytes q fits e =
     let from_m = Takes-then t.0.1 (to_be_bytes w64 m.0.0) m.0.1 (counted_fields f.0.0) f.0.1 mt.0 ft.0 in
     let from_t = Takes-then k.0.1 (long_field t.0.0) t.0.1 tail f.0.1 tt.0 from_m in
     let all = Takes-then bytes (short_field k.0.0) k.0.1 (long_field t.0.0 ++ tail) f.0.1 kt.0 from_t in
-    subst (Asks (3 ∷ bytes)) end.1 (record {
+    subst (Asks (3 ∷ bytes)) {x = verify k.0.0 t.0.0 m.0.0 f.0.0} end.1 (record {
       is_request = (kt.1, tt.1, mt.1, ft.1, All-from_recursion _ f.0.0 ft.3);
       is_payload = whole 3 bytes (short_field k.0.0 ++ (long_field t.0.0 ++ tail)) f.0.1 all end.0;
     })

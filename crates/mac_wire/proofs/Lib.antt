@@ -8,3 +8,4 @@ pub mod Cutting
 pub mod Spelling
 pub mod Asking
 pub mod Replies
+pub mod ReplyText

@@ -4,6 +4,7 @@ pub mod Frame
 pub mod Partial
 pub mod Steps
 pub mod FrameReader
+pub mod FeedFault
 pub mod Request
 pub mod Reading
 pub mod Parsing

@@ -1,6 +1,9 @@
 -- Replies, and their payloads and frames. The format is this project's own.
-use Rattle.std.specs.Prelude.{◌≡◌, ◌⊎◌, ℕ, ◌<◌, ◌≤◌, ◌^◌, List, [], ◌∷◌, length}
+use Rattle.std.specs.Prelude.{◌≡◌, ◌⊎◌, ℕ, ◌<◌, ◌≤◌, ◌^◌, List, [], ◌∷◌, length, map}
 use Rattle.std.specs.Int.{w16, to_be_bytes}
+use Rattle.std.specs.List.{flat_map}
+use Rattle.mac_wire.specs.declared.arrival.Arrival.{Arrival}
+use Rattle.mac_wire.specs.declared.arrival.Arrival.TheVariants as arrival
 use Rattle.mac_wire.specs.declared.reply.Refusal.{Refusal}
 use Rattle.mac_wire.specs.declared.reply.Refusal.TheVariants as refusal
 use Rattle.mac_wire.specs.declared.reply.Reply.{Reply}
@@ -41,3 +44,11 @@ reply_payload (reply.Unsatisfied index) = 24 ∷ to_be_bytes w16 index
 -- the whole frame of a reply
 abbrev pub reply_frame : Reply → List ℕ
 reply_frame r = frame (reply_payload r)
+
+-- the frames of replies, one after the other
+abbrev pub reply_text : List Reply → List ℕ
+reply_text replies = flat_map reply_frame replies
+
+-- the payloads of replies, as a reader of the frames has them
+abbrev pub reply_arrivals : List Reply → List Arrival
+reply_arrivals replies = map (λ r. arrival.Payload (reply_payload r)) replies

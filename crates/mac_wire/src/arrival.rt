@@ -42,3 +42,6 @@ pub enum Ending {
     /// The stream could not be read to its end.
     Broken,
 }
+
+#[cfg(test)]
+mod tests;

@@ -1,6 +1,7 @@
 //! Frames out of a stream that comes in pieces.
 
 ghost use Rattle.std.specs.Prelude.{◌≡◌, ◌↔◌, ℕ, List, [], ◌++◌, IfOk, IsErrOf};
+ghost use Rattle.mac_wire.specs.FeedFault.{feed_fault_code};
 ghost use Rattle.mac_wire.specs.Frame.{arrivals_of};
 ghost use Rattle.mac_wire.specs.FrameReader.{Cuts};
 ghost use Rattle.mac_wire.specs.declared.arrival.Arrival.{Arrival};
@@ -17,10 +18,24 @@ use thiserror::Error;
 /// Why a piece was not read.
 #[derive(Clone, Copy, Debug, PartialEq, Eq, Error)]
 pub enum FeedFault {
+    /// Memory was refused. The arrivals of the piece are lost.
     #[error("memory ran out")]
     NoMemory,
+    /// The stream ended at an Oversize, or an earlier feed failed.
     #[error("the stream has ended")]
     Ended,
+}
+
+impl FeedFault {
+    /// The fault's number.
+    pub fn code(self) -> u8
+        ensures { result ≡ feed_fault_code self }
+    {
+        match self {
+            FeedFault::NoMemory => 1,
+            FeedFault::Ended => 2,
+        }
+    }
 }
 
 impl From<AllocError> for FeedFault {

@@ -24,7 +24,13 @@ impl Model for MemSink {
 
     ghost Value = { SinkState };
 
-    ghost view = { λ s. record { kept = s.bytes.items; room = s.room; piece = s.piece; fails = s.fails; fault_count = s.faults } };
+    ghost view = { λ s. record {
+        kept = s.bytes.items;
+        room = s.room;
+        piece = s.piece;
+        fails = s.fails;
+        fault_count = s.faults;
+    } };
 
     ghost invariant = { λ s. (vec_len s.bytes + s.room ≤ vec_capacity s.bytes) × (1 ≤ s.piece) };
 }
@@ -34,7 +40,13 @@ impl MemSink {
     /// number `fails` fails, none at 0, and so does each call once no room is left.
     pub fn new(alloc: Global, room: usize, piece: usize, fails: u64) -> Result<MemSink, NoMemory>
         requires { 1 ≤ piece }
-        ensures { IfOk result (λ s. s ≡ record { kept = []; room = room; piece = piece; fails = fails; fault_count = 0 }) }
+        ensures { IfOk result (λ s. s ≡ record {
+            kept = [];
+            room = room;
+            piece = piece;
+            fails = fails;
+            fault_count = 0;
+        }) }
     {
         Ok(MemSink {
             bytes: Vec::with_capacity(alloc, room)?,

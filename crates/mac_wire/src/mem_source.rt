@@ -1,6 +1,6 @@
 //! A source over memory.
 
-ghost use Rattle.std.specs.Prelude.{◌≡◌, ◌<◌, ◌≤◌, [], List, length, take, IfOk, true, false, zero};
+ghost use Rattle.std.specs.Prelude.{◌≡◌, ◌<◌, ◌≤◌, [], length, take, IfOk, true, false};
 ghost use Rattle.mac_wire.specs.Memory.{SourceState, read_result, after_read};
 
 use crate::device::{DeviceFault, Source};
@@ -23,16 +23,31 @@ impl Model for MemSource {
 
     ghost Value = { SourceState };
 
-    ghost view = { λ s. record { given = take s.at s.bytes.items; left = drop s.at s.bytes.items; piece = s.piece; fails = s.fails; has_ended = s.has_ended; fault_count = s.faults } };
+    ghost view = { λ s. record {
+        given = take s.at s.bytes.items;
+        left = drop s.at s.bytes.items;
+        piece = s.piece;
+        fails = s.fails;
+        has_ended = s.has_ended;
+        fault_count = s.faults;
+    } };
 
-    ghost invariant = { λ s. (s.at ≤ length s.bytes.items) × (1 ≤ s.piece) × (s.has_ended ≡ true → s.at ≡ length s.bytes.items) };
+    ghost invariant = { λ s. (s.at ≤ length s.bytes.items) × (1 ≤ s.piece)
+        × (s.has_ended ≡ true → s.at ≡ length s.bytes.items) };
 }
 
 impl MemSource {
     /// A source of these bytes. A call gives at most `piece` of them; call number `fails` fails, none at 0.
     pub fn new(bytes: Vec<u8>, piece: usize, fails: u64) -> MemSource
         requires { 1 ≤ piece }
-        ensures { result ≡ record { given = []; left = bytes.items; piece = piece; fails = fails; has_ended = false; fault_count = 0 } }
+        ensures { result ≡ record {
+            given = [];
+            left = bytes.items;
+            piece = piece;
+            fails = fails;
+            has_ended = false;
+            fault_count = 0;
+        } }
     {
         MemSource {
             bytes,
@@ -67,6 +82,7 @@ impl Source for MemSource {
         ensures answer { result ≡ read_result self.old (length buf.new) }
         ensures bytes { IfOk result (λ n. take n buf.new ≡ take n self.old.left) }
         ensures after { self.new ≡ after_read self.old (length buf.new) }
+        // Once the end was answered, nothing is left.
         ensures end_is_last { self.old.has_ended ≡ true → self.old.left ≡ [] }
     {
         if self.fails == 1 {

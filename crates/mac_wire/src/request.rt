@@ -70,8 +70,10 @@ pub enum Request {
 /// Why a payload was not read as a request.
 #[derive(Clone, Copy, Debug, PartialEq, Eq, Error)]
 pub enum RequestFault {
+    /// No request is asked by the whole payload.
     #[error("the payload is no request")]
     BadRequest,
+    /// Memory was refused.
     #[error("memory ran out")]
     Memory,
 }

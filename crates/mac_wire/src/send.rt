@@ -10,7 +10,8 @@ use crate::device::{DeviceFault, Sink};
 pub fn send_all<W: Sink>(sink: &mut W, bytes: &[u8]) -> Result<(), (DeviceFault, usize)>
     requires { W.faults sink.old < u64.MAX }
     ensures ok { IsTrue W.tells → OnOk result (W.written sink.new ≡ W.written sink.old ++ bytes.now) }
-    ensures sent { IsTrue W.tells → IfErr result (λ e. W.written sink.new ≡ W.written sink.old ++ take e.1 bytes.now) }
+    ensures sent { IsTrue W.tells
+        → IfErr result (λ e. W.written sink.new ≡ W.written sink.old ++ take e.1 bytes.now) }
     ensures bound { IfErr result (λ e. e.1 < length bytes.now) }
     ensures faults { CountsFault result (W.faults sink.old) (W.faults sink.new) }
 {

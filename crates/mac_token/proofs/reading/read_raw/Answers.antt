@@ -7,4 +7,4 @@ pub returns-clause-meaning : goal.returns-clause-meaning
 returns-clause-meaning c =
     let bytes = c.args.bytes.now in
     let means = raw_read_means bytes (λ i. let fits = c.type_inv.bytes i in omega arith) in
-    ends_from_answers _ (ReadRaw bytes) (raw_read_of bytes) c.raw.result means c.raw.ensures
+    ends_from_answers _ (ReadRaw bytes) (raw_read_of bytes) c.raw_token.result means c.raw_token.ensures

@@ -25,8 +25,8 @@ returns-then-caveats-len c =
     let parts = token_parts location identifier (caveats ++ added) c.args.sig in
     (inr (rw (← c.self.view_is) (within-Err parts fails)), refl)
 
-pub invariant_of-self : goal.invariant_of-self
-invariant_of-self c =
+pub invariant_of-result : goal.invariant_of-result
+invariant_of-result c =
     let inside = c.self.inside in
     let caveats = byte_lists inside.caveats.items in
     let added = byte_lists c.args.caveats.now in
