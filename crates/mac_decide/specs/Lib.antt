@@ -1,5 +1,0 @@
-pub mod Time
-pub mod Minted
-pub mod Verdict
-pub mod Reading
-pub mod Answer

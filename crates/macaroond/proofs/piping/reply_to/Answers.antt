@@ -1,7 +1,0 @@
-use Rattle.std.proofs.Common.{◌≡◌}
-use Rattle.mac_decide.specs.Answer.{answer_of, reply_of, key_for}
-use Rattle.macaroond.proofs.piping.reply_to.Goals as goal
-
-pub returns : goal.returns
-unfolding answer_of
-returns c = rw (c.job_of.ensures.arrival, c.job_of.ensures.key) at c.answer.ensures.reply
