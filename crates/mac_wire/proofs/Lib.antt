@@ -1,0 +1,11 @@
+pub mod Lists
+pub mod Devices
+pub mod Text
+pub mod FieldLoop
+pub mod Partials
+pub mod Arrivals
+pub mod Cutting
+pub mod Spelling
+pub mod Asking
+pub mod Replies
+pub mod ReplyText

@@ -1,0 +1,12 @@
+pub mod Device
+pub mod Memory
+pub mod Frame
+pub mod Partial
+pub mod Steps
+pub mod FrameReader
+pub mod FeedFault
+pub mod Request
+pub mod Reading
+pub mod Parsing
+pub mod Streams
+pub mod Reply

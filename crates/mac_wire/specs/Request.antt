@@ -1,0 +1,79 @@
+-- Requests, and the one payload that each is asked by. The format is this project's own.
+use Rattle.std.specs.Prelude.{◌≡◌, ℕ, ◌<◌, ◌≤◌, ◌^◌, List, ◌∷◌, ◌++◌, length, slice_index, All, string_bytes, Option, Some, None}
+use Rattle.std.specs.Int.{w16, w64, to_be_bytes}
+use Rattle.std.specs.List.{flat_map}
+use Rattle.std.specs.Str.{IsUtf8}
+use Rattle.mac_wire.specs.declared.request.TokenForm.{TokenForm}
+use Rattle.mac_wire.specs.declared.request.TokenForm.TheVariants as form
+use Rattle.mac_wire.specs.declared.request.Request.{Request}
+use Rattle.mac_wire.specs.declared.request.Request.TheVariants as request
+use Rattle.mac_wire.specs.declared.request.TheConstants.{FACTS_MAX}
+
+-- a request as its bytes alone, without where they lie in memory
+pub data Asked : Type 0 where
+  mint : (form : TokenForm) (key location identifier : List ℕ) (caveats : List (List ℕ)) → Asked
+  attenuate : (form : TokenForm) (token : List ℕ) (caveats : List (List ℕ)) → Asked
+  verify : (key token : List ℕ) (moment : ℕ) (facts : List (List ℕ)) → Asked
+
+-- what a value of the program asks
+abbrev pub asked : Request → Asked
+asked (request.Mint form key location identifier caveats) = mint form key (string_bytes location) identifier caveats
+asked (request.Attenuate form token caveats) = attenuate form token caveats
+asked (request.Verify key token moment facts) = verify key token moment facts
+
+-- the name of the key that a request is about; an attenuate names none
+abbrev pub key_of : Asked → Option (List ℕ)
+key_of (mint form key location identifier caveats) = Some key
+key_of (attenuate form token caveats) = None
+key_of (verify key token moment facts) = Some key
+
+-- the byte of a form
+abbrev pub form_code : TokenForm → ℕ
+form_code form.V1Text = 1
+form_code form.V2Binary = 2
+form_code form.V2Json = 3
+form_code form.V2Text = 4
+
+-- a length of one byte, and that many bytes
+abbrev pub short_field : List ℕ → List ℕ
+short_field bytes = length bytes ∷ bytes
+
+-- a length of two bytes, and that many bytes
+abbrev pub long_field : List ℕ → List ℕ
+long_field bytes = to_be_bytes w16 (length bytes) ++ bytes
+
+-- a count of one byte, and that many fields
+abbrev pub counted_fields : List (List ℕ) → List ℕ
+counted_fields fields = length fields ∷ flat_map long_field fields
+
+-- the payload of a request: the number of its kind, and its fields in order
+abbrev pub payload_of : Asked → List ℕ
+payload_of (mint form key location identifier caveats) =
+    1 ∷ form_code form ∷ (short_field key ++ (long_field location ++ (long_field identifier ++ counted_fields caveats)))
+payload_of (attenuate form token caveats) =
+    2 ∷ form_code form ∷ (long_field token ++ counted_fields caveats)
+payload_of (verify key token moment facts) =
+    3 ∷ (short_field key ++ (long_field token ++ (to_be_bytes w64 moment ++ counted_fields facts)))
+
+-- each field's length fits its two bytes
+abbrev pub AreFields : List (List ℕ) → Type 0
+AreFields fields = All (λ field. length field < 2 ^ 16) fields
+
+-- what has a payload: each length fits its bytes, a location is UTF-8, and a verify has no more facts than allowed
+abbrev pub IsRequest : Asked → Type 0
+IsRequest (mint form key location identifier caveats) =
+    (length key < 2 ^ 8) × (length location < 2 ^ 16) × IsUtf8 location × (length identifier < 2 ^ 16)
+    × (length caveats < 2 ^ 8) × AreFields caveats
+IsRequest (attenuate form token caveats) =
+    (length token < 2 ^ 16) × (length caveats < 2 ^ 8) × AreFields caveats
+IsRequest (verify key token moment facts) =
+    (length key < 2 ^ 8) × (length token < 2 ^ 16) × (moment < 2 ^ 64) × (length facts ≤ FACTS_MAX) × AreFields facts
+
+-- each number of the list is a byte
+abbrev pub IsBytes : List ℕ → Type 0
+IsBytes bytes = (i : ℕ) → slice_index bytes i < 2 ^ 8
+
+-- the whole payload is the request
+pub record Asks (payload : List ℕ) (request : Asked) : Type 0 where
+  pub is_request : IsRequest request
+  pub is_payload : payload ≡ payload_of request

@@ -1,0 +1,151 @@
+//! Frames out of a stream that comes in pieces.
+
+ghost use Rattle.std.specs.Prelude.{◌≡◌, ◌↔◌, ℕ, List, [], ◌++◌, IfOk, IsErrOf};
+ghost use Rattle.mac_wire.specs.FeedFault.{feed_fault_code};
+ghost use Rattle.mac_wire.specs.Frame.{arrivals_of};
+ghost use Rattle.mac_wire.specs.FrameReader.{Cuts};
+ghost use Rattle.mac_wire.specs.declared.arrival.Arrival.{Arrival};
+ghost use Rattle.mac_wire.specs.declared.frame.FeedFault.TheVariants.{NoMemory};
+
+use crate::NoMemory;
+use crate::arrival::{Arrival, Ending};
+use crate::bytes::Bytes;
+use crate::partial::{Partial, Step};
+use std::alloc::{AllocError, AllocFailed, Global};
+use std::mem;
+use thiserror::Error;
+
+/// Why a piece was not read.
+#[derive(Clone, Copy, Debug, PartialEq, Eq, Error)]
+pub enum FeedFault {
+    /// Memory was refused. The arrivals of the piece are lost.
+    #[error("memory ran out")]
+    NoMemory,
+    /// The stream ended at an Oversize, or an earlier feed failed.
+    #[error("the stream has ended")]
+    Ended,
+}
+
+impl FeedFault {
+    /// The fault's number.
+    pub fn code(self) -> u8
+        ensures { result ≡ feed_fault_code self }
+    {
+        match self {
+            FeedFault::NoMemory => 1,
+            FeedFault::Ended => 2,
+        }
+    }
+}
+
+impl From<AllocError> for FeedFault {
+    ghost from_gives = { λ _ e. e ≡ NoMemory };
+
+    fn from(_e: AllocError) -> FeedFault {
+        FeedFault::NoMemory
+    }
+}
+
+impl<T: Drop> From<AllocFailed<T>> for FeedFault {
+    ghost from_gives = { λ _ e. e ≡ NoMemory };
+
+    fn from(_e: AllocFailed<T>) -> FeedFault {
+        FeedFault::NoMemory
+    }
+}
+
+/// How far a reader has come.
+#[derive(Debug, Drop)]
+enum Stage {
+    /// It reads on, and holds what has come of an unfinished frame.
+    Open(Partial),
+    /// A frame told too great a length.
+    Oversize,
+    /// Memory was refused.
+    Broken,
+}
+
+/// Cuts a stream into frames, however the pieces come.
+#[derive(Debug, Drop)]
+pub struct FrameReader {
+    alloc: Global,
+    stage: Stage,
+}
+
+impl FrameReader {
+    ghost use Rattle.mac_wire.specs.FrameReader.{HasRead, HasEnded, IsBroken};
+
+    /// A reader that was fed nothing. It keeps the allocator.
+    pub fn new(alloc: Global) -> FrameReader
+        ensures { HasRead result [] [] }
+    {
+        FrameReader {
+            alloc,
+            stage: Stage::Open(Partial::new(alloc)),
+        }
+    }
+
+    /// Feeds the next piece of the stream, and gives the arrivals that are whole with it. A piece costs the time
+    /// of its bytes, and the memory of its payloads and of one unfinished frame. After `NoMemory` and after an
+    /// Oversize each later feed answers `Ended` and changes nothing.
+    pub fn feed(&mut self, piece: &[u8]) -> Result<Vec<Arrival>, FeedFault>
+        ensures arrivals { (stream : List ℕ) (handed : List Arrival) → HasRead self.old stream handed
+            → IfOk result (λ more. HasRead self.new (stream ++ piece.now) (handed ++ more.items)) }
+        ensures ended { IsErrOf result FeedFault.Ended ↔ HasEnded self.old }
+        ensures unchanged { HasEnded self.old → self.new ≡ self.old }
+        ensures broken { IsErrOf result FeedFault.NoMemory → IsBroken self.new }
+    {
+        match mem::replace(&mut self.stage, Stage::Broken) {
+            Stage::Open(partial) => {
+                let (arrivals, stage) = cut(self.alloc, partial, piece)?;
+                self.stage = stage;
+                Ok(arrivals)
+            }
+            ended => {
+                self.stage = ended;
+                Err(FeedFault::Ended)
+            }
+        }
+    }
+
+    /// How the stream ended.
+    pub fn finish(self) -> Ending
+        ensures ending { (stream : List ℕ) (handed : List Arrival) → HasRead self stream handed
+            → arrivals_of stream ≡ record { arrived = handed; ending = result } }
+        ensures broken { (result ≡ Ending.Broken) ↔ IsBroken self }
+    {
+        match &self.stage {
+            Stage::Open(partial) => partial.ending(),
+            Stage::Oversize => Ending::Oversize,
+            Stage::Broken => Ending::Broken,
+        }
+    }
+}
+
+// The arrivals that a piece makes whole, and the stage that it leaves.
+fn cut(alloc: Global, held: Partial, piece: &[u8]) -> Result<(Vec<Arrival>, Stage), NoMemory>
+    ensures { IfOk result (λ x. Cuts held piece.now x.0.items x.1) }
+{
+    let mut arrivals = Vec::new(alloc);
+    let mut partial = held;
+    let mut rest = piece;
+    while !rest.is_empty() {
+        let (step, after) = partial.advance(rest)?;
+        rest = after;
+        match step {
+            Step::Unfinished(more) => partial = more,
+            Step::Whole(payload) => {
+                arrivals.push(Arrival::Payload(Bytes::new(payload)))?;
+                partial = Partial::new(alloc);
+            }
+            Step::TooLong => {
+                arrivals.push(Arrival::Oversize)?;
+                return Ok((arrivals, Stage::Oversize));
+            }
+        }
+    }
+    Ok((arrivals, Stage::Open(partial)))
+}
+
+#[cfg(test)]
+mod tests;

@@ -1,0 +1,72 @@
+//! What follows from the definitions alone. Each law is the contract of a function that does nothing.
+
+ghost use Rattle.std.specs.Prelude.{◌≡◌, ◌≤◌, ◌<◌, ◌^◌, ℕ, List, [], ◌∷◌, ◌++◌, length, take, Some, true, All};
+ghost use Rattle.std.specs.Int.{w32, to_be_bytes};
+ghost use Rattle.mac_wire.specs.declared.arrival.Arrival.{Arrival};
+ghost use Rattle.mac_wire.specs.declared.reply.Reply.{Reply};
+ghost use Rattle.mac_wire.specs.Frame.{frame, arrivals_of, followed_by};
+ghost use Rattle.mac_wire.specs.Request.{Asked, IsBytes, Asks, key_of};
+ghost use Rattle.mac_wire.specs.Reading.{request_of, key_name_of};
+ghost use Rattle.mac_wire.specs.Reply.{IsReply, reply_payload, reply_text, reply_arrivals};
+
+use crate::arrival::{Arrival, Ending, FRAME_MAX};
+
+/// What is read as a request is asked by the payload.
+pub fn what_is_read_is_asked()
+    ensures { (payload : List ℕ) (request : Asked) → IsBytes payload
+        → request_of payload ≡ Some request → Asks payload request }
+{}
+
+/// What a payload asks is read.
+pub fn what_is_asked_is_read()
+    ensures { (payload : List ℕ) (request : Asked) → Asks payload request → request_of payload ≡ Some request }
+{}
+
+/// A payload asks one request at most.
+pub fn one_request()
+    ensures { (payload : List ℕ) (a b : Asked) → Asks payload a → Asks payload b → a ≡ b }
+{}
+
+/// The name in the front of a payload that asks a request is that of the request's key.
+pub fn key_name_is_the_key()
+    ensures { (payload : List ℕ) (request : Asked) → Asks payload request → key_name_of payload ≡ key_of request }
+{}
+
+/// A payload is that of one reply at most.
+pub fn one_reply()
+    ensures { (a b : Reply) → IsReply a → IsReply b → reply_payload a ≡ reply_payload b → a ≡ b }
+{}
+
+/// The frames of replies are read again: each payload is an arrival, in order, and the end is Clean.
+pub fn replies_arrive()
+    ensures { (replies : List Reply) → All IsReply replies
+        → arrivals_of (reply_text replies) ≡ record { arrived = reply_arrivals replies; ending = Ending.Clean } }
+{}
+
+/// A stream of nothing is Clean.
+pub fn nothing_is_clean()
+    ensures { arrivals_of [] ≡ record { arrived = []; ending = Ending.Clean } }
+{}
+
+/// A whole frame is the arrival of its payload, before the arrivals of what follows it.
+pub fn frame_arrives()
+    ensures { (payload rest : List ℕ) → length payload ≤ FRAME_MAX
+        → arrivals_of (frame payload ++ rest) ≡ followed_by (Arrival.Payload payload ∷ []) (arrivals_of rest) }
+{}
+
+/// A part of a frame is Torn, and takes no place.
+pub fn cut_frame_is_torn()
+    ensures { (payload : List ℕ) (n : ℕ) → length payload ≤ FRAME_MAX → 0 < n → n < length (frame payload)
+        → arrivals_of (take n (frame payload)) ≡ record { arrived = []; ending = Ending.Torn } }
+{}
+
+/// A length above the greatest is one Oversize, whatever follows.
+pub fn long_frame_is_oversize()
+    ensures { (n : ℕ) (rest : List ℕ) → FRAME_MAX < n → n < 2 ^ 32 → arrivals_of (to_be_bytes w32 n ++ rest)
+        ≡ record { arrived = Arrival.Oversize ∷ []; ending = Ending.Oversize } }
+{}
+
+/// Arrivals that compare as equal are equal.
+pub fn equal_arrivals()
+    ensures { (a b : Arrival) → ⟦<Arrival as PartialEq>⟧.eq a b ≡ true → a ≡ b }
+{}

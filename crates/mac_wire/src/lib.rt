@@ -1,0 +1,39 @@
+//! The wire of the macaroon service: frames, requests, replies, and the devices that bytes come from and go to.
+//!
+//! [`FrameReader`] cuts a stream into arrivals, [`parse_request`] reads an arrival's payload, [`reply_bytes`]
+//! writes a reply's frame, and [`send_all`] sends it. No call does more work than its bytes ask for.
+#![tactic(auto)]
+
+mod arrival;
+mod byte_lists;
+mod bytes;
+mod device;
+mod fields;
+mod frame;
+pub mod laws;
+mod mem_sink;
+mod mem_source;
+mod parse;
+mod partial;
+mod reader_source;
+mod reply;
+mod request;
+mod send;
+mod writer_sink;
+
+pub use arrival::{Arrival, Ending, FRAME_MAX};
+pub use byte_lists::ByteLists;
+pub use bytes::Bytes;
+pub use device::{DeviceFault, Sink, Source};
+pub use frame::{FeedFault, FrameReader};
+pub use mem_sink::MemSink;
+pub use mem_source::MemSource;
+pub use parse::{key_name, parse_request};
+pub use reader_source::ReaderSource;
+pub use reply::{REPLY_TOKEN_MAX, Refusal, Reply, reply_bytes};
+pub use request::{FACTS_MAX, Request, RequestFault, TokenForm};
+pub use send::send_all;
+pub use writer_sink::WriterSink;
+
+/// Want of memory.
+pub type NoMemory = std::alloc::AllocError;

@@ -1,0 +1,58 @@
+//! A sink over any writer.
+
+ghost use Rattle.std.specs.Prelude.{◌≡◌, ◌<◌, ◌≤◌, [], length, IfOk, IsTrue, false};
+ghost use Rattle.std.specs.Io.KnownBytes.{WriteAppends};
+ghost use Rattle.mac_wire.specs.Device.{CountsFault};
+ghost use Rattle.mac_wire.specs.Streams.{writer_of};
+
+use crate::device::{DeviceFault, Sink};
+use std::io::Write;
+
+/// A sink over a writer, where a write that takes nothing of something is a fault. What the bytes were, it
+/// doesn't tell.
+#[derive(Drop)]
+pub struct WriterSink<W> {
+    writer: W,
+    faults: u64,
+}
+
+impl<W: Write> WriterSink<W> {
+    /// A sink over a writer.
+    pub fn new(writer: W) -> WriterSink<W>
+        ensures writer { writer_of result ≡ writer }
+        ensures faults { result.faults ≡ 0 }
+    {
+        WriterSink { writer, faults: 0 }
+    }
+}
+
+impl<W: Write> Sink for WriterSink<W> {
+    ghost tells = { false };
+
+    ghost written = { λ _. [] };
+
+    ghost faults = { λ s. s.faults };
+
+    fn write(&mut self, buf: &[u8]) -> Result<usize, DeviceFault>
+        requires { self.old.faults < u64.MAX }
+        // The bytes go to the writer.
+        ensures writer { WriteAppends (W.contents (writer_of self.old)) (W.contents (writer_of self.new))
+            result buf.now }
+
+        ensures bound { IfOk result (λ n. n ≤ length buf.now) }
+        ensures some { IfOk result (λ n. 0 < length buf.now → 0 < n) }
+        ensures faults { CountsFault result self.old.faults self.new.faults }
+    {
+        match self.writer.write(buf) {
+            Ok(count) if count > 0 || buf.is_empty() => Ok(count),
+            Ok(_) | Err(_) => {
+                self.faults += 1;
+                Err(DeviceFault)
+            }
+        }
+    }
+
+    fn faults(&self) -> u64 {
+        self.faults
+    }
+}
