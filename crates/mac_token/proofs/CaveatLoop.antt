@@ -1,0 +1,77 @@
+-- Reading caveats one after the other, as a loop does.
+use Rattle.std.proofs.Common.{◌≡◌, ℕ, zero, suc, ◌<◌, List, [], ◌∷◌, ◌++◌, Option, Some, None, true, false, cond, length, refl, sym, ap, ◌∙◌, append_assoc, arith, length-append}
+use Rattle.std.specs.List.{flat_map}
+use Rattle.std.proofs.lemmas.List.{append-nil}
+use Rattle.mac_token.specs.declared.fault.TokenFault.{TokenFault}
+use Rattle.mac_token.specs.declared.fault.TokenFault.TheVariants.{Transport, Malformed, ThirdParty, Limit, CaveatLocation, Memory}
+use Rattle.mac_token.specs.declared.v1.key.Key.TheVariants.{Cid}
+use Rattle.mac_token.specs.RawToken.{CaveatParts}
+use Rattle.mac_token.specs.Reads.{Fails}
+use Rattle.mac_token.specs.Steps.{◌>>=◌}
+use Rattle.mac_token.specs.V1.{Field, packet, vid_fields}
+use Rattle.mac_token.specs.V1Reading.{has_key, caveat_at, caveats_at}
+use Rattle.mac_token.proofs.Packets.{length-packet}
+use Rattle.mac_token.proofs.V1Caveats.{caveat_at_takes}
+
+-- what was read before, and what is still read
+abbrev pub with_front : List CaveatParts → Option (List CaveatParts × List ℕ) → Option (List CaveatParts × List ℕ)
+with_front front reading = reading >>= λ x. Some (front ++ x.0, x.1)
+
+-- the caveats behind one that was read
+abbrev pub with_more : ℕ → CaveatParts × List ℕ → Option (List CaveatParts × List ℕ)
+with_more n c = caveats_at n c.1 >>= λ cs. Some (c.0 ∷ cs.0, cs.1)
+
+packets_are_long : (f : Field) (fs : List Field) (rest : List ℕ) → length rest < length (flat_map packet (f ∷ fs) ++ rest)
+packets_are_long f fs rest =
+    omega (arith, length-append (packet f ++ flat_map packet fs) rest, length-append (packet f) (flat_map packet fs), length-packet f)
+
+-- a caveat takes bytes
+pub caveat_shortens : (bytes : List ℕ) (c : CaveatParts) (rest : List ℕ) → caveat_at bytes ≡ Some (c, rest) → length rest < length bytes
+caveat_shortens bytes c rest e =
+    let is = caveat_at_takes bytes c rest e in
+    let parts = ap length (is.stand.parts ∙ ap (λ (fs : List Field). flat_map packet fs ++ rest) is.are.2) in
+    omega (arith, parts, packets_are_long (record { key = Cid; value = c.id }) (vid_fields c.vid ++ is.are.0) rest)
+
+same_more : (n m : ℕ) (o : Option (CaveatParts × List ℕ)) → ((c : CaveatParts) (rest : List ℕ) → o ≡ Some (c, rest) → caveats_at n rest ≡ caveats_at m rest) → (o >>= with_more n) ≡ (o >>= with_more m)
+same_more n m None same = refl
+same_more n m (Some x) same = ap (λ (cs : Option (List CaveatParts × List ℕ)). cs >>= λ cs. Some (x.0 ∷ cs.0, cs.1)) (same x.0 x.1 refl)
+
+-- how many caveats there may be does not matter, if they may be as many as there are bytes
+pub any_count : (n m : ℕ) (bytes : List ℕ) → length bytes < n → length bytes < m → caveats_at n bytes ≡ caveats_at m bytes
+unfolding caveats_at
+any_count zero m bytes h k = absurd (omega arith)
+any_count (suc n) zero bytes h k = absurd (omega arith)
+any_count (suc n) (suc m) bytes h k =
+    ap (λ (o : Option (List CaveatParts × List ℕ)). cond (has_key Cid bytes) o (Some ([], bytes)))
+    (same_more n m (caveat_at bytes) (λ c rest e. any_count n m rest (omega (arith, caveat_shortens bytes c rest e, h)) (omega (arith, caveat_shortens bytes c rest e, k))))
+
+regroup : (front : List CaveatParts) (c : CaveatParts) (reading : Option (List CaveatParts × List ℕ)) → with_front front (reading >>= λ cs. Some (c ∷ cs.0, cs.1)) ≡ with_front (front ++ c ∷ []) reading
+regroup front c (Some x) = ap (λ (cs : List CaveatParts). Some (cs, x.1)) (simp append_assoc)
+regroup front c None = refl
+
+pub goes_on : (front : List CaveatParts) (bytes : List ℕ) (c : CaveatParts) (rest : List ℕ) (total : Option (List CaveatParts × List ℕ)) → has_key Cid bytes ≡ true → caveat_at bytes ≡ Some (c, rest)
+    → with_front front (caveats_at (suc (length bytes)) bytes) ≡ total → with_front (front ++ c ∷ []) (caveats_at (suc (length rest)) rest) ≡ total
+unfolding caveats_at
+goes_on front bytes c rest total test read so_far =
+    let shorter = caveat_shortens bytes c rest read in
+    let fewer : caveats_at (length bytes) rest ≡ caveats_at (suc (length rest)) rest = any_count (length bytes) (suc (length rest)) rest shorter (omega arith) in
+    let one : with_front front (caveats_at (suc (length bytes)) bytes) ≡ with_front (front ++ c ∷ []) (caveats_at (length bytes) rest) = rw (test, read) (regroup front c (caveats_at (length bytes) rest)) in
+    sym (ap (with_front (front ++ c ∷ [])) fewer) ∙ sym one ∙ so_far
+
+pub stops : (fault : TokenFault) (front : List CaveatParts) (bytes : List ℕ) (total : Option (List CaveatParts × List ℕ)) → has_key Cid bytes ≡ true → Fails fault (caveat_at bytes)
+    → with_front front (caveats_at (suc (length bytes)) bytes) ≡ total → Fails fault total
+unfolding caveats_at
+stops Memory front bytes total test failed so_far = tt
+stops Malformed front bytes total test failed so_far =
+    let one : with_front front (caveats_at (suc (length bytes)) bytes) ≡ None = rw (test, failed) refl in
+    sym so_far ∙ one
+stops Transport front bytes total test failed so_far = absurd failed
+stops ThirdParty front bytes total test failed so_far = absurd failed
+stops Limit front bytes total test failed so_far = absurd failed
+stops CaveatLocation front bytes total test failed so_far = absurd failed
+
+pub is_done : (front : List CaveatParts) (bytes : List ℕ) (total : Option (List CaveatParts × List ℕ)) → has_key Cid bytes ≡ false → with_front front (caveats_at (suc (length bytes)) bytes) ≡ total → total ≡ Some (front, bytes)
+unfolding caveats_at
+is_done front bytes total test so_far =
+    let one : with_front front (caveats_at (suc (length bytes)) bytes) ≡ Some (front, bytes) = rw test (ap (λ (cs : List CaveatParts). Some (cs, bytes)) (append-nil front)) in
+    sym so_far ∙ one

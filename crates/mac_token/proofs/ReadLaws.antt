@@ -1,0 +1,221 @@
+-- What the functions of reading give is what reading means.
+use Rattle.std.proofs.Common.{◌≡◌, ℕ, ◌≤◌, Bool, true, false, ◌||◌, cond, List, [], ◌∷◌, map, length, Option, Some, None, Result, Ok, Err, refl, sym, ap, subst, ◌∙◌, inl, inr}
+use Rattle.std.specs.Prelude.{nat_lt, is_some, Any}
+use Rattle.std.specs.List.{list_any}
+use Rattle.std.proofs.lemmas.Bool.{ltb-true, ltb-false, lt-ltb, le-ltb, both_ways}
+use Rattle.std.proofs.lemmas.List.Folds.{Any-from_list_any, list_any-from_Any}
+use Rattle.base64.specs.GeneralPurpose.{IsBytes}
+use Rattle.mac_token.specs.declared.fault.TokenFault.{TokenFault}
+use Rattle.mac_token.specs.declared.fault.TokenFault.TheVariants.{Transport, Malformed, ThirdParty, Limit, CaveatLocation, Memory}
+use Rattle.mac_token.specs.declared.limits.TheConstants.{TOKEN_MAX}
+use Rattle.mac_token.specs.Answers.{Answers, Ends}
+use Rattle.mac_token.specs.Limits.{IsWithinLimits, is_within, within}
+use Rattle.mac_token.specs.RawToken.{CaveatParts, RawParts, TokenParts, first_party, raw_of}
+use Rattle.mac_token.specs.Spells.{Carries, Spells}
+use Rattle.mac_token.specs.Read.{HasVid, HasLocation, parts_of, Read, ReadRaw, carried, bare_of, or_malformed, or_transport, raw_read_of, token_of, token_of_read, read_of}
+use Rattle.mac_token.proofs.ReadLemmas.{carried_takes, carried_again, carried_bytes, carries_one, bare_takes, bare_again}
+use Rattle.mac_token.proofs.Within.{is_within-Decides, within-Ok, within-Err}
+
+-- the answer of a call is an end, where the function's answer is
+pub ends_from_answers : {X Y : Type 0} (view : X → Y) (IsEnd : Result Y TokenFault → Type 0) (answer : Result Y TokenFault) (result : Result X TokenFault) → IsEnd answer → Answers view result answer → Ends view result IsEnd
+ends_from_answers view IsEnd answer (Ok x) is e = subst IsEnd e is
+ends_from_answers view IsEnd answer (Err fault) is (inl memory) = inl memory
+ends_from_answers view IsEnd answer (Err fault) is (inr e) = inr (subst IsEnd e is)
+
+-- ---- a raw token
+
+bare_read : (bytes bare : List ℕ) (reading : Option RawParts) → length bytes ≤ TOKEN_MAX → IsBytes bare → Carries bytes bare → bare_of bare ≡ reading → ReadRaw bytes (or_malformed reading)
+bare_read bytes bare None short fits carries e = (
+  short,
+  (bare, carries),
+  λ (r, (other, carries_other, is)).
+      let same = carries_one bytes other bare carries_other carries in
+      let read = bare_again other r is in
+      let none = ap bare_of same ∙ e in
+      cc,
+)
+bare_read bytes bare (Some r) short fits carries e = (short, (bare, carries, bare_takes bare r fits e))
+
+carried_read : (bytes : List ℕ) (reading : Option (List ℕ)) → length bytes ≤ TOKEN_MAX → IsBytes bytes → carried bytes ≡ reading → ReadRaw bytes (or_transport reading)
+carried_read bytes None short fits e = (short, λ (bare, carries). let read = carried_again bytes bare carries in cc)
+carried_read bytes (Some bare) short fits e =
+    let carries = carried_takes bytes bare e in
+    bare_read bytes bare (bare_of bare) short (carried_bytes bytes bare fits carries) carries refl
+
+raw_read_by : (long : Bool) (bytes : List ℕ) → nat_lt TOKEN_MAX (length bytes) ≡ long → IsBytes bytes → ReadRaw bytes (cond long (Err Limit) (or_transport (carried bytes)))
+raw_read_by true bytes e fits = ltb-true TOKEN_MAX (length bytes) e
+raw_read_by false bytes e fits = carried_read bytes (carried bytes) (ltb-false TOKEN_MAX (length bytes) e) fits refl
+
+-- what is read up to the grammar
+pub raw_read_means : (bytes : List ℕ) → IsBytes bytes → ReadRaw bytes (raw_read_of bytes)
+unfolding raw_read_of
+raw_read_means bytes fits = raw_read_by (nat_lt TOKEN_MAX (length bytes)) bytes refl fits
+
+-- ---- a token
+
+abbrev any_vid : List CaveatParts → Bool
+any_vid cs = list_any (λ c. is_some c.vid) cs
+
+abbrev any_location : List CaveatParts → Bool
+any_location cs = list_any (λ c. is_some c.location) cs
+
+none_vid : (cs : List CaveatParts) → any_vid cs ≡ false → ¬ Any HasVid cs
+none_vid cs e any = both_ways (any_vid cs) e (list_any-from_Any (λ (c : CaveatParts). is_some c.vid) cs any)
+
+none_location : (cs : List CaveatParts) → any_location cs ≡ false → ¬ Any HasLocation cs
+none_location cs e any = both_ways (any_location cs) e (list_any-from_Any (λ (c : CaveatParts). is_some c.location) cs any)
+
+either : (a b : Bool) → (a || b) ≡ false → (a ≡ false) × (b ≡ false)
+either true b e = absurd cc
+either false b e = (refl, e)
+
+absent : (o : Option (List ℕ)) → is_some o ≡ false → o ≡ None
+absent None e = refl
+absent (Some x) e = absurd cc
+
+abbrev caveat_parts : List ℕ → Option (List ℕ) → Option (List ℕ) → CaveatParts
+caveat_parts id vid location = record { id = id; vid = vid; location = location }
+
+abbrev raw_parts : List ℕ → List ℕ → List CaveatParts → List ℕ → RawParts
+raw_parts location identifier caveats sig = record { location = location; identifier = identifier; caveats = caveats; sig = sig }
+
+abbrev some_token : List ℕ → List ℕ → List (List ℕ) → List ℕ → TokenParts
+some_token location identifier caveats sig = record { location = location; identifier = identifier; caveats = caveats; sig = sig }
+
+-- without verifiers' ids and locations the caveats are first-party
+pub first_parties : (cs : List CaveatParts) → any_vid cs ≡ false → any_location cs ≡ false → map first_party (map (λ c. c.id) cs) ≡ cs
+first_parties [] no_vid no_location = refl
+first_parties (c ∷ cs) no_vid no_location =
+    let vids = either (is_some c.vid) (any_vid cs) no_vid in
+    let locations = either (is_some c.location) (any_location cs) no_location in
+    let vid = absent c.vid vids.0 in
+    let location = absent c.location locations.0 in
+    let others = first_parties cs vids.1 locations.1 in
+    let first : first_party c.id ≡ c = ap (λ (v : Option (List ℕ)). caveat_parts c.id v None) (sym vid) ∙ ap (λ (l : Option (List ℕ)). caveat_parts c.id c.vid l) (sym location) in
+    ap (λ (x : CaveatParts). x ∷ map first_party (map (λ x. x.id) cs)) first ∙ ap (λ (xs : List CaveatParts). c ∷ xs) others
+
+-- without them a raw token is a token
+token_parts_of : (r : RawParts) → any_vid r.caveats ≡ false → any_location r.caveats ≡ false → raw_of (parts_of r) ≡ r
+token_parts_of r no_vid no_location = ap (λ (cs : List CaveatParts). raw_parts r.location r.identifier cs r.sig) (first_parties r.caveats no_vid no_location)
+
+token_by : (vid location fits : Bool) (bytes : List ℕ) (r : RawParts) → length bytes ≤ TOKEN_MAX → Spells bytes r → any_vid r.caveats ≡ vid → any_location r.caveats ≡ location → is_within (parts_of r) ≡ fits
+    → Read bytes (cond vid (Err ThirdParty) (cond location (Err CaveatLocation) (cond fits (Ok (parts_of r)) (Err Limit))))
+token_by true location fits bytes r short spells has_vids has_locations within_is =
+    (short, (r, spells, Any-from_list_any (λ (c : CaveatParts). is_some c.vid) r.caveats has_vids))
+token_by false true fits bytes r short spells no_vid has_locations within_is =
+    (short, (r, spells, none_vid r.caveats no_vid, Any-from_list_any (λ (c : CaveatParts). is_some c.location) r.caveats has_locations))
+token_by false false true bytes r short spells no_vid no_location within_is =
+    (short, subst (Spells bytes) (sym (token_parts_of r no_vid no_location)) spells, (is_within-Decides (parts_of r)).0 within_is)
+token_by false false false bytes r short spells no_vid no_location within_is =
+    inr (short, (r, spells, none_vid r.caveats no_vid, none_location r.caveats no_location, λ fits. both_ways (is_within (parts_of r)) within_is ((is_within-Decides (parts_of r)).1 fits)))
+
+token_means : (bytes : List ℕ) (r : RawParts) → length bytes ≤ TOKEN_MAX → Spells bytes r → Read bytes (token_of r)
+unfolding token_of
+token_means bytes r short spells = token_by (any_vid r.caveats) (any_location r.caveats) (is_within (parts_of r)) bytes r short spells refl refl refl
+
+read_from : (bytes : List ℕ) (raw : Result RawParts TokenFault) → ReadRaw bytes raw → Read bytes (token_of_read raw)
+read_from bytes (Ok r) raw = token_means bytes r raw.0 raw.1
+read_from bytes (Err Limit) raw = inl raw
+read_from bytes (Err Transport) raw = raw
+read_from bytes (Err Malformed) raw = raw
+read_from bytes (Err ThirdParty) raw = absurd raw
+read_from bytes (Err CaveatLocation) raw = absurd raw
+read_from bytes (Err Memory) raw = absurd raw
+
+-- what is read
+pub read_means : (bytes : List ℕ) → IsBytes bytes → Read bytes (read_of bytes)
+unfolding read_of
+read_means bytes fits = read_from bytes (raw_read_of bytes) (raw_read_means bytes fits)
+
+-- ---- one meaning
+
+short_read : (bytes : List ℕ) → length bytes ≤ TOKEN_MAX → raw_read_of bytes ≡ or_transport (carried bytes)
+unfolding raw_read_of
+short_read bytes short = rw (le-ltb TOKEN_MAX (length bytes) short) refl
+
+-- what is spelled within the greatest length is read
+pub spelled_read : (bytes : List ℕ) (r : RawParts) → length bytes ≤ TOKEN_MAX → Spells bytes r → raw_read_of bytes ≡ Ok r
+spelled_read bytes r short (bare, carries, is) =
+    short_read bytes short ∙ ap or_transport (carried_again bytes bare carries) ∙ ap or_malformed (bare_again bare r is)
+
+nothing_carried : (bytes : List ℕ) (reading : Option (List ℕ)) → carried bytes ≡ reading → (¬ ((bare : List ℕ) × Carries bytes bare)) → reading ≡ None
+nothing_carried bytes None e never = refl
+nothing_carried bytes (Some bare) e never = absurd (never (bare, carried_takes bytes bare e))
+
+nothing_spelled : (bytes bare : List ℕ) (reading : Option RawParts) → IsBytes bare → Carries bytes bare → bare_of bare ≡ reading → (¬ ((r : RawParts) × Spells bytes r)) → reading ≡ None
+nothing_spelled bytes bare None fits carries e never = refl
+nothing_spelled bytes bare (Some r) fits carries e never = absurd (never (r, (bare, carries, bare_takes bare r fits e)))
+
+-- reading up to the grammar ends in one way
+pub raw_read_once : (bytes : List ℕ) (x : Result RawParts TokenFault) → IsBytes bytes → ReadRaw bytes x → raw_read_of bytes ≡ x
+unfolding raw_read_of
+raw_read_once bytes (Ok r) fits raw = spelled_read bytes r raw.0 raw.1
+raw_read_once bytes (Err Limit) fits raw = rw (lt-ltb TOKEN_MAX (length bytes) raw) refl
+raw_read_once bytes (Err Transport) fits raw = short_read bytes raw.0 ∙ ap or_transport (nothing_carried bytes (carried bytes) refl raw.1)
+raw_read_once bytes (Err Malformed) fits raw =
+    let bare = raw.1.0 in
+    let carries = raw.1.1 in
+    short_read bytes raw.0 ∙ ap or_transport (carried_again bytes bare carries)
+    ∙ ap or_malformed (nothing_spelled bytes bare (bare_of bare) (carried_bytes bytes bare fits carries) carries refl raw.2)
+raw_read_once bytes (Err ThirdParty) fits raw = absurd raw
+raw_read_once bytes (Err CaveatLocation) fits raw = absurd raw
+raw_read_once bytes (Err Memory) fits raw = absurd raw
+
+some_vid : (cs : List CaveatParts) → Any HasVid cs → any_vid cs ≡ true
+some_vid cs any = list_any-from_Any (λ (c : CaveatParts). is_some c.vid) cs any
+
+some_location : (cs : List CaveatParts) → Any HasLocation cs → any_location cs ≡ true
+some_location cs any = list_any-from_Any (λ (c : CaveatParts). is_some c.location) cs any
+
+not_true : (test : Bool) → (test ≡ true → ⊥) → test ≡ false
+not_true true never = absurd (never refl)
+not_true false never = refl
+
+no_vid_is : (cs : List CaveatParts) → (¬ Any HasVid cs) → any_vid cs ≡ false
+no_vid_is cs never = not_true (any_vid cs) (λ e. never (Any-from_list_any (λ (c : CaveatParts). is_some c.vid) cs e))
+
+no_location_is : (cs : List CaveatParts) → (¬ Any HasLocation cs) → any_location cs ≡ false
+no_location_is cs never = not_true (any_location cs) (λ e. never (Any-from_list_any (λ (c : CaveatParts). is_some c.location) cs e))
+
+-- a token's caveats are first-party
+first_party_vids : (caveats : List (List ℕ)) → any_vid (map first_party caveats) ≡ false
+first_party_vids [] = refl
+first_party_vids (c ∷ cs) = first_party_vids cs
+
+first_party_locations : (caveats : List (List ℕ)) → any_location (map first_party caveats) ≡ false
+first_party_locations [] = refl
+first_party_locations (c ∷ cs) = first_party_locations cs
+
+first_party_ids : (caveats : List (List ℕ)) → map (λ c. c.id) (map first_party caveats) ≡ caveats
+first_party_ids [] = refl
+first_party_ids (c ∷ cs) = ap (λ (xs : List (List ℕ)). c ∷ xs) (first_party_ids cs)
+
+-- a token is read from what spells it
+pub token_of-raw_of : (t : TokenParts) → IsWithinLimits t → token_of (raw_of t) ≡ Ok t
+unfolding token_of
+token_of-raw_of t fits =
+    let parts : parts_of (raw_of t) ≡ t = ap (λ (cs : List (List ℕ)). some_token t.location t.identifier cs t.sig) (first_party_ids t.caveats) in
+    rw (first_party_vids t.caveats, first_party_locations t.caveats) (ap within parts ∙ within-Ok t fits)
+
+-- reading ends in one way
+pub read_once : (bytes : List ℕ) (x : Result TokenParts TokenFault) → IsBytes bytes → Read bytes x → read_of bytes ≡ x
+unfolding read_of token_of
+read_once bytes (Ok t) fits read = ap token_of_read (spelled_read bytes (raw_of t) read.0 read.1) ∙ token_of-raw_of t read.2
+read_once bytes (Err Limit) fits (inl long) = ap token_of_read (raw_read_once bytes (Err Limit) fits long)
+read_once bytes (Err Limit) fits (inr (short, (r, spells, no_vid, no_location, passes))) =
+    ap token_of_read (spelled_read bytes r short spells) ∙ rw (no_vid_is r.caveats no_vid, no_location_is r.caveats no_location) (within-Err (parts_of r) passes)
+read_once bytes (Err Transport) fits read = ap token_of_read (raw_read_once bytes (Err Transport) fits read)
+read_once bytes (Err Malformed) fits read = ap token_of_read (raw_read_once bytes (Err Malformed) fits read)
+read_once bytes (Err ThirdParty) fits (short, (r, spells, vids)) =
+    ap token_of_read (spelled_read bytes r short spells) ∙ rw (some_vid r.caveats vids) refl
+read_once bytes (Err CaveatLocation) fits (short, (r, spells, no_vid, locations)) =
+    ap token_of_read (spelled_read bytes r short spells) ∙ rw (no_vid_is r.caveats no_vid, some_location r.caveats locations) refl
+read_once bytes (Err Memory) fits read = absurd read
+
+-- a token that is read is within the limits
+pub read_of-within : (bytes : List ℕ) (t : TokenParts) → IsBytes bytes → read_of bytes ≡ Ok t → IsWithinLimits t
+read_of-within bytes t fits e = (subst (Read bytes) e (read_means bytes fits)).2
+
+-- reading never ends in want of memory
+pub read_of-memory : (bytes : List ℕ) → IsBytes bytes → read_of bytes ≡ Err Memory → ⊥
+read_of-memory bytes fits e = subst (Read bytes) e (read_means bytes fits)

@@ -1,0 +1,104 @@
+-- Writing V2 binary: parts appended one after another, and how long they are.
+use Rattle.std.proofs.Common.{◌≡◌, ℕ, ◌+◌, ◌<◌, ◌≤◌, List, [], ◌∷◌, ◌++◌, length, map, take, get_or, cond, All, Option, Some, None, refl, sym, ap, subst, ◌∙◌, append_assoc, arith}
+use Rattle.std.specs.Prelude.{slice_get, Result, Ok, Err, is_ok, OnOk}
+use Rattle.std.specs.List.{flat_map}
+use Rattle.std.proofs.lemmas.List.{append-nil, length-append, take_more, map_push, flat_map_more}
+use Rattle.std.proofs.lemmas.Option.{slice_get_within, get_or_from_slice_get}
+use Rattle.mac_token.specs.Varint.{varint}
+use Rattle.mac_token.specs.RawToken.{TokenParts}
+use Rattle.mac_token.specs.V2.{SectionParts, type_number, field, optional, end_mark, section, written_location, written_section, v2_bytes}
+use Rattle.mac_token.specs.declared.v2.FieldType.{FieldType}
+use Rattle.mac_token.specs.declared.v2.FieldType.TheVariants.{Location, Identifier, Signature}
+use Rattle.mac_token.proofs.V2Fields.{type_byte, end_is}
+
+-- a field, its type's byte first
+pub field_pushed : (out : List ℕ) (kind : FieldType) (bytes : List ℕ) → out ++ type_number kind ∷ [] ++ varint (length bytes) ++ bytes ≡ out ++ field kind bytes
+field_pushed out kind bytes =
+    ap (λ (t : List ℕ). out ++ t ++ varint (length bytes) ++ bytes) (sym (type_byte kind))
+    ∙ ap (λ (t : List ℕ). t ++ bytes) (append_assoc out (varint (type_number kind)) (varint (length bytes)))
+    ∙ append_assoc out (varint (type_number kind) ++ varint (length bytes)) bytes
+
+pub length-field : (kind : FieldType) (bytes : List ℕ) → length (field kind bytes) ≡ 1 + length (varint (length bytes)) + length bytes
+length-field kind bytes =
+    let one : length (varint (type_number kind)) ≡ 1 = ap length (type_byte kind) in
+    omega (arith, length-append (varint (type_number kind) ++ varint (length bytes)) bytes, length-append (varint (type_number kind)) (varint (length bytes)), one)
+
+-- an empty location is left out
+pub left_out : (location : List ℕ) → length location ≡ 0 → optional Location (written_location location) ≡ []
+left_out [] e = refl
+left_out (b ∷ bytes) e = absurd (omega arith)
+
+-- another is a field
+pub kept_in : (location : List ℕ) → (length location ≡ 0 → ⊥) → optional Location (written_location location) ≡ field Location location
+kept_in [] e = absurd (e refl)
+kept_in (b ∷ bytes) e = refl
+
+-- a section by its parts
+section_is : (location : Option (List ℕ)) (identifier : List ℕ) → section (written_section location identifier) ≡ optional Location location ++ field Identifier identifier ++ 0 ∷ []
+section_is location identifier =
+    ap (λ (t : List ℕ). t ++ end_mark) (append-nil (optional Location location ++ field Identifier identifier))
+    ∙ ap (λ (t : List ℕ). optional Location location ++ field Identifier identifier ++ t) end_is
+
+pub section_pushed : (out : List ℕ) (location : Option (List ℕ)) (identifier : List ℕ) → out ++ optional Location location ++ field Identifier identifier ++ 0 ∷ [] ≡ out ++ section (written_section location identifier)
+section_pushed out location identifier =
+    ap (λ (t : List ℕ). t ++ 0 ∷ []) (append_assoc out (optional Location location) (field Identifier identifier))
+    ∙ append_assoc out (optional Location location ++ field Identifier identifier) (0 ∷ [])
+    ∙ ap (λ (t : List ℕ). out ++ t) (sym (section_is location identifier))
+
+pub length-section : (location : Option (List ℕ)) (identifier : List ℕ) → length (section (written_section location identifier)) ≡ length (optional Location location) + length (field Identifier identifier) + 1
+length-section location identifier =
+    ap length (section_is location identifier)
+    ∙ omega (arith, length-append (optional Location location ++ field Identifier identifier) (0 ∷ []), length-append (optional Location location) (field Identifier identifier))
+
+-- the sections of caveats
+abbrev pub caveat_sections : List (List ℕ) → List ℕ
+caveat_sections caveats = flat_map section (map (written_section None) caveats)
+
+-- one caveat more
+pub caveat_sections_more : (caveats : List (List ℕ)) (i : ℕ) (caveat : List ℕ) → slice_get caveats i ≡ Some caveat → caveat_sections (take (i + 1) caveats) ≡ caveat_sections (take i caveats) ++ section (written_section None caveat)
+caveat_sections_more caveats i caveat at =
+    let there : i < length caveats = slice_get_within caveats i caveat at in
+    let item : get_or caveats i [] ≡ caveat = get_or_from_slice_get caveats i caveat [] at in
+    ap caveat_sections (take_more caveats i [] there ∙ ap (λ (c : List ℕ). take i caveats ++ c ∷ []) item)
+    ∙ ap (λ (t : List SectionParts). flat_map section t) (map_push (written_section None) (take i caveats) caveat)
+    ∙ sym (flat_map_more section [] (map (written_section None) (take i caveats)) (written_section None caveat))
+
+-- the whole, part after part
+pub v2_pushed : (t : TokenParts) → 2 ∷ [] ++ section (written_section (written_location t.location) t.identifier) ++ caveat_sections t.caveats ++ 0 ∷ [] ++ field Signature t.sig ≡ v2_bytes t
+v2_pushed t = ap (λ (e : List ℕ). 2 ∷ section (written_section (written_location t.location) t.identifier) ++ caveat_sections t.caveats ++ e ++ field Signature t.sig) (sym end_is)
+
+pub length-v2_bytes : (t : TokenParts) → length (v2_bytes t) ≡ 1 + length (optional Location (written_location t.location)) + length (field Identifier t.identifier) + 1 + length (caveat_sections t.caveats) + 1 + length (field Signature t.sig)
+length-v2_bytes t =
+    let head = section (written_section (written_location t.location) t.identifier) in
+    let one : length end_mark ≡ 1 = ap length end_is in
+    omega (arith, length-append (2 ∷ head ++ caveat_sections t.caveats ++ end_mark) (field Signature t.sig), length-append (2 ∷ head ++ caveat_sections t.caveats) end_mark, length-append (2 ∷ head) (caveat_sections t.caveats), length-section (written_location t.location) t.identifier, one)
+
+-- the length with one caveat more
+pub length-caveat_sections_more : (caveats : List (List ℕ)) (i : ℕ) (caveat : List ℕ) → slice_get caveats i ≡ Some caveat → length (caveat_sections (take (i + 1) caveats)) ≡ length (caveat_sections (take i caveats)) + (length (field Identifier caveat) + 1)
+length-caveat_sections_more caveats i caveat at =
+    ap length (caveat_sections_more caveats i caveat at)
+    ∙ omega (arith, length-append (caveat_sections (take i caveats)) (section (written_section None caveat)), length-section None caveat)
+
+-- a caveat that is there has the length that each has
+pub each_at : (caveats : List (List ℕ)) (i : ℕ) (caveat : List ℕ) (limit : ℕ) → All (λ c. length c ≤ limit) caveats → slice_get caveats i ≡ Some caveat → length caveat ≤ limit
+each_at caveats i caveat limit each at =
+    subst (λ (c : List ℕ). length c ≤ limit) (get_or_from_slice_get caveats i caveat [] at) (each i [] (slice_get_within caveats i caveat at))
+
+whole : (a b c d e f g h : ℕ) → a ≡ e → b ≡ f → c ≡ g → d ≡ h → 1 + a + b + 1 + c + 1 + d ≡ 1 + e + f + 1 + g + 1 + h
+whole a b c d e f g h p q r s = omega arith
+
+-- what a buffer holds after a last call that appends
+pub appended : {E : Type 0} (r : Result (Unit {0}) E) (new old bytes whole : List ℕ) → new ≡ cond (is_ok r) (old ++ bytes) old → old ++ bytes ≡ whole → OnOk r (new ≡ whole)
+appended (Ok x) new old bytes whole is same = is ∙ same
+appended (Err e) new old bytes whole is same = tt
+
+-- the length, by those of the parts
+pub v2_len_sum : (t : TokenParts) (location identifier caveats sig : ℕ) → location ≡ length (optional Location (written_location t.location)) → identifier ≡ length (field Identifier t.identifier) → caveats ≡ length (caveat_sections t.caveats) → sig ≡ length (field Signature t.sig)
+    → 1 + location + identifier + 1 + caveats + 1 + sig ≡ length (v2_bytes t)
+v2_len_sum t location identifier caveats sig a b c d = whole location identifier caveats sig _ _ _ _ a b c d ∙ sym (length-v2_bytes t)
+
+-- the bytes, part after part
+pub v2_written : (t : TokenParts) (o p q r s w : List ℕ) → o ≡ [] → p ≡ o ++ 2 ∷ [] → q ≡ p ++ section (written_section (written_location t.location) t.identifier) → r ≡ q ++ caveat_sections t.caveats → s ≡ r ++ 0 ∷ [] → w ≡ s ++ field Signature t.sig → w ≡ v2_bytes t
+v2_written t o p q r s w a b c d e f =
+    f ∙ ap (λ (x : List ℕ). x ++ field Signature t.sig) (e ∙ ap (λ (x : List ℕ). x ++ 0 ∷ []) (d ∙ ap (λ (x : List ℕ). x ++ caveat_sections t.caveats) (c ∙ ap (λ (x : List ℕ). x ++ section (written_section (written_location t.location) t.identifier)) (b ∙ ap (λ (x : List ℕ). x ++ 2 ∷ []) a))))
+    ∙ v2_pushed t

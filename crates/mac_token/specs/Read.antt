@@ -1,0 +1,94 @@
+-- What reading answers, in the order of its tests.
+use Rattle.std.specs.Prelude.{◌⊎◌, ℕ, ◌<◌, ◌≤◌, ◌==◌, ◌||◌, nat_lt, Bool, if◌then◌else◌, List, [], ◌∷◌, map, length, is_some, Option, Some, None, IsSome, Result, Ok, Err, Any}
+use Rattle.std.specs.List.{list_any}
+use Rattle.mac_token.specs.declared.fault.TokenFault.{TokenFault}
+use Rattle.mac_token.specs.declared.fault.TokenFault.TheVariants.{Transport, Malformed, ThirdParty, Limit, CaveatLocation, Memory}
+use Rattle.mac_token.specs.declared.limits.TheConstants.{TOKEN_MAX}
+use Rattle.mac_token.specs.RawToken.{CaveatParts, RawParts, TokenParts, token_parts, raw_of}
+use Rattle.mac_token.specs.Limits.{IsWithinLimits, within}
+use Rattle.mac_token.specs.Spells.{Carries, Spells}
+use Rattle.mac_token.specs.Base64Reading.{base64_bytes}
+use Rattle.mac_token.specs.V1Reading.{v1_of}
+use Rattle.mac_token.specs.V2Whole.{v2_of}
+use Rattle.mac_token.specs.JsonReading.{json_text_of}
+
+-- ---- the meaning, in the words of the forms
+
+-- the caveat is third-party: it has a verifier's id, be it empty
+abbrev pub HasVid : CaveatParts → Type 0
+HasVid c = IsSome c.vid
+
+-- the caveat has a location
+abbrev pub HasLocation : CaveatParts → Type 0
+HasLocation c = IsSome c.location
+
+-- the parts of a raw token that a token has too
+abbrev pub parts_of : RawParts → TokenParts
+parts_of r = token_parts r.location r.identifier (map (λ c. c.id) r.caveats) r.sig
+
+-- how reading these bytes ends; each refusal only where none before it applies: the input's length, its transport,
+-- the grammar, a verifier's id anywhere, a caveat's location anywhere, the other limits
+abbrev pub Read : List ℕ → Result TokenParts TokenFault → Type 0
+Read bytes (Ok t) = (length bytes ≤ TOKEN_MAX) × Spells bytes (raw_of t) × IsWithinLimits t
+Read bytes (Err Limit) = (TOKEN_MAX < length bytes)
+    ⊎ ((length bytes ≤ TOKEN_MAX) × ((r : RawParts) × Spells bytes r × (¬ Any HasVid r.caveats) × (¬ Any HasLocation r.caveats) × (¬ IsWithinLimits (parts_of r))))
+Read bytes (Err Transport) = (length bytes ≤ TOKEN_MAX) × (¬ ((bare : List ℕ) × Carries bytes bare))
+Read bytes (Err Malformed) = (length bytes ≤ TOKEN_MAX) × ((bare : List ℕ) × Carries bytes bare) × (¬ ((r : RawParts) × Spells bytes r))
+Read bytes (Err ThirdParty) = (length bytes ≤ TOKEN_MAX) × ((r : RawParts) × Spells bytes r × Any HasVid r.caveats)
+Read bytes (Err CaveatLocation) = (length bytes ≤ TOKEN_MAX) × ((r : RawParts) × Spells bytes r × (¬ Any HasVid r.caveats) × Any HasLocation r.caveats)
+Read bytes (Err Memory) = ⊥
+
+-- the same, up to the grammar
+abbrev pub ReadRaw : List ℕ → Result RawParts TokenFault → Type 0
+ReadRaw bytes (Ok r) = (length bytes ≤ TOKEN_MAX) × Spells bytes r
+ReadRaw bytes (Err Limit) = TOKEN_MAX < length bytes
+ReadRaw bytes (Err Transport) = (length bytes ≤ TOKEN_MAX) × (¬ ((bare : List ℕ) × Carries bytes bare))
+ReadRaw bytes (Err Malformed) = (length bytes ≤ TOKEN_MAX) × ((bare : List ℕ) × Carries bytes bare) × (¬ ((r : RawParts) × Spells bytes r))
+ReadRaw bytes (Err ThirdParty) = ⊥
+ReadRaw bytes (Err CaveatLocation) = ⊥
+ReadRaw bytes (Err Memory) = ⊥
+
+-- ---- the same as functions, which the laws of this crate tie to it
+
+-- the first byte is one of `0`, 2 and `{`
+abbrev pub calls_for_bare : ℕ → Bool
+calls_for_bare b = b == 48 || (b == 2 || b == 123)
+
+-- the bytes that are to be a bare form
+unfoldable pub carried : List ℕ → Option (List ℕ)
+carried [] = None
+carried (b ∷ bytes) = if calls_for_bare b then Some (b ∷ bytes) else base64_bytes (b ∷ bytes)
+
+-- the raw token that a bare form spells
+unfoldable pub bare_of : List ℕ → Option RawParts
+bare_of [] = None
+bare_of (b ∷ bytes) = if b == 48 then v1_of (b ∷ bytes) else if b == 2 then v2_of (b ∷ bytes) else if b == 123 then json_text_of (b ∷ bytes) else None
+
+-- the raw token, or Malformed
+abbrev pub or_malformed : Option RawParts → Result RawParts TokenFault
+or_malformed None = Err Malformed
+or_malformed (Some r) = Ok r
+
+-- the raw token in what is carried, or Transport
+abbrev pub or_transport : Option (List ℕ) → Result RawParts TokenFault
+or_transport None = Err Transport
+or_transport (Some bare) = or_malformed (bare_of bare)
+
+-- what `read_raw` answers
+unfoldable pub raw_read_of : List ℕ → Result RawParts TokenFault
+raw_read_of bytes = if nat_lt TOKEN_MAX (length bytes) then Err Limit else or_transport (carried bytes)
+
+-- a raw token as a token, or why it is none
+unfoldable pub token_of : RawParts → Result TokenParts TokenFault
+token_of r = if list_any (λ c. is_some c.vid) r.caveats then Err ThirdParty
+    else if list_any (λ c. is_some c.location) r.caveats then Err CaveatLocation
+    else within (parts_of r)
+
+-- a token, or the refusal of what was read before
+abbrev pub token_of_read : Result RawParts TokenFault → Result TokenParts TokenFault
+token_of_read (Err fault) = Err fault
+token_of_read (Ok r) = token_of r
+
+-- what `read` answers
+unfoldable pub read_of : List ℕ → Result TokenParts TokenFault
+read_of bytes = token_of_read (raw_read_of bytes)

@@ -1,0 +1,23 @@
+-- What is written for a token, in each form.
+use Rattle.std.specs.Prelude.{ℕ, List, length, nat_lt, if◌then◌else◌, Result, Ok, Err}
+use Rattle.mac_token.specs.declared.fault.TokenFault.{TokenFault}
+use Rattle.mac_token.specs.declared.fault.TokenFault.TheVariants.{Limit}
+use Rattle.mac_token.specs.declared.form.Form.{Form}
+use Rattle.mac_token.specs.declared.form.Form.TheVariants.{V1Text, V2Binary, V2Json, V2Text}
+use Rattle.mac_token.specs.declared.limits.TheConstants.{TOKEN_MAX}
+use Rattle.mac_token.specs.RawToken.{TokenParts}
+use Rattle.mac_token.specs.Base64Text.{base64_of}
+use Rattle.mac_token.specs.V1.{v1_bytes}
+use Rattle.mac_token.specs.V2.{v2_bytes}
+use Rattle.mac_token.specs.Json.{json_bytes}
+
+-- the one list of bytes for a token in a form: base64 text is URL-safe and unpadded
+unfoldable pub written : TokenParts → Form → List ℕ
+written t V1Text = base64_of (v1_bytes t)
+written t V2Binary = v2_bytes t
+written t V2Json = json_bytes t
+written t V2Text = base64_of (v2_bytes t)
+
+-- what writing answers: Limit exactly where the bytes would pass a token's greatest length
+unfoldable pub write_of : TokenParts → Form → Result (List ℕ) TokenFault
+write_of t form = if nat_lt TOKEN_MAX (length (written t form)) then Err Limit else Ok (written t form)

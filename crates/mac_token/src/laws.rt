@@ -1,0 +1,110 @@
+//! Laws about the definitions, each the contract of a function that does nothing.
+
+ghost use Rattle.std.specs.Prelude.{◌≡◌, ◌≤◌, ◌↔◌, ◌++◌, ◌∷◌, ℕ, List, length, codes, Some, Ok, Result, IsTrue};
+ghost use Rattle.std.specs.Str.{IsUtf8};
+ghost use Rattle.base64.specs.Engines.{standard, standard_no_pad, url_safe, url_safe_no_pad};
+ghost use Rattle.base64.specs.GeneralPurpose.{IsBytes, engine_symbols};
+ghost use Rattle.mac_token.specs.declared.fault.TokenFault.{TokenFault};
+ghost use Rattle.mac_token.specs.declared.form.Form.{Form};
+ghost use Rattle.mac_token.specs.declared.limits.TheConstants.{TOKEN_MAX};
+ghost use Rattle.mac_token.specs.Base64Text.{IsBase64Of, base64_of};
+ghost use Rattle.mac_token.specs.Json.{JsonText, json_bytes};
+ghost use Rattle.mac_token.specs.Limits.{IsWithinLimits, is_within};
+ghost use Rattle.mac_token.specs.RawToken.{RawParts, TokenParts, IsToken, raw_of};
+ghost use Rattle.mac_token.specs.Read.{Read, ReadRaw, read_of, raw_read_of};
+ghost use Rattle.mac_token.specs.Spells.{Spells};
+ghost use Rattle.mac_token.specs.V1.{V1, v1_bytes};
+ghost use Rattle.mac_token.specs.V2.{V2, v2_bytes};
+ghost use Rattle.mac_token.specs.Varint.{varint, IsVarint, IsLeb128, number_of};
+ghost use Rattle.mac_token.specs.Written.{written};
+
+/// Bytes spell at most one raw token, over all forms.
+pub fn spells_one()
+    ensures { (bytes : List ℕ) (r s : RawParts) → Spells bytes r → Spells bytes s → r ≡ s }
+{}
+
+/// What is written for a token spells it, in each form.
+pub fn written_spells()
+    ensures { (t : TokenParts) (form : Form) → IsToken t → IsWithinLimits t → Spells (written t form) (raw_of t) }
+{}
+
+/// What was written is read again as the same token, unless it is longer than a token may be.
+pub fn written_is_read_again()
+    ensures { (t : TokenParts) (form : Form) → IsToken t → IsWithinLimits t → length (written t form) ≤ TOKEN_MAX → read_of (written t form) ≡ Ok t }
+{}
+
+/// What the function of reading gives is the one way in which reading may end.
+pub fn read_is_meant()
+    ensures { (bytes : List ℕ) (end : Result TokenParts TokenFault) → IsBytes bytes → Read bytes end ↔ (read_of bytes ≡ end) }
+{}
+
+/// The same up to the grammar.
+pub fn raw_read_is_meant()
+    ensures { (bytes : List ℕ) (end : Result RawParts TokenFault) → IsBytes bytes → ReadRaw bytes end ↔ (raw_read_of bytes ≡ end) }
+{}
+
+/// The test of the limits holds exactly within them.
+pub fn limits_are_tested()
+    ensures { (t : TokenParts) → IsTrue (is_within t) ↔ IsWithinLimits t }
+{}
+
+/// Packets spell at most one raw token.
+pub fn v1_spells_one()
+    ensures { (bytes : List ℕ) (r s : RawParts) → V1 bytes r → V1 bytes s → r ≡ s }
+{}
+
+/// The packets of a token spell it; within the limits each packet's length fits its four digits.
+pub fn v1_is_read_again()
+    ensures { (t : TokenParts) → IsToken t → IsWithinLimits t → V1 (v1_bytes t) (raw_of t) }
+{}
+
+/// The varint of a number is its one minimal list of groups.
+pub fn varint_is_minimal()
+    ensures { (bytes : List ℕ) (n : ℕ) → IsVarint bytes n ↔ (bytes ≡ varint n) }
+{}
+
+/// No list of groups for a number is shorter than its varint.
+pub fn varint_is_shortest()
+    ensures { (bytes : List ℕ) → IsLeb128 bytes → length (varint (number_of bytes)) ≤ length bytes }
+{}
+
+/// At most one token is spelled by given bytes in V2 binary.
+pub fn v2_spells_one()
+    ensures { (bytes : List ℕ) (r s : RawParts) → V2 bytes r → V2 bytes s → r ≡ s }
+{}
+
+/// What is written in V2 binary spells its token.
+pub fn v2_is_read_again()
+    ensures { (t : TokenParts) → IsUtf8 t.location → length t.sig ≡ 32 → V2 (v2_bytes t) (raw_of t) }
+{}
+
+/// What is spelled in V2 binary begins with the byte 2.
+pub fn v2_begins_with_2()
+    ensures { (bytes : List ℕ) (r : RawParts) → V2 bytes r → (rest : List ℕ) × (bytes ≡ 2 ∷ rest) }
+{}
+
+/// At most one token is spelled by given bytes in V2 JSON.
+pub fn json_spells_one()
+    ensures { (bytes : List ℕ) (r s : RawParts) → JsonText bytes r → JsonText bytes s → r ≡ s }
+{}
+
+/// What is written in V2 JSON spells its token.
+pub fn json_is_read_again()
+    ensures { (t : TokenParts) → IsToken t → JsonText (json_bytes t) (raw_of t) }
+{}
+
+/// A base64 text spells at most one list of bytes.
+pub fn base64_spells_one()
+    ensures { (text a b : List ℕ) → IsBase64Of text a → IsBase64Of text b → a ≡ b }
+{}
+
+/// The base64 text that is written spells its bytes.
+pub fn base64_is_read_again()
+    ensures { (bytes : List ℕ) → IsBytes bytes → IsBase64Of (base64_of bytes) bytes }
+{}
+
+/// The engines' tables hold the two alphabets of RFC 4648, sections 4 and 5.
+pub fn base64_has_these_letters()
+    ensures plain { (engine_symbols standard ≡ codes "ABCDEFGHIJKLMNOPQRSTUVWXYZabcdefghijklmnopqrstuvwxyz0123456789+/") × (engine_symbols standard_no_pad ≡ engine_symbols standard) }
+    ensures url_safe { (engine_symbols url_safe ≡ codes "ABCDEFGHIJKLMNOPQRSTUVWXYZabcdefghijklmnopqrstuvwxyz0123456789-_") × (engine_symbols url_safe_no_pad ≡ engine_symbols url_safe) }
+{}

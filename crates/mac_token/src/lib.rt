@@ -1,0 +1,26 @@
+//! Tokens: what they are, and the forms in which they are written and read.
+#![tactic(auto)]
+
+mod base64_text;
+pub mod fault;
+pub mod form;
+mod json_read;
+mod json_write;
+pub mod laws;
+pub mod limits;
+mod location;
+pub mod raw;
+pub mod reading;
+pub mod token;
+mod v1;
+mod v2;
+mod varint;
+pub mod writing;
+
+pub use fault::{NoMemory, TokenFault};
+pub use form::Form;
+pub use limits::{CAVEAT_MAX, CAVEATS_MAX, IDENTIFIER_MAX, LOCATION_MAX, TOKEN_MAX};
+pub use raw::{RawCaveat, RawToken};
+pub use reading::{read, read_raw};
+pub use token::Token;
+pub use writing::write;

@@ -1,0 +1,18 @@
+//! V1 packets.
+//!
+//! A packet begins with its own length, in four hexadecimal digits of lower case; behind it stand a key
+//! name, a space, a value and a line feed. A token's packets come in this order:
+//!
+//! ```text
+//! location
+//! identifier
+//! for each caveat: cid; vid, if it has one; cl, if it has one
+//! signature, of 32 bytes
+//! ```
+
+mod key;
+mod reading;
+mod writing;
+
+pub(crate) use reading::read_v1;
+pub(crate) use writing::{v1_len, write_v1};

@@ -1,0 +1,37 @@
+//! The keys of packets.
+
+ghost use Rattle.std.specs.Prelude.{◌≡◌, ◌++◌, ◌∷◌, [], ◌≤◌, length};
+ghost use Rattle.mac_token.specs.V1.{key_name};
+
+/// What a packet holds.
+#[derive(Clone, Copy, Debug, PartialEq, Eq)]
+pub enum Key {
+    /// The token's location.
+    Location,
+    /// The token's identifier.
+    Identifier,
+    /// A caveat's bytes.
+    Cid,
+    /// The verifier's id of a third-party caveat.
+    Vid,
+    /// A caveat's location.
+    Cl,
+    /// The signature.
+    Signature,
+}
+
+impl Key {
+    /// The key's name with the space behind it.
+    pub(crate) fn name_and_space(self) -> &'static [u8]
+        ensures { result.now ≡ key_name self ++ 32 ∷ [] }
+    {
+        match self {
+            Key::Location => b"location ",
+            Key::Identifier => b"identifier ",
+            Key::Cid => b"cid ",
+            Key::Vid => b"vid ",
+            Key::Cl => b"cl ",
+            Key::Signature => b"signature ",
+        }
+    }
+}

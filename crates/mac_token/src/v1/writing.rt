@@ -1,0 +1,92 @@
+//! Packets written.
+
+ghost use Rattle.std.specs.Prelude.{◌≡◌, ◌++◌, ◌≤◌, ◌<◌, ◌^◌, ◌%◌, ◌+◌, ◌*◌, ℕ, length, IfOk, OnOk, Some, slice_index, map};
+ghost use Rattle.std.specs.List.{flat_map};
+ghost use Rattle.mac_token.specs.Limits.{AreShort};
+ghost use Rattle.mac_token.specs.RawToken.{byte_lists};
+ghost use Rattle.mac_token.specs.V1.{Field, packet, packet_length, hex_digit, hex_digits, v1_bytes, caveat_field};
+
+use super::key::Key;
+use crate::fault::NoMemory;
+use crate::limits::{CAVEAT_MAX, CAVEATS_MAX};
+use crate::token::Token;
+use std::alloc::Global;
+
+const DIGITS: [u8; 16] = *b"0123456789abcdef";
+
+fn hex_digit(value: usize) -> u8
+    ensures { result ≡ hex_digit (value % 16) }
+{
+    DIGITS[value % 16]
+}
+
+fn packet_len(key: Key, value: &[u8]) -> usize
+    ensures { result ≡ packet_length (record { key = key; value = value.now }) }
+{
+    4 + key.name_and_space().len() + value.len() + 1
+}
+
+#[tactic(auto, unfolding(crate::specs::V1::packet))]
+fn put_packet(out: &mut Vec<u8>, key: Key, value: &[u8]) -> Result<(), NoMemory>
+    ensures { OnOk result (out.new.items ≡ out.old.items ++ packet (record { key = key; value = value.now })) }
+{
+    let len = packet_len(key, value);
+    let digits = [
+        hex_digit(len / 4096),
+        hex_digit(len / 256),
+        hex_digit(len / 16),
+        hex_digit(len),
+    ];
+    out.extend_from_slice(&digits)?;
+    out.extend_from_slice(key.name_and_space())?;
+    out.extend_from_slice(value)?;
+    out.extend_from_slice(b"\n")?;
+    Ok(())
+}
+
+fn caveats_len(caveats: &[Vec<u8>]) -> usize
+    requires count { length caveats.now ≤ CAVEATS_MAX }
+    requires each { AreShort (byte_lists caveats.now) }
+    ensures value { result ≡ length (flat_map packet (map caveat_field (byte_lists caveats.now))) }
+    ensures bound { result ≤ CAVEATS_MAX * (CAVEAT_MAX + 9) }
+{
+    let mut len = 0;
+    for caveat in caveats {
+        len += packet_len(Key::Cid, caveat);
+    }
+    len
+}
+
+/// How many bytes the token's packets take.
+#[tactic(auto, using(crate::proofs::Packets::v1_lengths))]
+pub(crate) fn v1_len(token: &Token) -> usize
+    ensures value { result ≡ length (v1_bytes token.now) }
+    ensures bound { result < 2 ^ 32 }
+{
+    let caveats = caveats_len(token.caveat_buffers());
+    packet_len(Key::Location, token.location().as_bytes())
+        + packet_len(Key::Identifier, token.identifier())
+        + caveats
+        + packet_len(Key::Signature, &token.sig())
+}
+
+fn put_caveats(out: &mut Vec<u8>, caveats: &[Vec<u8>]) -> Result<(), NoMemory>
+    ensures { OnOk result (out.new.items ≡ out.old.items ++ flat_map packet (map caveat_field (byte_lists caveats.now))) }
+{
+    for caveat in caveats {
+        put_packet(out, Key::Cid, caveat)?;
+    }
+    Ok(())
+}
+
+/// The token's packets; `len` is how many bytes they take.
+pub(crate) fn write_v1(alloc: Global, token: &Token, len: usize) -> Result<Vec<u8>, NoMemory>
+    ensures { IfOk result (λ v. v.items ≡ v1_bytes token.now) }
+{
+    let mut out = Vec::with_capacity(alloc, len)?;
+    put_packet(&mut out, Key::Location, token.location().as_bytes())?;
+    put_packet(&mut out, Key::Identifier, token.identifier())?;
+    put_caveats(&mut out, token.caveat_buffers())?;
+    put_packet(&mut out, Key::Signature, &token.sig())?;
+    Ok(out)
+}
