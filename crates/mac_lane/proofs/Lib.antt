@@ -1,0 +1,16 @@
+pub mod Bounded
+pub mod Faults
+pub mod Places
+pub mod Waiting
+pub mod Marks
+pub mod Tracked
+pub mod Sends
+pub mod Staffed
+pub mod Steps
+pub mod Runs
+pub mod Moves
+pub mod Kept
+pub mod Beginnings
+pub mod Claims
+pub mod Origins
+pub mod SentPlaces

@@ -1,0 +1,42 @@
+-- What the laws say of whole runs. All of it is this project's own.
+use Rattle.std.specs.Prelude.{◌≡◌, ℕ, ◌==◌, if◌then◌else◌, List, [], ◌∷◌, ◌++◌, Some, slice_get}
+use Rattle.mac_lane.specs.State.{State, opening}
+use Rattle.mac_lane.specs.Ran.{ran}
+use Rattle.mac_lane.specs.declared.event.Event.{Event}
+use Rattle.mac_lane.specs.declared.event.Event.TheVariants.{Send}
+use Rattle.mac_lane.specs.declared.event.Outcome.{Outcome}
+use Rattle.mac_lane.specs.declared.event.Outcome.TheVariants.{Sent}
+
+-- some list follows the first, and both together are the second
+abbrev pub IsBeginningOf : {Item : Type 0} → List Item → List Item → Type 0
+IsBeginningOf {Item} items others = (rest : List Item) × (items ++ rest ≡ others)
+
+-- the place that an outcome says was sent, if any
+abbrev pub sent_by : Outcome → List ℕ
+sent_by (Sent place) = place ∷ []
+sent_by outcome = []
+
+module _ {Which Job Reply : Type 0} where
+  -- the state after these events, from the opening state of so many connections and workers
+  abbrev pub reached : (Job → Reply) → ℕ → ℕ → List (Event Which Job Reply) → State Job Reply
+  reached reply_to connections workers events = (ran reply_to (opening connections workers) events).0
+
+  -- the outcomes of these events, from that state
+  abbrev pub outcomes : (Job → Reply) → ℕ → ℕ → List (Event Which Job Reply) → List Outcome
+  outcomes reply_to connections workers events = (ran reply_to (opening connections workers) events).1
+
+  -- in the run over these events, the one at this index is this one, and came to this
+  abbrev pub Happens : (Job → Reply) → ℕ → ℕ → List (Event Which Job Reply) → ℕ → Event Which Job Reply → Outcome → Type 0
+  Happens reply_to connections workers events index event outcome =
+      (slice_get events index ≡ Some event) × (slice_get (outcomes reply_to connections workers events) index ≡ Some outcome)
+
+  -- the place of a connection that this event sent, if any
+  abbrev pub place_of : ℕ → Event Which Job Reply → Outcome → List ℕ
+  place_of number (Send here) outcome = if here == number then sent_by outcome else []
+  place_of number event outcome = []
+
+  -- the places of a connection that these events sent, in order
+  abbrev pub sent_places : ℕ → List (Event Which Job Reply) → List Outcome → List ℕ
+  sent_places number [] outcomes = []
+  sent_places number (event ∷ events) [] = []
+  sent_places number (event ∷ events) (outcome ∷ outcomes) = place_of number event outcome ++ sent_places number events outcomes

@@ -1,0 +1,48 @@
+ghost use Rattle.std.specs.Prelude.{◌≡◌, IfOk, IfErr};
+
+use crate::service::Service;
+use std::alloc::Global;
+use std::marker::Model;
+
+/// A job with its reply. Contracts see the job alone, since the type keeps that the reply is the one
+/// that the service's definition gives for it.
+#[derive(Drop)]
+pub struct Answer<S: Service> {
+    job: S::Job,
+    reply: S::Reply,
+}
+
+impl<S: Service> Model for Answer<S> {
+    ghost Value = { S.Job };
+
+    ghost view = { λ a. a.job };
+
+    ghost invariant = { λ a. a.reply ≡ S.reply_to a.job };
+}
+
+impl<S: Service> Answer<S> {
+    /// Works on the job. Want of memory hands the job back.
+    pub fn make(alloc: Global, job: S::Job) -> Result<Answer<S>, S::Job>
+        ensures ok { IfOk result (λ answer. answer ≡ job) }
+        ensures err { IfErr result (λ back. back ≡ job) }
+    {
+        match S::work(alloc, &job) {
+            Ok(reply) => Ok(Answer { job, reply }),
+            Err(_) => Err(job),
+        }
+    }
+
+    /// Whether this is an answer to the job, by `==` of jobs.
+    pub(crate) fn is_to(&self, job: &S::Job) -> bool
+        ensures { result ≡ S.Job.eq self.now job.now }
+    {
+        self.job == *job
+    }
+
+    /// The reply, without its job.
+    pub(crate) fn into_reply(self) -> S::Reply
+        ensures { result ≡ S.reply_to self }
+    {
+        self.reply
+    }
+}

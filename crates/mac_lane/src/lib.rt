@@ -1,0 +1,24 @@
+//! The core: replies leave in the order of arrivals, each for its own job, whatever order workers finish in.
+//! It is generic in the service that works the replies out, and knows nothing of what is asked.
+#![tactic(auto)]
+
+pub mod answer;
+pub mod event;
+pub mod fault;
+pub mod laws;
+pub mod next;
+pub mod plain;
+pub mod reorder;
+pub mod service;
+pub mod world;
+
+pub use answer::Answer;
+pub use event::{Event, Outcome, Task};
+pub use fault::{OpenFault, SettleFault};
+pub use next::Next;
+pub use reorder::{Reorder, SLOTS};
+pub use service::{NoMemory, Service};
+pub use world::World;
+
+#[cfg(test)]
+mod tests;
