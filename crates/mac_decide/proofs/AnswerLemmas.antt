@@ -1,0 +1,63 @@
+-- When a verify is granted.
+use Rattle.std.proofs.Common.{◌≡◌, ◌↔◌, ℕ, List, Option, Some, None, Result, Ok, Err, IfOk, refl}
+use Rattle.std.specs.FinMap as map
+use Rattle.mac_keys.specs.Table.{Keys}
+use Rattle.mac_token.specs.RawToken.{TokenParts}
+use Rattle.mac_token.specs.Read.{read_of}
+use Rattle.mac_token.specs.declared.fault.TokenFault.{TokenFault}
+use Rattle.mac_wire.specs.Request.{Asks, verify}
+use Rattle.mac_wire.specs.declared.arrival.Arrival.{Arrival}
+use Rattle.mac_wire.specs.declared.arrival.Arrival.TheVariants.{Payload}
+use Rattle.mac_wire.specs.declared.reply.Reply.{Reply}
+use Rattle.mac_wire.specs.declared.reply.Reply.TheVariants as reply
+use Rattle.mac_wire.proofs.Asking.{request_of-asks, key_name_of-asks}
+use Rattle.mac_decide.specs.Answer.{told, verdict_reply, request_reply, reply_of, answer_of, Replies, IsGranted}
+use Rattle.mac_decide.specs.Reading.{verdict_of}
+use Rattle.mac_decide.specs.declared.context.Context.{Context}
+use Rattle.mac_decide.specs.declared.verdict.Verdict.{Verdict}
+use Rattle.mac_decide.specs.declared.verdict.Verdict.TheVariants.{Granted, BadSignature, Unsatisfied}
+use Rattle.mac_decide.proofs.VerdictLemmas.{verdict_of-is, one_verdict}
+
+-- only the verdict that grants is told so
+pub granted-verdict : (v : Verdict) → verdict_reply v ≡ reply.Granted → v ≡ Granted
+granted-verdict Granted e = refl
+granted-verdict BadSignature e = absurd (cc)
+granted-verdict (Unsatisfied index) e = absurd (cc)
+
+-- what is granted was read and accepted
+granted-read : (key : List ℕ) (bytes : List ℕ) (x : Context) (r : Result TokenParts TokenFault) → read_of bytes ≡ r → told r (λ t. verdict_reply (verdict_of key t x)) ≡ reply.Granted → IsGranted (Some key) bytes x
+granted-read key bytes x (Ok t) read e =
+    let verdict : verdict_of key t x ≡ Granted = granted-verdict (verdict_of key t x) e in
+    record { named = key; has_key = refl; token = t; is_read = read; accepted = rw verdict at (verdict_of-is key t x) }
+granted-read key bytes x (Err f) read e = absurd (cc)
+
+pub granted-request : (name bytes : List ℕ) (moment : ℕ) (facts : List (List ℕ)) (key : Option (List ℕ)) → request_reply (verify name bytes moment facts) key ≡ reply.Granted → IsGranted key bytes (record { moment = moment; facts = facts })
+granted-request name bytes moment facts None e = absurd (cc)
+granted-request name bytes moment facts (Some key) e = granted-read key bytes (record { moment = moment; facts = facts }) (read_of bytes) refl e
+
+-- what is accepted is granted
+pub request-granted : (name bytes : List ℕ) (moment : ℕ) (facts : List (List ℕ)) (key : Option (List ℕ)) → IsGranted key bytes (record { moment = moment; facts = facts }) → request_reply (verify name bytes moment facts) key ≡ reply.Granted
+request-granted name bytes moment facts key g =
+    let x : Context = record { moment = moment; facts = facts } in
+    let verdict = one_verdict g.named g.token x (verdict_of g.named g.token x) Granted (verdict_of-is g.named g.token x) g.accepted in
+    rw (g.has_key, g.is_read, verdict)
+
+-- a verify is granted exactly where the key that it names grants its token
+pub reply-granted : (payload name bytes : List ℕ) (moment : ℕ) (facts : List (List ℕ)) (key : Option (List ℕ)) → Asks payload (verify name bytes moment facts) → (reply_of (Payload payload) key ≡ reply.Granted) ↔ IsGranted key bytes (record { moment = moment; facts = facts })
+unfolding reply_of
+reply-granted payload name bytes moment facts key asks =
+    let request = request_of-asks payload (verify name bytes moment facts) asks in
+    rw request (granted-request name bytes moment facts key, request-granted name bytes moment facts key)
+
+-- the same under a table
+pub answer-granted : (table : Keys) (payload name bytes : List ℕ) (moment : ℕ) (facts : List (List ℕ)) → Asks payload (verify name bytes moment facts) → (answer_of table (Payload payload) ≡ reply.Granted) ↔ IsGranted (map.get table name) bytes (record { moment = moment; facts = facts })
+unfolding answer_of
+answer-granted table payload name bytes moment facts asks =
+    let named = key_name_of-asks payload (verify name bytes moment facts) asks in
+    rw named (reply-granted payload name bytes moment facts (map.get table name) asks)
+
+-- the reply that a call gives
+pub result-granted : {E : Type 0} (result : Result Reply E) (arrival : Arrival) (key : Option (List ℕ)) → Replies result (reply_of arrival key) → (payload name bytes : List ℕ) (moment : ℕ) (facts : List (List ℕ)) → arrival ≡ Payload payload → Asks payload (verify name bytes moment facts) → IfOk result (λ r. (r ≡ reply.Granted) ↔ IsGranted key bytes (record { moment = moment; facts = facts }))
+result-granted (Ok r) arrival key is payload name bytes moment facts same asks =
+    rw (is.0, same) (reply-granted payload name bytes moment facts key asks)
+result-granted (Err e) arrival key is payload name bytes moment facts same asks = tt

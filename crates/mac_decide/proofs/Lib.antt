@@ -1,0 +1,10 @@
+pub mod DateLemmas
+pub mod LimitLemmas
+pub mod SatisfiedLemmas
+pub mod WalkLemmas
+pub mod ReadingLemmas
+pub mod VerdictLemmas
+pub mod NarrowingLemmas
+pub mod MintingLemmas
+pub mod AnswerLemmas
+pub mod SendableLemmas

@@ -1,0 +1,63 @@
+-- Attenuation narrows, and facts only help.
+use Rattle.std.proofs.Common.{◌≡◌, ◌↔◌, inl, inr, ℕ, ℤ, List, [], ◌∷◌, ◌++◌, append_assoc, refl, sym, ap, ◌∙◌}
+use Rattle.std.specs.List.{All, Contains}
+use Rattle.std.proofs.lemmas.List.Elements.{All-nil, All-cons, All-head, All-tail, All-append, All-weaker, All-contains_itself}
+use Rattle.mac_hmac.specs.Chain.{extended}
+use Rattle.mac_hmac.proofs.ChainLemmas.{extended-append}
+use Rattle.mac_token.specs.RawToken.{TokenParts}
+use Rattle.mac_decide.specs.declared.context.Context.{Context}
+use Rattle.mac_decide.specs.Time.{IsTimeLimit}
+use Rattle.mac_decide.specs.Minted.{Minted, minted, add}
+use Rattle.mac_decide.specs.Verdict.{Satisfied, Accepts}
+
+-- what holds of each of two lists joined holds of each of them
+pub All-left : {X : Type 0} (P : X → Type 0) (xs ys : List X) → All P (xs ++ ys) → All P xs
+All-left P [] ys h = All-nil P
+All-left P (x ∷ xs) ys h = All-cons P x xs (All-head P x (xs ++ ys) h) (All-left P xs ys (All-tail P x (xs ++ ys) h))
+
+pub All-right : {X : Type 0} (P : X → Type 0) (xs ys : List X) → All P (xs ++ ys) → All P ys
+All-right P [] ys h = h
+All-right P (x ∷ xs) ys h = All-right P xs ys (All-tail P x (xs ++ ys) h)
+
+-- a minted token with caveats added is minted
+pub Minted-add : (key : List ℕ) (t : TokenParts) (caveats : List (List ℕ)) → Minted key t → Minted key (add t caveats)
+Minted-add key t caveats h =
+    ap (λ s. extended s caveats) h ∙ sym (extended-append _ t.caveats caveats)
+
+-- the law of attenuation: accepted exactly where it was and the added ones are satisfied
+pub Accepts-add : (key : List ℕ) (t : TokenParts) (caveats : List (List ℕ)) (x : Context) → Minted key t → Accepts key (add t caveats) x ↔ (Accepts key t x × All (λ c. Satisfied c x) caveats)
+Accepts-add key t caveats x h = (
+  (λ a. (record { minted = h; satisfied = All-left (λ c. Satisfied c x) t.caveats caveats a.satisfied }, All-right (λ c. Satisfied c x) t.caveats caveats a.satisfied)),
+  (λ (a, each). record { minted = Minted-add key t caveats h; satisfied = All-append (λ c. Satisfied c x) t.caveats caveats a.satisfied each }),
+)
+
+-- a minted token is accepted where all its caveats are facts
+pub Accepts-minted : (key location identifier : List ℕ) (caveats : List (List ℕ)) (moment : ℕ) → Accepts key (minted key location identifier caveats) (record { moment = moment; facts = caveats })
+Accepts-minted key location identifier caveats moment =
+    record { minted = refl; satisfied = All-weaker (Contains caveats) (λ c. Satisfied c (record { moment = moment; facts = caveats })) (λ c has. inl has) caveats (All-contains_itself caveats) }
+
+-- caveats added in two runs are those added in one
+pub add-add : (t : TokenParts) (first second : List (List ℕ)) → add (add t first) second ≡ add t (first ++ second)
+add-add t first second = rw (append_assoc, extended-append)
+
+-- a token minted with caveats is one minted without, and then they added
+pub add-minted : (key location identifier : List ℕ) (first second : List (List ℕ)) → add (minted key location identifier first) second ≡ minted key location identifier (first ++ second)
+add-minted key location identifier first second = rw extended-append
+
+-- further facts keep a caveat satisfied
+pub Satisfied-more : (c : List ℕ) (x : Context) (facts : List (List ℕ)) → ((fact : List ℕ) → Contains x.facts fact → Contains facts fact) → Satisfied c x → Satisfied c (record x { facts = facts })
+Satisfied-more c x facts more (inl has) = inl (more c has)
+Satisfied-more c x facts more (inr before) = inr before
+
+pub Accepts-more : (key : List ℕ) (t : TokenParts) (x : Context) (facts : List (List ℕ)) → ((fact : List ℕ) → Contains x.facts fact → Contains facts fact) → Accepts key t x → Accepts key t (record x { facts = facts })
+Accepts-more key t x facts more a =
+    record { minted = a.minted; satisfied = All-weaker (λ c. Satisfied c x) (λ c. Satisfied c (record x { facts = facts })) (λ c. Satisfied-more c x facts more) t.caveats a.satisfied }
+
+-- a caveat that is no time limit is satisfied by facts alone
+pub Satisfied-timeless : (c : List ℕ) (x : Context) (moment : ℕ) → ((v : ℤ) → ¬ (IsTimeLimit c v)) → Satisfied c x → Satisfied c (record x { moment = moment })
+Satisfied-timeless c x moment timeless (inl has) = inl has
+Satisfied-timeless c x moment timeless (inr (v, limit, below)) = absurd (timeless v limit)
+
+pub Accepts-timeless : (key : List ℕ) (t : TokenParts) (x : Context) (moment : ℕ) → All (λ c. (v : ℤ) → ¬ (IsTimeLimit c v)) t.caveats → Accepts key t x → Accepts key t (record x { moment = moment })
+Accepts-timeless key t x moment timeless a =
+    record { minted = a.minted; satisfied = λ k d within. Satisfied-timeless _ x moment (timeless k d within) (a.satisfied k d within) }

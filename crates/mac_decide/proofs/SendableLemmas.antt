@@ -1,0 +1,129 @@
+-- Each reply of the definition can be sent.
+use Rattle.std.proofs.Common.{◌≡◌, inl, inr, ℕ, ◌<◌, ◌≤◌, ◌^◌, List, length, Option, Some, None, IsSomeAnd, Result, Ok, Err, Bool, true, false, if◌then◌else◌, arith, refl}
+use Rattle.std.specs.Prelude.{nat_lt, nat_le}
+use Rattle.std.specs.List.{list_all, slice_get}
+use Rattle.std.proofs.lemmas.Bool.{ltb-false, leb-true}
+use Rattle.std.proofs.lemmas.Option.{slice_get_within}
+use Rattle.mac_token.specs.Limits.{is_within, within}
+use Rattle.mac_token.specs.RawToken.{RawParts, TokenParts}
+use Rattle.mac_token.specs.Read.{parts_of, raw_read_of, token_of, token_of_read, read_of}
+use Rattle.mac_token.specs.Written.{written, write_of}
+use Rattle.mac_token.specs.declared.fault.TokenFault.{TokenFault}
+use Rattle.mac_token.specs.declared.fault.TokenFault.TheVariants.{ThirdParty, CaveatLocation, Limit}
+use Rattle.mac_token.specs.declared.form.Form.{Form}
+use Rattle.mac_token.specs.declared.limits.TheConstants.{LOCATION_MAX, IDENTIFIER_MAX, CAVEAT_MAX, CAVEATS_MAX, TOKEN_MAX}
+use Rattle.mac_wire.specs.Reading.{request_of}
+use Rattle.mac_wire.specs.Reply.{IsReply}
+use Rattle.mac_wire.specs.Request.{Asked, mint, attenuate, verify}
+use Rattle.mac_wire.specs.declared.arrival.Arrival.{Arrival}
+use Rattle.mac_wire.specs.declared.arrival.Arrival.TheVariants.{Payload, Oversize}
+use Rattle.mac_wire.specs.declared.reply.Refusal.{Refusal}
+use Rattle.mac_wire.specs.declared.reply.Refusal.TheVariants as refusal
+use Rattle.mac_wire.specs.declared.reply.Reply.{Reply}
+use Rattle.mac_wire.specs.declared.reply.Reply.TheVariants as reply
+use Rattle.mac_wire.specs.declared.request.TokenForm.{TokenForm}
+use Rattle.mac_decide.specs.Answer.{refused, refusal_of, told, form_of, written_reply, token_reply, verdict_reply, request_reply, asked_reply, reply_of}
+use Rattle.mac_decide.specs.Minted.{minted, add}
+use Rattle.mac_decide.specs.Reading.{verdict_of}
+use Rattle.mac_decide.specs.Verdict.{Satisfied, IsVerdict}
+use Rattle.mac_decide.specs.declared.context.Context.{Context}
+use Rattle.mac_decide.specs.declared.verdict.Verdict.{Verdict}
+use Rattle.mac_decide.specs.declared.verdict.Verdict.TheVariants.{Granted, BadSignature, Unsatisfied}
+use Rattle.mac_decide.proofs.ReadingLemmas.{each_passes}
+use Rattle.mac_decide.proofs.VerdictLemmas.{verdict_of-is}
+
+-- a refusal has a number of its own
+pub refused-sent : (reason : Refusal) → IsReply (refused reason)
+refused-sent refusal.BadRequest = inl (omega arith, omega arith)
+refused-sent refusal.FrameTooLong = inl (omega arith, omega arith)
+refused-sent refusal.UnknownKey = inl (omega arith, omega arith)
+refused-sent refusal.Transport = inl (omega arith, omega arith)
+refused-sent refusal.Malformed = inl (omega arith, omega arith)
+refused-sent refusal.ThirdParty = inl (omega arith, omega arith)
+refused-sent refusal.Limit = inl (omega arith, omega arith)
+refused-sent refusal.BadSignature = inl (omega arith, omega arith)
+refused-sent refusal.CaveatLocation = inr refl
+
+-- what is told of a token, or its fault
+pub told-sent : {X : Type 0} (result : Result X TokenFault) (tell : X → Reply) → ((x : X) → result ≡ Ok x → IsReply (tell x)) → IsReply (told result tell)
+told-sent (Ok x) tell each = each x refl
+told-sent (Err fault) tell each = refused-sent (refusal_of fault)
+
+-- what is written isn't too long
+short_if : (long : Bool) (out bytes : List ℕ) → nat_lt TOKEN_MAX (length out) ≡ long → (if long then Err Limit else Ok out) ≡ Ok bytes → length bytes ≤ TOKEN_MAX
+short_if true out bytes test e = absurd (cc)
+short_if false out bytes test e =
+    let same : out ≡ bytes = cc in
+    rw same at (ltb-false TOKEN_MAX (length out) test)
+
+pub written-short : (t : TokenParts) (form : Form) (bytes : List ℕ) → write_of t form ≡ Ok bytes → length bytes ≤ TOKEN_MAX
+unfolding write_of
+written-short t form bytes e = short_if (nat_lt TOKEN_MAX (length (written t form))) (written t form) bytes refl e
+
+pub written-sent : (form : TokenForm) (t : TokenParts) → IsReply (written_reply form t)
+written-sent form t = told-sent (write_of t (form_of form)) reply.Token (λ bytes e. written-short t (form_of form) bytes e)
+
+pub token-sent : (form : TokenForm) (t : TokenParts) → IsReply (token_reply form t)
+token-sent form t = told-sent (within t) (written_reply form) (λ u e. written-sent form u)
+
+-- a token that is read has few caveats
+few_if : (t u : TokenParts) (fits : Bool) → is_within t ≡ fits → (if fits then Ok t else Err Limit) ≡ Ok u → is_within u ≡ true
+few_if t u true test e = let same : t ≡ u = cc in rw same at test
+few_if t u false test e = absurd (cc)
+
+token_of-within : (any_vid any_location : Bool) (t u : TokenParts) → (if any_vid then Err ThirdParty else if any_location then Err CaveatLocation else within t) ≡ Ok u → is_within u ≡ true
+token_of-within true any_location t u e = absurd (cc)
+token_of-within false true t u e = absurd (cc)
+token_of-within false false t u e = few_if t u (is_within t) refl e
+
+read-within : (raw : Result RawParts TokenFault) (u : TokenParts) → token_of_read raw ≡ Ok u → is_within u ≡ true
+unfolding token_of
+read-within (Ok r) u e = token_of-within _ _ (parts_of r) u e
+read-within (Err fault) u e = absurd (cc)
+
+pub read_of-within : (bytes : List ℕ) (u : TokenParts) → read_of bytes ≡ Ok u → is_within u ≡ true
+unfolding read_of
+read_of-within bytes u e = read-within (raw_read_of bytes) u e
+
+pub few-caveats : (t : TokenParts) → is_within t ≡ true → length t.caveats ≤ CAVEATS_MAX
+unfolding is_within
+few-caveats t e =
+    let each = each_passes (nat_le (length t.location) LOCATION_MAX) (nat_le (length t.identifier) IDENTIFIER_MAX) (nat_le (length t.caveats) CAVEATS_MAX)
+    (list_all (λ caveat. nat_le (length caveat) CAVEAT_MAX) t.caveats) e in
+    leb-true (length t.caveats) CAVEATS_MAX each.2
+
+-- an index that is told is one of a caveat
+index-within : (P : List ℕ → Type 0) (caveats : List (List ℕ)) (n : ℕ) (o : Option (List ℕ)) → slice_get caveats n ≡ o → IsSomeAnd o P → n < length caveats
+index-within P caveats n None e here = absurd here
+index-within P caveats n (Some c) e here = slice_get_within caveats n c e
+
+pub index-small : (key : List ℕ) (t : TokenParts) (x : Context) (n : ℕ) → is_within t ≡ true → verdict_of key t x ≡ Unsatisfied n → n < 2 ^ 16
+index-small key t x n fits e =
+    let is : IsVerdict key t x (Unsatisfied n) = rw e at (verdict_of-is key t x) in
+    let below : n < length t.caveats = index-within (λ c. ¬ (Satisfied c x)) t.caveats n _ refl is.1.here in
+    omega (arith, few-caveats t fits)
+
+verdict-sent : (v : Verdict) → ((n : ℕ) → v ≡ Unsatisfied n → n < 2 ^ 16) → IsReply (verdict_reply v)
+verdict-sent Granted small = tt
+verdict-sent BadSignature small = refused-sent refusal.BadSignature
+verdict-sent (Unsatisfied n) small = small n refl
+
+pub request-sent : (request : Asked) (key : Option (List ℕ)) → IsReply (request_reply request key)
+request-sent (mint form name location identifier caveats) None = refused-sent refusal.UnknownKey
+request-sent (mint form name location identifier caveats) (Some key) = token-sent form (minted key location identifier caveats)
+request-sent (attenuate form token caveats) key = told-sent (read_of token) (λ t. token_reply form (add t caveats)) (λ t e. token-sent form (add t caveats))
+request-sent (verify name token moment facts) None = refused-sent refusal.UnknownKey
+request-sent (verify name token moment facts) (Some key) =
+    let x : Context = record { moment = moment; facts = facts } in
+    told-sent (read_of token) (λ t. verdict_reply (verdict_of key t x))
+    (λ t e. verdict-sent (verdict_of key t x) (λ n told. index-small key t x n (read_of-within token t e) told))
+
+asked-sent : (asked : Option Asked) (key : Option (List ℕ)) → IsReply (asked_reply asked key)
+asked-sent None key = refused-sent refusal.BadRequest
+asked-sent (Some request) key = request-sent request key
+
+-- each reply can be sent
+pub reply-sent : (arrival : Arrival) (key : Option (List ℕ)) → IsReply (reply_of arrival key)
+unfolding reply_of
+reply-sent Oversize key = refused-sent refusal.FrameTooLong
+reply-sent (Payload payload) key = asked-sent (request_of payload) key

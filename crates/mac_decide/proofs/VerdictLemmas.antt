@@ -1,0 +1,122 @@
+-- The verdict as a function is the verdict, and there is one.
+use Rattle.std.proofs.Common.{◌≡◌, ◌↔◌, inl, inr, ℕ, suc, ◌+◌, ◌<◌, ℤ, List, [], ◌∷◌, take, length, get_or, Option, Some, None, IsSomeAnd, Bool, true, false, if◌then◌else◌, arith, refl, sym, ap, ◌∙◌}
+use Rattle.std.specs.List.{list_any, All, slice_get}
+use Rattle.std.specs.Str.{bytes_eq}
+use Rattle.std.specs.Cmp.Lexicographic.{nat_list_eq_equiv}
+use Rattle.std.proofs.lemmas.Bool.{false≢true, cases_order}
+use Rattle.std.proofs.lemmas.Int.{ints}
+use Rattle.std.proofs.lemmas.List.{get_or-take, length-take}
+use Rattle.std.proofs.lemmas.List.Elements.{All-nil, All-cons}
+use Rattle.std.proofs.lemmas.Map.Views.{list_any-from_Contains, Contains-from_any}
+use Rattle.std.proofs.lemmas.Option.{slice_get_within, get_or_from_slice_get}
+use Rattle.std.proofs.lemmas.Slice.Eq.{bytes_eq-Decides}
+use Rattle.mac_hmac.specs.Chain.{chain}
+use Rattle.mac_token.specs.RawToken.{TokenParts}
+use Rattle.mac_decide.specs.declared.context.Context.{Context}
+use Rattle.mac_decide.specs.declared.verdict.Verdict.{Verdict}
+use Rattle.mac_decide.specs.declared.verdict.Verdict.TheVariants.{Granted, BadSignature, Unsatisfied}
+use Rattle.mac_decide.specs.Reading.{limit_of, is_below, is_satisfied, caveats_verdict, verdict_of}
+use Rattle.mac_decide.specs.Minted.{Minted}
+use Rattle.mac_decide.specs.Verdict.{IsBefore, Satisfied, IsFirstUnsatisfied, IsVerdict}
+use Rattle.mac_decide.proofs.ReadingLemmas.{or-cases, or-left, or-right, limit_of-exact}
+
+-- a limit that is read and that the moment is below
+pub IsBefore-read : (moment : ℕ) (caveat : List ℕ) (o : Option ℤ) → limit_of caveat ≡ o → is_below moment o ≡ true → IsBefore moment caveat
+IsBefore-read moment caveat None e below = absurd (false≢true below)
+IsBefore-read moment caveat (Some v) e below = (v, (limit_of-exact caveat v).0 e, grind (arith, ints))
+
+pub read-IsBefore : (moment : ℕ) (caveat : List ℕ) → IsBefore moment caveat → is_below moment (limit_of caveat) ≡ true
+read-IsBefore moment caveat (v, h, below) = rw ((limit_of-exact caveat v).1 h) (grind (arith, ints))
+
+-- the test is the statement
+pub is_satisfied-exact : (caveat : List ℕ) (x : Context) → (is_satisfied caveat x ≡ true) ↔ Satisfied caveat x
+unfolding is_satisfied
+is_satisfied-exact caveat x = (
+  (λ e. elim (or-cases (list_any (bytes_eq caveat) x.facts) (is_below x.moment (limit_of caveat)) e) [
+    | inl found ↦ inl (Contains-from_any (λ a b. (bytes_eq-Decides a b).0) caveat x.facts found)
+    | inr below ↦ inr (IsBefore-read x.moment caveat (limit_of caveat) refl below)
+  ]),
+  (λ h. elim h [
+    | inl has ↦ or-left _ _ (list_any-from_Contains nat_list_eq_equiv caveat x.facts has)
+    | inr before ↦ or-right _ _ (read-IsBefore x.moment caveat before)
+  ]),
+)
+
+-- what the verdict on caveats says
+abbrev pub IsCaveatsVerdict : Context → ℕ → List (List ℕ) → Verdict → Type 0
+IsCaveatsVerdict x index caveats Granted = All (λ c. Satisfied c x) caveats
+IsCaveatsVerdict x index caveats BadSignature = ⊥
+IsCaveatsVerdict x index caveats (Unsatisfied n) = (k : ℕ) × (n ≡ index + k) × IsFirstUnsatisfied caveats x k
+
+-- a satisfied caveat before them
+pub more-verdict : (x : Context) (index : ℕ) (caveat : List ℕ) (caveats : List (List ℕ)) (v : Verdict) → Satisfied caveat x → IsCaveatsVerdict x (index + 1) caveats v → IsCaveatsVerdict x index (caveat ∷ caveats) v
+more-verdict x index caveat caveats Granted here more = All-cons (λ c. Satisfied c x) caveat caveats here more
+more-verdict x index caveat caveats BadSignature here more = more
+more-verdict x index caveat caveats (Unsatisfied n) here (k, same, first) =
+    (suc k, omega arith, record { before = All-cons (λ c. Satisfied c x) caveat (take k caveats) here first.before; here = first.here })
+
+-- a caveat, and then the verdict on the others
+pub step-verdict : (x : Context) (index : ℕ) (caveat : List ℕ) (caveats : List (List ℕ)) (b : Bool) (rest : Verdict) → is_satisfied caveat x ≡ b → IsCaveatsVerdict x (index + 1) caveats rest → IsCaveatsVerdict x index (caveat ∷ caveats) (if b then rest else Unsatisfied index)
+step-verdict x index caveat caveats true rest e more = more-verdict x index caveat caveats rest ((is_satisfied-exact caveat x).0 e) more
+step-verdict x index caveat caveats false rest e more =
+    (0, omega arith, record { before = All-nil (λ c. Satisfied c x); here = λ s. false≢true (sym e ∙ (is_satisfied-exact caveat x).1 s) })
+
+pub caveats_verdict-is : (x : Context) (index : ℕ) (caveats : List (List ℕ)) → IsCaveatsVerdict x index caveats (caveats_verdict x index caveats)
+unfolding caveats_verdict
+caveats_verdict-is x index [] = All-nil (λ c. Satisfied c x)
+caveats_verdict-is x index (caveat ∷ caveats) =
+    step-verdict x index caveat caveats (is_satisfied caveat x) (caveats_verdict x (index + 1) caveats) refl (caveats_verdict-is x (index + 1) caveats)
+
+-- where the key gives the signature, the verdict is that on the caveats
+pub minted-verdict : (key : List ℕ) (t : TokenParts) (x : Context) (v : Verdict) → Minted key t → IsCaveatsVerdict x 0 t.caveats v → IsVerdict key t x v
+minted-verdict key t x Granted minted each = record { minted = minted; satisfied = each }
+minted-verdict key t x BadSignature minted none = absurd none
+minted-verdict key t x (Unsatisfied n) minted (k, same, first) =
+    let index : n ≡ k = omega arith in (minted, rw index first)
+
+pub tested-verdict : (key : List ℕ) (t : TokenParts) (x : Context) (b : Bool) → bytes_eq t.sig (chain key t.identifier t.caveats) ≡ b → IsVerdict key t x (if b then caveats_verdict x 0 t.caveats else BadSignature)
+tested-verdict key t x true e = minted-verdict key t x _ ((bytes_eq-Decides _ _).0 e) (caveats_verdict-is x 0 t.caveats)
+tested-verdict key t x false e = λ minted. false≢true (sym e ∙ (bytes_eq-Decides _ _).1 minted)
+
+-- the function gives the verdict
+pub verdict_of-is : (key : List ℕ) (t : TokenParts) (x : Context) → IsVerdict key t x (verdict_of key t x)
+unfolding verdict_of
+verdict_of-is key t x = tested-verdict key t x _ refl
+
+-- where each is satisfied, none is unsatisfied
+pub none-unsatisfied : (P : List ℕ → Type 0) (caveats : List (List ℕ)) (i : ℕ) (o : Option (List ℕ)) → slice_get caveats i ≡ o → All P caveats → ¬ (IsSomeAnd o (λ c. ¬ (P c)))
+none-unsatisfied P caveats i None e each none = none
+none-unsatisfied P caveats i (Some c) e each none =
+    let same : get_or caveats i c ≡ c = get_or_from_slice_get caveats i c c e in
+    none (rw same at (each i c (slice_get_within caveats i c e)))
+
+-- the same of those before an index
+pub none-before : (P : List ℕ → Type 0) (caveats : List (List ℕ)) (i j : ℕ) (o : Option (List ℕ)) → i < j → slice_get caveats i ≡ o → All P (take j caveats) → ¬ (IsSomeAnd o (λ c. ¬ (P c)))
+none-before P caveats i j None below e each none = none
+none-before P caveats i j (Some c) below e each none =
+    let within : i < length caveats = slice_get_within caveats i c e in
+    let reach : i < length (take j caveats) = omega (arith, length-take j caveats) in
+    let same : get_or (take j caveats) i c ≡ c = get_or-take j caveats i c below ∙ get_or_from_slice_get caveats i c c e in
+    none (rw same at (each i c reach))
+
+-- there is one first
+pub one_first : (x : Context) (caveats : List (List ℕ)) (i j : ℕ) → IsFirstUnsatisfied caveats x i → IsFirstUnsatisfied caveats x j → i ≡ j
+one_first x caveats i j p q = elim (cases_order i j) [
+  | inl same ↦ same
+  | inr apart ↦ elim apart [
+    | inl less ↦ absurd (none-before (λ c. Satisfied c x) caveats i j _ less refl q.before p.here)
+    | inr more ↦ absurd (none-before (λ c. Satisfied c x) caveats j i _ more refl p.before q.here)
+  ]
+]
+
+-- there is one verdict
+pub one_verdict : (key : List ℕ) (t : TokenParts) (x : Context) (v w : Verdict) → IsVerdict key t x v → IsVerdict key t x w → v ≡ w
+one_verdict key t x Granted Granted p q = refl
+one_verdict key t x Granted BadSignature p q = absurd (q p.minted)
+one_verdict key t x Granted (Unsatisfied j) p q = absurd (none-unsatisfied (λ c. Satisfied c x) t.caveats j _ refl p.satisfied q.1.here)
+one_verdict key t x BadSignature Granted p q = absurd (p q.minted)
+one_verdict key t x BadSignature BadSignature p q = refl
+one_verdict key t x BadSignature (Unsatisfied j) p q = absurd (p q.0)
+one_verdict key t x (Unsatisfied i) Granted p q = absurd (none-unsatisfied (λ c. Satisfied c x) t.caveats i _ refl q.satisfied p.1.here)
+one_verdict key t x (Unsatisfied i) BadSignature p q = absurd (q p.0)
+one_verdict key t x (Unsatisfied i) (Unsatisfied j) p q = ap Unsatisfied (one_first x t.caveats i j p.1 q.1)

@@ -1,0 +1,47 @@
+-- A walk over a token's caveats.
+use Rattle.std.proofs.Common.{◌≡◌, ℕ, ◌+◌, ◌≤◌, List, [], ◌∷◌, ◌++◌, take, length, get_or, Option, Some, None, MatchOption, sym, ap, ◌∙◌}
+use Rattle.std.specs.List.{All, slice_get}
+use Rattle.std.proofs.lemmas.List.{take_more, take_all}
+use Rattle.std.proofs.lemmas.List.Elements.{All-more}
+use Rattle.std.proofs.lemmas.Option.{slice_get_within, get_or_from_slice_get}
+use Rattle.mac_hmac.specs.Chain.{chain, extended}
+use Rattle.mac_hmac.proofs.ChainLemmas.{extended-append}
+use Rattle.mac_decide.specs.declared.context.Context.{Context}
+use Rattle.mac_token.specs.RawToken.{TokenParts}
+use Rattle.mac_decide.specs.Verdict.{Satisfied, Accepts, IsFirstUnsatisfied}
+
+-- the caveats up to one, and that one
+pub take-next : (caveats : List (List ℕ)) (i : ℕ) (caveat : List ℕ) → slice_get caveats i ≡ Some caveat → take (i + 1) caveats ≡ take i caveats ++ caveat ∷ []
+take-next caveats i caveat here =
+    let same : get_or caveats i caveat ≡ caveat = get_or_from_slice_get caveats i caveat caveat here in
+    take_more caveats i caveat (slice_get_within caveats i caveat here) ∙ ap (λ c. take i caveats ++ c ∷ []) same
+
+-- the chain takes one more caveat
+pub chain-next : (key identifier : List ℕ) (caveats : List (List ℕ)) (i : ℕ) (caveat : List ℕ) → slice_get caveats i ≡ Some caveat → chain key identifier (take (i + 1) caveats) ≡ extended (chain key identifier (take i caveats)) (caveat ∷ [])
+chain-next key identifier caveats i caveat here =
+    rw (take-next caveats i caveat here) (extended-append _ (take i caveats) (caveat ∷ []))
+
+-- one more caveat is satisfied
+pub satisfied-next : (x : Context) (caveats : List (List ℕ)) (i : ℕ) (caveat : List ℕ) → slice_get caveats i ≡ Some caveat → All (λ c. Satisfied c x) (take i caveats) → Satisfied caveat x → All (λ c. Satisfied c x) (take (i + 1) caveats)
+satisfied-next x caveats i caveat here before now =
+    let same : get_or caveats i caveat ≡ caveat = get_or_from_slice_get caveats i caveat caveat here in
+    All-more (λ c. Satisfied c x) caveats i caveat (slice_get_within caveats i caveat here) before (rw same now)
+
+-- the first that isn't
+pub first-here : (x : Context) (caveats : List (List ℕ)) (i : ℕ) (caveat : List ℕ) → slice_get caveats i ≡ Some caveat → All (λ c. Satisfied c x) (take i caveats) → ¬ (Satisfied caveat x) → IsFirstUnsatisfied caveats x i
+first-here x caveats i caveat here before none = record { before = before; here = rw here none }
+
+-- what was found before, and what is found here
+pub found-next : (x : Context) (caveats : List (List ℕ)) (i : ℕ) (caveat : List ℕ) (old new : Option ℕ) → slice_get caveats i ≡ Some caveat
+    → MatchOption old (All (λ c. Satisfied c x) (take i caveats)) (IsFirstUnsatisfied caveats x)
+    → MatchOption old (MatchOption new (Satisfied caveat x) (λ n. (n ≡ i) × ¬ (Satisfied caveat x))) (λ n. new ≡ Some n)
+    → MatchOption new (All (λ c. Satisfied c x) (take (i + 1) caveats)) (IsFirstUnsatisfied caveats x)
+found-next x caveats i caveat (Some n) new here before step = rw step before
+found-next x caveats i caveat None None here before step = satisfied-next x caveats i caveat here before step
+found-next x caveats i caveat None (Some n) here before (same, none) = rw same (first-here x caveats i caveat here before none)
+
+-- at the end of the walk
+pub accepted-at_end : (key : List ℕ) (t : TokenParts) (x : Context) (i : ℕ) (signature : List ℕ) → length t.caveats ≤ i → signature ≡ chain key t.identifier (take i t.caveats) → signature ≡ t.sig → All (λ c. Satisfied c x) (take i t.caveats) → Accepts key t x
+accepted-at_end key t x i signature end chained same each =
+    let whole : take i t.caveats ≡ t.caveats = take_all i t.caveats end in
+    record { minted = sym same ∙ rw whole at chained; satisfied = rw whole at each }

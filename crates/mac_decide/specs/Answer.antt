@@ -1,0 +1,108 @@
+-- The reply to each arrival (this project's own).
+use Rattle.std.specs.Prelude.{◌≡◌, ℕ, List, Option, Some, None, option_and_then, Result, Ok, Err, IfOk}
+use Rattle.std.specs.FinMap as map
+use Rattle.mac_keys.specs.Table.{Keys}
+use Rattle.mac_token.specs.RawToken.{TokenParts}
+use Rattle.mac_token.specs.Limits.{within}
+use Rattle.mac_token.specs.Read.{read_of}
+use Rattle.mac_token.specs.Written.{write_of}
+use Rattle.mac_token.specs.declared.form.Form.{Form}
+use Rattle.mac_token.specs.declared.form.Form.TheVariants as forms
+use Rattle.mac_token.specs.declared.fault.TokenFault.{TokenFault}
+use Rattle.mac_token.specs.declared.fault.TokenFault.TheVariants as fault
+use Rattle.mac_wire.specs.Reading.{request_of, key_name_of}
+use Rattle.mac_wire.specs.Reply.{refusal_code, IsReply}
+use Rattle.mac_wire.specs.Request.{Asked, mint, attenuate, verify}
+use Rattle.mac_wire.specs.declared.arrival.Arrival.{Arrival}
+use Rattle.mac_wire.specs.declared.arrival.Arrival.TheVariants as arrival
+use Rattle.mac_wire.specs.declared.reply.Refusal.{Refusal}
+use Rattle.mac_wire.specs.declared.reply.Refusal.TheVariants as refusal
+use Rattle.mac_wire.specs.declared.reply.Reply.{Reply}
+use Rattle.mac_wire.specs.declared.reply.Reply.TheVariants as reply
+use Rattle.mac_wire.specs.declared.request.TokenForm.{TokenForm}
+use Rattle.mac_wire.specs.declared.request.TokenForm.TheVariants as asked_form
+use Rattle.mac_decide.specs.Minted.{minted, add}
+use Rattle.mac_decide.specs.Reading.{verdict_of}
+use Rattle.mac_decide.specs.Verdict.{Accepts}
+use Rattle.mac_decide.specs.declared.context.Context.{Context}
+use Rattle.mac_decide.specs.declared.verdict.Verdict.{Verdict}
+use Rattle.mac_decide.specs.declared.verdict.Verdict.TheVariants as verdict
+
+-- the reply that refuses for this reason
+abbrev pub refused : Refusal → Reply
+refused reason = reply.Refused (refusal_code reason)
+
+-- the reason that a token's fault is told by; want of memory is no fault of a token, and what is read or written never has it
+abbrev pub refusal_of : TokenFault → Refusal
+refusal_of fault.Transport = refusal.Transport
+refusal_of fault.Malformed = refusal.Malformed
+refusal_of fault.ThirdParty = refusal.ThirdParty
+refusal_of fault.Limit = refusal.Limit
+refusal_of fault.CaveatLocation = refusal.CaveatLocation
+refusal_of fault.Memory = refusal.BadRequest
+
+-- what is told of a token, or its fault
+abbrev pub told : {X : Type 0} → Result X TokenFault → (X → Reply) → Reply
+told (Ok x) tell = tell x
+told (Err f) tell = refused (refusal_of f)
+
+-- the form that is asked for, as a form of a token
+abbrev pub form_of : TokenForm → Form
+form_of asked_form.V1Text = forms.V1Text
+form_of asked_form.V2Binary = forms.V2Binary
+form_of asked_form.V2Json = forms.V2Json
+form_of asked_form.V2Text = forms.V2Text
+
+-- the reply with a token in the form asked for, or Limit where it is too long so
+abbrev pub written_reply : TokenForm → TokenParts → Reply
+written_reply form t = told (write_of t (form_of form)) reply.Token
+
+-- the reply with a token that was made: Limit where a limit of its parts is passed
+abbrev pub token_reply : TokenForm → TokenParts → Reply
+token_reply form t = told (within t) (written_reply form)
+
+-- the reply of a verdict
+abbrev pub verdict_reply : Verdict → Reply
+verdict_reply verdict.Granted = reply.Granted
+verdict_reply verdict.BadSignature = refused refusal.BadSignature
+verdict_reply (verdict.Unsatisfied index) = reply.Unsatisfied index
+
+-- the reply to a request, under the key that its name has
+abbrev pub request_reply : Asked → Option (List ℕ) → Reply
+request_reply (mint form name location identifier caveats) None = refused refusal.UnknownKey
+request_reply (mint form name location identifier caveats) (Some key) = token_reply form (minted key location identifier caveats)
+request_reply (attenuate form token caveats) key = told (read_of token) (λ t. token_reply form (add t caveats))
+request_reply (verify name token moment facts) None = refused refusal.UnknownKey
+request_reply (verify name token moment facts) (Some key) =
+    told (read_of token) (λ t. verdict_reply (verdict_of key t (record { moment = moment; facts = facts })))
+
+-- the reply to what a payload asks, if it asks something
+abbrev pub asked_reply : Option Asked → Option (List ℕ) → Reply
+asked_reply None key = refused refusal.BadRequest
+asked_reply (Some request) key = request_reply request key
+
+-- the reply to an arrival, under the key that its name has
+unfoldable pub reply_of : Arrival → Option (List ℕ) → Reply
+reply_of arrival.Oversize key = refused refusal.FrameTooLong
+reply_of (arrival.Payload payload) key = asked_reply (request_of payload) key
+
+-- this reply was given, and it can be sent, unless memory ran out
+abbrev pub Replies : {E : Type 0} → Result Reply E → Reply → Type 0
+Replies result wanted = IfOk result (λ given. (given ≡ wanted) × IsReply given)
+
+-- the key, if there is one, grants the token that the bytes spell
+pub record IsGranted (key : Option (List ℕ)) (bytes : List ℕ) (x : Context) : Type 0 where
+  pub named : List ℕ
+  pub has_key : key ≡ Some named
+  pub token : TokenParts
+  pub is_read : read_of bytes ≡ Ok token
+  pub accepted : Accepts named token x
+
+-- the key that a table has for the name in an arrival's front
+abbrev pub key_for : Keys → Arrival → Option (List ℕ)
+key_for table arrival.Oversize = None
+key_for table (arrival.Payload payload) = option_and_then (λ name. map.get table name) (key_name_of payload)
+
+-- the answer to an arrival under a table
+unfoldable pub answer_of : Keys → Arrival → Reply
+answer_of table a = reply_of a (key_for table a)

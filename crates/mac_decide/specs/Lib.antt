@@ -1,0 +1,7 @@
+pub mod Answer
+pub mod Calendar
+pub mod Minted
+pub mod Reading
+pub mod SameJobs
+pub mod Time
+pub mod Verdict

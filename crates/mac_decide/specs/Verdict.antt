@@ -1,0 +1,32 @@
+-- What a key accepts (NDSS 2014): the chain of signatures, and caveats that hold in a context.
+use Rattle.std.specs.Prelude.{◌⊎◌, ℕ, ℤ, pos, ◌<ℤ◌, List, take, slice_get, IsSomeAnd, Contains, All}
+use Rattle.mac_token.specs.RawToken.{TokenParts}
+use Rattle.mac_decide.specs.Minted.{Minted}
+use Rattle.mac_decide.specs.Time.{IsTimeLimit}
+use Rattle.mac_decide.specs.declared.context.Context.{Context}
+use Rattle.mac_decide.specs.declared.verdict.Verdict.{Verdict}
+use Rattle.mac_decide.specs.declared.verdict.Verdict.TheVariants.{Granted, BadSignature, Unsatisfied}
+
+-- the caveat is a time limit, and the moment is below it
+abbrev pub IsBefore : ℕ → List ℕ → Type 0
+IsBefore moment caveat = (limit : ℤ) × IsTimeLimit caveat limit × (pos moment <ℤ limit)
+
+-- the caveat is one of the facts, or a time limit that isn't reached
+abbrev pub Satisfied : List ℕ → Context → Type 0
+Satisfied caveat x = Contains x.facts caveat ⊎ IsBefore x.moment caveat
+
+-- the key grants the token in the context: it gives the signature, and each caveat is satisfied
+pub record Accepts (key : List ℕ) (t : TokenParts) (x : Context) : Type 0 where
+  pub minted : Minted key t
+  pub satisfied : All (λ caveat. Satisfied caveat x) t.caveats
+
+-- the caveat at the index isn't satisfied, and each before it is
+pub record IsFirstUnsatisfied (caveats : List (List ℕ)) (x : Context) (index : ℕ) : Type 0 where
+  pub before : All (λ caveat. Satisfied caveat x) (take index caveats)
+  pub here : IsSomeAnd (slice_get caveats index) (λ caveat. ¬ (Satisfied caveat x))
+
+-- the verdict on a token: the signature is looked at first, then the caveats in order
+abbrev pub IsVerdict : List ℕ → TokenParts → Context → Verdict → Type 0
+IsVerdict key t x Granted = Accepts key t x
+IsVerdict key t x BadSignature = ¬ (Minted key t)
+IsVerdict key t x (Unsatisfied index) = Minted key t × IsFirstUnsatisfied t.caveats x index

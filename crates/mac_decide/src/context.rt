@@ -1,0 +1,44 @@
+//! What a caveat is judged by.
+
+ghost use Rattle.std.specs.Prelude.{◌≡◌, ◌↔◌, IsTrue};
+ghost use Rattle.std.specs.List.{list_any};
+ghost use Rattle.std.specs.Str.{bytes_eq};
+ghost use Rattle.mac_decide.specs.Verdict.{IsBefore, Satisfied};
+
+use crate::time::time_limit;
+use mac_wire::ByteLists;
+
+/// What the verifier knows: the moment, in seconds since 1970-01-01T00:00:00Z, and facts.
+#[derive(Debug, Drop)]
+pub struct Context {
+    pub moment: u64,
+    pub facts: ByteLists,
+}
+
+/// Whether the moment is before the time limit that the caveat is.
+fn is_before(moment: u64, caveat: &[u8]) -> bool
+    ensures { IsTrue result ↔ IsBefore moment caveat.now }
+{
+    match time_limit(caveat) {
+        Some(limit) => match u64::try_from(limit) {
+            Ok(limit) => moment < limit,
+            Err(_) => false,
+        },
+        None => false,
+    }
+}
+
+/// Whether the caveat is one of the facts.
+fn is_fact(caveat: &[u8], facts: &[Vec<u8>]) -> bool
+    ensures { result ≡ list_any (λ fact. bytes_eq caveat.now fact.items) facts.now }
+{
+    facts.iter().any(|fact| caveat == fact.as_slice())
+}
+
+/// Whether the caveat is satisfied: it is one of the facts, or a time limit that the moment is below.
+/// It costs the facts times the first byte in which one differs, and takes no memory.
+pub fn satisfied(caveat: &[u8], context: &Context) -> bool
+    ensures { IsTrue result ↔ Satisfied caveat.now context.now }
+{
+    is_fact(caveat, context.facts.as_slice()) || is_before(context.moment, caveat)
+}

@@ -1,0 +1,22 @@
+//! The decision: which caveats are satisfied, which tokens a key grants, and the answer to each arrival.
+//!
+//! [`job_of`] takes an arrival with the key that it names, and [`answer`] gives its reply, by [`mint`],
+//! [`attenuate`] and [`verify`].
+#![tactic(auto)]
+
+mod context;
+mod job;
+pub mod laws;
+mod macaroons;
+mod minting;
+mod reply;
+mod time;
+mod verdict;
+
+pub use context::{Context, satisfied};
+pub use job::{Job, job_of};
+pub use macaroons::Macaroons;
+pub use minting::{attenuate, mint};
+pub use reply::answer;
+pub use time::time_limit;
+pub use verdict::{Verdict, verify};

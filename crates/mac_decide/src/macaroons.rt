@@ -1,0 +1,47 @@
+//! Macaroons as a service.
+
+ghost use Rattle.std.specs.Prelude.{refl};
+ghost use Rattle.std.proofs.lemmas.Slice.Eq.{bytes_eq-Decides};
+ghost use Rattle.mac_decide.specs.Answer.{reply_of};
+ghost use Rattle.mac_decide.specs.SameJobs.{same_jobs};
+
+use crate::job::Job;
+use crate::reply::answer;
+use mac_hmac::RootKey;
+use mac_lane::Service;
+use mac_wire::{Arrival, NoMemory, Reply};
+use std::alloc::Global;
+
+/// The service whose jobs are arrivals with their keys, and whose replies are their answers.
+pub struct Macaroons;
+
+impl Service for Macaroons {
+    type Job = Job;
+
+    type Reply = Reply;
+
+    ghost reply_to = { λ job. reply_of job.arrival job.key };
+
+    fn work(alloc: Global, job: &Job) -> Result<Reply, NoMemory> {
+        answer(alloc, job)
+    }
+
+    fn copy(alloc: Global, job: &Job) -> Result<Job, NoMemory> {
+        let arrival = job.arrival.copy(alloc)?;
+        Ok(Job {
+            arrival,
+            key: job.key,
+        })
+    }
+
+    ghost equal_jobs = { same_jobs ⟦<Arrival as PartialEq>⟧.eq ⟦<RootKey as PartialEq>⟧.eq
+        (record {
+          payloads = λ p q. (bytes_eq-Decides p q).0;
+          payload_first = λ p. refl;
+          payload_last = λ p. refl;
+        })
+        (λ k l. (bytes_eq-Decides k l).0) };
+}
+
+#[cfg(test)]
+mod tests;

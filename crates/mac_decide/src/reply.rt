@@ -1,0 +1,212 @@
+//! The answer to a job.
+
+ghost use Rattle.std.specs.Prelude.{◌≡◌, ◌≢◌, ◌↔◌, IfOk, OnOk, List, ℕ};
+ghost use Rattle.mac_token.specs.RawToken.{byte_lists};
+ghost use Rattle.mac_token.specs.Read.{read_of};
+ghost use Rattle.mac_token.specs.declared.fault.TokenFault.TheVariants.{Memory};
+ghost use Rattle.mac_wire.specs.Reading.{request_of};
+ghost use Rattle.mac_wire.specs.Reply.{IsReply};
+ghost use Rattle.mac_wire.specs.Request.{Asks, verify, asked as asked_of};
+ghost use Rattle.mac_decide.specs.Minted.{minted, add};
+ghost use Rattle.mac_decide.specs.Reading.{verdict_of};
+ghost use Rattle.mac_decide.specs.Answer as answers;
+
+use crate::context::Context;
+use crate::job::Job;
+use crate::minting::{attenuate, mint};
+use crate::verdict::{Verdict, verify};
+use mac_hmac::RootKey;
+use mac_token::{Form, Token, TokenFault, read, write};
+use mac_wire::{
+    Arrival, Bytes, NoMemory, Refusal, Reply, Request, RequestFault, TokenForm, parse_request,
+};
+use std::alloc::{AllocError, Global};
+
+/// The reply to a job. Want of memory is an error and never a reply.
+pub fn answer(alloc: Global, job: &Job) -> Result<Reply, NoMemory>
+    ensures reply { IfOk result (λ r. r ≡ answers.reply_of job.now.arrival job.now.key) }
+    ensures sendable { IfOk result IsReply }
+
+    // The headline: a verify is granted exactly where its key is there and accepts its token.
+    ensures granted { (payload name token : List ℕ) (moment : ℕ) (facts : List (List ℕ))
+        → job.now.arrival ≡ Arrival.Payload payload → Asks payload (verify name token moment facts)
+        → IfOk result (λ r. (r ≡ Reply.Granted)
+        ↔ answers.IsGranted job.now.key token (record { moment = moment; facts = facts })) }
+{
+    arrival_reply(alloc, &job.arrival, job.key)
+}
+
+#[tactic(auto, unfolding(crate::specs::Answer::reply_of))]
+fn arrival_reply(alloc: Global, arrival: &Arrival, key: Option<RootKey>) -> Result<Reply, NoMemory>
+    ensures { answers.Replies result (answers.reply_of arrival.now key) }
+{
+    match arrival {
+        Arrival::Payload(payload) => payload_reply(alloc, payload.as_slice(), key),
+        Arrival::Oversize => Ok(refused(Refusal::FrameTooLong)),
+    }
+}
+
+fn refused(reason: Refusal) -> Reply
+    ensures value { result ≡ answers.refused reason }
+    ensures sendable { IsReply result }
+{
+    Reply::Refused(reason.code())
+}
+
+fn payload_reply(alloc: Global, payload: &[u8], key: Option<RootKey>) -> Result<Reply, NoMemory>
+    ensures { answers.Replies result (answers.asked_reply (request_of payload.now) key) }
+{
+    match parse_request(alloc, payload) {
+        Ok(request) => request_reply(alloc, request, key),
+        Err(RequestFault::BadRequest) => Ok(refused(Refusal::BadRequest)),
+        Err(RequestFault::Memory) => Err(AllocError),
+    }
+}
+
+fn request_reply(alloc: Global, request: Request, key: Option<RootKey>) -> Result<Reply, NoMemory>
+    ensures { answers.Replies result (answers.request_reply (asked_of request) key) }
+{
+    match request {
+        Request::Mint {
+            form,
+            location,
+            identifier,
+            caveats,
+            ..
+        } => match key {
+            Some(key) => mint_reply(
+                alloc,
+                form,
+                &key,
+                &location,
+                identifier.as_slice(),
+                caveats.as_slice(),
+            ),
+            None => Ok(refused(Refusal::UnknownKey)),
+        },
+        Request::Attenuate {
+            form,
+            token,
+            caveats,
+        } => attenuate_reply(alloc, form, token.as_slice(), caveats.as_slice()),
+        Request::Verify {
+            token,
+            moment,
+            facts,
+            ..
+        } => match key {
+            Some(key) => verify_reply(alloc, &key, token.as_slice(), &Context { moment, facts }),
+            None => Ok(refused(Refusal::UnknownKey)),
+        },
+    }
+}
+
+fn mint_reply(
+    alloc: Global,
+    form: TokenForm,
+    key: &RootKey,
+    location: &str,
+    identifier: &[u8],
+    caveats: &[Vec<u8>],
+) -> Result<Reply, NoMemory>
+    ensures { answers.Replies result (answers.token_reply form
+        (minted key.now location.now identifier.now (byte_lists caveats.now))) }
+{
+    match mint(alloc, key, location, identifier, caveats) {
+        Ok(token) => written_reply(alloc, form, &token),
+        Err(fault) => faulted(fault),
+    }
+}
+
+fn attenuate_reply(
+    alloc: Global,
+    form: TokenForm,
+    token: &[u8],
+    caveats: &[Vec<u8>],
+) -> Result<Reply, NoMemory>
+    ensures { answers.Replies result (answers.told (read_of token.now)
+        (λ t. answers.token_reply form (add t (byte_lists caveats.now)))) }
+{
+    match read(alloc, token) {
+        Ok(token) => narrowed_reply(alloc, form, token, caveats),
+        Err(fault) => faulted(fault),
+    }
+}
+
+fn narrowed_reply(
+    alloc: Global,
+    form: TokenForm,
+    token: Token,
+    caveats: &[Vec<u8>],
+) -> Result<Reply, NoMemory>
+    ensures { answers.Replies result (answers.token_reply form (add token (byte_lists caveats.now))) }
+{
+    match attenuate(alloc, token, caveats) {
+        Ok(token) => written_reply(alloc, form, &token),
+        Err((fault, _)) => faulted(fault),
+    }
+}
+
+fn verify_reply(
+    alloc: Global,
+    key: &RootKey,
+    token: &[u8],
+    context: &Context,
+) -> Result<Reply, NoMemory>
+    ensures { answers.Replies result (answers.told (read_of token.now)
+        (λ t. answers.verdict_reply (verdict_of key.now t context.now))) }
+{
+    match read(alloc, token) {
+        Ok(token) => Ok(verdict_reply(verify(key, &token, context))),
+        Err(fault) => faulted(fault),
+    }
+}
+
+fn verdict_reply(verdict: Verdict) -> Reply
+    ensures value { result ≡ answers.verdict_reply verdict }
+    ensures sendable { IsReply result }
+{
+    match verdict {
+        Verdict::Granted => Reply::Granted,
+        Verdict::BadSignature => refused(Refusal::BadSignature),
+        Verdict::Unsatisfied(index) => Reply::Unsatisfied(index),
+    }
+}
+
+fn written_reply(alloc: Global, form: TokenForm, token: &Token) -> Result<Reply, NoMemory>
+    ensures { answers.Replies result (answers.written_reply form token.now) }
+{
+    match write(alloc, token, form_of(form)) {
+        Ok(bytes) => Ok(Reply::Token(Bytes::new(bytes))),
+        Err(fault) => faulted(fault),
+    }
+}
+
+fn form_of(form: TokenForm) -> Form
+    ensures { result ≡ answers.form_of form }
+{
+    match form {
+        TokenForm::V1Text => Form::V1Text,
+        TokenForm::V2Binary => Form::V2Binary,
+        TokenForm::V2Json => Form::V2Json,
+        TokenForm::V2Text => Form::V2Text,
+    }
+}
+
+fn faulted(fault: TokenFault) -> Result<Reply, NoMemory>
+    ensures reply { answers.Replies result (answers.refused (answers.refusal_of fault)) }
+    ensures no_memory { OnOk result (fault ≢ Memory) }
+{
+    let reason = match fault {
+        TokenFault::Transport => Refusal::Transport,
+        TokenFault::Malformed => Refusal::Malformed,
+        TokenFault::ThirdParty => Refusal::ThirdParty,
+        TokenFault::Limit => Refusal::Limit,
+        TokenFault::CaveatLocation => Refusal::CaveatLocation,
+        TokenFault::Memory => return Err(AllocError),
+    };
+    Ok(refused(reason))
+}
+
+#[cfg(test)]
+mod tests;
