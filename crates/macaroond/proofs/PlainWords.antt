@@ -1,0 +1,148 @@
+-- The words of the command line as a reader sees them, and as `clap` does.
+use Rattle.std.proofs.Common.{◌≡◌, ◌∙◌, ◌==◌, ◌&&◌, ◌+◌, ℕ, Bool, codes, true, false, refl, sym, ap, ap₂, subst, arith, List, [], ◌∷◌, drop, take, not, Some, None, is_some, suc}
+use Rattle.std.specs.Prelude.{if◌then◌else◌, option_and_then, slice_get, encode_utf8_all}
+use Rattle.std.specs.List.{All, after_first, before_first, position_or_len}
+use Rattle.std.specs.Str.{IsUtf8, bytes_eq, chars}
+use Rattle.std.proofs.lemmas.List.Elements.{All-drop, All-get_or, All-tail}
+use Rattle.std.proofs.lemmas.Bool.Decides.{Decides-eqb}
+use Rattle.std.proofs.lemmas.Slice.Eq.{bytes_eq-Decides}
+use Rattle.std.proofs.lemmas.Str.{IsCharBoundary-after_ascii, IsUtf8-drop, byte_from_char, char_from_byte, chars-encodes}
+use Rattle.clap.specs.Lexer.{has_byte, long_of, long_of_rest, short_of, short_of_rest, strip_byte}
+use Rattle.clap.specs.Walk.{Text}
+use Rattle.macaroond.specs.CommandLine.{status_of, status_of_arguments, status_after_pipe, status_of_word}
+use Rattle.macaroond.proofs.CommandLineLemmas.{after_pipe, first_status, flag_status, letter_status, line_leads, of_arguments, other_way, short_status}
+
+number_other_way : (a b : ℕ) → (a == b) ≡ false → (b == a) ≡ false
+number_other_way a b differ = go (b == a) refl
+  where
+    go : (t : Bool) → (b == a) ≡ t → (b == a) ≡ false
+    go true e =
+        let same : (a == b) ≡ true = (Decides-eqb a b).1 (sym ((Decides-eqb b a).0 e)) in
+        cc
+    go false e = e
+
+abbrev is_equals : ℕ → Bool
+is_equals x = x == 61
+
+-- `--name` without a `=` is the name
+name_alone : (text : Text) → has_byte 61 text ≡ false → before_first is_equals text ≡ text
+name_alone [] none = refl
+name_alone (x ∷ xs) none = go (x == 61) refl (λ rest. name_alone xs rest)
+  where
+    go : (t : Bool) → (x == 61) ≡ t → (has_byte 61 xs ≡ false → before_first is_equals xs ≡ xs) → before_first is_equals (x ∷ xs) ≡ x ∷ xs
+    go true e later = let bad : true ≡ false = rw e at none in cc
+    go false e later =
+        let rest : has_byte 61 xs ≡ false = rw e at none in
+        let next : 1 + position_or_len is_equals xs ≡ suc (position_or_len is_equals xs) = omega arith in
+        rw e (ap (λ k. take k (x ∷ xs)) next ∙ ap (λ ys. x ∷ ys) (later rest))
+
+never : (b : Bool) → ◌≡◌ {A = ℕ} (if b && false then 0 else 2) 2
+never true = refl
+never false = refl
+
+-- only `--help` asks for help, of the words that begin with two hyphens
+abbrev long_status : Text → Bool → Text → ℕ
+long_status text has name =
+    if bytes_eq (codes "help") name && not (is_some (if has then Some (after_first is_equals text) else None)) then 0 else 2
+
+help_either_way : (text : Text) → long_status text false text ≡ status_of_word (45 ∷ 45 ∷ text)
+help_either_way text = go (bytes_eq text (codes "help")) refl
+  where
+    go : (t : Bool) → bytes_eq text (codes "help") ≡ t → long_status text false text ≡ status_of_word (45 ∷ 45 ∷ text)
+    go true e = subst (λ w. long_status w false w ≡ status_of_word (45 ∷ 45 ∷ w)) (sym ((bytes_eq-Decides text (codes "help")).0 e)) refl
+    go false e = rw (e, other_way text (codes "help") e) refl
+
+no_help : (text : Text) → has_byte 61 text ≡ true → status_of_word (45 ∷ 45 ∷ text) ≡ 2
+no_help text has = go (bytes_eq text (codes "help")) refl
+  where
+    go : (t : Bool) → bytes_eq text (codes "help") ≡ t → status_of_word (45 ∷ 45 ∷ text) ≡ 2
+    go true e = let bad : false ≡ true = subst (λ w. has_byte 61 w ≡ true) ((bytes_eq-Decides text (codes "help")).0 e) has in cc
+    go false e = rw e refl
+
+long_status_is : (text : Text) (has : Bool) → has_byte 61 text ≡ has → long_status text has (before_first is_equals text) ≡ status_of_word (45 ∷ 45 ∷ text)
+long_status_is text true e = never (bytes_eq (codes "help") (before_first is_equals text)) ∙ sym (no_help text e)
+long_status_is text false e = ap (long_status text false) (name_alone text e) ∙ help_either_way text
+
+long_word_is : (text : Text) → flag_status (45 ∷ 45 ∷ text) (long_of (45 ∷ 45 ∷ text)) ≡ status_of_word (45 ∷ 45 ∷ text)
+long_word_is [] = refl
+long_word_is (x ∷ xs) = long_status_is (x ∷ xs) (has_byte 61 (x ∷ xs)) refl
+
+-- 0 for `h`
+abbrev status_of_letter : ℕ → ℕ
+status_of_letter x = if 104 == x then 0 else 2
+
+-- the first character is `h` where the first byte is
+letter_is : (cs : List ℕ) (y : ℕ) (ys : Text) → encode_utf8_all cs ≡ y ∷ ys → letter_status (slice_get cs 0) ≡ status_of_letter y
+letter_is [] y ys spelled = cc
+letter_is (c ∷ cs) y ys spelled = go (104 == c) refl
+  where
+    later : (t : Bool) → (104 == y) ≡ t → (104 == c) ≡ false → status_of_letter c ≡ status_of_letter y
+    later true e differ =
+        let y_is : 104 ≡ y = (Decides-eqb 104 y).0 e in
+        ap status_of_letter (char_from_byte (y ∷ ys) (encode_utf8_all cs) c (sym spelled) (omega arith) (omega arith))
+    later false e differ = rw (e, differ) refl
+
+    go : (t : Bool) → (104 == c) ≡ t → status_of_letter c ≡ status_of_letter y
+    go true e =
+        let c_is : 104 ≡ c = (Decides-eqb 104 c).0 e in
+        ap status_of_letter (sym (byte_from_char (y ∷ ys) (encode_utf8_all cs) c (sym spelled) (omega arith)))
+    go false e = later (104 == y) refl e
+
+-- of the words that begin with one hyphen, those ask for help that have `h` next
+short_word_is : (y : ℕ) (ys : Text) → (y == 45) ≡ false → IsUtf8 (45 ∷ y ∷ ys) → flag_status (45 ∷ y ∷ ys) (long_of (45 ∷ y ∷ ys)) ≡ status_of_word (45 ∷ y ∷ ys)
+short_word_is y ys differ utf8 =
+    let word : Text = 45 ∷ y ∷ ys in
+    let u : IsUtf8 (y ∷ ys) = IsUtf8-drop (45 ∷ y ∷ ys) 1 utf8 (IsCharBoundary-after_ascii (45 ∷ y ∷ ys) 0 utf8 (omega arith) (omega arith)) in
+    let characters : chars (y ∷ ys) ≡ u.0 = ap chars (sym u.1.1) ∙ chars-encodes u.0 u.1.0 in
+    let long : long_of word ≡ None = ap (λ (b : Bool). option_and_then long_of_rest (if b then Some ys else None)) differ in
+    let short : short_of word ≡ Some (y ∷ ys) = ap (λ (b : Bool). if b then None else Some (y ∷ ys)) differ in
+    ap (flag_status word) long ∙ ap short_status short ∙ ap (λ cs. letter_status (slice_get cs 0)) characters ∙ letter_is u.0 y ys u.1.1 ∙ sym (plain (104 == y) refl)
+  where
+    plain : (t : Bool) → (104 == y) ≡ t → status_of_word (45 ∷ y ∷ ys) ≡ status_of_letter y
+    plain true e = rw (differ, e) refl
+    plain false e = rw (differ, e) refl
+
+hyphen_word_is : (xs : Text) → IsUtf8 (45 ∷ xs) → flag_status (45 ∷ xs) (long_of (45 ∷ xs)) ≡ status_of_word (45 ∷ xs)
+hyphen_word_is [] utf8 = refl
+hyphen_word_is (y ∷ ys) utf8 = go (y == 45) refl
+  where
+    go : (t : Bool) → (y == 45) ≡ t → flag_status (45 ∷ y ∷ ys) (long_of (45 ∷ y ∷ ys)) ≡ status_of_word (45 ∷ y ∷ ys)
+    go true e = subst (λ n. flag_status (45 ∷ n ∷ ys) (long_of (45 ∷ n ∷ ys)) ≡ status_of_word (45 ∷ n ∷ ys)) (sym ((Decides-eqb y 45).0 e)) (long_word_is ys)
+    go false e = short_word_is y ys e utf8
+
+other_word_is : (x : ℕ) (xs : Text) → (x == 45) ≡ false → flag_status (x ∷ xs) (long_of (x ∷ xs)) ≡ status_of_word (x ∷ xs)
+other_word_is x xs differ =
+    let word : Text = x ∷ xs in
+    let stripped : strip_byte 45 word ≡ None = rw differ refl in
+    let long : long_of word ≡ None = ap (λ o. option_and_then long_of_rest (option_and_then (strip_byte 45) o)) stripped in
+    let short : short_of word ≡ None = ap (option_and_then short_of_rest) stripped in
+    let plain : status_of_word word ≡ 2 = rw (differ, number_other_way x 45 differ) refl in
+    ap (flag_status word) long ∙ ap short_status short ∙ sym plain
+
+-- `clap` and a reader agree on each word
+pub word_is : (word : Text) → IsUtf8 word → flag_status word (long_of word) ≡ status_of_word word
+word_is [] utf8 = refl
+word_is (x ∷ xs) utf8 = go (x == 45) refl
+  where
+    go : (t : Bool) → (x == 45) ≡ t → flag_status (x ∷ xs) (long_of (x ∷ xs)) ≡ status_of_word (x ∷ xs)
+    go true e =
+        let hyphen : x ≡ 45 = (Decides-eqb x 45).0 e in
+        subst (λ n. flag_status (n ∷ xs) (long_of (n ∷ xs)) ≡ status_of_word (n ∷ xs)) (sym hyphen) (hyphen_word_is xs (subst (λ n. IsUtf8 (n ∷ xs)) hyphen utf8))
+    go false e = other_word_is x xs e
+
+first_word : (word : Text) (rest : List Text) → All IsUtf8 (word ∷ rest) → IsUtf8 word
+first_word word rest utf8 = All-get_or IsUtf8 (word ∷ rest) 0 [] (omega arith) utf8
+
+words_after_pipe_are : (words : List Text) → All IsUtf8 words → after_pipe words ≡ status_after_pipe words
+words_after_pipe_are [] utf8 = refl
+words_after_pipe_are (word ∷ []) utf8 = ap (λ n. if bytes_eq word (codes "--") then None else Some n) (word_is word (first_word word [] utf8))
+words_after_pipe_are (word ∷ next ∷ rest) utf8 = ap Some (word_is word (first_word word (next ∷ rest) utf8))
+
+pub arguments_are : (words : List Text) → All IsUtf8 words → of_arguments words ≡ status_of_arguments words
+arguments_are [] utf8 = refl
+arguments_are (word ∷ rest) utf8 =
+    ap₂ (λ o n. if bytes_eq word (codes "pipe") then o else Some n) (words_after_pipe_are rest (All-tail IsUtf8 word rest utf8)) (word_is word (first_word word rest utf8))
+
+-- the exit status in plain words is that of `clap`'s faults
+pub plain_status : (words : List Text) → All IsUtf8 words → status_of words ≡ status_of_arguments (drop 1 words)
+plain_status words utf8 = first_status _ _ (line_leads (drop 1 words)) ∙ arguments_are (drop 1 words) (All-drop IsUtf8 1 words utf8)

@@ -1,0 +1,40 @@
+use Rattle.std.proofs.Common.{◌≡◌, ◌∙◌, ap, sym}
+use Rattle.std.proofs.lemmas.List.{append_cancel_left}
+use Rattle.std.specs.Prelude.{Err}
+use Rattle.mac_keys.specs.Table.{table_of}
+use Rattle.mac_decide.specs.Answer.{answer_of}
+use Rattle.macaroond.specs.Lines.{lines, key_text, request_lines}
+use Rattle.macaroond.proofs.PipeLemmas.{pipes-answers, keys-unread, keys-told}
+use Rattle.macaroond.proofs.piping.pipe.Goals as goal
+
+pub returns-in_err-input-clause-keys : goal.returns-in_err-input-clause-keys
+returns-in_err-input-clause-keys g c tells input more ended bound line kind table =
+    let e = c.in_err-input.ensures in
+    keys-unread c.in_err-input.field-0.0 c.from_residual.result _ _ input line kind c.from_residual.ensures.1 (e.input tells)
+    (λ device. e.failed (ap Err device) ended tells) more bound table
+
+pub returns-in_err-table-clause-keys : goal.returns-in_err-table-clause-keys
+returns-in_err-table-clause-keys g c tells input more ended bound line kind table =
+    let read : c.in_ok-input.input.items ≡ input = append_cancel_left _ _ _ (sym (c.in_ok-input.ensures.input tells).0 ∙ more) in
+    let text = c.divided.ensures.keys ∙ ap key_text (c.as_slice.ensures.value ∙ read) in
+    keys-told c.in_err-table.field-0.0 c.from_residual-in_err-table.result (table_of (key_text input)) line kind
+    c.from_residual-in_err-table.ensures.1 (rw text at c.in_err-table.ensures.fault) table
+
+pub returns-clause-run : goal.returns-clause-run
+returns-clause-run g c source_tells sink_tells =
+    let input = c.in_ok-input.input.items in
+    let taken = c.in_ok-input.ensures.input source_tells in
+    let value = c.as_slice.ensures.value in
+    let table = ap table_of (sym (c.divided.ensures.keys ∙ ap key_text value)) ∙ c.in_ok-table.ensures.table in (
+      input,
+      taken.0,
+      pipes-answers answer_of c.write_answers.result _ input c.in_ok-table.table (lines c.divided.result.1.now) _ _
+          c.in_ok-input.ensures.end taken.1 table (c.divided.ensures.requests ∙ ap request_lines value) (c.write_answers.ensures.written sink_tells),
+    )
+
+pub returns-clause-keys : goal.returns-clause-keys
+returns-clause-keys g c tells input more ended bound line kind table =
+    let read : c.in_ok-input.input.items ≡ input = append_cancel_left _ _ _ (sym (c.in_ok-input.ensures.input tells).0 ∙ more) in
+    let text = c.divided.ensures.keys ∙ ap key_text (c.as_slice.ensures.value ∙ read) in
+    let good = ap table_of (sym text) ∙ c.in_ok-table.ensures.table in
+    absurd (cc (good, table))

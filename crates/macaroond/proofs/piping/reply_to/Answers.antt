@@ -1,0 +1,6 @@
+use Rattle.mac_decide.specs.Answer.{answer_of}
+use Rattle.macaroond.proofs.piping.reply_to.Goals as goal
+
+pub returns : goal.returns
+unfolding answer_of
+returns c = rw (c.job_of.ensures.arrival, c.job_of.ensures.key) at c.answer.ensures.reply

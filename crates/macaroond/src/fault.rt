@@ -1,0 +1,70 @@
+//! Why a run of the pipe ended early.
+ghost use Rattle.std.specs.Prelude.{◌≡◌};
+ghost use Rattle.macaroond.specs.Status.{pipe_status};
+ghost use Rattle.macaroond.specs.declared.fault.PipeFault.TheVariants.{Device, Memory};
+
+use mac_wire::DeviceFault;
+use std::alloc::{AllocError, AllocFailed};
+use thiserror::Error;
+
+/// Why a run of the pipe ended early. The text is what the program prints.
+#[derive(Clone, Copy, Debug, PartialEq, Eq, Error)]
+pub enum PipeFault {
+    /// The first key line with a fault, counted from 1, and the fault's number.
+    #[error("keys: line {line} kind {kind}")]
+    Keys { line: u64, kind: u8 },
+    /// A device failed.
+    #[error("fault 3")]
+    Device,
+    /// The input is longer than the pipe reads.
+    #[error("fault 3")]
+    TooLong,
+    /// Memory ran out.
+    #[error("fault 4")]
+    Memory,
+}
+
+impl PipeFault {
+    /// The exit status of a run that ended so.
+    pub fn status(self) -> u8
+        ensures { result ≡ pipe_status self }
+    {
+        match self {
+            PipeFault::Keys { .. } => 1,
+            PipeFault::Device | PipeFault::TooLong => 3,
+            PipeFault::Memory => 4,
+        }
+    }
+}
+
+impl From<AllocError> for PipeFault {
+    ghost from_gives = { λ _ fault. fault ≡ Memory };
+
+    fn from(_refused: AllocError) -> PipeFault {
+        PipeFault::Memory
+    }
+}
+
+impl<T: Drop> From<AllocFailed<T>> for PipeFault {
+    ghost from_gives = { λ _ fault. fault ≡ Memory };
+
+    fn from(_refused: AllocFailed<T>) -> PipeFault {
+        PipeFault::Memory
+    }
+}
+
+impl From<DeviceFault> for PipeFault {
+    ghost from_gives = { λ _ fault. fault ≡ Device };
+
+    fn from(_failed: DeviceFault) -> PipeFault {
+        PipeFault::Device
+    }
+}
+
+impl From<(DeviceFault, usize)> for PipeFault {
+    ghost from_gives = { λ _ fault. fault ≡ Device };
+
+    fn from(_failed: (DeviceFault, usize)) -> PipeFault {
+        PipeFault::Device
+    }
+}

@@ -1,0 +1,128 @@
+//! The pipe: key lines, an empty line and request lines in, a line for each answer out.
+ghost use Rattle.std.specs.Prelude.{◌≡◌, ◌⊎◌, ◌+◌, ◌<◌, ◌≤◌, ◌++◌, ◌∷◌, List, ℕ, length, map, IsTrue, IfOk, IfErr, OnOk};
+ghost use Rattle.mac_keys.specs.Table.{table_of};
+ghost use Rattle.mac_keys.specs.declared.fault.KeyFault.TheVariants as key;
+ghost use Rattle.mac_wire.specs.declared.arrival.Arrival.{Arrival};
+ghost use Rattle.mac_wire.specs.declared.reply.Reply.{Reply};
+ghost use Rattle.macaroond.specs.declared.fault.PipeFault.TheVariants.{Keys, Memory};
+ghost use Rattle.macaroond.specs.declared.input.TheConstants.{INPUT_MAX};
+ghost use Rattle.mac_decide.specs.Answer.{answer_of};
+ghost use Rattle.macaroond.specs.Arrived.{arrival_of};
+ghost use Rattle.macaroond.specs.Lines.{lines, key_text};
+ghost use Rattle.macaroond.specs.Output.{Begins, Writes, CountsDevice};
+ghost use Rattle.macaroond.specs.Pipe.{Pipes, Tells};
+ghost use Rattle.macaroond.specs.PipeText.{answers};
+ghost use Rattle.macaroond.specs.ReplyLine.{reply_line};
+
+use crate::arrived::read_arrival;
+use crate::fault::PipeFault;
+use crate::input::read_input;
+use crate::lines::{divided, next_line};
+use crate::reply_line::append_reply_line;
+use mac_decide::{answer, job_of};
+use mac_keys::{KeyFault, KeyTable};
+use mac_wire::{Arrival, NoMemory, Reply, Sink, Source, send_all};
+use std::alloc::Global;
+
+/// How many bytes of answers are gathered before they are written.
+const GATHERED: usize = 65_536;
+
+/// Reads the key lines up to the first empty line, then a request a line in hexadecimal, and writes a line for
+/// each answer, in order.
+pub fn pipe<R: Source, W: Sink>(
+    alloc: Global,
+    source: &mut R,
+    sink: &mut W,
+) -> Result<(), PipeFault>
+    requires readable { R.faults source.old < u64.MAX }
+    requires writable { W.faults sink.old < u64.MAX }
+    ensures run { IsTrue R.tells → IsTrue W.tells → (input : List ℕ)
+        × (R.taken source.new ≡ R.taken source.old ++ input)
+        × Pipes answer_of result (R.ended source.new) input (W.written sink.old) (W.written sink.new) }
+    ensures keys { IsTrue R.tells → (input : List ℕ) → R.taken source.new ≡ R.taken source.old ++ input
+        → IsTrue (R.ended source.new) → length input ≤ INPUT_MAX
+        → (line kind : ℕ) → table_of (key_text input) ≡ Err (key.Line line kind)
+        → (result ≡ Err (Keys line kind)) ⊎ (result ≡ Err Memory) }
+    ensures faults { CountsDevice result
+        (R.faults source.old + W.faults sink.old) (R.faults source.new + W.faults sink.new) }
+{
+    let input = read_input(alloc, source)?;
+    let (keys, requests) = divided(input.as_slice());
+    let table = read_table(alloc, keys)?;
+    write_answers(alloc, &table, requests, sink)
+}
+
+/// The table of the key lines.
+fn read_table(alloc: Global, text: &[u8]) -> Result<KeyTable, PipeFault>
+    ensures table { IfOk result (λ table. table_of text.now ≡ Ok table) }
+    ensures fault { IfErr result (Tells (table_of text.now)) }
+{
+    match KeyTable::read(alloc, text) {
+        Ok(table) => Ok(table),
+        Err(KeyFault::Line { line, kind }) => Err(PipeFault::Keys { line, kind }),
+        Err(KeyFault::Memory) => Err(PipeFault::Memory),
+    }
+}
+
+/// Writes the answer to each line of the requests.
+fn write_answers<W: Sink>(
+    alloc: Global,
+    table: &KeyTable,
+    requests: &[u8],
+    sink: &mut W,
+) -> Result<(), PipeFault>
+    requires { W.faults sink.old < u64.MAX }
+    ensures written { IsTrue W.tells → Writes result (answers (answer_of table.now) (map arrival_of (lines requests.now)))
+        (W.written sink.old) (W.written sink.new) }
+    ensures faults { CountsDevice result (W.faults sink.old) (W.faults sink.new) }
+{
+    let mut gathered = Vec::new(alloc);
+    let mut rest = requests;
+    while let Some((line, behind)) = next_line(rest) {
+        let arrival = read_arrival(alloc, line)?;
+        rest = rest_behind(&arrival, behind);
+        append_answer(alloc, table, arrival, &mut gathered)?;
+        if gathered.len() >= GATHERED {
+            send_all(sink, gathered.as_slice())?;
+            gathered.clear();
+        }
+    }
+    send_all(sink, gathered.as_slice())?;
+    Ok(())
+}
+
+/// What is read after an arrival: nothing after an oversize one.
+fn rest_behind<'a>(arrival: &Arrival, behind: &'a [u8]) -> &'a [u8]
+    ensures rest { (reply : Arrival → Reply) →
+        answers reply (arrival.now ∷ map arrival_of (lines behind.now))
+        ≡ reply_line (reply arrival.now) ++ answers reply (map arrival_of (lines result.now)) }
+    ensures shorter { length result.now ≤ length behind.now }
+{
+    match arrival {
+        Arrival::Payload(_) => behind,
+        Arrival::Oversize => &behind[behind.len()..],
+    }
+}
+
+/// Appends the line of the answer to an arrival.
+fn append_answer(
+    alloc: Global,
+    table: &KeyTable,
+    arrival: Arrival,
+    out: &mut Vec<u8>,
+) -> Result<(), NoMemory>
+    ensures { OnOk result (out.new.items ≡ out.old.items ++ reply_line (answer_of table.now arrival)) }
+{
+    let reply = reply_to(alloc, table, arrival)?;
+    append_reply_line(alloc, &reply, out)
+}
+
+/// The answer to an arrival.
+fn reply_to(alloc: Global, table: &KeyTable, arrival: Arrival) -> Result<Reply, NoMemory>
+    ensures { IfOk result (λ r. r ≡ answer_of table.now arrival) }
+{
+    answer(alloc, &job_of(table, arrival))
+}
+
+#[cfg(test)]
+mod tests;

@@ -1,0 +1,53 @@
+//! Replies as the lines that the pipe prints.
+ghost use Rattle.std.specs.Prelude.{◌≡◌, ◌++◌, OnOk, codes};
+ghost use Rattle.macaroond.specs.ReplyLine.{reply_line, reply_words, token_words};
+
+use mac_wire::{NoMemory, Reply};
+use std::alloc::Global;
+
+/// The first byte of a token in V2 binary, which is no text.
+const BINARY: u8 = 2;
+
+/// Appends the line of a reply.
+pub(crate) fn append_reply_line(
+    alloc: Global,
+    reply: &Reply,
+    out: &mut Vec<u8>,
+) -> Result<(), NoMemory>
+    ensures { OnOk result (out.new.items ≡ out.old.items ++ reply_line reply.now) }
+{
+    append_words(alloc, reply, out)?;
+    out.extend_from_slice(b"\n")
+}
+
+/// Appends the words of a reply.
+fn append_words(alloc: Global, reply: &Reply, out: &mut Vec<u8>) -> Result<(), NoMemory>
+    ensures { OnOk result (out.new.items ≡ out.old.items ++ reply_words reply.now) }
+{
+    match reply {
+        Reply::Granted => out.extend_from_slice(b"granted"),
+        Reply::Token(token) => append_token(alloc, token.as_slice(), out),
+        Reply::Refused(number) => {
+            let words = format!(in alloc; "refused {number}")?;
+            out.extend_from_slice(words.as_bytes())
+        }
+        Reply::Unsatisfied(index) => {
+            let words = format!(in alloc; "refused 24 {index}")?;
+            out.extend_from_slice(words.as_bytes())
+        }
+    }
+}
+
+/// Appends the words of a token.
+fn append_token(alloc: Global, token: &[u8], out: &mut Vec<u8>) -> Result<(), NoMemory>
+    ensures { OnOk result (out.new.items ≡ out.old.items ++ token_words token.now) }
+{
+    if token.first() == Some(&BINARY) {
+        let digits = hex::encode(alloc, token)?;
+        out.extend_from_slice(b"token hex:")?;
+        out.extend_from_slice(digits.as_bytes())
+    } else {
+        out.extend_from_slice(b"token ")?;
+        out.extend_from_slice(token)
+    }
+}
