@@ -1,0 +1,100 @@
+//! The words of a case.
+
+use mac_token::Form;
+use std::alloc::{AllocError, AllocFailed, Global};
+use thiserror::Error;
+
+/// Why a line has no outcome.
+#[derive(Clone, Copy, Debug, PartialEq, Eq, Error)]
+pub(crate) enum CaseFault {
+    /// The line isn't one of a case's forms.
+    #[error("the line is no case")]
+    NoCase,
+    /// Memory ran out.
+    #[error("there is no memory for the case")]
+    Memory,
+}
+
+impl From<AllocError> for CaseFault {
+    fn from(_fault: AllocError) -> CaseFault {
+        CaseFault::Memory
+    }
+}
+
+impl<T: Drop> From<AllocFailed<T>> for CaseFault {
+    fn from(_fault: AllocFailed<T>) -> CaseFault {
+        CaseFault::Memory
+    }
+}
+
+/// The words behind a case's first one.
+#[derive(Drop)]
+pub(crate) struct Words<'a> {
+    rest: &'a str,
+}
+
+impl<'a> Words<'a> {
+    pub(crate) fn of(rest: &'a str) -> Words<'a> {
+        Words { rest }
+    }
+
+    /// The next word.
+    pub(crate) fn next(&mut self) -> Result<&'a str, CaseFault> {
+        if self.rest.is_empty() {
+            return Err(CaseFault::NoCase);
+        }
+        let (word, rest) = self.rest.split_once(' ').unwrap_or((self.rest, ""));
+        self.rest = rest;
+        Ok(word)
+    }
+
+    /// The bytes that the next word spells.
+    pub(crate) fn bytes(&mut self, alloc: Global) -> Result<Vec<u8>, CaseFault> {
+        let word = self.next()?;
+        spelled(alloc, word)
+    }
+
+    /// The form that the next word numbers.
+    pub(crate) fn form(&mut self) -> Result<Form, CaseFault> {
+        match self.next()?.as_bytes() {
+            b"1" => Ok(Form::V1Text),
+            b"2" => Ok(Form::V2Binary),
+            b"3" => Ok(Form::V2Json),
+            b"4" => Ok(Form::V2Text),
+            _ => Err(CaseFault::NoCase),
+        }
+    }
+
+    /// The lists that the next word spells, between commas; `none` is no list.
+    pub(crate) fn lists(&mut self, alloc: Global) -> Result<Vec<Vec<u8>>, CaseFault> {
+        let word = self.next()?;
+        let mut lists = Vec::new(alloc);
+        if word == "none" {
+            return Ok(lists);
+        }
+        for part in word.split(',') {
+            lists.push(spelled(alloc, part)?)?;
+        }
+        Ok(lists)
+    }
+}
+
+/// The bytes that a word spells in hexadecimal; `-` is none, and so is the word without a letter.
+fn spelled(alloc: Global, word: &str) -> Result<Vec<u8>, CaseFault> {
+    if word == "-" {
+        return Ok(Vec::new(alloc));
+    }
+    match hex::decode(alloc, word) {
+        Ok(bytes) => Ok(bytes),
+        Err(hex::FromHexError::OutOfMemory) => Err(CaseFault::Memory),
+        Err(_) => Err(CaseFault::NoCase),
+    }
+}
+
+/// Bytes in hexadecimal; `-` where there are none.
+pub(crate) fn digits(alloc: Global, bytes: &[u8]) -> Result<String, AllocError> {
+    if bytes.is_empty() {
+        return String::from_str(alloc, "-");
+    }
+    hex::encode(alloc, bytes)
+}
