@@ -1,0 +1,112 @@
+#!/usr/bin/env python3
+"""Times `macaroond pipe`, by its processor time, beside the SHA-256 that its answers need. Asks for bin/macaroond and bin/hash_blocks."""
+import pathlib
+import resource
+import subprocess
+import sys
+import tempfile
+
+TOP = pathlib.Path(__file__).resolve().parent.parent
+sys.path.append(str(TOP / "examples"))
+import request
+
+REQUESTS = 100_000
+INPUT_MAX = 16_777_216
+KEYS = "key bank 74686973206973206f757220737570657220736563726574206b6579\n\n"
+CAVEATS = ["account = 3735928559", "time < 2030-01-01T00:00", "method = GET"]
+FACTS = ["account = 3735928559", "method = GET"]
+MOMENT = 1_780_272_000
+# An HMAC of at most 55 bytes: two pads, the text, the digest.
+HMAC_BLOCKS = 4
+BLOCKS_TIMED = 5_000_000
+
+
+def processor_seconds():
+    """The processor time of the runs so far, which other work on the machine changes little."""
+    used = resource.getrusage(resource.RUSAGE_CHILDREN)
+    return used.ru_utime + used.ru_stime
+
+
+def seconds(command, text=""):
+    """The processor time of a run on this standard input, and what it prints."""
+    with tempfile.TemporaryFile("w+") as given, tempfile.TemporaryFile("w+") as printed:
+        given.write(text)
+        given.seek(0)
+        begin = processor_seconds()
+        subprocess.run(command, stdin=given, stdout=printed, check=True)
+        taken = processor_seconds() - begin
+        printed.seek(0)
+        return taken, printed.read()
+
+
+def block_seconds():
+    """What a block of SHA-256 costs."""
+    program = TOP / "bin" / "hash_blocks"
+    whole, _ = seconds([program, str(BLOCKS_TIMED)])
+    start, _ = seconds([program, "0"])
+    return (whole - start) / BLOCKS_TIMED
+
+
+def pipe_seconds(payload, count):
+    """The processor time of the pipe for so many requests of this payload, in inputs within its bound."""
+    line = payload.hex() + "\n"
+    at_once = min(count, (INPUT_MAX - len(KEYS)) // len(line))
+    taken = 0.0
+    for first in range(0, count, at_once):
+        lines = min(at_once, count - first)
+        run, printed = seconds([TOP / "bin" / "macaroond", "pipe"], KEYS + line * lines)
+        if "refused" in printed or printed.count("\n") != lines:
+            sys.exit(f"the pipe doesn't answer as it should: {printed[:100]}")
+        taken += run
+    return taken
+
+
+def answer(payload):
+    """The token that the pipe answers."""
+    _, printed = seconds([TOP / "bin" / "macaroond", "pipe"], KEYS + payload.hex() + "\n")
+    return printed.removeprefix("token ").rstrip("\n")
+
+
+def minted(form, caveats):
+    return request.mint(form, "bank", "https://bank.example/", "user:1001", *caveats)
+
+
+def kinds():
+    """Each kind of request: its name, a payload, and how many HMACs its answer needs."""
+    binary, json = (answer(minted(form, CAVEATS)) for form in ("v2-binary", "v2-json"))
+    yield "mint, 3 caveats", minted("v2-binary", CAVEATS), 4
+    yield "attenuate by one", request.attenuate("v2-binary", binary, "ip = 10.0.0.7"), 1
+    yield "verify, V2 binary", request.verify("bank", binary, MOMENT, *FACTS), 4
+    yield "verify, V2 JSON", request.verify("bank", json, MOMENT, *FACTS), 4
+
+
+def print_kinds():
+    block = block_seconds()
+    print(f"a block of SHA-256: {block * 1e9:.0f} ns")
+    print("| request | a second | blocks | hashing, of its time |")
+    print("|---|---|---|---|")
+    for name, payload, hmacs in kinds():
+        each = pipe_seconds(payload, REQUESTS) / REQUESTS
+        blocks = hmacs * HMAC_BLOCKS
+        print(f"| {name} | {1 / each:,.0f} | {blocks} | {100 * blocks * block / each:.0f} % |")
+
+
+def print_sizes():
+    """A token read and written as V2 binary, from JSON and from V2 binary, by its size."""
+    print("| caveats | from V2 binary | from V2 JSON |")
+    print("|---|---|---|")
+    for count in (8, 32, 127):
+        caveats = [f"{i:03} " + "c" * 196 for i in range(count)]
+        costs = []
+        for form in ("v2-binary", "v2-json"):
+            token = answer(minted(form, caveats))
+            size = len(request.token_of(token))
+            each = pipe_seconds(request.attenuate("v2-binary", token), 2_000) / 2_000
+            costs.append(f"{size:,} bytes, {each * 1e9 / size:.1f} ns a byte")
+        print(f"| {count} | {' | '.join(costs)} |")
+
+
+if __name__ == "__main__":
+    print_kinds()
+    print()
+    print_sizes()

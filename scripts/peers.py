@@ -1,0 +1,156 @@
+"""Exchanges tokens with libmacaroons and pymacaroons, both ways, in each form that they have.
+
+Debian's packages libmacaroons0 and python3-pymacaroons; a peer that isn't installed is left out with a word.
+"""
+import ctypes
+import pathlib
+import sys
+
+sys.path.append(str(pathlib.Path(__file__).resolve().parent.parent / "examples"))
+import request
+
+SECRET = "this is our super secret key; only we should know it"
+LOCATION = "http://mybank/"
+IDENTIFIER = "we used our secret key"
+CAVEATS = ["account = 3735928559", "method = GET"]
+ADDED = "ip = 10.0.0.7"
+
+
+class Pymacaroons:
+    """pymacaroons, in Python."""
+
+    name = "pymacaroons"
+
+    def __init__(self):
+        import pymacaroons
+        from pymacaroons.serializers import BinarySerializer, JsonSerializer
+
+        self.library = pymacaroons
+        self.json = JsonSerializer()
+        self.binary = BinarySerializer()
+        self.forms = ["v1-text", "v2-binary", "v2-text", "v2-json"]
+
+    def mint(self, form):
+        version = self.library.MACAROON_V1 if form == "v1-text" else self.library.MACAROON_V2
+        token = self.library.Macaroon(location=LOCATION, identifier=IDENTIFIER, key=SECRET, version=version)
+        for caveat in CAVEATS:
+            token.add_first_party_caveat(caveat)
+        if form == "v2-binary":
+            return "hex:" + self.binary.serialize_raw(token).hex()
+        return token.serialize(self.json) if form == "v2-json" else token.serialize()
+
+    def accepts(self, form, text, facts):
+        if form == "v2-json":
+            token = self.library.Macaroon.deserialize(text, self.json)
+        elif form == "v2-binary":
+            token = self.binary.deserialize_raw(bytes.fromhex(text.removeprefix("hex:")))
+        else:
+            token = self.library.Macaroon.deserialize(text)
+        verifier = self.library.Verifier()
+        for fact in facts:
+            verifier.satisfy_exact(fact)
+        try:
+            return verifier.verify(token, SECRET)
+        except self.library.exceptions.MacaroonException:
+            return False
+
+
+class Libmacaroons:
+    """libmacaroons, in C."""
+
+    name = "libmacaroons"
+
+    def __init__(self):
+        self.library = ctypes.CDLL("libmacaroons.so.0")
+        for function in ("macaroon_create", "macaroon_add_first_party_caveat", "macaroon_deserialize", "macaroon_verifier_create"):
+            getattr(self.library, function).restype = ctypes.c_void_p
+        self.library.macaroon_serialize_size_hint.restype = ctypes.c_size_t
+        self.error = ctypes.byref(ctypes.c_int())
+        self.forms = ["v1-text"]
+
+    @staticmethod
+    def sized(text):
+        return text.encode(), ctypes.c_size_t(len(text.encode()))
+
+    def mint(self, form):
+        assert form == "v1-text"
+        token = self.library.macaroon_create(*self.sized(LOCATION), *self.sized(SECRET), *self.sized(IDENTIFIER), self.error)
+        for caveat in CAVEATS:
+            token = self.library.macaroon_add_first_party_caveat(ctypes.c_void_p(token), *self.sized(caveat), self.error)
+        size = self.library.macaroon_serialize_size_hint(ctypes.c_void_p(token))
+        text = ctypes.create_string_buffer(size)
+        if self.library.macaroon_serialize(ctypes.c_void_p(token), text, ctypes.c_size_t(size), self.error) != 0:
+            raise SystemExit("libmacaroons doesn't write its token")
+        return text.value.decode()
+
+    def accepts(self, form, text, facts):
+        assert form == "v1-text"
+        token = self.library.macaroon_deserialize(text.encode(), self.error)
+        if not token:
+            return False
+        verifier = ctypes.c_void_p(self.library.macaroon_verifier_create())
+        for fact in facts:
+            self.library.macaroon_verifier_satisfy_exact(verifier, *self.sized(fact), self.error)
+        verdict = self.library.macaroon_verify(verifier, ctypes.c_void_p(token), *self.sized(SECRET), None, ctypes.c_size_t(0), self.error)
+        return verdict == 0
+
+
+def installed_peers():
+    """The peers that are there; whoever isn't is named."""
+    peers = []
+    for peer in (Libmacaroons, Pymacaroons):
+        try:
+            peers.append(peer())
+        except (OSError, ImportError):
+            print(f"{peer.name} isn't installed: no exchange with it")
+    return peers
+
+
+def asked(*lines):
+    """The pipe's input: the key file, an empty line, the requests."""
+    return "".join(f"{line}\n" for line in [f"key bank {SECRET.encode().hex()}", "", *lines])
+
+
+def inputs(peers):
+    """An input for each peer and form: a token of ours, then verifies and an attenuate of theirs."""
+    made = {}
+    for peer in peers:
+        for form in peer.forms:
+            theirs = peer.mint(form)
+            made[f"{peer.name}_{form}"] = asked(
+                request.mint(form, "bank", LOCATION, IDENTIFIER, *CAVEATS).hex(),
+                request.verify("bank", theirs, 0, *CAVEATS).hex(),
+                request.verify("bank", theirs, 0, *CAVEATS[:-1]).hex(),
+                request.attenuate(form, theirs, ADDED).hex(),
+            )
+    return made
+
+
+def faults(peers, outputs):
+    """What didn't come out as it should, in words."""
+    found = []
+    for peer in peers:
+        for form in peer.forms:
+            lines = outputs[f"{peer.name}_{form}"].splitlines()
+            expect(found, len(lines) == 4, f"{peer.name}, {form}: {len(lines)} answers to 4 requests")
+            if len(lines) == 4:
+                found += exchange_faults(peer, form, *lines)
+    return found
+
+
+def exchange_faults(peer, form, minted, granted, refused, narrowed):
+    found = []
+    ours, ours_narrowed = (line.partition("token ")[2] for line in (minted, narrowed))
+    where = f"{peer.name}, {form}"
+    expect(found, granted == "granted", f"{where}: theirs is {granted}")
+    expect(found, refused == f"refused 24 {len(CAVEATS) - 1}", f"{where}: theirs without a fact is {refused}")
+    expect(found, peer.accepts(form, ours, CAVEATS), f"{where}: they refuse ours")
+    expect(found, not peer.accepts(form, ours, CAVEATS[:-1]), f"{where}: they take ours without a fact")
+    expect(found, peer.accepts(form, ours_narrowed, [*CAVEATS, ADDED]), f"{where}: they refuse theirs that we narrowed")
+    expect(found, not peer.accepts(form, ours_narrowed, CAVEATS), f"{where}: they take what we narrowed without the new fact")
+    return found
+
+
+def expect(found, holds, fault):
+    if not holds:
+        found.append(fault)

@@ -1,0 +1,107 @@
+"""The shell sessions of the README, run line by line.
+
+A session is a block marked `console`: a line that begins with `$ ` is a command, the lines below it are what it
+prints. The commands run in one shell, where a stand-in for bin/macaroond notes what it is asked and answers what
+the README says. So all that the README shows is there before the pipe itself is asked, in one run.
+"""
+import pathlib
+import re
+import shlex
+import subprocess
+import tempfile
+
+TOP = pathlib.Path(__file__).resolve().parent.parent
+
+# It answers as the README says at this step; a step whose output isn't shown asks what an earlier one asked.
+STAND_IN = """#!/bin/sh
+cat > "$NOTES/input.$STEP"
+if [ -s "$NOTES/shown.$STEP" ]; then
+    exec cat "$NOTES/shown.$STEP"
+fi
+for earlier in "$NOTES"/input.*; do
+    step=${earlier##*.}
+    if [ -s "$NOTES/shown.$step" ] && cmp -s "$earlier" "$NOTES/input.$STEP"; then
+        rm "$NOTES/input.$STEP"
+        exec cat "$NOTES/shown.$step"
+    fi
+done
+"""
+
+
+def steps():
+    """Each command of the README's sessions, with what it is shown to print."""
+    found = []
+    for block in re.findall(r"^```console\n(.*?)^```", (TOP / "README.md").read_text(), re.MULTILINE | re.DOTALL):
+        for part in re.split(r"^\$ ", block, flags=re.MULTILINE)[1:]:
+            found.append(parted(part))
+    return found
+
+
+def parted(part):
+    """A command and its output: a command goes on behind a backslash, and to the end of a text that `<<` begins."""
+    lines = part.splitlines(keepends=True)
+    end = 1
+    heredoc = re.search(r"<<'?(\w+)'?", lines[0])
+    while lines[end - 1].endswith("\\\n") or (heredoc and lines[end - 1].strip() != heredoc.group(1)):
+        end += 1
+    return "".join(lines[:end]), "".join(lines[end:])
+
+
+def script(notes, commands):
+    """One shell script of these commands; what each prints goes into a file of its step."""
+    lines = ["set -eu"]
+    for step, command in enumerate(commands):
+        lines += [f"export STEP={step:03}", "{", command, f"}} > {shlex.quote(str(notes))}/printed.{step:03} 2>&1"]
+    return "\n".join(lines)
+
+
+class Tutorial:
+    """The README's sessions, run over the stand-in."""
+
+    def __init__(self):
+        self.inputs = {}
+        self.shown = {}
+        self.faults = []
+        with tempfile.TemporaryDirectory() as folder:
+            self.run(pathlib.Path(folder))
+
+    def run(self, folder):
+        found = steps()
+        notes = folder / "notes"
+        notes.mkdir()
+        self.lay_out(folder)
+        for step, (_, shown) in enumerate(found):
+            (notes / f"shown.{step:03}").write_text(shown)
+        text = script(notes, [command for command, _ in found])
+        run = subprocess.run(["sh", "-c", text], cwd=folder, env={"PATH": "/usr/bin:/bin", "NOTES": str(notes)})
+        if run.returncode != 0:
+            self.faults.append(f"the README's session ends with status {run.returncode}")
+            return
+        for step, (command, shown) in enumerate(found):
+            self.note(notes, f"{step:03}", command, shown)
+
+    @staticmethod
+    def lay_out(folder):
+        """What the sessions use: the examples, and a bin/macaroond."""
+        (folder / "examples").symlink_to(TOP / "examples")
+        (folder / "bin").mkdir()
+        program = folder / "bin" / "macaroond"
+        program.write_text(STAND_IN)
+        program.chmod(0o755)
+
+    def note(self, notes, step, command, shown):
+        printed = (notes / f"printed.{step}").read_text()
+        if printed != shown:
+            self.faults.append(f"`{command.strip()}` prints\n{printed}where the README shows\n{shown}")
+        asked = notes / f"input.{step}"
+        if asked.exists():
+            self.inputs[f"readme_{step}"] = asked.read_text()
+            self.shown[f"readme_{step}"] = shown
+
+    def compared(self, outputs):
+        """What the pipe answers otherwise than the README shows."""
+        return self.faults + [
+            f"to\n{self.inputs[name]}the pipe answers\n{outputs[name]}where the README shows\n{shown}"
+            for name, shown in self.shown.items()
+            if outputs[name] != shown
+        ]
