@@ -46,9 +46,12 @@ pub fn all_sent_is_all_answered<S: Service>()
         length link.sent ≡ length link.arrived → link.sent ≡ map S.reply_to link.arrived }
 {}
 
-/// After a close neither list of the connection changes, whatever comes.
+/// After a close, and on a connection that is closed, neither list changes, whatever comes.
 pub fn nothing_after_a_close<S: Service>()
-    ensures { (state : State S.Job S.Reply) (number : ℕ) (events : List (event.Event S S.Job S.Reply)) (link : Connection S.Job S.Reply) →
+    ensures close { (state : State S.Job S.Reply) (number : ℕ) (events : List (event.Event S S.Job S.Reply)) (link : Connection S.Job S.Reply) →
+        slice_get state.connections number ≡ Some link →
+        (after : Connection S.Job S.Reply) × (slice_get (ran S.reply_to state (Event.Close number ∷ events)).0.connections number ≡ Some after) × (after.arrived ≡ link.arrived) × (after.sent ≡ link.sent) }
+    ensures closed { (state : State S.Job S.Reply) (number : ℕ) (events : List (event.Event S S.Job S.Reply)) (link : Connection S.Job S.Reply) →
         slice_get state.connections number ≡ Some link → link.closed ≡ true →
         (after : Connection S.Job S.Reply) × (slice_get (ran S.reply_to state events).0.connections number ≡ Some after) × (after.arrived ≡ link.arrived) × (after.sent ≡ link.sent) }
 {}
