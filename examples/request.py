@@ -67,4 +67,7 @@ def main(words):
 
 
 if __name__ == "__main__":
-    main(sys.argv[1:])
+    try:
+        main(sys.argv[1:])
+    except (ValueError, OverflowError) as fault:
+        sys.exit(str(fault))

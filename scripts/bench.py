@@ -73,11 +73,11 @@ def minted(form, caveats):
 
 def kinds():
     """Each kind of request: its name, a payload, and how many HMACs its answer needs."""
-    binary, json = (answer(minted(form, CAVEATS)) for form in ("v2-binary", "v2-json"))
+    binary, text = (answer(minted(form, CAVEATS)) for form in ("v2-binary", "v2-json"))
     yield "mint, 3 caveats", minted("v2-binary", CAVEATS), 4
     yield "attenuate by one", request.attenuate("v2-binary", binary, "ip = 10.0.0.7"), 1
     yield "verify, V2 binary", request.verify("bank", binary, MOMENT, *FACTS), 4
-    yield "verify, V2 JSON", request.verify("bank", json, MOMENT, *FACTS), 4
+    yield "verify, V2 JSON", request.verify("bank", text, MOMENT, *FACTS), 4
 
 
 def print_kinds():
@@ -96,7 +96,7 @@ def print_sizes():
     print("| caveats | from V2 binary | from V2 JSON |")
     print("|---|---|---|")
     for count in (8, 32, 127):
-        caveats = [f"{i:03} " + "c" * 196 for i in range(count)]
+        caveats = [f"{i:03} " + "c" * 241 for i in range(count)]
         costs = []
         for form in ("v2-binary", "v2-json"):
             token = answer(minted(form, caveats))

@@ -5,18 +5,20 @@ Their values are not the program's own: tokens and signatures come from libmacar
 """
 import pathlib
 
+from pipe_runs import Case
+
 CASES = pathlib.Path(__file__).resolve().parent / "cases"
 
 
-def inputs():
-    return {f"case_{path.name}": path.read_text() for path in sorted(CASES.iterdir()) if not path.suffix}
+def cases():
+    return {f"case_{path.name}": Case(path.read_text()) for path in sorted(CASES.iterdir()) if not path.suffix}
 
 
-def faults(outputs):
+def faults(runs):
     """Which of them the pipe answers otherwise."""
     found = []
     for path in sorted(CASES.glob("*.stdout")):
-        wanted, printed = path.read_text().splitlines(), outputs[f"case_{path.stem}"].splitlines()
+        wanted, printed = path.read_text().splitlines(), runs[f"case_{path.stem}"].output.splitlines()
         if printed != wanted:
             differing = [line for line, (a, b) in enumerate(zip(wanted, printed), 1) if a != b]
             found.append(f"{path.stem}: {len(printed)} answers for {len(wanted)}, others than wanted in the lines {differing}")

@@ -8,6 +8,7 @@ import sys
 
 sys.path.append(str(pathlib.Path(__file__).resolve().parent.parent / "examples"))
 import request
+from pipe_runs import Case
 
 SECRET = "this is our super secret key; only we should know it"
 LOCATION = "http://mybank/"
@@ -39,18 +40,19 @@ class Pymacaroons:
             return "hex:" + self.binary.serialize_raw(token).hex()
         return token.serialize(self.json) if form == "v2-json" else token.serialize()
 
-    def accepts(self, form, text, facts):
+    def read(self, form, text):
         if form == "v2-json":
-            token = self.library.Macaroon.deserialize(text, self.json)
-        elif form == "v2-binary":
-            token = self.binary.deserialize_raw(bytes.fromhex(text.removeprefix("hex:")))
-        else:
-            token = self.library.Macaroon.deserialize(text)
+            return self.library.Macaroon.deserialize(text, self.json)
+        if form == "v2-binary":
+            return self.binary.deserialize_raw(bytes.fromhex(text.removeprefix("hex:")))
+        return self.library.Macaroon.deserialize(text)
+
+    def accepts(self, form, text, facts):
         verifier = self.library.Verifier()
         for fact in facts:
             verifier.satisfy_exact(fact)
         try:
-            return verifier.verify(token, SECRET)
+            return verifier.verify(self.read(form, text), SECRET)
         except self.library.exceptions.MacaroonException:
             return False
 
@@ -108,11 +110,11 @@ def installed_peers():
 
 def asked(*lines):
     """The pipe's input: the key file, an empty line, the requests."""
-    return "".join(f"{line}\n" for line in [f"key bank {SECRET.encode().hex()}", "", *lines])
+    return Case("".join(f"{line}\n" for line in [f"key bank {SECRET.encode().hex()}", "", *lines]))
 
 
-def inputs(peers):
-    """An input for each peer and form: a token of ours, then verifies and an attenuate of theirs."""
+def cases(peers):
+    """A case for each peer and form: a token of ours, then verifies and an attenuate of theirs."""
     made = {}
     for peer in peers:
         for form in peer.forms:
@@ -126,12 +128,12 @@ def inputs(peers):
     return made
 
 
-def faults(peers, outputs):
+def faults(peers, runs):
     """What didn't come out as it should, in words."""
     found = []
     for peer in peers:
         for form in peer.forms:
-            lines = outputs[f"{peer.name}_{form}"].splitlines()
+            lines = runs[f"{peer.name}_{form}"].output.splitlines()
             expect(found, len(lines) == 4, f"{peer.name}, {form}: {len(lines)} answers to 4 requests")
             if len(lines) == 4:
                 found += exchange_faults(peer, form, *lines)

@@ -1,46 +1,74 @@
-"""Runs of `macaroond pipe`: by bin/macaroond where it is built, else by one unproved build of the toolchain's `rt try`."""
+"""Runs of `macaroond pipe`: by bin/macaroond where it is up to date, else by one unproved build of the toolchain's `rt try`."""
 import os
 import pathlib
 import re
 import subprocess
 import tempfile
+import typing
 
 TOP = pathlib.Path(__file__).resolve().parent.parent
 PROGRAM = TOP / "bin" / "macaroond"
 
 
+class Case(typing.NamedTuple):
+    """What a run is given: its standard input, and the words behind `pipe`."""
+
+    input: str
+    words: typing.Sequence[str] = ()
+
+
+class Run(typing.NamedTuple):
+    """How a run ended, and what it printed."""
+
+    status: int
+    output: str
+    error: str
+
+
 def is_built():
-    return os.access(PROGRAM, os.X_OK)
+    """Whether bin/macaroond is there, and no source is newer than it."""
+    sources = (path.stat().st_mtime for path in TOP.glob("crates/*/src/**/*.rt"))
+    return os.access(PROGRAM, os.X_OK) and PROGRAM.stat().st_mtime > max(sources)
 
 
-def outputs(inputs):
-    """What the pipe prints on each of these inputs, a dictionary of texts by name."""
+def runs(cases):
+    """The runs of these cases, both by name."""
     if is_built():
-        return {name: built_output(text) for name, text in inputs.items()}
-    return tried_outputs(inputs)
+        return {name: built_run(case) for name, case in cases.items()}
+    return tried_runs(cases)
 
 
-def built_output(text):
-    run = subprocess.run([PROGRAM, "pipe"], input=text.encode(), capture_output=True, check=True)
-    return run.stdout.decode()
+def built_run(case):
+    run = subprocess.run([PROGRAM, "pipe", *case.words], input=case.input, capture_output=True, text=True)
+    return Run(run.returncode, run.stdout, run.stderr)
 
 
-def tried_outputs(inputs):
+def tried_runs(cases):
     with tempfile.TemporaryDirectory() as folder:
-        for name, text in inputs.items():
-            (pathlib.Path(folder) / name).write_text(text)
+        for name, case in cases.items():
+            (pathlib.Path(folder) / name).write_text(case.input)
+            if case.words:
+                (pathlib.Path(folder) / f"{name}.args").write_text("\n".join(case.words) + "\n")
         command = ["rt", "try", "--steps", "1", "--cases", folder, "--", "pipe"]
-        run = subprocess.run(command, cwd=TOP / "crates" / "macaroond", capture_output=True, text=True)
-    if run.returncode != 0:
-        raise SystemExit(f"rt try ended with status {run.returncode}:\n{run.stdout}{run.stderr}")
-    return sections(run.stdout)
+        tried = subprocess.run(command, cwd=TOP / "crates" / "macaroond", capture_output=True, text=True)
+    if tried.returncode != 0:
+        raise SystemExit(f"rt try ended with status {tried.returncode}:\n{tried.stdout}{tried.stderr}")
+    outputs, endings = tried_outputs(tried.stdout), tried_endings(tried.stderr)
+    return {name: Run(endings[name][0], outputs[name], endings[name][1]) for name in cases}
 
 
-def sections(text):
-    """The output behind each line `== NAME`, to the next such line; what `rt` says itself begins with `case=` or `cases=`."""
-    found = {}
-    for section in re.split(r"^== ", text, flags=re.MULTILINE)[1:]:
-        name, _, rest = section.partition("\n")
-        lines = rest.splitlines(keepends=True)
-        found[name] = "".join(line for line in lines if not line.startswith(("case=", "cases=")))
+def tried_outputs(text):
+    """What each case printed: it stands behind a line `== NAME`."""
+    sections = re.split(r"^== ", text, flags=re.MULTILINE)[1:]
+    return {name: output for name, _, output in (section.partition("\n") for section in sections)}
+
+
+def tried_endings(text):
+    """The status of each case and its standard error, which stands before the line on how it ended."""
+    found, said = {}, ""
+    for line in text.splitlines(keepends=True):
+        ending = re.match(r"case=(\S+) run=ended status=(\d+) ", line)
+        if ending:
+            found[ending[1]] = int(ending[2]), said
+        said = "" if ending else said + line
     return found

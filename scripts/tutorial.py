@@ -10,6 +10,8 @@ import shlex
 import subprocess
 import tempfile
 
+from pipe_runs import Case
+
 TOP = pathlib.Path(__file__).resolve().parent.parent
 
 # It answers as the README says at this step; a step whose output isn't shown asks what an earlier one asked.
@@ -30,21 +32,9 @@ done
 
 def steps():
     """Each command of the README's sessions, with what it is shown to print."""
-    found = []
-    for block in re.findall(r"^```console\n(.*?)^```", (TOP / "README.md").read_text(), re.MULTILINE | re.DOTALL):
-        for part in re.split(r"^\$ ", block, flags=re.MULTILINE)[1:]:
-            found.append(parted(part))
-    return found
-
-
-def parted(part):
-    """A command and its output: a command goes on behind a backslash, and to the end of a text that `<<` begins."""
-    lines = part.splitlines(keepends=True)
-    end = 1
-    heredoc = re.search(r"<<'?(\w+)'?", lines[0])
-    while lines[end - 1].endswith("\\\n") or (heredoc and lines[end - 1].strip() != heredoc.group(1)):
-        end += 1
-    return "".join(lines[:end]), "".join(lines[end:])
+    blocks = re.findall(r"^```console\n(.*?)^```", (TOP / "README.md").read_text(), re.MULTILINE | re.DOTALL)
+    parts = [part for block in blocks for part in re.split(r"^\$ ", block, flags=re.MULTILINE)[1:]]
+    return [(command, shown) for command, _, shown in (part.partition("\n") for part in parts)]
 
 
 def script(notes, commands):
@@ -59,7 +49,7 @@ class Tutorial:
     """The README's sessions, run over the stand-in."""
 
     def __init__(self):
-        self.inputs = {}
+        self.cases = {}
         self.shown = {}
         self.faults = []
         with tempfile.TemporaryDirectory() as folder:
@@ -95,13 +85,13 @@ class Tutorial:
             self.faults.append(f"`{command.strip()}` prints\n{printed}where the README shows\n{shown}")
         asked = notes / f"input.{step}"
         if asked.exists():
-            self.inputs[f"readme_{step}"] = asked.read_text()
+            self.cases[f"readme_{step}"] = Case(asked.read_text())
             self.shown[f"readme_{step}"] = shown
 
-    def compared(self, outputs):
+    def compared(self, runs):
         """What the pipe answers otherwise than the README shows."""
         return self.faults + [
-            f"to\n{self.inputs[name]}the pipe answers\n{outputs[name]}where the README shows\n{shown}"
+            f"to\n{self.cases[name].input}the pipe answers\n{runs[name].output}where the README shows\n{shown}"
             for name, shown in self.shown.items()
-            if outputs[name] != shown
+            if runs[name].output != shown
         ]

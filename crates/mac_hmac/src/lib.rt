@@ -1,6 +1,6 @@
 //! HMAC with SHA-256, root keys, and the chain of HMACs that signs a macaroon.
 //!
-//! No call of this crate takes memory, and each always answers.
+//! Nothing here asks for memory, and everything answers.
 #![tactic(auto)]
 
 mod hmac_state;

@@ -20,7 +20,7 @@ pub fn slots_are_128()
     ensures { SLOTS ≡ 128 }
 {}
 
-/// Equality of jobs is equality of what they hold.
+/// Jobs compare as equal exactly where they are equal.
 pub fn equal_jobs_hold_the_same<S: Service>()
     ensures { (a b : S.Job) → (S.Job.eq a b ≡ true) ↔ (a ≡ b) }
 {}

@@ -74,8 +74,8 @@ impl<S: Service> World<S> {
         }
     }
 
-    /// Lets the events happen one after another. `Err(n)` met want of memory: the first n events were taken,
-    /// and no other.
+    /// Lets the events happen one after another. After `Err(n)`, for want of memory, just the first n have
+    /// happened.
     pub fn run(&mut self, alloc: Global, events: Vec<Event<S>>) -> Result<Vec<Outcome>, usize>
         ensures ok { IfOk result (λ outcomes. (self.new, outcomes.items) ≡ ran S.reply_to self.old events.items) }
         ensures err { IfErr result (λ count. (count < length events.items) × (self.new ≡ (ran S.reply_to self.old (take count events.items)).0)) }

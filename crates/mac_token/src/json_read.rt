@@ -5,7 +5,8 @@
 //! caveat = { "i" | "i64": bytes, "v" | "v64"?: bytes, "l"?: text }
 //! ```
 //!
-//! `i`, `s` and a caveat's `v` are text whose UTF-8 bytes are meant; the names with `64` are base64 text.
+//! `i`, `s` and a caveat's `v` stand for the UTF-8 of their text, the names with `64` for what their base64
+//! text decodes to.
 
 ghost use Rattle.std.specs.Prelude.{◌≡◌, ◌↔◌, codes, length, IsTrue, option_map, string_bytes};
 ghost use Rattle.serde_json.specs.Find.{get};

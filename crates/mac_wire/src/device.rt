@@ -32,7 +32,7 @@ pub trait Source {
         ensures taken { IsTrue tells → PassesFront result buf.new (taken self.old) (taken self.new) }
         ensures faults { CountsFault result (faults self.old) (faults self.new) }
 
-        // A read of nothing into a buffer with room is the end.
+        // Nothing read, though there was room, is the end.
         ensures end { IfOk result (λ n. n ≡ 0 → 0 < length buf.new → IsTrue (ended self.new)) }
         ensures end_only { IsTrue (ended self.new) → IsTrue (ended self.old)
             ⊎ ((result ≡ Ok 0) × (0 < length buf.new)) }

@@ -5,8 +5,8 @@ ghost use Rattle.mac_wire.specs.Device.{CountsFault};
 
 use crate::device::{DeviceFault, Sink};
 
-/// Sends all of the bytes, in as many writes as it takes. After a fault just the first n went out, and n is
-/// told.
+/// Sends all of the bytes, in as many writes as it takes. A fault tells n: the first n bytes went out, and
+/// no more.
 pub fn send_all<W: Sink>(sink: &mut W, bytes: &[u8]) -> Result<(), (DeviceFault, usize)>
     requires { W.faults sink.old < u64.MAX }
     ensures ok { IsTrue W.tells → OnOk result (W.written sink.new ≡ W.written sink.old ++ bytes.now) }

@@ -8,8 +8,8 @@ ghost use Rattle.mac_wire.specs.Streams.{writer_of};
 use crate::device::{DeviceFault, Sink};
 use std::io::Write;
 
-/// A sink over a writer, where a write that takes nothing of something is a fault. What the bytes were, it
-/// doesn't tell.
+/// A sink over a writer. A writer that takes none of some bytes has failed. What the bytes were, it doesn't
+/// tell.
 #[derive(Drop)]
 pub struct WriterSink<W> {
     writer: W,

@@ -25,7 +25,7 @@ use std::env::Env;
 use std::io;
 use std::process::ExitCode;
 
-/// The exit status where a file, a socket or a terminal failed.
+/// The exit status where a device failed.
 const DEVICE_FAULT: u8 = 3;
 
 fn main(rt: HostRuntime) -> ExitCode {

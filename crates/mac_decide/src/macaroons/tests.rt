@@ -45,10 +45,26 @@ fn two_workers_overtake_each_other(rt: HostRuntime) -> Result<(), Fail> {
         Event::Send(0),
     ]?;
     let outcomes = world.run(alloc, events).ok().expect(&rt, "ample memory");
-    assert_eq!(rt; outcomes.len(), 14);
-    assert_eq!(rt; outcomes[6], Outcome::Waiting);
-    assert_eq!(rt; outcomes[9], Outcome::Sent(1));
-    assert_eq!(rt; outcomes[12], Outcome::Discarded);
+    assert_eq!(rt;
+        outcomes.as_slice(),
+        [
+            Outcome::Admitted(0),
+            Outcome::Admitted(1),
+            Outcome::Admitted(2),
+            Outcome::Claimed,
+            Outcome::Claimed,
+            Outcome::Finished,
+            Outcome::Waiting,
+            Outcome::Finished,
+            Outcome::Sent(0),
+            Outcome::Sent(1),
+            Outcome::Claimed,
+            Outcome::Closed,
+            Outcome::Discarded,
+            Outcome::Ended
+        ]
+        .as_slice()
+    );
     assert_eq!(rt; world.arrived(0).len(), 3);
     assert_eq!(rt;
         world.sent(0),

@@ -152,6 +152,18 @@ fn a_window_of_128_places(rt: HostRuntime) -> Result<(), Fail> {
         ]
         .as_slice()
     );
+    let mut world = World::new(rt.alloc(), 1, 1)?;
+    let mut plain = PlainWorld::new(rt.alloc(), 1, 1)?;
+    let mut rows = Vec::new(rt.alloc());
+    for job in 0..128 {
+        rows.push((Event::Arrive(0, job), Outcome::Admitted(job)))?;
+    }
+    rows.push((Event::Arrive(0, 128), Outcome::Full))?;
+    rows.push((Event::Claim(0, 0, 0), Outcome::Claimed))?;
+    rows.push((Event::Finish(0), Outcome::Finished))?;
+    rows.push((Event::Send(0), Outcome::Sent(0)))?;
+    rows.push((Event::Arrive(0, 128), Outcome::Admitted(128)))?;
+    assert_outcomes(&rt, rt.alloc(), &mut world, &mut plain, rows);
     Ok(())
 }
 
