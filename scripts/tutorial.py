@@ -4,6 +4,7 @@ A session is a block marked `console`: a line that begins with `$ ` is a command
 prints. The commands run in one shell, where a stand-in for bin/macaroond notes what it is asked and answers what
 the README says. So all that the README shows is there before the pipe itself is asked, in one run.
 """
+import os
 import pathlib
 import re
 import shlex
@@ -63,7 +64,7 @@ class Tutorial:
         for step, (_, shown) in enumerate(found):
             (notes / f"shown.{step:03}").write_text(shown)
         text = script(notes, [command for command, _ in found])
-        run = subprocess.run(["sh", "-c", text], cwd=folder, env={"PATH": "/usr/bin:/bin", "NOTES": str(notes)})
+        run = subprocess.run(["sh", "-c", text], cwd=folder, env={**os.environ, "NOTES": str(notes)})
         if run.returncode != 0:
             self.faults.append(f"the README's session ends with status {run.returncode}")
             return

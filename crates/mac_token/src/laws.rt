@@ -1,6 +1,6 @@
 //! Laws about the definitions, each the contract of a function that does nothing.
 
-ghost use Rattle.std.specs.Prelude.{◌≡◌, ◌≤◌, ◌↔◌, ◌++◌, ◌∷◌, ℕ, List, length, codes, Some, Ok, Result, IsTrue};
+ghost use Rattle.std.specs.Prelude.{All, ◌≡◌, ◌≤◌, ◌↔◌, ◌++◌, ◌∷◌, ℕ, List, length, codes, Some, Ok, Result, IsTrue};
 ghost use Rattle.std.specs.Str.{IsUtf8};
 ghost use Rattle.base64.specs.Engines.{standard, standard_no_pad, url_safe, url_safe_no_pad};
 ghost use Rattle.base64.specs.GeneralPurpose.{IsBytes, engine_symbols};
@@ -10,13 +10,16 @@ ghost use Rattle.mac_token.specs.declared.limits.TheConstants.{TOKEN_MAX};
 ghost use Rattle.mac_token.specs.Base64Text.{IsBase64Of, base64_of};
 ghost use Rattle.mac_token.specs.Json.{JsonText, json_bytes};
 ghost use Rattle.mac_token.specs.Limits.{IsWithinLimits, is_within};
-ghost use Rattle.mac_token.specs.RawToken.{RawParts, TokenParts, IsToken, raw_of};
+ghost use Rattle.mac_token.specs.RawToken.{RawParts, TokenParts, IsToken, byte_lists, raw_of};
 ghost use Rattle.mac_token.specs.Read.{Read, ReadRaw, read_of, raw_read_of};
 ghost use Rattle.mac_token.specs.Spells.{Spells};
 ghost use Rattle.mac_token.specs.V1.{V1, v1_bytes};
 ghost use Rattle.mac_token.specs.V2.{V2, v2_bytes};
 ghost use Rattle.mac_token.specs.Varint.{varint, IsVarint, IsLeb128, number_of};
 ghost use Rattle.mac_token.specs.Written.{written};
+
+use crate::form::Form as TokenForm;
+use crate::token::Token;
 
 /// Bytes spell at most one raw token, over all forms.
 pub fn spells_one()
@@ -32,6 +35,41 @@ pub fn written_spells()
 pub fn written_is_read_again()
     ensures { (t : TokenParts) (form : Form) → IsToken t → IsWithinLimits t → length (written t form) ≤ TOKEN_MAX → read_of (written t form) ≡ Ok t }
 {}
+
+/// What is written for a `Token` is read again as it: its parts are what [`written_is_read_again`] asks for.
+pub fn each_token_is_read_again(token: &Token, form: TokenForm)
+    ensures { length (written token.now form) ≤ TOKEN_MAX → read_of (written token.now form) ≡ Ok token.now }
+{
+    parts_of_a_token(token);
+}
+
+/// What the type of a token says of its parts.
+fn parts_of_a_token(token: &Token)
+    ensures parts { IsToken token.now }
+    ensures within { IsWithinLimits token.now }
+{
+    is_text(token.location());
+    are_bytes(token.identifier());
+    all_are_bytes(token.caveat_buffers());
+    are_bytes(&token.sig());
+}
+
+fn is_text(text: &str)
+    ensures text { IsUtf8 text.now }
+    ensures bytes { IsBytes text.now }
+{}
+
+fn are_bytes(bytes: &[u8])
+    ensures { IsBytes bytes.now }
+{}
+
+fn all_are_bytes(lists: &[Vec<u8>])
+    ensures { All IsBytes (byte_lists lists.now) }
+{
+    for list in lists {
+        are_bytes(list);
+    }
+}
 
 /// What the function of reading gives is the one way in which reading may end.
 pub fn read_is_meant()
