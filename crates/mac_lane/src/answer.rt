@@ -1,3 +1,5 @@
+//! A job with its reply.
+
 ghost use Rattle.std.specs.Prelude.{◌≡◌, IfOk, IfErr};
 
 use crate::service::Service;

@@ -1,3 +1,5 @@
+//! The events of the world, and what comes of each.
+
 ghost use Rattle.std.specs.Prelude.{◌≡◌, IfOk, replicate};
 
 use crate::service::{NoMemory, Service};

@@ -1,3 +1,5 @@
+//! Why a buffer refuses a job or an answer.
+
 ghost use Rattle.std.specs.Prelude.{◌≡◌};
 ghost use Rattle.mac_lane.specs.Fault.{open_code, settle_code};
 

@@ -1,3 +1,5 @@
+//! What a buffer has to send.
+
 use crate::service::Service;
 
 /// What a reorder buffer has to send.

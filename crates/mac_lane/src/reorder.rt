@@ -1,3 +1,5 @@
+//! The reorder buffer: answers wait by their places until their turn.
+
 ghost use Rattle.std.specs.Prelude.{◌≡◌, ◌%◌, IfOk, OnOk, IfErr, OnErr, MatchResult, replicate, false, ◌<◌, drop, length, IsSome, IfSome, ◌+◌, ◌≤◌};
 ghost use Rattle.std.specs.Option.{option_copied};
 ghost use Rattle.std.specs.FinMap.{get};

@@ -1,3 +1,5 @@
+//! What the core asks of a service.
+
 ghost use Rattle.std.specs.Prelude.{◌≡◌, true, IfOk};
 
 use std::alloc::{AllocError, Global};

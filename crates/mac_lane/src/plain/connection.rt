@@ -1,3 +1,5 @@
+//! One connection of the plain world: lists, as the definition has them.
+
 ghost use Rattle.std.specs.Prelude.{◌≡◌, true, false, IfOk, OnOk, OnErr, slice_get, length};
 ghost use Rattle.std.specs.FinSet.{contains};
 ghost use Rattle.std.specs.Option.{option_copied};

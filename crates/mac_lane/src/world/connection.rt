@@ -1,3 +1,5 @@
+//! One connection of the world: its buffer, and a mark for each place.
+
 ghost use Rattle.std.specs.Prelude.{◌≡◌, true, false, IfOk, OnErr};
 ghost use Rattle.std.specs.FinSet.{contains};
 ghost use Rattle.mac_lane.specs.State.{fresh};
