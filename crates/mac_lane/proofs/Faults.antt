@@ -1,7 +1,7 @@
 -- What a buffer's faults say, and what follows where there is none.
 use Rattle.std.proofs.Common.{◌≡◌, ℕ, ◌+◌, ◌-◌, ◌<◌, ◌≤◌, ◌^◌, false, if◌then◌else◌, List, length, Option, None, Some, is_some, arith}
 use Rattle.std.proofs.lemmas.Bool.Decides.{nat_tests}
-use Rattle.mac_lane.specs.Buffer.{Buffer, open_fault, settle_fault, next_place}
+use Rattle.mac_lane.specs.Buffer.{Buffer, open_fault, settle_fault, place_to_open}
 use Rattle.mac_lane.specs.Slots.{answers_in, in_slot}
 use Rattle.mac_lane.specs.declared.reorder.TheConstants.{SLOTS}
 use Rattle.mac_lane.specs.declared.fault.SettleFault.TheVariants.{Twice}
@@ -11,9 +11,9 @@ use Rattle.mac_lane.proofs.Waiting.{get-answers_in}
 pub record IsOpenable {Job : Type 0} (buffer : Buffer Job) : Type 0 where
   pub room : length buffer.slips < SLOTS
   pub live : buffer.closed ≡ false
-  pub place : next_place buffer < 2 ^ 64 - 1
+  pub place : place_to_open buffer < 2 ^ 64 - 1
 
-pub open_fault-none : {Job : Type 0} (buffer : Buffer Job) → next_place buffer < 2 ^ 64 → open_fault buffer ≡ None → IsOpenable buffer
+pub open_fault-none : {Job : Type 0} (buffer : Buffer Job) → place_to_open buffer < 2 ^ 64 → open_fault buffer ≡ None → IsOpenable buffer
 open_fault-none buffer fits none = record { room = grind (arith, nat_tests); live = grind (arith, nat_tests); place = grind (arith, nat_tests) }
 
 -- an open buffer that is not full

@@ -27,15 +27,15 @@ module _ {Job : Type 0} where
   closed_off buffer = record { next = buffer.next; slips = []; answers = empty; closed = true }
 
   -- the place of the next job to be opened
-  abbrev pub next_place : Buffer Job → ℕ
-  next_place buffer = buffer.next + length buffer.slips
+  abbrev pub place_to_open : Buffer Job → ℕ
+  place_to_open buffer = buffer.next + length buffer.slips
 
   -- the first reason, if any, why no job can be opened
   abbrev pub open_fault : Buffer Job → Option OpenFault
   open_fault buffer =
       if nat_le SLOTS (length buffer.slips) then Some Full
       else if buffer.closed then Some Shut
-      else if next_place buffer == 2 ^ 64 - 1 then Some Last
+      else if place_to_open buffer == 2 ^ 64 - 1 then Some Last
       else None
 
   -- the buffer once the job is opened
@@ -62,7 +62,7 @@ module _ {Job : Type 0} where
   -- what always holds: at most 128 slips, each with a place; answers wait within 128 places; a closed buffer has neither
   pub record IsBounded (buffer : Buffer Job) : Type 0 where
     pub slips : length buffer.slips ≤ SLOTS
-    pub places : next_place buffer < 2 ^ 64
+    pub places : place_to_open buffer < 2 ^ 64
     pub answers : (place : ℕ) → IsSome (get buffer.answers place) → (buffer.next ≤ place) × (place < buffer.next + SLOTS)
     pub closed : buffer.closed ≡ true → (buffer.slips ≡ []) × (buffer.answers ≡ empty)
 

@@ -3,7 +3,7 @@
 ghost use Rattle.std.specs.Prelude.{◌≡◌, ◌%◌, IfOk, OnOk, IfErr, OnErr, MatchResult, replicate, false, ◌<◌, drop, length, IsSome, IfSome, ◌+◌, ◌≤◌};
 ghost use Rattle.std.specs.Option.{option_copied};
 ghost use Rattle.std.specs.FinMap.{get};
-ghost use Rattle.mac_lane.specs.Buffer.{Buffer, fresh_buffer, open_fault, next_place, opened, settle_fault, settled, next_of, closed_off, sent_off, IsBounded};
+ghost use Rattle.mac_lane.specs.Buffer.{Buffer, fresh_buffer, open_fault, place_to_open, opened, settle_fault, settled, next_of, closed_off, sent_off, IsBounded};
 
 use crate::answer::Answer;
 use crate::fault::{OpenFault, SettleFault};
@@ -57,7 +57,7 @@ impl<S: Service> Reorder<S> {
     /// Opens the job at the next place, and gives the place.
     pub fn open(&mut self, job: S::Job) -> Result<u64, (OpenFault, S::Job)>
         ensures fault { MatchResult result (λ place. open_fault self.old ≡ None) (λ e. open_fault self.old ≡ Some e.0) }
-        ensures place { IfOk result (λ place. place ≡ next_place self.old) }
+        ensures place { IfOk result (λ place. place ≡ place_to_open self.old) }
         ensures opened { OnOk result (self.new ≡ opened self.old job) }
         ensures refused { OnErr result (self.new ≡ self.old) }
         ensures back { IfErr result (λ e. e.1 ≡ job) }
@@ -168,6 +168,22 @@ impl<S: Service> Reorder<S> {
             }
             None => unreachable!(),
         }
+    }
+
+    /// How many jobs are open, of those whose replies were not sent.
+    pub fn open_slips(&self) -> usize
+        ensures slips { result ≡ length self.now.slips }
+        ensures bounded { IsBounded self.now }
+    {
+        self.slips.len()
+    }
+
+    /// The place whose reply is sent next.
+    pub fn next_place(&self) -> u64
+        ensures place { result ≡ self.now.next }
+        ensures bounded { IsBounded self.now }
+    {
+        self.next
     }
 
     /// Closes the buffer, and drops its slips and answers.
