@@ -12,11 +12,11 @@ use Rattle.mac_lane.proofs.Staffed.{slice_get-set_same}
 use Rattle.mac_lane.proofs.Steps.{on_connection-known}
 use Rattle.mac_lane.proofs.Moves.{Moved, stays, arrives, claims, finishes, sends, closes}
 
-map-push : {Item Other : Type 0} (f : Item → Other) (items : List Item) (item : Item) → map f (items ++ item ∷ []) ≡ map f items ++ f item ∷ []
+pub map-push : {Item Other : Type 0} (f : Item → Other) (items : List Item) (item : Item) → map f (items ++ item ∷ []) ≡ map f items ++ f item ∷ []
 map-push f [] item = refl
 map-push f (first ∷ items) item = ap (λ rest. f first ∷ rest) (map-push f items item)
 
-slice_get-seam : {Item : Type 0} (items rest : List Item) → slice_get (items ++ rest) (length items) ≡ slice_get rest 0
+pub slice_get-seam : {Item : Type 0} (items rest : List Item) → slice_get (items ++ rest) (length items) ≡ slice_get rest 0
 slice_get-seam [] [] = refl
 slice_get-seam [] (item ∷ rest) = refl
 slice_get-seam (first ∷ items) rest = slice_get-seam items rest

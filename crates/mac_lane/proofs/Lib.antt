@@ -14,3 +14,4 @@ pub mod Beginnings
 pub mod Claims
 pub mod Origins
 pub mod SentPlaces
+pub mod Reaching

@@ -1,6 +1,6 @@
 -- What the laws say of whole runs. All of it is this project's own.
-use Rattle.std.specs.Prelude.{◌≡◌, ℕ, ◌==◌, if◌then◌else◌, List, [], ◌∷◌, ◌++◌, Some, slice_get}
-use Rattle.mac_lane.specs.State.{State, opening}
+use Rattle.std.specs.Prelude.{◌≡◌, ℕ, ◌==◌, if◌then◌else◌, false, List, [], ◌∷◌, ◌++◌, Some, slice_get}
+use Rattle.mac_lane.specs.State.{Connection, State, opening}
 use Rattle.mac_lane.specs.Ran.{ran}
 use Rattle.mac_lane.specs.declared.event.Event.{Event}
 use Rattle.mac_lane.specs.declared.event.Event.TheVariants.{Send}
@@ -40,3 +40,16 @@ module _ {Which Job Reply : Type 0} where
   sent_places number [] outcomes = []
   sent_places number (event ∷ events) [] = []
   sent_places number (event ∷ events) (outcome ∷ outcomes) = place_of number event outcome ++ sent_places number events outcomes
+
+-- some events lead from the state to one in which connection 0 is open and has these jobs and these replies
+pub record LeadsTo (Which : Type 0) {Job Reply : Type 0} (reply_to : Job → Reply) (state : State Job Reply) (arrived : List Job) (sent : List Reply) : Type 0 where
+  pub events : List (Event Which Job Reply)
+  pub link : Connection Job Reply
+  pub known : slice_get (ran reply_to state events).0.connections 0 ≡ Some link
+  pub live : link.closed ≡ false
+  pub arrived_is : link.arrived ≡ arrived
+  pub sent_is : link.sent ≡ sent
+
+-- some events lead the opening state of one connection and one worker to these jobs and these replies
+abbrev pub IsReached : (Which : Type 0) {Job Reply : Type 0} → (Job → Reply) → List Job → List Reply → Type 0
+IsReached Which reply_to arrived sent = LeadsTo Which reply_to (opening 1 1) arrived sent

@@ -1,6 +1,6 @@
 //! Laws about the definitions that the contracts cite: each is the contract of a function with nothing in its body.
 
-ghost use Rattle.std.specs.Prelude.{◌≡◌, ◌≢◌, ◌<◌, ℕ, true, false, ◌↔◌, List, ◌∷◌, length, map, slice_get, take};
+ghost use Rattle.std.specs.Prelude.{◌≡◌, ◌≢◌, ◌<◌, ◌≤◌, ◌+◌, ℕ, true, false, ◌↔◌, List, ◌∷◌, length, map, slice_get, take};
 ghost use Rattle.std.specs.FinMap.{get};
 ghost use Rattle.std.specs.List.{range_with_len};
 ghost use Rattle.mac_lane.specs.declared.event.Event as event;
@@ -8,7 +8,7 @@ ghost use Rattle.mac_lane.specs.Buffer.{Buffer, next_of, sent_off};
 ghost use Rattle.mac_lane.specs.State.{Connection, State};
 ghost use Rattle.mac_lane.specs.Ran.{ran};
 ghost use Rattle.mac_lane.specs.Step.{step};
-ghost use Rattle.mac_lane.specs.History.{IsBeginningOf, reached, outcomes, Happens, sent_places};
+ghost use Rattle.mac_lane.specs.History.{IsBeginningOf, reached, outcomes, Happens, sent_places, IsReached};
 
 use crate::event::{Event, Outcome};
 use crate::next::Next;
@@ -87,4 +87,12 @@ pub fn connections_are_apart<S: Service>()
         slice_get (step {Which = S} S.reply_to state (Event.Send number)).0.connections other ≡ slice_get state.connections other }
     ensures close { (state : State S.Job S.Reply) (number other : ℕ) → other ≢ number →
         slice_get (step {Which = S} S.reply_to state (Event.Close number)).0.connections other ≡ slice_get state.connections other }
+{}
+
+/// Any jobs, with the replies to a beginning of them that leaves at most 128 unsent, are the lists of
+/// a state that some events reach.
+pub fn lists_within_the_window_are_reached<S: Service>()
+    ensures { (jobs : List S.Job) (sent : ℕ) →
+        sent ≤ length jobs → length jobs ≤ sent + SLOTS →
+        IsReached S S.reply_to jobs (map S.reply_to (take sent jobs)) }
 {}
