@@ -89,7 +89,7 @@ arrivals_of-whole bytes payload more h =
     ∙ step-whole (length stream) told payload (arrivals_of more) h.allowed (omega (arith, h.complete, length-append bytes more))
 
 -- the length that a frame tells
-told_length-frame : (payload : List ℕ) → length payload < 2 ^ 32 → told_length (frame payload) ≡ length payload
+pub told_length-frame : (payload : List ℕ) → length payload < 2 ^ 32 → told_length (frame payload) ≡ length payload
 told_length-frame payload fits =
     ap (from_be_bytes w32) (take_at (to_be_bytes w32 (length payload)) payload 4 refl) ∙ from_be_bytes-to_be_bytes_4 (length payload) fits
 

@@ -9,3 +9,4 @@ pub mod Spelling
 pub mod Asking
 pub mod Replies
 pub mod ReplyText
+pub mod Wholes

@@ -11,7 +11,7 @@ use Rattle.mac_wire.specs.Frame.{followed_by, arrivals_of}
 use Rattle.mac_wire.specs.Reply.{IsReply, reply_payload, reply_frame, reply_text, reply_arrivals}
 use Rattle.mac_wire.proofs.Arrivals.{arrivals_of-nothing, arrivals_of-whole, IsWhole-frame}
 
-payload_fits : (r : Reply) → IsReply r → length (reply_payload r) ≤ FRAME_MAX
+pub payload_fits : (r : Reply) → IsReply r → length (reply_payload r) ≤ FRAME_MAX
 payload_fits reply.Granted h = omega arith
 payload_fits (reply.Token t) h = omega arith
 payload_fits (reply.Refused n) h = omega arith

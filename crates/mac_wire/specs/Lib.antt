@@ -10,3 +10,4 @@ pub mod Reading
 pub mod Parsing
 pub mod Streams
 pub mod Reply
+pub mod Whole

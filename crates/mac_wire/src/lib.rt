@@ -19,6 +19,7 @@ mod reader_source;
 mod reply;
 mod request;
 mod send;
+mod whole;
 mod writer_sink;
 
 pub use arrival::{Arrival, Ending, FRAME_MAX};
@@ -33,6 +34,7 @@ pub use reader_source::ReaderSource;
 pub use reply::{REPLY_TOKEN_MAX, Refusal, Reply, reply_bytes};
 pub use request::{FACTS_MAX, Request, RequestFault, TokenForm};
 pub use send::send_all;
+pub use whole::whole_frames;
 pub use writer_sink::WriterSink;
 
 /// Want of memory.
