@@ -79,11 +79,33 @@ impl<'a> Words<'a> {
     }
 }
 
-/// The bytes that a word spells in hexadecimal; `-` is none, and so is the word without a letter.
+/// The bytes that a word spells: its parts between plus signs, joined; `-` is none.
 fn spelled(alloc: Global, word: &str) -> Result<Vec<u8>, CaseFault> {
+    let mut bytes = Vec::new(alloc);
     if word == "-" {
-        return Ok(Vec::new(alloc));
+        return Ok(bytes);
     }
+    for part in word.split('+') {
+        append_part(alloc, part, &mut bytes)?;
+    }
+    Ok(bytes)
+}
+
+/// Appends the bytes of a part, as often as the number behind its star says.
+fn append_part(alloc: Global, part: &str, bytes: &mut Vec<u8>) -> Result<(), CaseFault> {
+    let (word, times) = part.split_once('*').unwrap_or((part, "1"));
+    let Ok(times) = times.parse::<u16>() else {
+        return Err(CaseFault::NoCase);
+    };
+    let piece = decoded(alloc, word)?;
+    for _ in 0..times {
+        bytes.extend_from_slice(&piece)?;
+    }
+    Ok(())
+}
+
+/// The bytes that a word spells in hexadecimal; the word without a letter is none.
+fn decoded(alloc: Global, word: &str) -> Result<Vec<u8>, CaseFault> {
     match hex::decode(alloc, word) {
         Ok(bytes) => Ok(bytes),
         Err(hex::FromHexError::OutOfMemory) => Err(CaseFault::Memory),

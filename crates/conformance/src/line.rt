@@ -1,8 +1,8 @@
 //! The outcome of a line.
 
 use crate::case::{CaseFault, Words, digits};
-use crate::parts::{parts, raw_parts, refusal};
-use crate::token::{agreement, cut_codes, rewritten};
+use crate::parts::{fault_texts, parts, raw_parts, refusal};
+use crate::token::{agreement, cut_codes, longer, rewritten, written_length};
 use crate::wire::{frames, reply_to};
 use mac_decide::time_limit;
 use mac_keys::{KeyFault, KeyTable};
@@ -28,6 +28,9 @@ fn case_outcome(alloc: Global, line: &str) -> Result<String, CaseFault> {
         b"raw" => raw_outcome(alloc, &mut words),
         b"code" => code_outcome(alloc, &mut words),
         b"rewrite" => rewritten(alloc, &mut words),
+        b"length" => written_length(alloc, &mut words),
+        b"push" => longer(alloc, &mut words),
+        b"texts" => Ok(fault_texts(alloc)?),
         b"cuts" => cut_codes(alloc, &mut words),
         b"keys" => keys_outcome(alloc, &mut words),
         b"time" => time_outcome(alloc, &mut words),

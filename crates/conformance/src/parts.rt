@@ -54,3 +54,24 @@ pub(crate) fn refusal(alloc: Global, fault: TokenFault) -> Result<String, CaseFa
         None => Err(CaseFault::Memory),
     }
 }
+
+/// The number of each fault, where it has one, and its text.
+pub(crate) fn fault_texts(alloc: Global) -> Result<String, AllocError> {
+    let faults = [
+        TokenFault::Transport,
+        TokenFault::Malformed,
+        TokenFault::ThirdParty,
+        TokenFault::Limit,
+        TokenFault::CaveatLocation,
+        TokenFault::Memory,
+    ];
+    let mut text = String::new(alloc);
+    for fault in faults {
+        let fault_text = match fault.code() {
+            Some(code) => format!(in alloc; "{code} {fault}; ")?,
+            None => format!(in alloc; "{fault}")?,
+        };
+        text.push_str(fault_text.as_str())?;
+    }
+    Ok(text)
+}

@@ -1,7 +1,7 @@
 //! Tokens compared with the parts that they were made from elsewhere.
 
 use crate::case::{CaseFault, Words, digits};
-use crate::parts::refusal;
+use crate::parts::{parts, refusal};
 use crate::verdicts::verdicts;
 use mac_decide::mint;
 use mac_hmac::root_key;
@@ -75,6 +75,47 @@ pub(crate) fn rewritten(alloc: Global, words: &mut Words<'_>) -> Result<String, 
     match written {
         Ok(written) => Ok(digits(alloc, &written)?),
         Err(fault) => refusal(alloc, fault),
+    }
+}
+
+/// How many bytes the token of these parts, minted under the empty secret, has in a form.
+pub(crate) fn written_length(alloc: Global, words: &mut Words<'_>) -> Result<String, CaseFault> {
+    let form = words.form()?;
+    let location = text(alloc, &words.bytes(alloc)?)?;
+    let identifier = words.bytes(alloc)?;
+    let caveats = words.lists(alloc)?;
+    let minted = mint(
+        alloc,
+        &root_key(&[]),
+        location.as_str(),
+        &identifier,
+        &caveats,
+    );
+    let written = match minted {
+        Ok(token) => write(alloc, &token, form),
+        Err(fault) => Err(fault),
+    };
+    match written {
+        Ok(written) => Ok(format!(in alloc; "{}", written.len())?),
+        Err(fault) => refusal(alloc, fault),
+    }
+}
+
+/// A token with more caveats and a signature of zeros; after a refusal the token that is handed back.
+pub(crate) fn longer(alloc: Global, words: &mut Words<'_>) -> Result<String, CaseFault> {
+    let bytes = words.bytes(alloc)?;
+    let caveats = words.lists(alloc)?;
+    let token = match read(alloc, &bytes) {
+        Ok(token) => token,
+        Err(fault) => return refusal(alloc, fault),
+    };
+    match token.push(alloc, &caveats, [0; 32]) {
+        Ok(token) => Ok(parts(alloc, &token)?),
+        Err((fault, token)) => {
+            let refusal = refusal(alloc, fault)?;
+            let parts = parts(alloc, &token)?;
+            Ok(format!(in alloc; "{refusal}, still {parts}")?)
+        }
     }
 }
 

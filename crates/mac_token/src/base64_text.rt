@@ -51,6 +51,3 @@ pub(crate) fn encode(alloc: Global, bytes: &[u8]) -> Result<String, NoMemory>
 {
     URL_SAFE_NO_PAD.encode(alloc, bytes)
 }
-
-#[cfg(test)]
-mod tests;

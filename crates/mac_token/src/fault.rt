@@ -64,6 +64,3 @@ impl<T: Drop> From<AllocFailed<T>> for TokenFault {
         TokenFault::Memory
     }
 }
-
-#[cfg(test)]
-mod tests;

@@ -4,7 +4,7 @@ ghost use Rattle.std.specs.Prelude.{◌≡◌};
 ghost use Rattle.mac_token.specs.Form.{form_number};
 
 /// A form in which a token is written.
-#[derive(Clone, Copy, Debug, PartialEq, Eq)]
+#[derive(Clone, Copy)]
 pub enum Form {
     /// Base64 text of V1 packets.
     V1Text,
@@ -27,18 +27,5 @@ impl Form {
             Form::V2Json => 3,
             Form::V2Text => 4,
         }
-    }
-}
-
-#[cfg(test)]
-mod tests {
-    use super::*;
-
-    #[test]
-    fn numbers(rt: HostRuntime) {
-        assert_eq!(rt; Form::V1Text.number(), 1);
-        assert_eq!(rt; Form::V2Binary.number(), 2);
-        assert_eq!(rt; Form::V2Json.number(), 3);
-        assert_eq!(rt; Form::V2Text.number(), 4);
     }
 }

@@ -178,6 +178,3 @@ pub(crate) fn read_json(alloc: Global, bytes: &[u8]) -> Result<RawToken, TokenFa
 {
     read_text(alloc, bytes)
 }
-
-#[cfg(test)]
-mod tests;

@@ -97,6 +97,3 @@ pub(crate) fn write_json(alloc: Global, token: &Token) -> Result<Vec<u8>, TokenF
     }
     Ok(bytes)
 }
-
-#[cfg(test)]
-mod tests;

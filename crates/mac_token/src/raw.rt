@@ -3,7 +3,7 @@
 use std::marker::Model;
 
 /// A caveat as it is spelled. Contracts see it as a `CaveatParts`.
-#[derive(Debug, Drop)]
+#[derive(Drop)]
 pub struct RawCaveat {
     /// The caveat's bytes.
     pub id: Vec<u8>,
@@ -22,7 +22,7 @@ impl Model for RawCaveat {
 }
 
 /// A token as it is spelled. Contracts see it as a `RawParts`.
-#[derive(Debug, Drop)]
+#[derive(Drop)]
 pub struct RawToken {
     /// The location; a token without one has the empty one.
     pub location: String,

@@ -151,6 +151,3 @@ pub fn read(alloc: Global, bytes: &[u8]) -> Result<Token, TokenFault>
 {
     read_token(alloc, bytes)
 }
-
-#[cfg(test)]
-mod tests;

@@ -13,7 +13,7 @@ use std::marker::Model;
 
 /// A token: a location, an identifier, first-party caveats and a signature, each within its limit.
 /// Contracts see it as a `TokenParts`.
-#[derive(Debug, Drop)]
+#[derive(Drop)]
 pub struct Token {
     location: String,
     identifier: Vec<u8>,
@@ -160,6 +160,3 @@ impl Token {
         self.sig
     }
 }
-
-#[cfg(test)]
-mod tests;

@@ -25,7 +25,7 @@ const VERSION: u8 = 2;
 const END: u8 = 0;
 
 /// The types of fields, by their numbers.
-#[derive(Clone, Copy, Debug, PartialEq, Eq)]
+#[derive(Clone, Copy)]
 pub(crate) enum FieldType {
     Location = 1,
     Identifier = 2,
@@ -43,6 +43,3 @@ impl FieldType {
         self as u8
     }
 }
-
-#[cfg(test)]
-mod tests;

@@ -80,6 +80,3 @@ pub fn write(alloc: Global, token: &Token, form: Form) -> Result<Vec<u8>, TokenF
 {
     write_form(alloc, token, form)
 }
-
-#[cfg(test)]
-mod tests;

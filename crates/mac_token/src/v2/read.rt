@@ -65,7 +65,7 @@ fn read_end(bytes: &[u8]) -> Option<&[u8]>
 }
 
 /// The fields of a section, as they stand in the bytes. Contracts see it as its `SectionParts`.
-#[derive(Debug, Drop)]
+#[derive(Drop)]
 struct Section<'a> {
     location: Option<&'a [u8]>,
     identifier: &'a [u8],
