@@ -2,16 +2,13 @@
 
 use mac_token::Form;
 use std::alloc::{AllocError, AllocFailed, Global};
-use thiserror::Error;
 
 /// Why a line has no outcome.
-#[derive(Clone, Copy, Debug, PartialEq, Eq, Error)]
+#[derive(Clone, Copy)]
 pub(crate) enum CaseFault {
     /// The line isn't one of a case's forms.
-    #[error("the line is no case")]
     NoCase,
     /// Memory ran out.
-    #[error("there is no memory for the case")]
     Memory,
 }
 
@@ -64,19 +61,6 @@ impl<'a> Words<'a> {
             _ => Err(CaseFault::NoCase),
         }
     }
-
-    /// The lists that the next word spells, between commas; `none` is no list.
-    pub(crate) fn lists(&mut self, alloc: Global) -> Result<Vec<Vec<u8>>, CaseFault> {
-        let word = self.next()?;
-        let mut lists = Vec::new(alloc);
-        if word == "none" {
-            return Ok(lists);
-        }
-        for part in word.split(',') {
-            lists.push(spelled(alloc, part)?)?;
-        }
-        Ok(lists)
-    }
 }
 
 /// The bytes that a word spells: its parts between plus signs, joined; `-` is none.
@@ -113,10 +97,34 @@ fn decoded(alloc: Global, word: &str) -> Result<Vec<u8>, CaseFault> {
     }
 }
 
-/// Bytes in hexadecimal; `-` where there are none.
-pub(crate) fn digits(alloc: Global, bytes: &[u8]) -> Result<String, AllocError> {
-    if bytes.is_empty() {
-        return String::from_str(alloc, "-");
+/// The lists that a word spells, between commas; `none` is no list.
+pub(crate) fn lists(alloc: Global, word: &str) -> Result<Vec<Vec<u8>>, CaseFault> {
+    let mut lists = Vec::new(alloc);
+    if word == "none" {
+        return Ok(lists);
     }
-    hex::encode(alloc, bytes)
+    for part in word.split(',') {
+        lists.push(spelled(alloc, part)?)?;
+    }
+    Ok(lists)
+}
+
+/// Appends bytes in hexadecimal; `-` where there are none.
+pub(crate) fn append_digits(
+    alloc: Global,
+    bytes: &[u8],
+    text: &mut String,
+) -> Result<(), AllocError> {
+    if bytes.is_empty() {
+        return text.push_str("-");
+    }
+    let digits = hex::encode(alloc, bytes)?;
+    text.push_str(digits.as_str())
+}
+
+/// Bytes in hexadecimal; `-` where there are none.
+pub(crate) fn digits(alloc: Global, bytes: &[u8]) -> Result<String, CaseFault> {
+    let mut text = String::new(alloc);
+    append_digits(alloc, bytes, &mut text)?;
+    Ok(text)
 }

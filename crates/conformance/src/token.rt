@@ -1,66 +1,86 @@
-//! Tokens compared with the parts that they were made from elsewhere.
+//! Cases of `mac_token`.
 
-use crate::case::{CaseFault, Words, digits};
-use crate::parts::{parts, refusal};
-use crate::verdicts::verdicts;
-use mac_decide::mint;
-use mac_hmac::root_key;
-use mac_token::{Form, Token, TokenFault, read, write};
+use crate::case::{CaseFault, Words, append_digits, digits, lists};
+use mac_token::{RawCaveat, Token, TokenFault, read, read_raw, write};
 use std::alloc::{AllocError, Global};
 
-/// How a token agrees with its parts: whether it reads as them, is written so, and what its key says of it.
-pub(crate) fn agreement(alloc: Global, words: &mut Words<'_>) -> Result<String, CaseFault> {
-    let form = words.form()?;
-    let key = root_key(&words.bytes(alloc)?);
-    let location = text(alloc, &words.bytes(alloc)?)?;
-    let identifier = words.bytes(alloc)?;
-    let caveats = words.lists(alloc)?;
+/// A token's parts, or its refusal.
+pub(crate) fn read_parts(alloc: Global, words: &mut Words<'_>) -> Result<String, CaseFault> {
     let bytes = words.bytes(alloc)?;
-    let minted = match mint(alloc, &key, location.as_str(), &identifier, &caveats) {
-        Ok(token) => token,
-        Err(fault) => return refusal(alloc, fault),
-    };
-    let token = match read(alloc, &bytes) {
-        Ok(token) => token,
-        Err(fault) => return refusal(alloc, fault),
-    };
-    let parts = if are_alike(&token, &minted) {
-        "as made"
-    } else {
-        "otherwise"
-    };
-    let written = if is_written(alloc, &minted, form, &bytes)? {
-        "as made"
-    } else {
-        "otherwise"
-    };
-    let verdicts = verdicts(alloc, &key, &token, &caveats)?;
-    Ok(format!(in alloc; "read {parts}, written {written}, {verdicts}")?)
-}
-
-/// The text of these bytes.
-fn text(alloc: Global, bytes: &[u8]) -> Result<String, CaseFault> {
-    match str::from_utf8(bytes) {
-        Ok(text) => Ok(String::from_str(alloc, text)?),
-        Err(_) => Err(CaseFault::NoCase),
+    match read(alloc, &bytes) {
+        Ok(token) => Ok(parts(alloc, &token)?),
+        Err(fault) => refusal(alloc, fault),
     }
 }
 
-/// Whether two tokens have the same parts.
-fn are_alike(a: &Token, b: &Token) -> bool {
-    a.location() == b.location()
-        && a.identifier() == b.identifier()
-        && a.sig() == b.sig()
-        && a.caveats() == b.caveats()
-        && (0..a.caveats()).all(|i| a.caveat(i) == b.caveat(i))
+/// A token's location, identifier, signature and caveats.
+pub(crate) fn parts(alloc: Global, token: &Token) -> Result<String, AllocError> {
+    let location = token.location().as_bytes();
+    let mut text = front(alloc, location, token.identifier(), &token.sig())?;
+    for i in 0..token.caveats() {
+        text.push_str(" ")?;
+        append_digits(alloc, token.caveat(i).unwrap_or(&[]), &mut text)?;
+    }
+    Ok(text)
 }
 
-/// Whether a token is written as these bytes.
-fn is_written(alloc: Global, token: &Token, form: Form, bytes: &[u8]) -> Result<bool, CaseFault> {
-    match write(alloc, token, form) {
-        Ok(written) => Ok(written.as_slice() == bytes),
-        Err(TokenFault::Memory) => Err(CaseFault::Memory),
-        Err(_) => Ok(false),
+fn front(
+    alloc: Global,
+    location: &[u8],
+    identifier: &[u8],
+    signature: &[u8],
+) -> Result<String, AllocError> {
+    let mut text = String::new(alloc);
+    append_digits(alloc, location, &mut text)?;
+    text.push_str(" ")?;
+    append_digits(alloc, identifier, &mut text)?;
+    text.push_str(" ")?;
+    append_digits(alloc, signature, &mut text)?;
+    Ok(text)
+}
+
+/// The same of a token as it is spelled; a caveat may have a vid and a location.
+pub(crate) fn raw_parts(alloc: Global, words: &mut Words<'_>) -> Result<String, CaseFault> {
+    let bytes = words.bytes(alloc)?;
+    let raw = match read_raw(alloc, &bytes) {
+        Ok(raw) => raw,
+        Err(fault) => return refusal(alloc, fault),
+    };
+    let mut text = front(alloc, raw.location.as_bytes(), &raw.identifier, &raw.sig)?;
+    for caveat in raw.caveats.iter() {
+        append_caveat(alloc, caveat, &mut text)?;
+    }
+    Ok(text)
+}
+
+fn append_caveat(alloc: Global, caveat: &RawCaveat, text: &mut String) -> Result<(), AllocError> {
+    text.push_str(" ")?;
+    append_digits(alloc, &caveat.id, text)?;
+    if let Some(vid) = &caveat.vid {
+        text.push_str(" vid=")?;
+        append_digits(alloc, vid, text)?;
+    }
+    if let Some(location) = &caveat.location {
+        text.push_str(" at=")?;
+        append_digits(alloc, location.as_bytes(), text)?;
+    }
+    Ok(())
+}
+
+/// A refusal by its number; want of memory has none and is the case's fault.
+pub(crate) fn refusal(alloc: Global, fault: TokenFault) -> Result<String, CaseFault> {
+    match fault.code() {
+        Some(code) => Ok(format!(in alloc; "refused {code}")?),
+        None => Err(CaseFault::Memory),
+    }
+}
+
+/// Whether a token is taken, or its refusal.
+pub(crate) fn code(alloc: Global, words: &mut Words<'_>) -> Result<String, CaseFault> {
+    let bytes = words.bytes(alloc)?;
+    match read(alloc, &bytes) {
+        Ok(_) => Ok(String::from_str(alloc, "taken")?),
+        Err(fault) => refusal(alloc, fault),
     }
 }
 
@@ -73,30 +93,7 @@ pub(crate) fn rewritten(alloc: Global, words: &mut Words<'_>) -> Result<String, 
         Err(fault) => Err(fault),
     };
     match written {
-        Ok(written) => Ok(digits(alloc, &written)?),
-        Err(fault) => refusal(alloc, fault),
-    }
-}
-
-/// How many bytes the token of these parts, minted under the empty secret, has in a form.
-pub(crate) fn written_length(alloc: Global, words: &mut Words<'_>) -> Result<String, CaseFault> {
-    let form = words.form()?;
-    let location = text(alloc, &words.bytes(alloc)?)?;
-    let identifier = words.bytes(alloc)?;
-    let caveats = words.lists(alloc)?;
-    let minted = mint(
-        alloc,
-        &root_key(&[]),
-        location.as_str(),
-        &identifier,
-        &caveats,
-    );
-    let written = match minted {
-        Ok(token) => write(alloc, &token, form),
-        Err(fault) => Err(fault),
-    };
-    match written {
-        Ok(written) => Ok(format!(in alloc; "{}", written.len())?),
+        Ok(written) => digits(alloc, &written),
         Err(fault) => refusal(alloc, fault),
     }
 }
@@ -104,7 +101,7 @@ pub(crate) fn written_length(alloc: Global, words: &mut Words<'_>) -> Result<Str
 /// A token with more caveats and a signature of zeros; after a refusal the token that is handed back.
 pub(crate) fn longer(alloc: Global, words: &mut Words<'_>) -> Result<String, CaseFault> {
     let bytes = words.bytes(alloc)?;
-    let caveats = words.lists(alloc)?;
+    let caveats = lists(alloc, words.next()?)?;
     let token = match read(alloc, &bytes) {
         Ok(token) => token,
         Err(fault) => return refusal(alloc, fault),
@@ -112,11 +109,33 @@ pub(crate) fn longer(alloc: Global, words: &mut Words<'_>) -> Result<String, Cas
     match token.push(alloc, &caveats, [0; 32]) {
         Ok(token) => Ok(parts(alloc, &token)?),
         Err((fault, token)) => {
-            let refusal = refusal(alloc, fault)?;
-            let parts = parts(alloc, &token)?;
-            Ok(format!(in alloc; "{refusal}, still {parts}")?)
+            let mut text = refusal(alloc, fault)?;
+            text.push_str(", still ")?;
+            text.push_str(parts(alloc, &token)?.as_str())?;
+            Ok(text)
         }
     }
+}
+
+/// The number of each fault, where it has one, and its text.
+pub(crate) fn fault_texts(alloc: Global) -> Result<String, CaseFault> {
+    let faults = [
+        TokenFault::Transport,
+        TokenFault::Malformed,
+        TokenFault::ThirdParty,
+        TokenFault::Limit,
+        TokenFault::CaveatLocation,
+        TokenFault::Memory,
+    ];
+    let mut text = String::new(alloc);
+    for fault in faults {
+        let fault_text = match fault.code() {
+            Some(code) => format!(in alloc; "{code} {fault}; ")?,
+            None => format!(in alloc; "{fault}")?,
+        };
+        text.push_str(fault_text.as_str())?;
+    }
+    Ok(text)
 }
 
 /// The refusals of a token's front parts, from none of its bytes to all but one, in runs of one refusal.

@@ -1,111 +1,114 @@
 //! What a key says of a token, and of the token with a part of it changed.
 
-use crate::case::CaseFault;
+use crate::case::{CaseFault, lists};
 use mac_decide::{Context, Verdict, verify};
 use mac_hmac::RootKey;
-use mac_token::{Token, TokenFault};
+use mac_token::{Token, read_raw};
 use mac_wire::ByteLists;
 use std::alloc::{AllocError, Global};
 
 /// The part of a token that is changed.
-#[derive(Clone, Copy, PartialEq, Eq)]
+#[derive(Clone, Copy)]
 enum Part {
+    None,
     Location,
     Identifier,
     LastCaveat,
     Signature,
 }
 
-/// The verdict on a token with all its caveats as facts, with all but the last, and with a bit turned in each part.
+/// The verdict on a token with all these facts, with all but the last, and with a bit turned in each part.
 pub(crate) fn verdicts(
     alloc: Global,
     key: &RootKey,
-    token: &Token,
-    facts: &[Vec<u8>],
+    bytes: &[u8],
+    facts: &str,
 ) -> Result<String, CaseFault> {
-    let whole = verdict(alloc, key, token, facts)?;
-    let fewer = match facts.split_last() {
-        Some((_, rest)) => verdict(alloc, key, token, rest)?,
-        None => String::from_str(alloc, "-")?,
-    };
-    let location = changed_verdict(alloc, key, token, facts, Part::Location)?;
-    let identifier = changed_verdict(alloc, key, token, facts, Part::Identifier)?;
-    let caveat = changed_verdict(alloc, key, token, facts, Part::LastCaveat)?;
-    let signature = changed_verdict(alloc, key, token, facts, Part::Signature)?;
+    let whole = changed_verdict(alloc, key, bytes, facts, Part::None)?;
+    let fewer = fewer_facts(alloc, key, bytes, facts)?;
+    let location = changed_verdict(alloc, key, bytes, facts, Part::Location)?;
+    let identifier = changed_verdict(alloc, key, bytes, facts, Part::Identifier)?;
+    let caveat = changed_verdict(alloc, key, bytes, facts, Part::LastCaveat)?;
+    let signature = changed_verdict(alloc, key, bytes, facts, Part::Signature)?;
     Ok(format!(in alloc;
         "{whole}, {fewer}, another location {location}, identifier {identifier}, caveat {caveat}, signature {signature}"
     )?)
 }
 
-/// The verdict on a token at the moment 0.
-fn verdict(
+/// The verdict without the last fact; `-` where there is none.
+fn fewer_facts(
     alloc: Global,
     key: &RootKey,
-    token: &Token,
-    facts: &[Vec<u8>],
+    bytes: &[u8],
+    facts: &str,
 ) -> Result<String, CaseFault> {
-    let context = Context {
-        moment: 0,
-        facts: copied(alloc, facts)?,
-    };
-    match verify(key, token, &context) {
-        Verdict::Granted => Ok(String::from_str(alloc, "granted")?),
-        Verdict::BadSignature => Ok(String::from_str(alloc, "bad signature")?),
-        Verdict::Unsatisfied(index) => Ok(format!(in alloc; "unsatisfied {index}")?),
+    let mut facts = lists(alloc, facts)?;
+    if facts.pop().is_none() {
+        return Ok(String::from_str(alloc, "-")?);
     }
-}
-
-/// Copies of lists.
-fn copied(alloc: Global, lists: &[Vec<u8>]) -> Result<ByteLists, AllocError> {
-    let mut copies = Vec::new(alloc);
-    for list in lists.iter() {
-        copies.push(list.clone()?)?;
-    }
-    Ok(ByteLists::new(copies))
+    let token = changed(alloc, bytes, Part::None)?;
+    verdict(alloc, key, token, facts)
 }
 
 /// The verdict on a token of which one part is changed; `-` where it has no such part.
 fn changed_verdict(
     alloc: Global,
     key: &RootKey,
-    token: &Token,
-    facts: &[Vec<u8>],
+    bytes: &[u8],
+    facts: &str,
     part: Part,
 ) -> Result<String, CaseFault> {
-    if part == Part::LastCaveat && token.caveats() == 0 {
-        return Ok(String::from_str(alloc, "-")?);
+    let facts = lists(alloc, facts)?;
+    match (part, facts.is_empty()) {
+        (Part::LastCaveat, true) => Ok(String::from_str(alloc, "-")?),
+        _ => verdict(alloc, key, changed(alloc, bytes, part)?, facts),
     }
-    let changed = changed(alloc, token, part)?;
-    verdict(alloc, key, &changed, facts)
+}
+
+/// The verdict on a token at the moment 0.
+fn verdict(
+    alloc: Global,
+    key: &RootKey,
+    token: Token,
+    facts: Vec<Vec<u8>>,
+) -> Result<String, CaseFault> {
+    let context = Context {
+        moment: 0,
+        facts: ByteLists::new(facts),
+    };
+    match verify(key, &token, &context) {
+        Verdict::Granted => Ok(String::from_str(alloc, "granted")?),
+        Verdict::BadSignature => Ok(String::from_str(alloc, "bad signature")?),
+        Verdict::Unsatisfied(index) => Ok(format!(in alloc; "unsatisfied {index}")?),
+    }
 }
 
 /// The token with one part changed.
-fn changed(alloc: Global, token: &Token, part: Part) -> Result<Token, CaseFault> {
-    let location = match part {
-        Part::Location => "elsewhere",
-        _ => token.location(),
+fn changed(alloc: Global, bytes: &[u8], part: Part) -> Result<Token, CaseFault> {
+    let mut raw = match read_raw(alloc, bytes) {
+        Ok(raw) => raw,
+        Err(_) => return Err(CaseFault::NoCase),
     };
-    let location = String::from_str(alloc, location)?;
-    let identifier = turned_if(alloc, token.identifier(), part == Part::Identifier)?;
     let mut caveats = Vec::new(alloc);
-    for i in 0..token.caveats() {
-        let is_turned = part == Part::LastCaveat && i + 1 == token.caveats();
-        let caveat = token.caveat(i).unwrap_or(&[]);
-        caveats.push(turned_if(alloc, caveat, is_turned)?)?;
+    for caveat in raw.caveats {
+        caveats.push(caveat.id)?;
     }
-    let mut sig = token.sig();
-    if part == Part::Signature {
-        sig[31] ^= 1;
+    match part {
+        Part::None => {}
+        Part::Location => raw.location = String::from_str(alloc, "elsewhere")?,
+        Part::Identifier => raw.identifier = turned(raw.identifier)?,
+        Part::LastCaveat => {
+            let last = caveats.pop().unwrap_or(Vec::new(alloc));
+            caveats.push(turned(last)?)?;
+        }
+        Part::Signature => raw.sig[31] ^= 1,
     }
-    Token::new(location, identifier, caveats, sig).map_err(|_| CaseFault::NoCase)
+    Token::new(raw.location, raw.identifier, caveats, raw.sig).map_err(|_| CaseFault::NoCase)
 }
 
-/// A copy, with the lowest bit of its last byte turned where that is asked; a byte where there was none.
-fn turned_if(alloc: Global, bytes: &[u8], is_turned: bool) -> Result<Vec<u8>, AllocError> {
-    let mut copy = Vec::from_slice(alloc, bytes)?;
-    if is_turned {
-        let last = copy.pop().unwrap_or(0);
-        copy.push(last ^ 1)?;
-    }
-    Ok(copy)
+/// The bytes with the lowest bit of the last one turned; a byte where there was none.
+fn turned(mut bytes: Vec<u8>) -> Result<Vec<u8>, AllocError> {
+    let last = bytes.pop().unwrap_or(0);
+    bytes.push(last ^ 1)?;
+    Ok(bytes)
 }

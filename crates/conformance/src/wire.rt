@@ -1,23 +1,8 @@
-//! Streams and requests.
+//! Cases of `mac_wire`.
 
-use crate::case::{CaseFault, Words, digits};
-use mac_decide::{answer, job_of};
-use mac_keys::KeyTable;
-use mac_wire::{Arrival, Bytes, Ending, FeedFault, FrameReader, reply_bytes};
+use crate::case::{CaseFault, Words, append_digits};
+use mac_wire::{Arrival, Ending, FeedFault, FrameReader};
 use std::alloc::{AllocError, Global};
-
-/// The frame of the reply to a payload under a key file.
-pub(crate) fn reply_to(alloc: Global, words: &mut Words<'_>) -> Result<String, CaseFault> {
-    let file = words.bytes(alloc)?;
-    let payload = words.bytes(alloc)?;
-    let table = KeyTable::read(alloc, &file).map_err(|_| CaseFault::NoCase)?;
-    let reply = answer(
-        alloc,
-        &job_of(&table, Arrival::Payload(Bytes::new(payload))),
-    )?;
-    let frame = reply_bytes(alloc, &reply)?;
-    Ok(digits(alloc, &frame)?)
-}
 
 /// The arrivals of a stream that is fed byte by byte, and its ending.
 pub(crate) fn frames(alloc: Global, words: &mut Words<'_>) -> Result<String, CaseFault> {
@@ -42,10 +27,7 @@ fn append_arrivals(
 ) -> Result<(), AllocError> {
     for arrival in arrivals.iter() {
         match arrival {
-            Arrival::Payload(payload) => {
-                let payload = digits(alloc, payload.as_slice())?;
-                text.push_str(payload.as_str())?;
-            }
+            Arrival::Payload(payload) => append_digits(alloc, payload.as_slice(), text)?,
             Arrival::Oversize => text.push_str("oversize")?,
         }
         text.push_str(", ")?;

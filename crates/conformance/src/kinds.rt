@@ -1,0 +1,60 @@
+//! The kinds of cases, and what answers each. Each crate's cases stand in a file of its name.
+
+use crate::case::{CaseFault, Words};
+use crate::{decide, hmac, keys, token, wire};
+use std::alloc::{AllocError, Global};
+
+/// What a line's case comes to, or that it is none.
+pub(crate) fn outcome(alloc: Global, line: &str) -> Result<String, AllocError> {
+    match case_outcome(alloc, line) {
+        Ok(text) => Ok(text),
+        Err(CaseFault::NoCase) => String::from_str(alloc, "the line is no case"),
+        Err(CaseFault::Memory) => Err(AllocError),
+    }
+}
+
+/// The kinds, by their first word. Bytes are written in hexadecimal, `-` where there are none;
+/// `+` joins parts, and a part `HEX*N` stands N times. A list of them stands between commas, `none`
+/// where it is empty.
+///
+/// ```text
+/// # ..                                                     the line itself
+/// hmac KEY TEXT                                            HMAC-SHA-256 of the text
+/// chain SECRET IDENTIFIER CAVEAT,..                        the signature of such a token
+/// keys FILE                                                the number of names, or the fault
+/// frames STREAM                                            the arrivals and the ending
+/// read TOKEN                                               its parts, or the refusal
+/// raw TOKEN                                                its parts as they are spelled, or the refusal
+/// code TOKEN                                               `taken`, or the refusal
+/// rewrite FORM TOKEN                                       the token in another form, or the refusal
+/// push TOKEN CAVEAT,..                                     the token with more caveats, or the refusal and the token
+/// texts                                                    the number and the text of each fault of a token
+/// cuts TOKEN                                               the refusal of each front part, in runs
+/// time CAVEAT                                              the second of a time limit, or `none`
+/// token FORM SECRET LOCATION IDENTIFIER CAVEAT,.. TOKEN    how a token agrees with its parts
+/// length FORM LOCATION IDENTIFIER CAVEAT,..                how many bytes a token of these has, or the refusal
+/// answer FILE PAYLOAD                                      the reply's frame
+/// ```
+fn case_outcome(alloc: Global, line: &str) -> Result<String, CaseFault> {
+    let (kind, rest) = line.split_once(' ').unwrap_or((line, ""));
+    let mut words = Words::of(rest);
+    match kind.as_bytes() {
+        b"#" => Ok(String::from_str(alloc, line)?),
+        b"hmac" => hmac::keyed(alloc, &mut words),
+        b"chain" => hmac::chained(alloc, &mut words),
+        b"keys" => keys::table(alloc, &mut words),
+        b"frames" => wire::frames(alloc, &mut words),
+        b"read" => token::read_parts(alloc, &mut words),
+        b"raw" => token::raw_parts(alloc, &mut words),
+        b"code" => token::code(alloc, &mut words),
+        b"rewrite" => token::rewritten(alloc, &mut words),
+        b"push" => token::longer(alloc, &mut words),
+        b"texts" => token::fault_texts(alloc),
+        b"cuts" => token::cut_codes(alloc, &mut words),
+        b"time" => decide::limit(alloc, &mut words),
+        b"token" => decide::agreement(alloc, &mut words),
+        b"length" => decide::written_length(alloc, &mut words),
+        b"answer" => decide::reply(alloc, &mut words),
+        _ => Err(CaseFault::NoCase),
+    }
+}
