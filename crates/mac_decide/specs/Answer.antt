@@ -11,7 +11,7 @@ use Rattle.mac_token.specs.declared.form.Form.TheVariants as forms
 use Rattle.mac_token.specs.declared.fault.TokenFault.{TokenFault}
 use Rattle.mac_token.specs.declared.fault.TokenFault.TheVariants as fault
 use Rattle.mac_wire.specs.Reading.{request_of, key_name_of}
-use Rattle.mac_wire.specs.Reply.{refusal_code, IsReply}
+use Rattle.mac_wire.specs.Reply.{IsReply}
 use Rattle.mac_wire.specs.Request.{Asked, mint, attenuate, verify}
 use Rattle.mac_wire.specs.declared.arrival.Arrival.{Arrival}
 use Rattle.mac_wire.specs.declared.arrival.Arrival.TheVariants as arrival
@@ -30,7 +30,7 @@ use Rattle.mac_decide.specs.declared.verdict.Verdict.TheVariants as verdict
 
 -- the reply that refuses for this reason
 abbrev pub refused : Refusal → Reply
-refused reason = reply.Refused (refusal_code reason)
+refused reason = reply.Refused reason
 
 -- the reason that a token's fault is told by; want of memory is no fault of a token, and what is read or written never has it
 abbrev pub refusal_of : TokenFault → Refusal

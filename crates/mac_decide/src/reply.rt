@@ -50,7 +50,7 @@ fn refused(reason: Refusal) -> Reply
     ensures value { result ≡ answers.refused reason }
     ensures sendable { IsReply result }
 {
-    Reply::Refused(reason.code())
+    Reply::Refused(reason)
 }
 
 fn payload_reply(alloc: Global, payload: &[u8], key: Option<RootKey>) -> Result<Reply, NoMemory>

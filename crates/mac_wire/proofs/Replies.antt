@@ -1,10 +1,13 @@
 -- A payload is that of one reply at most.
-use Rattle.std.proofs.Common.{◌≡◌, ℕ, ◌<◌, ◌≤◌, ◌⊎◌, inl, inr, List, ◌∷◌, refl, sym, ap, ◌∙◌, arith}
+use Rattle.std.proofs.Common.{◌≡◌, ◌≢◌, ℕ, ◌≤◌, List, ◌∷◌, refl, sym, ap, ◌∙◌, arith}
+use Rattle.std.specs.Prelude.{◌==◌, if◌then◌else◌}
 use Rattle.std.specs.Int.{w16, from_be_bytes}
 use Rattle.std.proofs.lemmas.Nat.{from_be_bytes-to_be_bytes_2}
+use Rattle.mac_wire.specs.declared.reply.Refusal.{Refusal}
+use Rattle.mac_wire.specs.declared.reply.Refusal.TheVariants as refusal
 use Rattle.mac_wire.specs.declared.reply.Reply.{Reply}
 use Rattle.mac_wire.specs.declared.reply.Reply.TheVariants as reply
-use Rattle.mac_wire.specs.Reply.{IsRefusalCode, IsReply, reply_payload}
+use Rattle.mac_wire.specs.Reply.{refusal_code, IsReply, reply_payload}
 
 head_is : {x y : ℕ} {xs ys : List ℕ} → x ∷ xs ≡ y ∷ ys → x ≡ y
 head_is e = cc
@@ -12,31 +15,66 @@ head_is e = cc
 tail_is : {x y : ℕ} {xs ys : List ℕ} → x ∷ xs ≡ y ∷ ys → xs ≡ ys
 tail_is e = cc
 
-code_is : (n m : ℕ) → IsRefusalCode n → n ≡ m → ((16 ≤ m) × (m ≤ 23)) ⊎ (m ≡ 26)
-code_is n m (inl h) e = inl (omega arith, omega arith)
-code_is n m (inr h) e = inr (omega arith)
+-- the refusal of a number
+abbrev refusal_at : ℕ → Refusal
+refusal_at n = if n == 16 then refusal.BadRequest else if n == 17 then refusal.FrameTooLong
+    else if n == 18 then refusal.UnknownKey else if n == 19 then refusal.Transport
+    else if n == 20 then refusal.Malformed else if n == 21 then refusal.ThirdParty
+    else if n == 22 then refusal.Limit else if n == 23 then refusal.BadSignature else refusal.CaveatLocation
 
-no_code : (m : ℕ) → m < 16 ⊎ (m ≡ 24) → ((16 ≤ m) × (m ≤ 23)) ⊎ (m ≡ 26) → ⊥
-no_code m (inl low) (inl h) = omega arith
-no_code m (inl low) (inr h) = omega arith
-no_code m (inr e) (inl h) = omega arith
-no_code m (inr e) (inr h) = omega arith
+refusal_at-code : (r : Refusal) → refusal_at (refusal_code r) ≡ r
+refusal_at-code refusal.BadRequest = refl
+refusal_at-code refusal.FrameTooLong = refl
+refusal_at-code refusal.UnknownKey = refl
+refusal_at-code refusal.Transport = refl
+refusal_at-code refusal.Malformed = refl
+refusal_at-code refusal.ThirdParty = refl
+refusal_at-code refusal.Limit = refl
+refusal_at-code refusal.BadSignature = refl
+refusal_at-code refusal.CaveatLocation = refl
+
+-- a number is that of one refusal at most
+pub one_refusal : (a b : Refusal) → refusal_code a ≡ refusal_code b → a ≡ b
+one_refusal a b e = sym (refusal_at-code a) ∙ ap refusal_at e ∙ refusal_at-code b
+
+-- no refusal has the number of another reply
+code-high : (r : Refusal) → 16 ≤ refusal_code r
+code-high refusal.BadRequest = omega arith
+code-high refusal.FrameTooLong = omega arith
+code-high refusal.UnknownKey = omega arith
+code-high refusal.Transport = omega arith
+code-high refusal.Malformed = omega arith
+code-high refusal.ThirdParty = omega arith
+code-high refusal.Limit = omega arith
+code-high refusal.BadSignature = omega arith
+code-high refusal.CaveatLocation = omega arith
+
+code-no_index : (r : Refusal) → refusal_code r ≢ 24
+code-no_index refusal.BadRequest = λ e. omega arith
+code-no_index refusal.FrameTooLong = λ e. omega arith
+code-no_index refusal.UnknownKey = λ e. omega arith
+code-no_index refusal.Transport = λ e. omega arith
+code-no_index refusal.Malformed = λ e. omega arith
+code-no_index refusal.ThirdParty = λ e. omega arith
+code-no_index refusal.Limit = λ e. omega arith
+code-no_index refusal.BadSignature = λ e. omega arith
+code-no_index refusal.CaveatLocation = λ e. omega arith
 
 pub one_reply : (a b : Reply) → IsReply a → IsReply b → reply_payload a ≡ reply_payload b → a ≡ b
 one_reply reply.Granted reply.Granted ha hb e = refl
 one_reply reply.Granted (reply.Token t) ha hb e = absurd (omega (arith, head_is e))
-one_reply reply.Granted (reply.Refused n) ha hb e = absurd (no_code 0 (inl (omega arith)) (code_is n 0 hb (sym (head_is e))))
+one_reply reply.Granted (reply.Refused r) ha hb e = absurd (omega (arith, head_is e, code-high r))
 one_reply reply.Granted (reply.Unsatisfied i) ha hb e = absurd (omega (arith, head_is e))
 one_reply (reply.Token t) reply.Granted ha hb e = absurd (omega (arith, head_is e))
 one_reply (reply.Token t) (reply.Token u) ha hb e = ap (λ (xs : List ℕ). reply.Token xs) (tail_is e)
-one_reply (reply.Token t) (reply.Refused n) ha hb e = absurd (no_code 1 (inl (omega arith)) (code_is n 1 hb (sym (head_is e))))
+one_reply (reply.Token t) (reply.Refused r) ha hb e = absurd (omega (arith, head_is e, code-high r))
 one_reply (reply.Token t) (reply.Unsatisfied i) ha hb e = absurd (omega (arith, head_is e))
-one_reply (reply.Refused n) reply.Granted ha hb e = absurd (no_code 0 (inl (omega arith)) (code_is n 0 ha (head_is e)))
-one_reply (reply.Refused n) (reply.Token t) ha hb e = absurd (no_code 1 (inl (omega arith)) (code_is n 1 ha (head_is e)))
-one_reply (reply.Refused n) (reply.Refused m) ha hb e = ap (λ (k : ℕ). reply.Refused k) (head_is e)
-one_reply (reply.Refused n) (reply.Unsatisfied i) ha hb e = absurd (no_code 24 (inr refl) (code_is n 24 ha (head_is e)))
+one_reply (reply.Refused r) reply.Granted ha hb e = absurd (omega (arith, head_is e, code-high r))
+one_reply (reply.Refused r) (reply.Token t) ha hb e = absurd (omega (arith, head_is e, code-high r))
+one_reply (reply.Refused r) (reply.Refused s) ha hb e = ap (λ (k : Refusal). reply.Refused k) (one_refusal r s (head_is e))
+one_reply (reply.Refused r) (reply.Unsatisfied i) ha hb e = absurd (code-no_index r (head_is e))
 one_reply (reply.Unsatisfied i) reply.Granted ha hb e = absurd (omega (arith, head_is e))
 one_reply (reply.Unsatisfied i) (reply.Token t) ha hb e = absurd (omega (arith, head_is e))
-one_reply (reply.Unsatisfied i) (reply.Refused n) ha hb e = absurd (no_code 24 (inr refl) (code_is n 24 hb (sym (head_is e))))
+one_reply (reply.Unsatisfied i) (reply.Refused r) ha hb e = absurd (code-no_index r (sym (head_is e)))
 one_reply (reply.Unsatisfied i) (reply.Unsatisfied j) ha hb e =
     ap (λ (k : ℕ). reply.Unsatisfied k) (sym (from_be_bytes-to_be_bytes_2 i ha) ∙ ap (from_be_bytes w16) (tail_is e) ∙ from_be_bytes-to_be_bytes_2 j hb)

@@ -1,5 +1,5 @@
 -- Replies, and their payloads and frames. The format is this project's own.
-use Rattle.std.specs.Prelude.{◌≡◌, ◌⊎◌, ℕ, ◌<◌, ◌≤◌, ◌^◌, List, [], ◌∷◌, length, map}
+use Rattle.std.specs.Prelude.{ℕ, ◌<◌, ◌≤◌, ◌^◌, List, [], ◌∷◌, length, map}
 use Rattle.std.specs.Int.{w16, to_be_bytes}
 use Rattle.std.specs.List.{flat_map}
 use Rattle.mac_wire.specs.declared.arrival.Arrival.{Arrival}
@@ -23,22 +23,18 @@ refusal_code refusal.Limit = 22
 refusal_code refusal.BadSignature = 23
 refusal_code refusal.CaveatLocation = 26
 
--- a number that a refusal without an index has
-abbrev pub IsRefusalCode : ℕ → Type 0
-IsRefusalCode n = ((16 ≤ n) × (n ≤ 23)) ⊎ (n ≡ 26)
-
--- what has a payload: a token isn't longer than a reply carries, and a refusal has a number of its own
+-- what can be sent: a token isn't longer than a reply carries, and an index fits two bytes
 abbrev pub IsReply : Reply → Type 0
 IsReply reply.Granted = Unit {0}
 IsReply (reply.Token bytes) = length bytes ≤ REPLY_TOKEN_MAX
-IsReply (reply.Refused n) = IsRefusalCode n
+IsReply (reply.Refused reason) = Unit {0}
 IsReply (reply.Unsatisfied index) = index < 2 ^ 16
 
 -- the payload of a reply: its number, and then the token's bytes or the index in two bytes
 abbrev pub reply_payload : Reply → List ℕ
 reply_payload reply.Granted = 0 ∷ []
 reply_payload (reply.Token bytes) = 1 ∷ bytes
-reply_payload (reply.Refused n) = n ∷ []
+reply_payload (reply.Refused reason) = refusal_code reason ∷ []
 reply_payload (reply.Unsatisfied index) = 24 ∷ to_be_bytes w16 index
 
 -- the whole frame of a reply

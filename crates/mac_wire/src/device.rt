@@ -10,8 +10,8 @@ use thiserror::Error;
 #[error("the device failed")]
 pub struct DeviceFault;
 
-/// What bytes are read from.
-pub trait Source {
+/// What bytes are read from. It can be lent to another thread.
+pub trait Source: Send {
     /// Whether `taken` is what the device gave. It claims nothing of a device that doesn't tell its bytes.
     ghost tells: { Bool };
 
@@ -46,8 +46,8 @@ pub trait Source {
         ensures { result ≡ faults self.now };
 }
 
-/// What bytes are written to.
-pub trait Sink {
+/// What bytes are written to. It can be lent to another thread.
+pub trait Sink: Send {
     /// Whether `written` is what the device took. It claims nothing of a device that doesn't tell its bytes.
     ghost tells: { Bool };
 

@@ -1,6 +1,6 @@
 //! The wire of the macaroon service: frames, requests, replies, and the devices that bytes come from and go to.
 //!
-//! [`FrameReader`] cuts a stream into arrivals, [`parse_request`] reads an arrival's payload, [`reply_bytes`]
+//! [`FrameReader`] cuts a stream into arrivals, [`parse_request`] reads an arrival's payload, [`append_reply`]
 //! writes a reply's frame, and [`send_all`] sends it. No call does more work than its bytes ask for.
 #![tactic(auto)]
 
@@ -31,7 +31,7 @@ pub use mem_sink::MemSink;
 pub use mem_source::MemSource;
 pub use parse::{key_name, parse_request};
 pub use reader_source::ReaderSource;
-pub use reply::{REPLY_TOKEN_MAX, Refusal, Reply, reply_bytes};
+pub use reply::{REPLY_TOKEN_MAX, Refusal, Reply, append_reply, reply_bytes};
 pub use request::{FACTS_MAX, Request, RequestFault, TokenForm};
 pub use send::send_all;
 pub use whole::whole_frames;

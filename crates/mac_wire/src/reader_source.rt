@@ -32,7 +32,7 @@ impl<R: Read> ReaderSource<R> {
     }
 }
 
-impl<R: Read> Source for ReaderSource<R> {
+impl<R: Read + Send> Source for ReaderSource<R> {
     ghost tells = { false };
 
     ghost taken = { λ _. [] };

@@ -1,6 +1,6 @@
 //! What a client is answered.
 
-ghost use Rattle.std.specs.Prelude.{◌≡◌, ◌<◌, ◌^◌, ◌++◌, length, IfOk, OnOk};
+ghost use Rattle.std.specs.Prelude.{◌≡◌, ◌<◌, ◌≤◌, ◌+◌, ◌++◌, length, vec_len, vec_capacity, IfOk, OnOk, OnErr};
 ghost use Rattle.mac_wire.specs.Reply.{refusal_code, IsReply, reply_payload, reply_frame};
 
 use crate::NoMemory;
@@ -59,8 +59,8 @@ pub enum Reply {
     Granted,
     /// A token, in the form that was asked for.
     Token(Bytes),
-    /// A refusal's number, as [`Refusal::code`] gives it.
-    Refused(u8),
+    /// The request is refused, for this reason.
+    Refused(Refusal),
     /// The index of the first caveat that isn't satisfied, from 0.
     Unsatisfied(u16),
 }
@@ -71,11 +71,23 @@ pub fn reply_bytes(alloc: Global, reply: &Reply) -> Result<Vec<u8>, NoMemory>
     requires { IsReply reply.now }
     ensures { IfOk result (λ v. v.items ≡ reply_frame reply.now) }
 {
-    let length = payload_length(reply);
-    let mut frame = Vec::with_capacity(alloc, 4 + length as usize)?;
-    frame.extend_from_slice(&length.to_be_bytes())?;
-    put_payload(&mut frame, reply)?;
+    let mut frame = Vec::new(alloc);
+    append_reply(&mut frame, reply)?;
     Ok(frame)
+}
+
+/// Appends the whole frame of a reply. The memory that is missing is taken at once, before anything is written.
+pub fn append_reply(frames: &mut Vec<u8>, reply: &Reply) -> Result<(), NoMemory>
+    requires { IsReply reply.now }
+    ensures appended { OnOk result (frames.new.items ≡ frames.old.items ++ reply_frame reply.now) }
+    ensures unchanged { OnErr result (frames.new.items ≡ frames.old.items) }
+    ensures full { OnErr result (vec_capacity frames.old < vec_len frames.old + length (reply_frame reply.now)) }
+{
+    let length = payload_length(reply);
+    frames.reserve(4 + length as usize)?;
+    append_within(frames, &length.to_be_bytes());
+    append_payload(frames, reply);
+    Ok(())
 }
 
 // How many bytes a reply's payload has.
@@ -90,23 +102,32 @@ fn payload_length(reply: &Reply) -> u32
     }
 }
 
-// Writes a reply's payload at the end.
-fn put_payload(frame: &mut Vec<u8>, reply: &Reply) -> Result<(), NoMemory>
-    ensures { OnOk result (frame.new.items ≡ frame.old.items ++ reply_payload reply.now) }
+// Appends a reply's payload, for which there is room.
+fn append_payload(frames: &mut Vec<u8>, reply: &Reply)
+    requires { vec_len frames.old + length (reply_payload reply.now) ≤ vec_capacity frames.old }
+    ensures { frames.new.items ≡ frames.old.items ++ reply_payload reply.now }
 {
     match reply {
-        Reply::Granted => frame.push(0)?,
+        Reply::Granted => append_within(frames, &[0]),
         Reply::Token(token) => {
-            frame.push(1)?;
-            frame.extend_from_slice(token.as_slice())?;
+            append_within(frames, &[1]);
+            append_within(frames, token.as_slice());
         }
-        Reply::Refused(code) => frame.push(*code)?,
+        Reply::Refused(reason) => append_within(frames, &[reason.code()]),
         Reply::Unsatisfied(index) => {
-            frame.push(24)?;
-            frame.extend_from_slice(&index.to_be_bytes())?;
+            append_within(frames, &[24]);
+            append_within(frames, &index.to_be_bytes());
         }
     }
-    Ok(())
+}
+
+// Appends bytes for which there is room.
+fn append_within(frames: &mut Vec<u8>, bytes: &[u8])
+    requires { vec_len frames.old + length bytes.now ≤ vec_capacity frames.old }
+    ensures items { frames.new.items ≡ frames.old.items ++ bytes.now }
+    ensures capacity { vec_capacity frames.old ≤ vec_capacity frames.new }
+{
+    frames.extend_from_slice(bytes).unwrap();
 }
 
 #[cfg(test)]

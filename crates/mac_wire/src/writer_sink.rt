@@ -26,7 +26,7 @@ impl<W: Write> WriterSink<W> {
     }
 }
 
-impl<W: Write> Sink for WriterSink<W> {
+impl<W: Write + Send> Sink for WriterSink<W> {
     ghost tells = { false };
 
     ghost written = { λ _. [] };

@@ -2,6 +2,7 @@
 use Rattle.std.specs.Prelude.{ℕ, ◌==◌, if◌then◌else◌, List, [], ◌∷◌, ◌++◌, codes, slice_index}
 use Rattle.std.specs.Fmt.{decimal}
 use Rattle.hex.specs.Hex.{encode_lower}
+use Rattle.mac_wire.specs.Reply.{refusal_code}
 use Rattle.mac_wire.specs.declared.reply.Reply.{Reply}
 use Rattle.mac_wire.specs.declared.reply.Reply.TheVariants as reply
 
@@ -12,7 +13,7 @@ token_words token = if slice_index token 0 == 2 then codes "token hex:" ++ encod
 abbrev pub reply_words : Reply → List ℕ
 reply_words reply.Granted = codes "granted"
 reply_words (reply.Token token) = token_words token
-reply_words (reply.Refused number) = codes "refused " ++ decimal number
+reply_words (reply.Refused reason) = codes "refused " ++ decimal (refusal_code reason)
 reply_words (reply.Unsatisfied index) = codes "refused 24 " ++ decimal index
 
 -- the words of a reply and a line feed

@@ -33,7 +33,10 @@ fn main(rt: HostRuntime) -> ExitCode {
 }
 
 // Does what the words of the process ask for, and gives the exit status.
-fn run<R: Env + Alloc<A = Global> + Input + Print + Eprint>(rt: &R) -> u8 {
+fn run<R: Env + Alloc<A = Global> + Input + Print + Eprint + Sync>(rt: &R) -> u8
+where
+    R::Reader: Send,
+{
     match words_of(rt).and_then(|words| chosen(rt.alloc(), words.as_slice())) {
         Ok(Choice::Pipe) => run_pipe(rt),
         Err((status, text)) => show(rt, status, text.as_str()),
@@ -41,7 +44,10 @@ fn run<R: Env + Alloc<A = Global> + Input + Print + Eprint>(rt: &R) -> u8 {
 }
 
 // Pipes standard input to standard output, and gives the exit status.
-fn run_pipe<R: Alloc<A = Global> + Input + Print + Eprint>(rt: &R) -> u8 {
+fn run_pipe<R: Alloc<A = Global> + Input + Print + Eprint + Sync>(rt: &R) -> u8
+where
+    R::Reader: Send,
+{
     let mut source = ReaderSource::new(rt.reader());
     let mut sink = WriterSink::new(io::writer(rt));
     match pipe(rt.alloc(), &mut source, &mut sink) {

@@ -27,7 +27,8 @@ fn append_words(alloc: Global, reply: &Reply, out: &mut Vec<u8>) -> Result<(), N
     match reply {
         Reply::Granted => out.extend_from_slice(b"granted"),
         Reply::Token(token) => append_token(alloc, token.as_slice(), out),
-        Reply::Refused(number) => {
+        Reply::Refused(reason) => {
+            let number = reason.code();
             let words = format!(in alloc; "refused {number}")?;
             out.extend_from_slice(words.as_bytes())
         }

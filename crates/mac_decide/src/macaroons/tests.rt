@@ -3,7 +3,7 @@ use super::*;
 use crate::job::job_of;
 use mac_keys::KeyTable;
 use mac_lane::{Event, Outcome, World};
-use mac_wire::Bytes;
+use mac_wire::{Bytes, Refusal};
 use std::test::Fail;
 
 /// A verify whose token is no text of one: its key is there, so its transport is at fault.
@@ -15,7 +15,10 @@ fn a_copy_gets_the_reply(rt: HostRuntime) -> Result<(), Fail> {
     let job = job_of(&keys, Arrival::Payload(Bytes::new(payload)));
     let copy = Macaroons::copy(alloc, &job)?;
     assert_eq!(rt; copy, job);
-    assert_eq!(rt; Macaroons::work(alloc, &copy)?, Reply::Refused(19));
+    assert_eq!(rt;
+        Macaroons::work(alloc, &copy)?,
+        Reply::Refused(Refusal::Transport)
+    );
     assert_ne!(rt; copy, job_of(&keys, Arrival::Oversize));
     Ok(())
 }
@@ -68,7 +71,11 @@ fn two_workers_overtake_each_other(rt: HostRuntime) -> Result<(), Fail> {
     assert_eq!(rt; world.arrived(0).len(), 3);
     assert_eq!(rt;
         world.sent(0),
-        [Reply::Refused(19), Reply::Refused(17)].as_slice()
+        [
+            Reply::Refused(Refusal::Transport),
+            Reply::Refused(Refusal::FrameTooLong)
+        ]
+        .as_slice()
     );
     Ok(())
 }

@@ -5,12 +5,6 @@ use std::test::Fail;
 fn frames_of_replies(rt: HostRuntime) -> Result<(), Fail> {
     let frame = reply_bytes(rt.alloc(), &Reply::Granted)?;
     assert_eq!(rt; frame.as_slice(), b"\x00\x00\x00\x01\x00".as_slice());
-    for code in 16..=23 {
-        let frame = reply_bytes(rt.alloc(), &Reply::Refused(code))?;
-        assert_eq!(rt; frame.as_slice(), [0, 0, 0, 1, code].as_slice());
-    }
-    let frame = reply_bytes(rt.alloc(), &Reply::Refused(26))?;
-    assert_eq!(rt; frame.as_slice(), b"\x00\x00\x00\x01\x1a".as_slice());
     let frame = reply_bytes(rt.alloc(), &Reply::Unsatisfied(258))?;
     assert_eq!(rt;
         frame.as_slice(),
@@ -34,7 +28,7 @@ fn frames_of_replies(rt: HostRuntime) -> Result<(), Fail> {
 }
 
 #[test]
-fn codes(rt: HostRuntime) {
+fn codes(rt: HostRuntime) -> Result<(), Fail> {
     for (refusal, code) in [
         (Refusal::BadRequest, 16),
         (Refusal::FrameTooLong, 17),
@@ -47,5 +41,8 @@ fn codes(rt: HostRuntime) {
         (Refusal::CaveatLocation, 26),
     ] {
         assert_eq!(rt; refusal.code(), code);
+        let frame = reply_bytes(rt.alloc(), &Reply::Refused(refusal))?;
+        assert_eq!(rt; frame.as_slice(), [0, 0, 0, 1, code].as_slice());
     }
+    Ok(())
 }
