@@ -1,0 +1,362 @@
+#!/usr/bin/env python3
+"""Tries wrong bodies: the prover must refuse each at its own function's goal.
+
+A wrong body is an edit, crates/NAME/wrong-bodies/*.edit: lines 'file: PATH', 'old: TEXT' and 'new: TEXT', each TEXT
+one line that stands once in that file; further pairs apply to what the earlier ones made.
+
+Many are tried in one check of a copy of the crate, at most one for each function. That a caller fails because its
+callee does is no refusal of the caller's body. An edit of anything but functions' bodies is tried alone, and so is a
+body that a check of several didn't see refused. The tree itself is checked only as it stands, so that out/ is fresh.
+"""
+import argparse
+import os
+import re
+import shutil
+import subprocess
+import sys
+import tempfile
+import time
+from concurrent.futures import ThreadPoolExecutor
+from dataclasses import dataclass
+from pathlib import Path
+
+ROOT = Path(__file__).resolve().parent.parent
+
+
+# Where functions stand. The layout is that of rt fmt; lines are counted from 0.
+
+SCOPE = re.compile(r"( *)(?:pub(?:\(\w+\))? )?(impl\b.*|trait \w+.*|mod \w+) \{$")
+HEADER = re.compile(r"( *)(?:pub(?:\(\w+\))? )?(?:const )?(?:unsafe )?fn (\w+)")
+
+
+@dataclass
+class Function:
+    """A function with a body: its lines from `first`, those of its body, and its path as rt check prints it."""
+
+    file: str
+    path: str
+    first: int
+    start: int
+    end: int
+
+    def owns(self, path):
+        """Whether this is the path of the function, or of a closure in it."""
+        module = "::".join(self.path.split("::")[: 1 + len(module_of(self.file))])
+        closures = f"{module}::fn{self.path.removeprefix(module)}::"
+        return path == self.path or path.startswith((f"{self.path}+", closures))
+
+
+def module_of(file):
+    parts = list(Path(file).with_suffix("").parts[1:])
+    return [] if parts in (["lib"], ["main"]) else parts
+
+
+def functions_of(lines, file, crate):
+    scopes, found, at = [], [], 0
+    while at < len(lines):
+        if scopes and lines[at] == scopes[-1][0] + "}":
+            scopes.pop()
+        scope, header = SCOPE.match(lines[at]), HEADER.match(lines[at])
+        if scope:
+            scopes.append((scope[1], scope_name(scope[2])))
+        if header:
+            start, end = body_of(lines, at, header[1])
+            path = "::".join([crate, *module_of(file), *(it for _, it in scopes), header[2]])
+            found.append(Function(file, path, attributes_of(lines, at), start, end))
+            at = end
+        at += 1
+    return [it for it in found if it.start < it.end]
+
+
+def attributes_of(lines, at):
+    """The first line of what stands right above a function's header."""
+    while at and lines[at - 1].strip() and not lines[at - 1].endswith(("{", "}")):
+        at -= 1
+    return at
+
+
+def body_of(lines, at, indent):
+    """The lines between the body's braces, none where there is no body."""
+    for at in range(at, len(lines)):
+        is_head = HEADER.match(lines[at]) or lines[at].startswith((indent + "{", indent + ") "))
+        if lines[at].endswith("};") or is_head and lines[at].endswith((";", "{}")):
+            return at, at
+        if is_head and lines[at].endswith("{"):
+            return at + 1, lines.index(indent + "}", at)
+    return at, at
+
+
+def scope_name(head):
+    """The part of a path that stands for an impl (its type, and its trait with what that is given), a trait or a module."""
+    if not head.startswith("impl"):
+        return re.findall(r"\w+", head)[1]
+    rest = re.sub(r"^impl(<[^<>]*(<[^<>]*>[^<>]*)*>)? ", "", head)
+    trait, _, made = rest.rpartition(" for ")
+    trait, _, given = trait.partition("<")
+    words = re.findall(r"\w+", re.sub(r"<.*>", "", given.removesuffix(">")))
+    count = f"Tuple{len(words)}" if given.startswith("(") else ""
+    return re.match(r"\w+", made)[0] + trait.split("::")[-1] + count + "".join(it[0].upper() + it[1:] for it in words)
+
+
+# Edits, and which of them are tried together.
+
+
+class BadEdit(Exception):
+    """The edit cannot be applied."""
+
+
+class Source:
+    """A crate's source files as they stand."""
+
+    def __init__(self, folder):
+        self.folder = folder
+        files = [str(it.relative_to(folder)) for it in sorted((folder / "src").rglob("*.rt"))]
+        self.functions = [it for file in files for it in functions_of(self.lines(file), file, folder.name)]
+
+    def lines(self, file):
+        return (self.folder / file).read_text().split("\n")
+
+
+@dataclass
+class Body:
+    """A wrong body: the lines that it changes, the functions whose bodies they are in, and whether that is all of them."""
+
+    name: str
+    lines: dict
+    functions: list
+    is_alone: bool
+
+
+def pairs_of(edit):
+    file = old = None
+    for line in edit.read_text().splitlines():
+        word, _, rest = line.partition(":")
+        if word == "file":
+            file = rest.strip()
+        elif word == "old":
+            old = rest.removeprefix(" ")
+        elif word == "new":
+            yield file, old, rest.removeprefix(" ")
+
+
+def read_body(edit, source):
+    texts = {}
+    for file, old, new in pairs_of(edit):
+        if not file or not old or not (source.folder / file).is_file():
+            raise BadEdit(f"it names no text of a file ({file})")
+        text = texts.get(file) or "\n".join(source.lines(file))
+        if text.count(old) != 1:
+            raise BadEdit(f"an old text stands {text.count(old)} times in {file}")
+        texts[file] = text.replace(old, new)
+    if not texts:
+        raise BadEdit("it has no pair of old and new")
+    changed = {file: changed_lines(source.lines(file), text.split("\n")) for file, text in texts.items()}
+    return placed(edit.stem, changed, source)
+
+
+def changed_lines(before, after):
+    """The lines that differ, by number: an edit neither adds nor removes any."""
+    return {at: new for at, (old, new) in enumerate(zip(before, after)) if old != new}
+
+
+def placed(name, changed, source):
+    functions, is_alone = [], False
+    for file, lines in changed.items():
+        own = source.lines(file)
+        for at, new in lines.items():
+            # what is added behind the opening brace is in the body
+            into = at + (new.startswith(own[at]) and own[at].endswith("{"))
+            found = [it for it in source.functions if it.file == file and it.start <= into < it.end]
+            functions += [it for it in found if it not in functions]
+            is_alone |= not found
+    return Body(name, changed, functions, is_alone)
+
+
+def batches_of(bodies):
+    """Bodies that are tried together: each function is changed once at most."""
+    batches = []
+    for body in (it for it in bodies if not it.is_alone):
+        paths = {it.path for it in body.functions}
+        for taken, batch in batches:
+            if not paths & taken:
+                taken |= paths
+                batch.append(body)
+                break
+        else:
+            batches.append((paths, [body]))
+    return [batch for _, batch in batches] + [[it] for it in bodies if it.is_alone]
+
+
+# A copy of the crate, and what a check says of it.
+
+
+class Copy:
+    """A repository of its own with a crate and those below it, over what they have proved."""
+
+    def __init__(self, crate, room):
+        self.crate, self.root = crate, Path(room)
+        needed = stands_on(crate)
+        (self.root / "crates.txt").write_text("".join(f"{it}: {' '.join(words)}\n" for it, words in needed.items()))
+        (self.root / ".git").mkdir()
+        shutil.copy(ROOT / "HANDLES", self.root)
+        for name in needed:
+            for part in ("src", "specs", "proofs", "out/rlib"):
+                self.link(name.split()[0], part)
+
+    def link(self, name, part):
+        """Takes files over by hard links: a check replaces files of out/ and writes into none."""
+        source, to = ROOT / "crates" / name / part, self.root / "crates" / name / part
+        shutil.rmtree(to, ignore_errors=True)
+        if source.is_dir():
+            shutil.copytree(source, to, copy_function=link_or_copy)
+
+    def check(self, bodies, source):
+        """What a check says of the crate with these bodies."""
+        for part in ("src", "specs", "proofs", "out/incremental"):
+            self.link(self.crate, part)
+        folder = self.root / "crates" / self.crate
+        for file in {file for body in bodies for file in body.lines}:
+            lines = source.lines(file)
+            for body in bodies:
+                for at, new in body.lines.get(file, {}).items():
+                    lines[at] = new
+            (folder / file).unlink()
+            (folder / file).write_text("\n".join(lines))
+        return Report(rt_check(folder))
+
+
+def link_or_copy(source, to):
+    try:
+        os.link(source, to)
+    except OSError:
+        shutil.copy2(source, to)
+
+
+def rt_check(folder):
+    how = {"cwd": folder, "stdout": subprocess.PIPE, "stderr": subprocess.STDOUT, "text": True, "errors": "replace"}
+    return subprocess.run(["rt", "check", "--jobs", "1"], **how).stdout
+
+
+def stands_on(crate):
+    """What crates.txt says of the crate and of those below it."""
+    lines = [it.partition(":") for it in (ROOT / "crates.txt").read_text().splitlines() if it and it[0] != "#"]
+    words = {name: rest.split() for name, _, rest in lines}
+    found, left = {}, [crate]
+    while left:
+        names = [it for it in words if it.split()[0] in left and it not in found]
+        found.update({it: words[it] for it in names})
+        left = [below for it in names for below in words[it]]
+    return found
+
+
+class Report:
+    """What rt check said."""
+
+    def __init__(self, said):
+        self.lines = said.splitlines()
+        status = [re.match(r"fn (\S+): (?!proved$)(.*)", it) for it in self.lines]
+        self.unproved = {it[1]: it[2] for it in status if it}
+        self.has_ended = any(it.startswith("logic=") for it in self.lines)
+
+    def first_error(self):
+        return next((it for it in self.lines if "error" in it), self.lines[-1] if self.lines else "it said nothing")
+
+    def own_errors(self, function):
+        """What is said of the goals of the function and of its closures, and of their proofs."""
+        found = []
+        for path in filter(function.owns, self.unproved):
+            if self.unproved[path].startswith("no proof: expected"):
+                found.append(self.unproved[path])
+            folder = "./proofs/" + "/".join(path.split("::")[1:]) + "/"
+            found += [it for it in self.lines if self.is_at(it, function) or it.startswith(folder) and ": error: " in it]
+        return found
+
+    @staticmethod
+    def is_at(line, function):
+        at = re.match(r"note: (\S+?):(\d+):\d+: ", line)
+        return at and at[1] == function.file and function.first < int(at[2]) <= function.end + 1
+
+
+# Which bodies were refused.
+
+
+@dataclass
+class Verdict:
+    body: str
+    is_refused: bool
+    said: str
+
+
+def judged(body, report, source):
+    if not report.has_ended:
+        return Verdict(body.name, False, f"BAD EDIT: the check stopped early: {report.first_error()}")
+    for function in body.functions or source.functions:
+        found = report.own_errors(function)
+        if found:
+            return Verdict(body.name, True, f"refused at {function.path}: {found[0]}")
+    said = [f"{it.path}: {report.unproved.get(it.path, 'proved')}" for it in body.functions]
+    return Verdict(body.name, False, f"LET THROUGH: {'; '.join(said) or 'no goal stands open'}")
+
+
+def tried(batch, copy, source):
+    """A verdict on each body of the batch; one that isn't refused among others is tried again."""
+    report = copy.check(batch, source)
+    if len(batch) > 1 and not report.has_ended:
+        half = len(batch) // 2
+        return tried(batch[:half], copy, source) + tried(batch[half:], copy, source)
+    found = []
+    for body in batch:
+        verdict = judged(body, report, source)
+        is_sure = verdict.is_refused or len(batch) == 1
+        found += [verdict] if is_sure else tried([body], copy, source)
+    return found
+
+
+def try_crate(crate, place):
+    """A verdict on each of the crate's wrong bodies."""
+    folder, bodies, found = ROOT / "crates" / crate, [], []
+    if "\nlogic=proved" not in rt_check(folder):
+        return [Verdict("as it stands", False, "NOT PROVED")]
+    source = Source(folder)
+    for edit in sorted((folder / place).glob("*.edit")):
+        try:
+            bodies.append(read_body(edit, source))
+        except BadEdit as error:
+            found.append(Verdict(edit.stem, False, f"BAD EDIT: {error}"))
+    with tempfile.TemporaryDirectory(prefix="wrong-bodies-") as room:
+        copy = Copy(crate, room)
+        for batch in batches_of(bodies):
+            found += tried(batch, copy, source)
+    return found
+
+
+def tell(crate, found, seconds, tells_all):
+    for it in found:
+        if tells_all or not it.is_refused:
+            print(f"{crate}/{it.body}: {it.said}")
+    refused = sum(it.is_refused for it in found)
+    print(f"{crate}: {refused} of {len(found)} refused in {seconds:.0f} s", flush=True)
+    return refused, len(found) - refused
+
+
+def main():
+    words = argparse.ArgumentParser(description=__doc__, formatter_class=argparse.RawDescriptionHelpFormatter)
+    words.add_argument("crates", nargs="*", metavar="CRATE", help="all, if none is named")
+    words.add_argument("--from", dest="place", default="wrong-bodies", metavar="FOLDER", help="the edits of crates/NAME/FOLDER")
+    words.add_argument("--all", action="store_true", help="tells of each body where it is refused")
+    given = words.parse_args()
+    crates = given.crates or [it.name for it in sorted((ROOT / "crates").iterdir()) if any((it / given.place).glob("*.edit"))]
+
+    def work(crate):
+        began = time.monotonic()
+        return crate, try_crate(crate, given.place), time.monotonic() - began
+
+    with ThreadPoolExecutor(os.cpu_count()) as pool:
+        sums = [tell(*it, given.all) for it in pool.map(work, crates)]
+    passed, failed = map(sum, zip((0, 0), *sums))
+    print(f"{passed} passed, {failed} failed")
+    sys.exit(1 if failed else 0)
+
+
+if __name__ == "__main__":
+    main()
