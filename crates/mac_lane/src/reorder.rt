@@ -186,6 +186,13 @@ impl<S: Service> Reorder<S> {
         self.next
     }
 
+    /// Whether the buffer is closed.
+    pub fn is_closed(&self) -> bool
+        ensures { result ≡ self.now.closed }
+    {
+        self.closed
+    }
+
     /// Closes the buffer, and drops its slips and answers.
     pub fn close(&mut self)
         ensures closed { self.new ≡ closed_off self.old }
