@@ -1,31 +1,45 @@
 #!/usr/bin/env python3
 """Writes the line of `macaroond pipe` for a request in readable fields.
 
-    request.py key NAME SECRET                                       a key line, for the key file
+    request.py key NAME [SECRET]                                     a key line, for the key file
     request.py mint FORM NAME LOCATION IDENTIFIER [CAVEAT ..]        a new token
     request.py attenuate FORM TOKEN [CAVEAT ..]                      the token, narrowed
     request.py verify NAME TOKEN MOMENT [FACT ..]                    whether it is granted
 
-FORM is v1-text, v2-binary, v2-json or v2-text. TOKEN is a token's text, or `hex:` and its bytes in hexadecimal,
-just as the pipe prints it. MOMENT is in seconds since 1970-01-01T00:00:00Z.
+FORM is v1-text, v2-binary, v2-json or v2-text. NAME is 1 to 64 letters, digits, dots, underscores or dashes.
+MOMENT is in seconds since 1970-01-01T00:00:00Z. Each other field is its bytes as they are given, or `hex:` and its
+bytes in hexadecimal, as the pipe prints a binary token. Without SECRET the secret is all that standard input holds,
+a line feed at its end too: `request.py key NAME < FILE`.
 """
+import os
+import re
 import sys
 
 FORMS = {"v1-text": 1, "v2-binary": 2, "v2-json": 3, "v2-text": 4}
 
 
-def sized(field, width, name):
-    """The field behind its length, a number of `width` bytes."""
-    if len(field) >= 256**width:
-        sys.exit(f"the {name} has {len(field)} bytes, more than its length can tell")
-    return len(field).to_bytes(width, "big") + field
+def field(word):
+    """The bytes that a word stands for."""
+    if not word.startswith("hex:"):
+        return os.fsencode(word)
+    try:
+        return bytes.fromhex(word[4:])
+    except ValueError:
+        sys.exit(f"{word} is not hexadecimal, two digits a byte")
 
 
-def listed(texts, name):
-    """How many texts there are, and each behind its length."""
-    if len(texts) > 255:
+def sized(content, width, name):
+    """The bytes behind their length, a number of `width` bytes."""
+    if len(content) >= 256**width:
+        sys.exit(f"the {name} has {len(content)} bytes, more than its length can tell")
+    return len(content).to_bytes(width, "big") + content
+
+
+def listed(words, name):
+    """How many there are, and each behind its length."""
+    if len(words) > 255:
         sys.exit(f"a request has at most 255 {name}s")
-    return bytes([len(texts)]) + b"".join(sized(text.encode(), 2, name) for text in texts)
+    return bytes([len(words)]) + b"".join(sized(field(word), 2, name) for word in words)
 
 
 def form_of(word):
@@ -34,40 +48,63 @@ def form_of(word):
     return bytes([FORMS[word]])
 
 
-def token_of(word):
-    return bytes.fromhex(word[4:]) if word.startswith("hex:") else word.encode()
+def name_of(word):
+    if not re.fullmatch("[A-Za-z0-9._-]{1,64}", word):
+        sys.exit(f"the name `{word}` is not 1 to 64 letters, digits, dots, underscores or dashes")
+    return word.encode()
+
+
+def moment_of(word):
+    if not re.fullmatch("[0-9]{1,20}", str(word)) or int(word) >= 2**64:
+        sys.exit(f"the moment `{word}` is not a number of seconds from 0 to {2**64 - 1}")
+    return int(word).to_bytes(8, "big")
+
+
+def key(name, secret=None):
+    content = sys.stdin.buffer.read() if secret is None else field(secret)
+    if not content:
+        sys.exit("the secret is empty")
+    return f"key {name_of(name).decode()} {content.hex()}"
 
 
 def mint(form, name, location, identifier, *caveats):
-    fields = sized(location.encode(), 2, "location") + sized(identifier.encode(), 2, "identifier")
-    return b"\x01" + form_of(form) + sized(name.encode(), 1, "name") + fields + listed(caveats, "caveat")
+    fields = sized(field(location), 2, "location") + sized(field(identifier), 2, "identifier")
+    return b"\x01" + form_of(form) + sized(name_of(name), 1, "name") + fields + listed(caveats, "caveat")
 
 
 def attenuate(form, token, *caveats):
-    return b"\x02" + form_of(form) + sized(token_of(token), 2, "token") + listed(caveats, "caveat")
+    return b"\x02" + form_of(form) + sized(field(token), 2, "token") + listed(caveats, "caveat")
 
 
 def verify(name, token, moment, *facts):
-    fields = sized(token_of(token), 2, "token") + int(moment).to_bytes(8, "big")
-    return b"\x03" + sized(name.encode(), 1, "name") + fields + listed(facts, "fact")
+    fields = sized(field(token), 2, "token") + moment_of(moment)
+    return b"\x03" + sized(name_of(name), 1, "name") + fields + listed(facts, "fact")
+
+
+def payload(words):
+    """The request that these words ask for, or None where they ask for none."""
+    match words:
+        case ["mint", _, _, _, _, *_]:
+            return mint(*words[1:])
+        case ["attenuate", _, _, *_]:
+            return attenuate(*words[1:])
+        case ["verify", _, _, _, *_]:
+            return verify(*words[1:])
+    return None
 
 
 def main(words):
     match words:
-        case ["key", name, secret]:
-            print(f"key {name} {secret.encode().hex()}")
-        case ["mint", _, _, _, _, *_]:
-            print(mint(*words[1:]).hex())
-        case ["attenuate", _, _, *_]:
-            print(attenuate(*words[1:]).hex())
-        case ["verify", _, _, _, *_]:
-            print(verify(*words[1:]).hex())
+        case ["--help" | "-h", *_]:
+            print(__doc__, end="")
+        case ["key", _] | ["key", _, _]:
+            print(key(*words[1:]))
         case _:
-            sys.exit(__doc__)
+            asked = payload(words)
+            if asked is None:
+                sys.exit(__doc__)
+            print(asked.hex())
 
 
 if __name__ == "__main__":
-    try:
-        main(sys.argv[1:])
-    except (ValueError, OverflowError) as fault:
-        sys.exit(str(fault))
+    main(sys.argv[1:])

@@ -1,5 +1,6 @@
 #!/usr/bin/env python3
 """Times `macaroond pipe`, by its processor time, beside the SHA-256 that its answers need. Asks for bin/macaroond and bin/hash_blocks."""
+import os
 import pathlib
 import resource
 import subprocess
@@ -100,14 +101,21 @@ def print_sizes():
         costs = []
         for form in ("v2-binary", "v2-json"):
             token = answer(minted(form, caveats))
-            size = len(request.token_of(token))
+            size = len(request.field(token))
             payload = request.attenuate("v2-binary", token)
             each = min(pipe_seconds(payload, 2_000) for _ in range(TRIALS)) / 2_000
             costs.append(f"{size:,} bytes, {each * 1e9 / size:.1f} ns a byte")
         print(f"| {count} | {' | '.join(costs)} |")
 
 
+def stop_unless_built():
+    lacking = [name for name in ("macaroond", "hash_blocks") if not os.access(TOP / "bin" / name, os.X_OK)]
+    if lacking:
+        sys.exit(f"bin/{' and bin/'.join(lacking)} isn't there: run `make build` first, which proves and builds it")
+
+
 if __name__ == "__main__":
+    stop_unless_built()
     print_kinds()
     print()
     print_sizes()

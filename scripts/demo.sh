@@ -4,6 +4,12 @@ set -eu
 top=$(cd "$(dirname "$0")/.." && pwd)
 input=$top/crates/macaroond/stdin
 
+if [ ! -x "$top/bin/macaroond" ] && ! command -v rt > /dev/null; then
+    echo "There is no bin/macaroond, and the toolchain's command \`rt\` is not on the path: without either there is"
+    echo "nothing to run. The README says which toolchain it is (under *What is trusted*)."
+    exit 1
+fi
+
 echo "The input of \`macaroond pipe\`: a key line, an empty line, and one request in hexadecimal."
 echo
 sed 's/^/    /' "$input"
