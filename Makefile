@@ -1,6 +1,3 @@
-# Crates to try, as in make wrong-bodies CRATES="mac_wire mac_hmac"; all, if none is named.
-CRATES =
-
 .PHONY: test wrong-bodies demo build bench
 
 # Every proof from nothing, the wrong bodies, every test and program; then the pipe beside the README and the work of others.
@@ -8,9 +5,13 @@ test:
 	rt ci
 	scripts/outside.py
 
-# The wrong bodies that the gate doesn't try, many in one check: the prover must refuse each.
+# All wrong bodies, many in one check, of the crates that are named behind it, or of all.
 wrong-bodies:
 	scripts/wrong_bodies.py $(CRATES)
+
+CRATES = $(filter-out wrong-bodies,$(MAKECMDGOALS))
+$(notdir $(wildcard crates/*)):
+	@:
 
 # The README's token, through the proved program where there is one, else through an unproved run.
 demo:

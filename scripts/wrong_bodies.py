@@ -1,8 +1,9 @@
 #!/usr/bin/env python3
 """Tries wrong bodies: the prover must refuse each at its own function's goal.
 
-A wrong body is an edit, crates/NAME/wrong-bodies/*.edit: lines 'file: PATH', 'old: TEXT' and 'new: TEXT', each TEXT
-one line that stands once in that file; further pairs apply to what the earlier ones made.
+A wrong body is an edit, crates/NAME/wrong-bodies/*.edit, or one of those in must-fail/ that the gate tries too: lines
+'file: PATH', 'old: TEXT' and 'new: TEXT', each TEXT one line that stands once in that file; further pairs apply to what
+the earlier ones made.
 
 Many are tried in one check of a copy of the crate, at most one for each function. That a caller fails because its
 callee does is no refusal of the caller's body. An edit of anything but functions' bodies is tried alone, and so is a
@@ -312,13 +313,17 @@ def tried(batch, copy, source):
     return found
 
 
-def try_crate(crate, place):
+def edits_of(crate):
+    return sorted(it for place in ("must-fail", "wrong-bodies") for it in (ROOT / "crates" / crate / place).glob("*.edit"))
+
+
+def try_crate(crate):
     """A verdict on each of the crate's wrong bodies."""
     folder, bodies, found = ROOT / "crates" / crate, [], []
     if "\nlogic=proved" not in rt_check(folder):
         return [Verdict("as it stands", False, "NOT PROVED")]
     source = Source(folder)
-    for edit in sorted((folder / place).glob("*.edit")):
+    for edit in edits_of(crate):
         try:
             bodies.append(read_body(edit, source))
         except BadEdit as error:
@@ -342,14 +347,13 @@ def tell(crate, found, seconds, tells_all):
 def main():
     words = argparse.ArgumentParser(description=__doc__, formatter_class=argparse.RawDescriptionHelpFormatter)
     words.add_argument("crates", nargs="*", metavar="CRATE", help="all, if none is named")
-    words.add_argument("--from", dest="place", default="wrong-bodies", metavar="FOLDER", help="the edits of crates/NAME/FOLDER")
     words.add_argument("--all", action="store_true", help="tells of each body where it is refused")
     given = words.parse_args()
-    crates = given.crates or [it.name for it in sorted((ROOT / "crates").iterdir()) if any((it / given.place).glob("*.edit"))]
+    crates = given.crates or [it.name for it in sorted((ROOT / "crates").iterdir()) if edits_of(it.name)]
 
     def work(crate):
         began = time.monotonic()
-        return crate, try_crate(crate, given.place), time.monotonic() - began
+        return crate, try_crate(crate), time.monotonic() - began
 
     with ThreadPoolExecutor(os.cpu_count()) as pool:
         sums = [tell(*it, given.all) for it in pool.map(work, crates)]
