@@ -32,7 +32,7 @@ HEADER = re.compile(r"( *)(?:pub(?:\(\w+\))? )?(?:const )?(?:unsafe )?fn (\w+)")
 
 @dataclass
 class Function:
-    """A function with a body: its lines from `first`, those of its body, and its path as rt check prints it."""
+    """A function with a body: its path as rt check prints it, and its lines: `first` of its docs and clauses, and `start` of its body."""
 
     file: str
     path: str
@@ -53,7 +53,7 @@ def module_of(file):
 
 
 def functions_of(lines, file, crate):
-    scopes, found, at = [], [], 0
+    scopes, found, at, first = [], [], 0, 0
     while at < len(lines):
         if scopes and lines[at] == scopes[-1][0] + "}":
             scopes.pop()
@@ -63,17 +63,10 @@ def functions_of(lines, file, crate):
         if header:
             start, end = body_of(lines, at, header[1])
             path = "::".join([crate, *module_of(file), *(it for _, it in scopes), header[2]])
-            found.append(Function(file, path, attributes_of(lines, at), start, end))
-            at = end
+            found.append(Function(file, path, first, start, end))
+            at = first = end
         at += 1
     return [it for it in found if it.start < it.end]
-
-
-def attributes_of(lines, at):
-    """The first line of what stands right above a function's header."""
-    while at and lines[at - 1].strip() and not lines[at - 1].endswith(("{", "}")):
-        at -= 1
-    return at
 
 
 def body_of(lines, at, indent):
@@ -269,13 +262,20 @@ class Report:
             if self.unproved[path].startswith("no proof: expected"):
                 found.append(self.unproved[path])
             folder = "./proofs/" + "/".join(path.split("::")[1:]) + "/"
-            found += [it for it in self.lines if self.is_at(it, function) or it.startswith(folder) and ": error: " in it]
+            found += [it for it in self.lines if is_at(it, function) or it.startswith(folder) and ": error: " in it]
         return found
 
-    @staticmethod
-    def is_at(line, function):
-        at = re.match(r"note: (\S+?):(\d+):\d+: ", line)
-        return at and at[1] == function.file and function.first < int(at[2]) <= function.end + 1
+
+def is_at(line, function):
+    at = re.match(r"note: (\S+?):(\d+):\d+: ", line)
+    return at and at[1] == function.file and function.first < int(at[2]) <= function.end + 1
+
+
+def tells_names_alone(errors):
+    """Whether nothing is wrong but that a proof names what the body took away, so that it says little of the contract."""
+    lost = [it for it in errors if re.search(r": error: .*(can be named from here|has no field|is not in scope|\(nearest: )", it)]
+    sure = [it for it in errors if ": error: " in it and it not in lost or it.startswith("no proof") or "this goal is false" in it]
+    return bool(lost) and not sure
 
 
 # Which bodies were refused.
@@ -294,7 +294,8 @@ def judged(body, report, source):
     for function in body.functions or source.functions:
         found = report.own_errors(function)
         if found:
-            return Verdict(body.name, True, f"refused at {function.path}: {found[0]}")
+            by = " by name alone" * tells_names_alone(found)
+            return Verdict(body.name, True, f"refused{by} at {function.path}: {found[0]}")
     said = [f"{it.path}: {report.unproved.get(it.path, 'proved')}" for it in body.functions]
     return Verdict(body.name, False, f"LET THROUGH: {'; '.join(said) or 'no goal stands open'}")
 
@@ -337,7 +338,7 @@ def try_crate(crate):
 
 def tell(crate, found, seconds, tells_all):
     for it in found:
-        if tells_all or not it.is_refused:
+        if tells_all or not it.is_refused or "by name alone" in it.said:
             print(f"{crate}/{it.body}: {it.said}")
     refused = sum(it.is_refused for it in found)
     print(f"{crate}: {refused} of {len(found)} refused in {seconds:.0f} s", flush=True)
