@@ -1,5 +1,6 @@
 -- A lane, as contracts see its two ends. All of it is this project's own.
 use Rattle.std.specs.Prelude.{◌≡◌, ℕ, ◌+◌, ◌≤◌, Bool, false, not, ◌&&◌, nat_lt, List, [], ◌∷◌, ◌++◌, length, map, take, drop, Some, slice_get}
+use Rattle.std.specs.FinMap.{get}
 use mathlib.Core.List.{IsPrefix}
 use Rattle.rtrb.specs.Ring as ring
 use Rattle.rtrb.specs.declared.producer.Producer.{Producer}
@@ -79,12 +80,20 @@ module _ {Job A P : Type 0} where
       IsSameOutlet before after
       × ((job : Job) × (received after ≡ received before ++ job ∷ []) × (after.buffer ≡ opened before.buffer job) × IsPrefix (waiting before) (job ∷ waiting after))
 
-  -- a reply that leaves has the next place, and is that to the job which was received there
-  abbrev pub IsDue : {Which Answered : Type 0} → (Job → Answered) → Exit Job A P → Next Which Job Answered → Type 0
-  IsDue reply_to outlet (Reply place reply) = (place ≡ outlet.buffer.next) × (slice_get (map reply_to (received outlet)) place ≡ Some reply)
-  IsDue reply_to outlet (Stranger place) = Unit {0}
-  IsDue reply_to outlet Closed = Unit {0}
-  IsDue reply_to outlet Waiting = Unit {0}
+  -- the answer that waits at the next place is to another job than was received there
+  pub record IsForeign (same : Job → Job → Bool) (outlet : Exit Job A P) : Type 0 where
+    pub answer : Job
+    pub settled : get outlet.buffer.answers outlet.buffer.next ≡ Some answer
+    pub job : Job
+    pub received_is : slice_get (received outlet) outlet.buffer.next ≡ Some job
+    pub unlike : same answer job ≡ false
+
+  -- what an outlet releases: a reply is that to the job which was received at the next place, and a stranger is foreign there
+  abbrev pub Releases : {Which Answered : Type 0} → (Job → Job → Bool) → (Job → Answered) → Exit Job A P → Next Which Job Answered → Type 0
+  Releases same reply_to outlet (Reply place reply) = (place ≡ outlet.buffer.next) × (slice_get (map reply_to (received outlet)) place ≡ Some reply)
+  Releases same reply_to outlet (Stranger place) = (place ≡ outlet.buffer.next) × IsForeign same outlet
+  Releases same reply_to outlet Closed = Unit {0}
+  Releases same reply_to outlet Waiting = Unit {0}
 
   -- what always holds: only received jobs were sent, at most 64 of them are not, and while the buffer is open these are its slips
   pub record IsKept (outlet : Exit Job A P) : Type 0 where

@@ -3,7 +3,7 @@
 ghost use Rattle.std.specs.Prelude.{◌≡◌, ◌<◌, ◌++◌, ◌↔◌, true, [], length, map, IsTrue, IsFalse, OnOk, OnErr, IfErr, MatchResult, None, Some};
 ghost use Rattle.rtrb.specs.Ring as ring;
 ghost use Rattle.mac_lane.specs.Buffer.{fresh_buffer, settle_fault, settled, next_of, closed_off};
-ghost use Rattle.mac_relay.specs.Lane.{received, waiting, released, may_look, Takes, Rests, Looks, IsDue, replied, all_admitted, IsMarkOf};
+ghost use Rattle.mac_relay.specs.Lane.{received, waiting, released, may_look, Takes, Rests, Looks, IsKept, Releases, replied, all_admitted, IsMarkOf};
 
 use crate::mark::Finished;
 use crate::numbered::Numbered;
@@ -58,6 +58,7 @@ impl<S: Service> Outlet<S> {
         ensures none { IsFalse result → may_look self.old.buffer ≡ true → waiting self.new ≡ [] }
         ensures succeeds { may_look self.old.buffer ≡ true → 0 < length (waiting self.old) → IsTrue result }
         ensures released { released S.reply_to self.new ≡ released S.reply_to self.old }
+        ensures kept { IsKept self.new }
     {
         if self.buffer.is_closed() || self.buffer.open_slips() >= OPEN_SLIPS_MAX {
             return false;
@@ -79,6 +80,7 @@ impl<S: Service> Outlet<S> {
         ensures refused { OnErr result (self.new.buffer ≡ self.old.buffer) }
         ensures back { IfErr result (λ e. e.1 ≡ answer) }
         ensures released { released S.reply_to self.new ≡ released S.reply_to self.old }
+        ensures kept { IsKept self.new }
     {
         self.buffer.settle(place, answer)
     }
@@ -87,8 +89,9 @@ impl<S: Service> Outlet<S> {
     pub fn release(&mut self) -> Next<S>
         ensures ring { Rests self.old self.new }
         ensures next { (result, self.new.buffer) ≡ next_of S.Job.eq S.reply_to self.old.buffer }
-        ensures due { IsDue S.reply_to self.old result }
+        ensures releases { Releases S.Job.eq S.reply_to self.old result }
         ensures released { released S.reply_to self.new ≡ released S.reply_to self.old ++ replied result }
+        ensures kept { IsKept self.new }
     {
         self.buffer.next()
     }
@@ -98,6 +101,7 @@ impl<S: Service> Outlet<S> {
         ensures ring { Rests self.old self.new }
         ensures closed { self.new.buffer ≡ closed_off self.old.buffer }
         ensures released { released S.reply_to self.new ≡ released S.reply_to self.old }
+        ensures kept { IsKept self.new }
     {
         self.buffer.close();
     }
@@ -110,6 +114,7 @@ impl<S: Service> Outlet<S> {
         ensures rest { received self.new ++ waiting self.new ≡ all_admitted mark.old }
         ensures total { result ≡ length (all_admitted mark.old) }
         ensures all { self.new.buffer.next ≡ result → released S.reply_to self.new ≡ map S.reply_to (all_admitted mark.old) }
+        ensures kept { IsKept self.new }
     {
         self.consumer.slots_after(&mut mark.mark);
         mark.admitted
@@ -128,6 +133,13 @@ impl<S: Service> Outlet<S> {
         ensures { Looks self.old self.new }
     {
         self.consumer.is_abandoned()
+    }
+
+    /// How many of the jobs that were taken are open, their replies not released.
+    pub fn open_slips(&self) -> usize
+        ensures { result ≡ length self.now.buffer.slips }
+    {
+        self.buffer.open_slips()
     }
 
     /// The place whose reply is released next: so many were released.

@@ -2,7 +2,7 @@
 
 ghost use Rattle.std.specs.Prelude.{◌≡◌, ◌≤◌, ◌+◌, ◌++◌, length, map, take};
 ghost use Rattle.mac_lane.specs.History.{IsReached};
-ghost use Rattle.mac_relay.specs.Lane.{IsLane, admitted, free_slips, received, waiting, released, Knows, Looks};
+ghost use Rattle.mac_relay.specs.Lane.{IsLane, admitted, free_slips, received, waiting, released, Knows, Looks, IsKept};
 
 use crate::intake::Intake;
 use crate::outlet::Outlet;
@@ -27,6 +27,7 @@ pub fn meet<S: Service>(intake: &mut Intake<S>, outlet: &mut Outlet<S>) -> Total
     ensures free { RING_SLIPS_MAX ≤ free_slips intake.new + length (waiting outlet.new) }
     ensures totals { result ≡ record { admitted = length (admitted intake.new); released = length (released S.reply_to outlet.new) } }
     ensures released { released S.reply_to outlet.new ≡ map S.reply_to (take result.released (admitted intake.new)) }
+    ensures kept { IsKept outlet.new }
     ensures state { IsReached S S.reply_to (admitted intake.new) (released S.reply_to outlet.new) }
 {
     laws::lists_within_the_window_are_reached::<S>();
