@@ -12,84 +12,18 @@ body that a check of several didn't see refused. The tree itself is checked only
 import argparse
 import os
 import re
+import resource
 import shutil
 import subprocess
 import sys
 import tempfile
-import time
 from concurrent.futures import ThreadPoolExecutor
 from dataclasses import dataclass
 from pathlib import Path
 
+from functions import functions_of
+
 ROOT = Path(__file__).resolve().parent.parent
-
-
-# Where functions stand. The layout is that of rt fmt; lines are counted from 0.
-
-SCOPE = re.compile(r"( *)(?:pub(?:\(\w+\))? )?(impl\b.*|trait \w+.*|mod \w+) \{$")
-HEADER = re.compile(r"( *)(?:pub(?:\(\w+\))? )?(?:const )?(?:unsafe )?fn (\w+)")
-
-
-@dataclass
-class Function:
-    """A function with a body: its path as rt check prints it, and its lines: `first` of its docs and clauses, and `start` of its body."""
-
-    file: str
-    path: str
-    first: int
-    start: int
-    end: int
-
-    def owns(self, path):
-        """Whether this is the path of the function, or of a closure in it."""
-        module = "::".join(self.path.split("::")[: 1 + len(module_of(self.file))])
-        closures = f"{module}::fn{self.path.removeprefix(module)}::"
-        return path == self.path or path.startswith((f"{self.path}+", closures))
-
-
-def module_of(file):
-    parts = list(Path(file).with_suffix("").parts[1:])
-    return [] if parts in (["lib"], ["main"]) else parts
-
-
-def functions_of(lines, file, crate):
-    scopes, found, at, first = [], [], 0, 0
-    while at < len(lines):
-        if scopes and lines[at] == scopes[-1][0] + "}":
-            scopes.pop()
-        scope, header = SCOPE.match(lines[at]), HEADER.match(lines[at])
-        if scope:
-            scopes.append((scope[1], scope_name(scope[2])))
-        if header:
-            start, end = body_of(lines, at, header[1])
-            path = "::".join([crate, *module_of(file), *(it for _, it in scopes), header[2]])
-            found.append(Function(file, path, first, start, end))
-            at = first = end
-        at += 1
-    return [it for it in found if it.start < it.end]
-
-
-def body_of(lines, at, indent):
-    """The lines between the body's braces, none where there is no body."""
-    for at in range(at, len(lines)):
-        is_head = HEADER.match(lines[at]) or lines[at].startswith((indent + "{", indent + ") "))
-        if lines[at].endswith("};") or is_head and lines[at].endswith((";", "{}")):
-            return at, at
-        if is_head and lines[at].endswith("{"):
-            return at + 1, lines.index(indent + "}", at)
-    return at, at
-
-
-def scope_name(head):
-    """The part of a path that stands for an impl (its type, and its trait with what that is given), a trait or a module."""
-    if not head.startswith("impl"):
-        return re.findall(r"\w+", head)[1]
-    rest = re.sub(r"^impl(<[^<>]*(<[^<>]*>[^<>]*)*>)? ", "", head)
-    trait, _, made = rest.rpartition(" for ")
-    trait, _, given = trait.partition("<")
-    words = re.findall(r"\w+", re.sub(r"<.*>", "", given.removesuffix(">")))
-    count = f"Tuple{len(words)}" if given.startswith("(") else ""
-    return re.match(r"\w+", made)[0] + trait.split("::")[-1] + count + "".join(it[0].upper() + it[1:] for it in words)
 
 
 # Edits, and which of them are tried together.
@@ -183,40 +117,42 @@ def batches_of(bodies):
 
 # A copy of the crate, and what a check says of it.
 
+TEXTS = ["src", "specs", "proofs"]
+
 
 class Copy:
-    """A repository of its own with a crate and those below it, over what they have proved."""
+    """A repository of its own with a crate and those below it, over what they have proved. The tree may change meanwhile."""
 
     def __init__(self, crate, room):
-        self.crate, self.root = crate, Path(room)
+        self.kept, self.root = room / "kept" / crate, room / "tree"
+        self.folder = self.root / "crates" / crate
         needed = stands_on(crate)
+        for name in (it.split()[0] for it in needed):
+            take_over(ROOT / "crates" / name, self.root / "crates" / name, [*TEXTS, "out/rlib"])
         (self.root / "crates.txt").write_text("".join(f"{it}: {' '.join(words)}\n" for it, words in needed.items()))
         (self.root / ".git").mkdir()
         shutil.copy(ROOT / "HANDLES", self.root)
-        for name in needed:
-            for part in ("src", "specs", "proofs", "out/rlib"):
-                self.link(name.split()[0], part)
+        take_over(ROOT / "crates" / crate, self.kept, [*TEXTS, "out/incremental"])
+        self.source = Source(self.kept)
 
-    def link(self, name, part):
-        """Takes files over by hard links: a check replaces files of out/ and writes into none."""
-        source, to = ROOT / "crates" / name / part, self.root / "crates" / name / part
-        shutil.rmtree(to, ignore_errors=True)
-        if source.is_dir():
-            shutil.copytree(source, to, copy_function=link_or_copy)
-
-    def check(self, bodies, source):
+    def check(self, bodies):
         """What a check says of the crate with these bodies."""
-        for part in ("src", "specs", "proofs", "out/incremental"):
-            self.link(self.crate, part)
-        folder = self.root / "crates" / self.crate
+        take_over(self.kept, self.folder, [*TEXTS, "out/incremental"])
         for file in {file for body in bodies for file in body.lines}:
-            lines = source.lines(file)
+            lines = self.source.lines(file)
             for body in bodies:
                 for at, new in body.lines.get(file, {}).items():
                     lines[at] = new
-            (folder / file).unlink()
-            (folder / file).write_text("\n".join(lines))
-        return Report(rt_check(folder))
+            (self.folder / file).write_text("\n".join(lines))
+        return Report(rt_check(self.folder))
+
+
+def take_over(source, to, parts):
+    """Copies texts, and links what was proved: a check replaces such a file and writes into none."""
+    for part in parts:
+        shutil.rmtree(to / part, ignore_errors=True)
+        if (source / part).is_dir():
+            shutil.copytree(source / part, to / part, copy_function=shutil.copy if part in TEXTS else link_or_copy)
 
 
 def link_or_copy(source, to):
@@ -300,17 +236,17 @@ def judged(body, report, source):
     return Verdict(body.name, False, f"LET THROUGH: {'; '.join(said) or 'no goal stands open'}")
 
 
-def tried(batch, copy, source):
+def tried(batch, copy):
     """A verdict on each body of the batch; one that isn't refused among others is tried again."""
-    report = copy.check(batch, source)
+    report = copy.check(batch)
     if len(batch) > 1 and not report.has_ended:
         half = len(batch) // 2
-        return tried(batch[:half], copy, source) + tried(batch[half:], copy, source)
+        return tried(batch[:half], copy) + tried(batch[half:], copy)
     found = []
     for body in batch:
-        verdict = judged(body, report, source)
+        verdict = judged(body, report, copy.source)
         is_sure = verdict.is_refused or len(batch) == 1
-        found += [verdict] if is_sure else tried([body], copy, source)
+        found += [verdict] if is_sure else tried([body], copy)
     return found
 
 
@@ -320,44 +256,40 @@ def edits_of(crate):
 
 def try_crate(crate):
     """A verdict on each of the crate's wrong bodies."""
-    folder, bodies, found = ROOT / "crates" / crate, [], []
-    if "\nlogic=proved" not in rt_check(folder):
+    if "\nlogic=proved" not in rt_check(ROOT / "crates" / crate):
         return [Verdict("as it stands", False, "NOT PROVED")]
-    source = Source(folder)
-    for edit in edits_of(crate):
-        try:
-            bodies.append(read_body(edit, source))
-        except BadEdit as error:
-            found.append(Verdict(edit.stem, False, f"BAD EDIT: {error}"))
+    bodies, found = [], []
     with tempfile.TemporaryDirectory(prefix="wrong-bodies-") as room:
-        copy = Copy(crate, room)
+        copy = Copy(crate, Path(room))
+        for edit in edits_of(crate):
+            try:
+                bodies.append(read_body(edit, copy.source))
+            except BadEdit as error:
+                found.append(Verdict(edit.stem, False, f"BAD EDIT: {error}"))
         for batch in batches_of(bodies):
-            found += tried(batch, copy, source)
+            found += tried(batch, copy)
     return found
 
 
-def tell(crate, found, seconds, tells_all):
+def tell(crate, found, tells_all):
     for it in found:
         if tells_all or not it.is_refused or "by name alone" in it.said:
             print(f"{crate}/{it.body}: {it.said}")
     refused = sum(it.is_refused for it in found)
-    print(f"{crate}: {refused} of {len(found)} refused in {seconds:.0f} s", flush=True)
+    print(f"{crate}: {refused} of {len(found)} refused", flush=True)
     return refused, len(found) - refused
 
 
 def main():
-    words = argparse.ArgumentParser(description=__doc__, formatter_class=argparse.RawDescriptionHelpFormatter)
-    words.add_argument("crates", nargs="*", metavar="CRATE", help="all, if none is named")
-    words.add_argument("--all", action="store_true", help="tells of each body where it is refused")
-    given = words.parse_args()
+    parser = argparse.ArgumentParser(description=__doc__, formatter_class=argparse.RawDescriptionHelpFormatter)
+    parser.add_argument("crates", nargs="*", metavar="CRATE", help="all, if none is named")
+    parser.add_argument("--all", action="store_true", help="tells of each body where it is refused")
+    given = parser.parse_args()
     crates = given.crates or [it.name for it in sorted((ROOT / "crates").iterdir()) if edits_of(it.name)]
-
-    def work(crate):
-        began = time.monotonic()
-        return crate, try_crate(crate), time.monotonic() - began
-
     with ThreadPoolExecutor(os.cpu_count()) as pool:
-        sums = [tell(*it, given.all) for it in pool.map(work, crates)]
+        sums = [tell(crate, found, given.all) for crate, found in zip(crates, pool.map(try_crate, crates))]
+    used = resource.getrusage(resource.RUSAGE_CHILDREN)
+    print(f"{(used.ru_utime + used.ru_stime) / 60:.0f} processor minutes")
     passed, failed = map(sum, zip((0, 0), *sums))
     print(f"{passed} passed, {failed} failed")
     sys.exit(1 if failed else 0)

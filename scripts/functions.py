@@ -1,0 +1,69 @@
+"""Where the functions of a .rt file stand, in the layout of rt fmt. Lines are counted from 0."""
+import re
+from dataclasses import dataclass
+from pathlib import Path
+
+SCOPE = re.compile(r"( *)(?:pub(?:\([\w: ]+\))? )?(impl\b.*|trait \w+.*|mod \w+) \{$")
+HEADER = re.compile(r"( *)(?:pub(?:\([\w: ]+\))? )?(?:const )?(?:unsafe )?fn (\w+)")
+
+
+@dataclass
+class Function:
+    """A function with a body: its path as rt check prints it, and its lines: `first` of its docs and clauses, and `start` of its body."""
+
+    file: str
+    path: str
+    first: int
+    start: int
+    end: int
+
+    def owns(self, path):
+        """Whether this is the path of the function, or of a closure in it."""
+        module = "::".join(self.path.split("::")[: 1 + len(module_of(self.file))])
+        closures = f"{module}::fn{self.path.removeprefix(module)}::"
+        return path == self.path or path.startswith((f"{self.path}+", closures))
+
+
+def module_of(file):
+    parts = list(Path(file).with_suffix("").parts[1:])
+    return [] if parts in (["lib"], ["main"]) else parts
+
+
+def functions_of(lines, file, crate):
+    scopes, found, at, first = [], [], 0, 0
+    while at < len(lines):
+        if scopes and lines[at] == scopes[-1][0] + "}":
+            scopes.pop()
+        scope, header = SCOPE.match(lines[at]), HEADER.match(lines[at])
+        if scope:
+            scopes.append((scope[1], scope_name(scope[2])))
+        if header:
+            start, end = body_of(lines, at, header[1])
+            path = "::".join([crate, *module_of(file), *(it for _, it in scopes), header[2]])
+            found.append(Function(file, path, first, start, end))
+            at = first = end
+        at += 1
+    return [it for it in found if it.start < it.end]
+
+
+def body_of(lines, at, indent):
+    """The lines between the body's braces, none where there is no body."""
+    for at in range(at, len(lines)):
+        is_head = HEADER.match(lines[at]) or lines[at].startswith((indent + "{", indent + ") "))
+        if lines[at].endswith("};") or is_head and lines[at].endswith((";", "{}")):
+            return at, at
+        if is_head and lines[at].endswith("{"):
+            return at + 1, lines.index(indent + "}", at)
+    return at, at
+
+
+def scope_name(head):
+    """The part of a path that stands for an impl (its type, and its trait with what that is given), a trait or a module."""
+    if not head.startswith("impl"):
+        return re.findall(r"\w+", head)[1]
+    rest = re.sub(r"^impl(<[^<>]*(<[^<>]*>[^<>]*)*>)? ", "", head)
+    trait, _, made = rest.rpartition(" for ")
+    trait, _, given = trait.partition("<")
+    words = re.findall(r"\w+", re.sub(r"<.*>", "", given.removesuffix(">")))
+    count = f"Tuple{len(words)}" if given.startswith("(") else ""
+    return re.match(r"\w+", made)[0] + trait.split("::")[-1] + count + "".join(it[0].upper() + it[1:] for it in words)
