@@ -42,6 +42,3 @@ impl Service for Macaroons {
         })
         (λ k l. (bytes_eq-Decides k l).0) };
 }
-
-#[cfg(test)]
-mod tests;

@@ -207,6 +207,3 @@ fn faulted(fault: TokenFault) -> Result<Reply, NoMemory>
     };
     Ok(refused(reason))
 }
-
-#[cfg(test)]
-mod tests;

@@ -122,6 +122,3 @@ fn second(text: &[u8]) -> Option<u8>
         _ => None,
     }
 }
-
-#[cfg(test)]
-mod tests;

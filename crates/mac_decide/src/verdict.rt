@@ -58,6 +58,3 @@ fn first_unsatisfied(
         None => Some(index),
     }
 }
-
-#[cfg(test)]
-mod tests;

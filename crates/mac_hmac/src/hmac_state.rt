@@ -97,6 +97,3 @@ pub fn hmac(key: &[u8], text: &[u8]) -> [u8; 32]
     state.update(text);
     state.finish()
 }
-
-#[cfg(test)]
-mod tests;

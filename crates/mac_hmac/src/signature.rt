@@ -66,6 +66,3 @@ pub fn same(a: &Sig, b: &Sig) -> bool
     }
     agree
 }
-
-#[cfg(test)]
-mod tests;

@@ -8,8 +8,6 @@ mod fault;
 pub mod laws;
 mod line;
 mod table;
-#[cfg(test)]
-mod tests;
 
 pub use fault::{KeyFault, LineFault};
 pub use line::NAME_MAX;
