@@ -51,6 +51,27 @@ impl<'a> Words<'a> {
         spelled(alloc, word)
     }
 
+    /// Whether no word is left.
+    pub(crate) fn is_empty(&self) -> bool {
+        self.rest.is_empty()
+    }
+
+    /// The decimal number that the next word is.
+    pub(crate) fn number(&mut self) -> Result<u64, CaseFault> {
+        match self.next()?.parse::<u64>() {
+            Ok(number) => Ok(number),
+            Err(_) => Err(CaseFault::NoCase),
+        }
+    }
+
+    /// The 32 bytes that the next word spells.
+    pub(crate) fn digest(&mut self, alloc: Global) -> Result<[u8; 32], CaseFault> {
+        match <[u8; 32]>::try_from(self.bytes(alloc)?.as_slice()) {
+            Ok(digest) => Ok(digest),
+            Err(_) => Err(CaseFault::NoCase),
+        }
+    }
+
     /// The form that the next word numbers.
     pub(crate) fn form(&mut self) -> Result<Form, CaseFault> {
         match self.next()?.as_bytes() {

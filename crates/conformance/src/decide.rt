@@ -3,11 +3,11 @@
 use crate::case::{CaseFault, Words, digits, lists};
 use crate::token::{parts, refusal};
 use crate::verdicts::verdicts;
-use mac_decide::{answer, job_of, mint, time_limit};
+use mac_decide::{Context, answer, attenuate, job_of, mint, satisfied, time_limit};
 use mac_hmac::root_key;
 use mac_keys::KeyTable;
 use mac_token::{Form, Token, TokenFault, read, write};
-use mac_wire::{Arrival, Bytes, reply_bytes};
+use mac_wire::{Arrival, ByteLists, Bytes, reply_bytes};
 use std::alloc::Global;
 
 /// The second of a time limit.
@@ -17,6 +17,43 @@ pub(crate) fn limit(alloc: Global, words: &mut Words<'_>) -> Result<String, Case
         Some(second) => Ok(format!(in alloc; "second {second}")?),
         None => Ok(String::from_str(alloc, "none")?),
     }
+}
+
+/// Whether a caveat is satisfied at a moment, with these facts.
+pub(crate) fn is_satisfied(alloc: Global, words: &mut Words<'_>) -> Result<String, CaseFault> {
+    let caveat = words.bytes(alloc)?;
+    let moment = words.number()?;
+    let facts = ByteLists::new(lists(alloc, words.next()?)?);
+    let is_satisfied = satisfied(&caveat, &Context { moment, facts });
+    let word = if is_satisfied {
+        "satisfied"
+    } else {
+        "unsatisfied"
+    };
+    Ok(String::from_str(alloc, word)?)
+}
+
+/// A token with caveats added; or the refusal, and whether the token was handed back as it was.
+pub(crate) fn narrowed(alloc: Global, words: &mut Words<'_>) -> Result<String, CaseFault> {
+    let form = words.form()?;
+    let bytes = words.bytes(alloc)?;
+    let caveats = lists(alloc, words.next()?)?;
+    let token = match read(alloc, &bytes) {
+        Ok(token) => token,
+        Err(fault) => return refusal(alloc, fault),
+    };
+    let before = parts(alloc, &token)?;
+    let (fault, after) = match attenuate(alloc, token, &caveats) {
+        Ok(token) => match write(alloc, &token, form) {
+            Ok(bytes) => return digits(alloc, &bytes),
+            Err(fault) => return refusal(alloc, fault),
+        },
+        Err(refused) => refused,
+    };
+    let mut text = refusal(alloc, fault)?;
+    text.push_str(", the token ")?;
+    text.push_str(word_for(parts(alloc, &after)? == before))?;
+    Ok(text)
 }
 
 /// The frame of the reply to a payload under a key file.

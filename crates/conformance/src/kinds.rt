@@ -1,7 +1,7 @@
 //! The kinds of cases, and what answers each. Each crate's cases stand in a file of its name.
 
 use crate::case::{CaseFault, Words};
-use crate::{decide, hmac, keys, token, wire};
+use crate::{decide, hmac, keys, token, wire, world};
 use std::alloc::{AllocError, Global};
 
 /// What a line's case comes to, or that it is none.
@@ -19,9 +19,13 @@ pub(crate) fn outcome(alloc: Global, line: &str) -> Result<String, AllocError> {
 ///
 /// ```text
 /// # ..                                                     the line itself
-/// hmac KEY TEXT                                            HMAC-SHA-256 of the text
+/// hmac KEY TEXT                                            HMAC-SHA-256 of the text, however it is cut
+/// root SECRET                                              the root key
+/// start ROOT_KEY IDENTIFIER                                the signature of a token without caveats
 /// chain SECRET IDENTIFIER CAVEAT,..                        the signature of such a token
+/// same SIGNATURE SIGNATURE                                 `same` or `another`
 /// keys FILE                                                the number of names, or the fault
+/// key FILE NAME                                            the root key of the name
 /// frames STREAM                                            the arrivals and the ending
 /// read TOKEN                                               its parts, or the refusal
 /// raw TOKEN                                                its parts as they are spelled, or the refusal
@@ -31,9 +35,12 @@ pub(crate) fn outcome(alloc: Global, line: &str) -> Result<String, AllocError> {
 /// texts                                                    the number and the text of each fault of a token
 /// cuts TOKEN                                               the refusal of each front part, in runs
 /// time CAVEAT                                              the second of a time limit, or `none`
+/// satisfied CAVEAT MOMENT FACT,..                          `satisfied` or `unsatisfied`
+/// add FORM TOKEN CAVEAT,..                                 the token with caveats, or the refusal
 /// token FORM SECRET LOCATION IDENTIFIER CAVEAT,.. TOKEN    how a token agrees with its parts
 /// length FORM LOCATION IDENTIFIER CAVEAT,..                how many bytes a token of these has, or the refusal
 /// answer FILE PAYLOAD                                      the reply's frame
+/// world FILE WORKERS EVENT..                               what each event comes to, and what is sent
 /// ```
 fn case_outcome(alloc: Global, line: &str) -> Result<String, CaseFault> {
     let (kind, rest) = line.split_once(' ').unwrap_or((line, ""));
@@ -41,8 +48,12 @@ fn case_outcome(alloc: Global, line: &str) -> Result<String, CaseFault> {
     match kind.as_bytes() {
         b"#" => Ok(String::from_str(alloc, line)?),
         b"hmac" => hmac::keyed(alloc, &mut words),
+        b"root" => hmac::root(alloc, &mut words),
+        b"start" => hmac::started(alloc, &mut words),
         b"chain" => hmac::chained(alloc, &mut words),
+        b"same" => hmac::compared(alloc, &mut words),
         b"keys" => keys::table(alloc, &mut words),
+        b"key" => keys::found(alloc, &mut words),
         b"frames" => wire::frames(alloc, &mut words),
         b"read" => token::read_parts(alloc, &mut words),
         b"raw" => token::raw_parts(alloc, &mut words),
@@ -52,9 +63,12 @@ fn case_outcome(alloc: Global, line: &str) -> Result<String, CaseFault> {
         b"texts" => token::fault_texts(alloc),
         b"cuts" => token::cut_codes(alloc, &mut words),
         b"time" => decide::limit(alloc, &mut words),
+        b"satisfied" => decide::is_satisfied(alloc, &mut words),
+        b"add" => decide::narrowed(alloc, &mut words),
         b"token" => decide::agreement(alloc, &mut words),
         b"length" => decide::written_length(alloc, &mut words),
         b"answer" => decide::reply(alloc, &mut words),
+        b"world" => world::ran(alloc, &mut words),
         _ => Err(CaseFault::NoCase),
     }
 }

@@ -10,6 +10,7 @@ mod kinds;
 mod token;
 mod verdicts;
 mod wire;
+mod world;
 
 use kinds::outcome;
 use std::io::{self, BufRead, BufReader};
