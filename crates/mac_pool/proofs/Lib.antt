@@ -1,0 +1,4 @@
+pub mod Totals
+pub mod Balance
+pub mod Passes
+pub mod Claims

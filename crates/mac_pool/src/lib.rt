@@ -1,0 +1,21 @@
+//! The line of jobs, the mailboxes of answers and the workers between them, without a lock.
+//! Up to 16 workers claim tickets from one line and post answers to up to 64 desks.
+#![tactic(auto)]
+
+pub mod bell;
+pub mod desk;
+pub mod fault;
+pub mod gate;
+pub mod line;
+pub mod mailbox;
+pub mod post;
+pub mod ticket;
+
+pub use bell::{Bell, Notice};
+pub use desk::{Desk, Putter, Taker};
+pub use fault::{DeskFault, HandFault, PoolFault, PutFault};
+pub use gate::{Gate, NoGate};
+pub use line::{Claim, LINE_MAX, Line, LinePass, PASSES, PUTS_MAX, Tally};
+pub use mailbox::Mailbox;
+pub use post::Post;
+pub use ticket::Ticket;

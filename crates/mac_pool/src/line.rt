@@ -1,0 +1,247 @@
+//! The line: tickets wait here for workers, and each that was put is claimed once or still there.
+
+ghost use Rattle.std.specs.Prelude.{◌≡◌, ◌+◌, ◌-◌, ◌≤◌, ◌<◌, ◌^◌, List, ℕ, [], ◌∷◌, ◌++◌, length, IfErr, IfOk, IfSome, IfNone, OnOk, OnErr, OnSome};
+ghost use Rattle.mac_pool.specs.Balance.{account, entry_of, IsBalanced};
+ghost use Rattle.mac_pool.specs.Claim.{after_claim};
+ghost use Rattle.mac_pool.specs.Pass.{with_put, with_claimed, AreFresh};
+ghost use Rattle.crossbeam_queue.specs.Passes.{view as what, IsPassOf};
+
+use self::account::{Account, Balance, Claims, Cut, Puts};
+use crate::bell::Bell;
+use crate::fault::PutFault;
+use crate::ticket::Ticket;
+use crossbeam_queue::protocol::Free;
+use crossbeam_queue::{Pass, RuledArrayQueue};
+use mac_lane::{NoMemory, Service};
+use std::alloc::Global;
+use std::marker::Model;
+use std::sync::Wait;
+use std::sync::atomic::Ordering::SeqCst;
+use std::sync::atomic::{AtomicBool, AtomicU64};
+
+mod account;
+mod tally;
+
+pub use tally::Tally;
+
+/// The most tickets that the line holds.
+pub const LINE_MAX: usize = 8192;
+
+/// The passes of a line: 16 for workers and 64 for desks.
+pub const PASSES: usize = 80;
+
+/// The most tickets that one pass puts.
+pub const PUTS_MAX: u64 = 1 << 55;
+
+pub type Queue<S> = RuledArrayQueue<Ticket<S>, Account<<S as Service>::Job>, Balance>;
+
+pub type Seat<S> = Pass<Ticket<S>, Account<<S as Service>::Job>>;
+
+/// Tickets wait here, at most 8,192, for the workers. Contracts see its name.
+#[derive(Drop)]
+pub struct Line<S: Service> {
+    queue: Queue<S>,
+    tickets: Bell,
+    workers: AtomicU64,
+    is_closed: AtomicBool,
+}
+
+impl<S: Service> Model for Line<S> {
+    ghost use Rattle.std.specs.Prelude.{◌≡◌};
+    ghost use Rattle.atomic_table.specs.Seated.{TableId, table_id_coded};
+
+    ghost Value = { TableId };
+
+    ghost coded = { table_id_coded };
+
+    ghost view = { λ l. l.queue.table.shared.table_id };
+
+    ghost use Rattle.crossbeam_queue.specs.Passes.{ruled_capacity};
+    ghost use Rattle.mac_pool.specs.declared.line.TheConstants.{LINE_MAX};
+
+    ghost invariant = { λ l. ruled_capacity l.queue ≡ LINE_MAX };
+}
+
+/// The right to put and to claim, one of the 80 of a line. It keeps for contracts what it has put and
+/// claimed, at no cost.
+#[derive(Drop)]
+pub struct LinePass<S: Service> {
+    seat: Seat<S>,
+    number: usize,
+    puts: u64,
+}
+
+impl<S: Service> Model for LinePass<S> {
+    ghost use Rattle.std.specs.Prelude.{◌≡◌, ◌≤◌, ◌<◌, [], length};
+    ghost use Rattle.crossbeam_queue.specs.Passes.{view as what};
+    ghost use Rattle.mac_pool.specs.Pass.{Pass, pass_code};
+    ghost use Rattle.mac_pool.specs.declared.line.TheConstants.{PASSES, PUTS_MAX};
+
+    ghost Value = { Pass S.Job };
+
+    ghost coded = { pass_code S.Job.code };
+
+    ghost view = { λ p. record { line = p.seat.table_id; seat = p.seat.id; number = p.number; put = (what p.seat).put; claimed = (what p.seat).claimed } };
+
+    ghost invariant = { λ p. (p.seat.me.1 ≡ []) × ((what p.seat).parts ≡ 1) × (p.puts ≡ length (what p.seat).put) × (p.puts ≤ PUTS_MAX) × (p.number < PASSES) };
+}
+
+/// What came of a claim.
+#[derive(Drop)]
+pub enum Claim<S: Service> {
+    /// The oldest ticket.
+    Got(Ticket<S>),
+    /// The line held no ticket.
+    Empty,
+    /// The line was closed, and held no ticket after that was seen.
+    Closed,
+}
+
+impl<S: Service> Line<S> {
+    /// An open, empty line with its passes. Takes all the memory that the line ever takes.
+    pub fn new(alloc: Global) -> Result<(Line<S>, Vec<LinePass<S>>), NoMemory>
+        ensures count { IfOk result (λ r. length r.1.items ≡ PASSES) }
+        ensures fresh { IfOk result (λ r. AreFresh r.0 r.1.items) }
+    {
+        let (queue, seat) = Queue::ruled(alloc, LINE_MAX)?;
+        let passes = passes_of(alloc, &queue, seat)?;
+        let line = Line {
+            queue,
+            tickets: Bell::new(),
+            workers: AtomicU64::new(0),
+            is_closed: AtomicBool::new(false),
+        };
+        Ok((line, passes))
+    }
+
+    /// Puts the ticket at the end, and wakes a worker that sleeps.
+    pub fn put<R: Wait>(
+        &self,
+        rt: &R,
+        pass: &mut LinePass<S>,
+        ticket: Ticket<S>,
+    ) -> Result<(), (PutFault, Ticket<S>)>
+        requires { pass.old.line ≡ self.now }
+        ensures put { OnOk result (pass.new ≡ with_put pass.old (entry_of ticket)) }
+        ensures same { OnErr result (pass.new ≡ pass.old) }
+        ensures back { IfErr result (λ e. e.1 ≡ ticket) }
+    {
+        if self.is_closed.load(SeqCst) {
+            return Err((PutFault::Closed, ticket));
+        }
+        if pass.puts >= PUTS_MAX {
+            return Err((PutFault::Full, ticket));
+        }
+        if let Err(ticket) = self.queue.push_as::<Puts, R>(rt, &mut pass.seat, ticket) {
+            return Err((PutFault::Full, ticket));
+        }
+        pass.puts += 1;
+        self.tickets.ring();
+        Ok(())
+    }
+
+    /// Claims the oldest ticket.
+    pub fn claim<R: Wait>(&self, rt: &R, pass: &mut LinePass<S>) -> Claim<S>
+        requires { pass.old.line ≡ self.now }
+        ensures claimed { pass.new ≡ after_claim pass.old result }
+        ensures few { length pass.old.claimed < length pass.new.claimed → length pass.new.claimed < 2 ^ 62 }
+    {
+        let is_closed = self.is_closed.load(SeqCst);
+        match self.queue.pop_as::<Claims, R>(rt, &mut pass.seat) {
+            Some(ticket) => Claim::Got(ticket),
+            None if is_closed => Claim::Closed,
+            None => Claim::Empty,
+        }
+    }
+
+    /// Claims the oldest ticket, and sleeps while there is none. `None` once the line is closed and empty.
+    pub(crate) fn wait<R: Wait>(&self, rt: &R, pass: &mut LinePass<S>) -> Option<Ticket<S>>
+        requires { pass.old.line ≡ self.now }
+        ensures claimed { IfSome result (λ ticket. pass.new ≡ with_claimed pass.old (entry_of ticket)) }
+        ensures few { OnSome result (length pass.new.claimed < 2 ^ 62) }
+        ensures same { IfNone result (pass.new ≡ pass.old) }
+    {
+        for _ in rt.forever() {
+            match self.claim(rt, pass) {
+                Claim::Got(ticket) => return Some(ticket),
+                Claim::Closed => return None,
+                Claim::Empty => {}
+            }
+            let notice = self.tickets.announce();
+            match self.claim(rt, pass) {
+                Claim::Got(ticket) => {
+                    self.tickets.withdraw(notice);
+                    return Some(ticket);
+                }
+                Claim::Closed => {
+                    self.tickets.withdraw(notice);
+                    return None;
+                }
+                Claim::Empty => self.tickets.sleep(rt, notice),
+            }
+        }
+        unreachable!()
+    }
+
+    /// How many tickets wait in the line.
+    pub(crate) fn waiting<R: Wait>(&self, rt: &R, pass: &mut LinePass<S>) -> usize
+        requires { pass.old.line ≡ self.now }
+        ensures same { pass.new ≡ pass.old }
+        ensures few { result ≤ LINE_MAX }
+    {
+        self.queue.len_as::<Free, R>(rt, &mut pass.seat)
+    }
+
+    /// Wakes a worker that sleeps.
+    pub(crate) fn ring(&self) {
+        self.tickets.ring();
+    }
+
+    /// Counts a worker in.
+    pub(crate) fn enter(&self) {
+        self.workers.fetch_add(1, SeqCst);
+    }
+
+    /// Counts a worker out.
+    pub(crate) fn leave(&self) {
+        self.workers.fetch_sub(1, SeqCst);
+    }
+
+    /// How many workers are in.
+    pub(crate) fn workers(&self) -> u64 {
+        self.workers.load(SeqCst)
+    }
+
+    /// Closes the line to further tickets, and wakes all who sleep. Those that are in stay.
+    pub fn close(&self) {
+        self.is_closed.store(true, SeqCst);
+        self.tickets.ring_all();
+    }
+}
+
+/// Cuts the first seat of a queue into those of all passes.
+fn passes_of<S: Service>(
+    alloc: Global,
+    queue: &Queue<S>,
+    mut rest: Seat<S>,
+) -> Result<Vec<LinePass<S>>, NoMemory>
+    requires { IsPassOf queue.now rest × (what rest ≡ account PASSES [] []) }
+    ensures count { IfOk result (λ passes. length passes.items ≡ PASSES) }
+    ensures fresh { IfOk result (λ passes. AreFresh queue.now.table.shared.table_id passes.items) }
+{
+    let mut passes = Vec::with_capacity(alloc, PASSES)?;
+    for number in 0..PASSES - 1 {
+        let seat = queue.another::<Cut>(&mut rest);
+        passes.push(LinePass {
+            seat,
+            number,
+            puts: 0,
+        })?;
+    }
+    passes.push(LinePass {
+        seat: rest,
+        number: PASSES - 1,
+        puts: 0,
+    })?;
+    Ok(passes)
+}

@@ -1,0 +1,17 @@
+//! What stands in the line.
+
+use crate::mailbox::Mailbox;
+use mac_lane::Service;
+use std::alloc::Global;
+use std::sync::Arc;
+
+/// A job at its place, with the mailbox for its answer.
+#[derive(Drop)]
+pub struct Ticket<S: Service> {
+    /// The job's place on its connection.
+    pub place: u64,
+    /// What is to be worked on.
+    pub job: S::Job,
+    /// Where the answer goes.
+    pub mail: Arc<Mailbox<S>, Global>,
+}
