@@ -5,7 +5,7 @@ use Rattle.std.proofs.lemmas.List.{length-map}
 use Rattle.std.proofs.lemmas.Option.{none-some, same_Some, slice_get-map, slice_get_within}
 use Rattle.mac_lane.specs.declared.event.Outcome.{Outcome}
 use Rattle.mac_lane.specs.State.{Connection, State}
-use Rattle.mac_lane.specs.Step.{close, on_connection}
+use Rattle.mac_lane.specs.Step.{after_close, on_connection}
 use Rattle.mac_lane.specs.History.{IsBeginningOf}
 use Rattle.mac_lane.proofs.Bounded.{no_length}
 use Rattle.mac_lane.proofs.Staffed.{slice_get-set_same}
@@ -55,19 +55,19 @@ module _ {Job Reply : Type 0} (reply_to : Job → Reply) where
   closed-moved arrived sent F places link after (sends job live found finished) shut = absurd (false≢true (sym live ∙ shut.0))
   closed-moved arrived sent F places link after closes shut = (refl, shut.1, shut.2)
 
-  close-shuts : (link : Connection Job Reply) → IsClosedWith link.arrived link.sent (close link).0
+  close-shuts : (link : Connection Job Reply) → IsClosedWith link.arrived link.sent (after_close link).0
   close-shuts link = elim (cases_Bool link.closed) [
-    | inl shut ↦ subst (IsClosedWith link.arrived link.sent) (let e : link ≡ (close link).0 = grind arith in e) (shut, refl, refl)
-    | inr live ↦ subst (IsClosedWith link.arrived link.sent) (let e : record link { closed = true } ≡ (close link).0 = grind arith in e) (refl, refl, refl)
+    | inl shut ↦ subst (IsClosedWith link.arrived link.sent) (let e : link ≡ (after_close link).0 = grind arith in e) (shut, refl, refl)
+    | inr live ↦ subst (IsClosedWith link.arrived link.sent) (let e : record link { closed = true } ≡ (after_close link).0 = grind arith in e) (refl, refl, refl)
   ]
 
   -- after a close the connection is closed, with the lists that it had
   pub closed-by_close : (state : State Job Reply) (number : ℕ) (link : Connection Job Reply) → slice_get state.connections number ≡ Some link
-      → (now : Connection Job Reply) × (slice_get (on_connection state number (slice_get state.connections number) close).0.connections number ≡ Some now) × IsClosedWith link.arrived link.sent now
+      → (now : Connection Job Reply) × (slice_get (on_connection state number after_close).0.connections number ≡ Some now) × IsClosedWith link.arrived link.sent now
   closed-by_close state number link known = (
-    (close link).0,
-    ap (λ (pair : State Job Reply × Outcome). slice_get pair.0.connections number) (sym (on_connection-known state number close link (close link).0 (close link).1 known refl))
-        ∙ slice_get-set_same state.connections number (close link).0 (slice_get_within state.connections number link known),
+    (after_close link).0,
+    ap (λ (pair : State Job Reply × Outcome). slice_get pair.0.connections number) (sym (on_connection-known state number after_close link (after_close link).0 (after_close link).1 known refl))
+        ∙ slice_get-set_same state.connections number (after_close link).0 (slice_get_within state.connections number link known),
     close-shuts link,
   )
 

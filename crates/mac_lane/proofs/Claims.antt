@@ -9,10 +9,11 @@ use Rattle.mac_lane.specs.declared.event.Event.{Event}
 use Rattle.mac_lane.specs.declared.event.Event.TheVariants.{Claim}
 use Rattle.mac_lane.specs.declared.event.Outcome.TheVariants as outcome
 use Rattle.mac_lane.specs.State.{Connection, State}
-use Rattle.mac_lane.specs.Step.{claim, is_claimable, claim_by, step}
+use Rattle.mac_lane.specs.Step.{after_claim, is_claimable, step}
 use Rattle.mac_lane.proofs.Marks.{contains-insert_same, contains-insert_other}
 use Rattle.mac_lane.proofs.Staffed.{slice_get-set_same, claimable-unclaimed}
 use Rattle.mac_lane.proofs.Runs.{StandsAt}
+use Rattle.mac_lane.proofs.Steps.{found_claim}
 use Rattle.mac_lane.proofs.Moves.{Moved, stays, arrives, claims, finishes, sends, closes, by_step}
 use Rattle.std.proofs.lemmas.Bool.Decides.{eqb_tells}
 
@@ -38,8 +39,8 @@ module _ {Job Reply : Type 0} where
   claimed-moved reply_to place F places link after closes is = is
 
   -- what it says that a claim succeeds
-  claim_by-claimed : (state : State Job Reply) (worker : ℕ) (held : Option (Option Task)) (task : Task) (found : Option (Connection Job Reply)) → (claim_by state worker held task found).1 ≡ outcome.Claimed
-      → (link : Connection Job Reply) × (found ≡ Some link) × (is_claimable link task.place ≡ true) × ((claim_by state worker held task found).0.connections ≡ set state.connections task.connection (claim link task.place))
+  claim_by-claimed : (state : State Job Reply) (worker : ℕ) (held : Option (Option Task)) (task : Task) (found : Option (Connection Job Reply)) → (found_claim state worker held task found).1 ≡ outcome.Claimed
+      → (link : Connection Job Reply) × (found ≡ Some link) × (is_claimable link task.place ≡ true) × ((found_claim state worker held task found).0.connections ≡ set state.connections task.connection (after_claim task.place link))
   claim_by-claimed state worker None task found is = absurd (let no = is in cc)
   claim_by-claimed state worker (Some held) task None is = absurd (let no = is in cc)
   claim_by-claimed state worker (Some (Some held)) task (Some link) is = absurd (let no = is in cc)
@@ -48,18 +49,18 @@ module _ {Job Reply : Type 0} where
     | inr taken ↦ absurd (grind arith)
   ]
 
-  claim_by-taken : (state : State Job Reply) (worker : ℕ) (held : Option (Option Task)) (task : Task) → IsClaimed state task.connection task.place → (claim_by state worker held task (slice_get state.connections task.connection)).1 ≡ outcome.Claimed → ⊥
+  claim_by-taken : (state : State Job Reply) (worker : ℕ) (held : Option (Option Task)) (task : Task) → IsClaimed state task.connection task.place → (found_claim state worker held task (slice_get state.connections task.connection)).1 ≡ outcome.Claimed → ⊥
   claim_by-taken state worker held task taken is =
       let (link, found, free, after) = claim_by-claimed state worker held task (slice_get state.connections task.connection) is in
       let same = same_Some _ _ (sym taken.known ∙ found) in
       false≢true (sym (claimable-unclaimed link task.place free) ∙ ap (λ (here : Connection Job Reply). contains here.claimed task.place) (sym same) ∙ taken.claimed)
 
-  claim_by-claims : (state : State Job Reply) (worker : ℕ) (held : Option (Option Task)) (task : Task) → (claim_by state worker held task (slice_get state.connections task.connection)).1 ≡ outcome.Claimed → IsClaimed (claim_by state worker held task (slice_get state.connections task.connection)).0 task.connection task.place
+  claim_by-claims : (state : State Job Reply) (worker : ℕ) (held : Option (Option Task)) (task : Task) → (found_claim state worker held task (slice_get state.connections task.connection)).1 ≡ outcome.Claimed → IsClaimed (found_claim state worker held task (slice_get state.connections task.connection)).0 task.connection task.place
   claim_by-claims state worker held task is =
       let (link, found, free, after) = claim_by-claimed state worker held task (slice_get state.connections task.connection) is in
       record {
-        link = claim link task.place;
-        known = ap (λ connections. slice_get connections task.connection) after ∙ slice_get-set_same state.connections task.connection (claim link task.place) (slice_get_within state.connections task.connection link found);
+        link = after_claim task.place link;
+        known = ap (λ connections. slice_get connections task.connection) after ∙ slice_get-set_same state.connections task.connection (after_claim task.place link) (slice_get_within state.connections task.connection link found);
         claimed = contains-insert_same link.claimed task.place task.place refl;
       }
 

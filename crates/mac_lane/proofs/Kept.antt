@@ -7,10 +7,11 @@ use Rattle.mac_lane.specs.declared.event.Event.TheVariants.{Arrive, Claim, Finis
 use Rattle.mac_lane.specs.declared.event.Outcome.{Outcome}
 use Rattle.mac_lane.specs.declared.event.Outcome.TheVariants as outcome
 use Rattle.mac_lane.specs.State.{Connection, State, fresh, opening}
-use Rattle.mac_lane.specs.Step.{step, arrive, send, close, claim, finish, is_claimable, on_connection, claim_by, finish_by, finish_task}
+use Rattle.mac_lane.specs.Step.{step, after_arrive, after_send, after_close, after_claim, after_finish, is_claimable}
 use Rattle.mac_lane.specs.Ran.{ran}
 use Rattle.mac_lane.proofs.Sends.{slice_get-within}
 use Rattle.mac_lane.proofs.Moves.{Moved, by_step}
+use Rattle.mac_lane.proofs.Steps.{found_connection, found_claim, found_task, found_finish}
 
 module _ {Which Job Reply : Type 0} (reply_to : Job → Reply) (P : Connection Job Reply → Type 0) (keeps : (F : ℕ → Type 0) (places : List ℕ) (link after : Connection Job Reply) → Moved reply_to F link places after → P link → P after) where
   -- a fact that is true of a connection before a run is true of it after
@@ -29,35 +30,35 @@ opening-fresh (suc count) (suc number) item found is = opening-fresh count numbe
 
 -- A step makes and drops no connection.
 module _ {Job Reply : Type 0} (state : State Job Reply) where
-  length-on_connection : (here : ℕ) (found : Option (Connection Job Reply)) (act : Connection Job Reply → Connection Job Reply × Outcome) → length (on_connection state here found act).0.connections ≡ length state.connections
+  length-on_connection : (here : ℕ) (found : Option (Connection Job Reply)) (act : Connection Job Reply → Connection Job Reply × Outcome) → length (found_connection state here found act).0.connections ≡ length state.connections
   length-on_connection here None act = refl
   length-on_connection here (Some old) act = length-set state.connections here (act old).0
 
-  length-claim_by : (worker : ℕ) (held : Option (Option Task)) (task : Task) (found : Option (Connection Job Reply)) → length (claim_by state worker held task found).0.connections ≡ length state.connections
+  length-claim_by : (worker : ℕ) (held : Option (Option Task)) (task : Task) (found : Option (Connection Job Reply)) → length (found_claim state worker held task found).0.connections ≡ length state.connections
   length-claim_by worker None task found = refl
   length-claim_by worker (Some held) task None = refl
   length-claim_by worker (Some (Some held)) task (Some old) = refl
   length-claim_by worker (Some None) task (Some old) =
-      elim (is_claimable old task.place) as (λ claimable. length (if◌then◌else◌ {A = State Job Reply × Outcome} claimable (record { connections = set state.connections task.connection (claim old task.place); workers = set state.workers worker (Some task) }, outcome.Claimed) (state, outcome.Taken)).0.connections ≡ length state.connections) [
-        | true ↦ length-set state.connections task.connection (claim old task.place)
+      elim (is_claimable old task.place) as (λ claimable. length (if◌then◌else◌ {A = State Job Reply × Outcome} claimable (record { connections = set state.connections task.connection (after_claim task.place old); workers = set state.workers worker (Some task) }, outcome.Claimed) (state, outcome.Taken)).0.connections ≡ length state.connections) [
+        | true ↦ length-set state.connections task.connection (after_claim task.place old)
         | false ↦ refl
       ]
 
-  length-finish_task : (worker : ℕ) (task : Task) (found : Option (Connection Job Reply)) → length (finish_task state worker task found).0.connections ≡ length state.connections
+  length-finish_task : (worker : ℕ) (task : Task) (found : Option (Connection Job Reply)) → length (found_task state worker task found).0.connections ≡ length state.connections
   length-finish_task worker task None = refl
-  length-finish_task worker task (Some old) = length-set state.connections task.connection (finish task.place old).0
+  length-finish_task worker task (Some old) = length-set state.connections task.connection (after_finish task.place old).0
 
-  length-finish_by : (worker : ℕ) (held : Option (Option Task)) → length (finish_by state worker held).0.connections ≡ length state.connections
+  length-finish_by : (worker : ℕ) (held : Option (Option Task)) → length (found_finish state worker held).0.connections ≡ length state.connections
   length-finish_by worker None = refl
   length-finish_by worker (Some None) = refl
   length-finish_by worker (Some (Some task)) = length-finish_task worker task (slice_get state.connections task.connection)
 
   pub length-step : {Which : Type 0} (reply_to : Job → Reply) (event : Event Which Job Reply) → length (step reply_to state event).0.connections ≡ length state.connections
-  length-step reply_to (Arrive here job) = length-on_connection here (slice_get state.connections here) (arrive job)
+  length-step reply_to (Arrive here job) = length-on_connection here (slice_get state.connections here) (after_arrive job)
   length-step reply_to (Claim worker here place) = length-claim_by worker (slice_get state.workers worker) (record { connection = here; place = place }) (slice_get state.connections here)
   length-step reply_to (Finish worker) = length-finish_by worker (slice_get state.workers worker)
-  length-step reply_to (Send here) = length-on_connection here (slice_get state.connections here) (send reply_to)
-  length-step reply_to (Close here) = length-on_connection here (slice_get state.connections here) close
+  length-step reply_to (Send here) = length-on_connection here (slice_get state.connections here) (after_send reply_to)
+  length-step reply_to (Close here) = length-on_connection here (slice_get state.connections here) after_close
 
 pub length-ran_connections : {Which Job Reply : Type 0} (reply_to : Job → Reply) (state : State Job Reply) (events : List (Event Which Job Reply)) → length (ran reply_to state events).0.connections ≡ length state.connections
 length-ran_connections reply_to state [] = refl

@@ -1,6 +1,5 @@
 pub mod Bounded
 pub mod Faults
-pub mod Places
 pub mod Waiting
 pub mod Marks
 pub mod Tracked
@@ -15,3 +14,5 @@ pub mod Claims
 pub mod Origins
 pub mod SentPlaces
 pub mod Reaching
+pub mod Refusals
+pub mod Admissions

@@ -8,12 +8,13 @@ use Rattle.mac_lane.specs.declared.event.Event.{Event}
 use Rattle.mac_lane.specs.declared.event.Event.TheVariants.{Finish, Send}
 use Rattle.mac_lane.specs.declared.event.Outcome.TheVariants as outcome
 use Rattle.mac_lane.specs.State.{Connection, State}
-use Rattle.mac_lane.specs.Step.{step, on_connection, send}
+use Rattle.mac_lane.specs.Step.{step, after_send}
 use Rattle.mac_lane.specs.History.{place_of}
 use Rattle.mac_lane.specs.Ran.{ran}
 use Rattle.mac_lane.proofs.Marks.{contains-insert_other}
 use Rattle.mac_lane.proofs.Kept.{length-step}
 use Rattle.mac_lane.proofs.Runs.{StandsAt}
+use Rattle.mac_lane.proofs.Steps.{found_connection}
 use Rattle.mac_lane.proofs.Moves.{Moved, stays, arrives, claims, finishes, sends, closes, Finishes, by_step}
 
 module _ {Job Reply : Type 0} (reply_to : Job → Reply) (F : ℕ → Type 0) where
@@ -39,7 +40,7 @@ own_place Which Job Reply number place = elim (eqb_tells number number) [
   | inr is ↦ absurd (is.1 refl)
 ]
 
-found_sent : {Job Reply : Type 0} (reply_to : Job → Reply) (state : State Job Reply) (number place : ℕ) (found : Option (Connection Job Reply)) → slice_get state.connections number ≡ found → (on_connection state number found (send reply_to)).1 ≡ outcome.Sent place → number < length state.connections
+found_sent : {Job Reply : Type 0} (reply_to : Job → Reply) (state : State Job Reply) (number place : ℕ) (found : Option (Connection Job Reply)) → slice_get state.connections number ≡ found → (found_connection state number found (after_send reply_to)).1 ≡ outcome.Sent place → number < length state.connections
 found_sent reply_to state number place None at is = absurd (let no = is in cc)
 found_sent reply_to state number place (Some link) at is = slice_get_within state.connections number link at
 

@@ -8,7 +8,7 @@ use Rattle.mac_lane.specs.declared.next.Next.TheVariants.{Reply, Stranger, Close
 use Rattle.mac_lane.specs.declared.world.connection.Mark.{Mark}
 use Rattle.mac_lane.specs.Buffer.{Buffer, meeting, next_of, sent_off}
 use Rattle.mac_lane.specs.State.{Connection}
-use Rattle.mac_lane.specs.Step.{send}
+use Rattle.mac_lane.specs.Step.{after_send}
 use Rattle.mac_lane.specs.declared.event.Outcome.{Outcome}
 use Rattle.mac_lane.specs.declared.event.Outcome.TheVariants as outcome
 use Rattle.mac_lane.specs.Tracked.{is_finished, passes, due, kept_as, Follows, IsTracked}
@@ -121,7 +121,7 @@ module _ (Which Job Result : Type 0) (same : Job → Job → Bool) (reply_to : J
 -- the reply of the next place, which is finished, is sent
 pub send-kept : {Job Result : Type 0} (reply_to : Job → Result) (arrived : List Job) (sent : List Result) (marks : List Mark) (closed : Bool) (place : ℕ) (reply : Result) (job : Job)
     → closed ≡ false → passes is_finished marks (length sent) ≡ true → place ≡ length sent → slice_get arrived (length sent) ≡ Some job → reply ≡ reply_to job
-    → ◌≡◌ {A = Connection Job Result × Outcome} (kept_as arrived (sent ++ reply ∷ []) marks closed, outcome.Sent place) (send reply_to (kept_as arrived sent marks closed))
+    → ◌≡◌ {A = Connection Job Result × Outcome} (kept_as arrived (sent ++ reply ∷ []) marks closed, outcome.Sent place) (after_send reply_to (kept_as arrived sent marks closed))
 send-kept reply_to arrived sent marks closed place reply job live finished at found replies =
     let is_finished_there = contains-marked is_finished marks (length sent) ∙ finished in
     rw (live, is_finished_there, found, at, replies) refl

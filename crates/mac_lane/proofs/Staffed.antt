@@ -8,7 +8,7 @@ use Rattle.mac_lane.specs.declared.event.Task.{Task}
 use Rattle.mac_lane.specs.declared.event.Outcome.{Outcome}
 use Rattle.mac_lane.specs.declared.event.Outcome.TheVariants.{Finished, Discarded}
 use Rattle.mac_lane.specs.State.{Connection}
-use Rattle.mac_lane.specs.Step.{is_claimable, claim, finish}
+use Rattle.mac_lane.specs.Step.{is_claimable, after_claim, after_finish}
 use Rattle.mac_lane.specs.Staffed.{IsHeld, IsStaffed}
 use Rattle.mac_lane.proofs.Marks.{contains-insert_same, contains-insert_other}
 
@@ -25,6 +25,13 @@ module _ {Item : Type 0} where
   slice_get-set_other (first ∷ items) (suc index) item zero apart = refl
   slice_get-set_other (first ∷ items) (suc index) item (suc other) apart = slice_get-set_other items index item other (λ e. apart (ap suc e))
 
+  -- what is at a place of a list, once another item is set
+  pub put : (items : List Item) (here there : ℕ) (old item found : Item) (P : Item → Type 0) → slice_get items here ≡ Some old → slice_get items there ≡ Some found → (here ≡ there → P item) → P found → (after : Item) × (slice_get (set items here item) there ≡ Some after) × P after
+  put items here there old item found P at known same other = elim (eqb_tells there here) [
+    | inl is ↦ (item, ap (slice_get (set items here item)) is.1 ∙ slice_get-set_same items here item (slice_get_within items here old at), same (sym is.1))
+    | inr is ↦ (found, slice_get-set_other items here item there is.1 ∙ known, other)
+  ]
+
   no_claim : (count index : ℕ) (item : Item) → slice_get (replicate count None) index ≡ Some (Some item) → ⊥
   no_claim zero index item is = none-some _ is
   no_claim (suc count) zero item is = none-some _ (same_Some _ _ is)
@@ -35,10 +42,10 @@ module _ {Job Reply : Type 0} where
   pub claimable-unclaimed : (link : Connection Job Reply) (place : ℕ) → is_claimable link place ≡ true → contains link.claimed place ≡ false
   claimable-unclaimed link place is = grind arith
 
-  finish-claimed : (place : ℕ) (link : Connection Job Reply) → (finish place link).0.claimed ≡ link.claimed
+  finish-claimed : (place : ℕ) (link : Connection Job Reply) → (after_finish place link).0.claimed ≡ link.claimed
   finish-claimed place link = grind arith
 
-  finish-unfinished : (place : ℕ) (link : Connection Job Reply) (other : ℕ) → contains link.finished other ≡ false → other ≢ place → contains (finish place link).0.finished other ≡ false
+  finish-unfinished : (place : ℕ) (link : Connection Job Reply) (other : ℕ) → contains link.finished other ≡ false → other ≢ place → contains (after_finish place link).0.finished other ≡ false
   finish-unfinished place link other unfinished apart =
       elim link.closed as (λ closed. contains (if◌then◌else◌ {A = Connection Job Reply × Outcome} closed (link, Discarded) (record link { finished = insert link.finished place }, Finished)).0.finished other ≡ false) [
         | true ↦ unfinished
@@ -88,17 +95,17 @@ module _ {Job Reply : Type 0} where
 
     -- a worker that is free claims a place of it, which is not finished
     pub staffed-claim : (workers : List (Option Task)) (worker : ℕ) (task : Task) → IsStaffed connections workers → task.connection ≡ number → worker < length workers → contains link.claimed task.place ≡ false → contains link.finished task.place ≡ false
-        → IsStaffed (set connections number (claim link task.place)) (set workers worker (Some task))
+        → IsStaffed (set connections number (after_claim task.place link)) (set workers worker (Some task))
     staffed-claim workers worker task old at within unclaimed unfinished = record {
       held = λ other owned is. elim (eqb_tells other worker) [
-        | inl here ↦ subst (IsHeld (set connections number (claim link task.place))) (own other here.1 owned is) (record {
-          link = claim link task.place;
-          known = ap (slice_get (set connections number (claim link task.place))) at ∙ slice_get-set_same connections number (claim link task.place) (slice_get_within connections number link known);
+        | inl here ↦ subst (IsHeld (set connections number (after_claim task.place link))) (own other here.1 owned is) (record {
+          link = after_claim task.place link;
+          known = ap (slice_get (set connections number (after_claim task.place link))) at ∙ slice_get-set_same connections number (after_claim task.place link) (slice_get_within connections number link known);
           claimed = contains-insert_same link.claimed task.place task.place refl;
           unfinished = unfinished;
         })
         | inr there ↦
-            held-set (claim link task.place) owned (old.held other owned (was other there.1 owned is))
+            held-set (after_claim task.place link) owned (old.held other owned (was other there.1 owned is))
             (λ _ claimed. elim (eqb_tells owned.place task.place) [
               | inl same ↦ contains-insert_same link.claimed task.place owned.place same.1
               | inr apart ↦ contains-insert_other link.claimed task.place owned.place apart.1 ∙ claimed
@@ -129,11 +136,11 @@ module _ {Job Reply : Type 0} where
 
     -- a worker finishes a place of it
     pub staffed-finish : (workers : List (Option Task)) (worker : ℕ) (task : Task) → IsStaffed connections workers → task.connection ≡ number → slice_get workers worker ≡ Some (Some task)
-        → IsStaffed (set connections number (finish task.place link).0) (set workers worker None)
+        → IsStaffed (set connections number (after_finish task.place link).0) (set workers worker None)
     staffed-finish workers worker task old at busy = record {
       held = λ other owned is.
           let there = elsewhere other owned is in
-          held-set (finish task.place link).0 owned (old.held other owned (was other there owned is))
+          held-set (after_finish task.place link).0 owned (old.held other owned (was other there owned is))
           (λ _ claimed. ap (λ places. contains places owned.place) (finish-claimed task.place link) ∙ claimed)
           (λ same unfinished. finish-unfinished task.place link owned.place unfinished (λ place. there (old.apart other worker owned (was other there owned is) (busy ∙ ap (λ here. Some (Some here)) (λ i. record { connection = (at ∙ sym same) i; place = sym place i })))));
       apart = λ one other owned is also. old.apart one other owned (was one (elsewhere one owned is) owned is) (was other (elsewhere other owned also) owned also);

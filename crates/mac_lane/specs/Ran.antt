@@ -6,7 +6,8 @@ use Rattle.mac_lane.specs.declared.event.Event.{Event}
 use Rattle.mac_lane.specs.declared.event.Outcome.{Outcome}
 
 -- the state after these events, one after another, and their outcomes
-abbrev pub ran : {Which Job Reply : Type 0} → (Job → Reply) → State Job Reply → List (Event Which Job Reply) → State Job Reply × List Outcome
+abbrev pub ran : {Which Job Reply : Type 0} → (Job → Reply) → State Job Reply
+    → List (Event Which Job Reply) → State Job Reply × List Outcome
 ran reply_to state [] = (state, [])
 ran reply_to state (event ∷ events) =
     let after = step reply_to state event in

@@ -1,4 +1,4 @@
--- How a reorder buffer lies in its slots.
+-- How a reorder buffer lies in its slots. Serves proofs alone.
 use Rattle.std.specs.Prelude.{◌≡◌, ℕ, zero, suc, ◌+◌, ◌%◌, ◌<◌, ◌≤◌, ◌^◌, Bool, true, if◌then◌else◌, List, [], length, Option, None, Some, slice_index_or}
 use Rattle.std.specs.FinMap.{FinMap, empty, insert}
 use Rattle.std.specs.Ordering.{nat_cmp}

@@ -1,4 +1,4 @@
--- How what the workers have claimed fits the connections.
+-- How what the workers have claimed fits the connections. Serves proofs alone.
 use Rattle.std.specs.Prelude.{◌≡◌, ℕ, true, false, List, Option, Some, slice_get}
 use Rattle.std.specs.FinSet.{contains}
 use Rattle.mac_lane.specs.State.{Connection}

@@ -1,4 +1,4 @@
--- How the values that contracts see are stored: each as its fields.
+-- How the values that contracts see are stored: each as its fields. Serves proofs alone.
 use Rattle.std.specs.Prelude.{ℕ, Bool, List, Option, refl}
 use Rattle.std.specs.Coded.{Coded, code_by, coded×, coded_bool, coded_list, coded_option, coded_ℕ}
 use Rattle.std.specs.FinMap as map

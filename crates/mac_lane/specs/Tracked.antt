@@ -1,4 +1,4 @@
--- How a connection of the world keeps its history in marks, beside a reorder buffer.
+-- How a connection of the world keeps its history in marks, beside a reorder buffer. Serves proofs alone.
 use Rattle.std.specs.Prelude.{◌≡◌, ℕ, ◌+◌, ◌<◌, ◌≤◌, Bool, true, false, ◌&&◌, if◌then◌else◌, nat_le, List, [], ◌∷◌, length, drop, map, Option, None, slice_get, slice_index_or}
 use Rattle.std.specs.FinMap.{get}
 use Rattle.std.specs.FinSet.{FinSet, empty, insert}

@@ -6,8 +6,8 @@ use crate::service::Service;
 use std::alloc::Global;
 use std::marker::Model;
 
-/// A job with its reply. Contracts see the job alone, since the type keeps that the reply is the one
-/// that the service's definition gives for it.
+/// A job with its reply. Contracts see the job alone, since the type keeps that the reply is the
+/// one that the service's definition gives for it.
 #[derive(Drop)]
 pub struct Answer<S: Service> {
     job: S::Job,

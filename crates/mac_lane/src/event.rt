@@ -1,11 +1,9 @@
 //! The events of the world, and what comes of each.
 
-ghost use Rattle.std.specs.Prelude.{◌≡◌, IfOk, replicate};
+use crate::service::Service;
 
-use crate::service::{NoMemory, Service};
-use std::alloc::Global;
-
-/// What may happen next in a [`World`](crate::World). Connections and workers go by their numbers, from 0 on.
+/// What may happen next in a [`World`](crate::World). Connections and workers go by their numbers,
+/// from 0 on.
 #[derive(Drop)]
 pub enum Event<S: Service> {
     /// This job arrives on this connection.
@@ -54,21 +52,10 @@ pub enum Outcome {
 }
 
 /// What a worker has claimed: a place of a connection.
-#[derive(Clone, Copy, Debug, PartialEq, Eq)]
+#[derive(Clone, Copy)]
 pub struct Task {
     /// The connection's number.
     pub connection: u32,
     /// The place on it.
     pub place: u64,
-}
-
-/// What these workers have claimed, when none has claimed anything.
-pub(crate) fn no_claims(alloc: Global, workers: u32) -> Result<Vec<Option<Task>>, NoMemory>
-    ensures { IfOk result (λ claims. claims.items ≡ replicate workers None) }
-{
-    let mut claims = Vec::new(alloc);
-    for _ in 0..workers {
-        claims.push(None)?;
-    }
-    Ok(claims)
 }

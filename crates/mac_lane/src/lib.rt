@@ -1,5 +1,6 @@
-//! The core: replies leave in the order of arrivals, each for its own job, whatever order workers finish in.
-//! It is generic in the service that works the replies out, and knows nothing of what is asked.
+//! The core: replies leave in the order of arrivals, each for its own job, whatever order workers
+//! finish in. It is generic in the service that works the replies out, and knows nothing of what is
+//! asked.
 #![tactic(auto)]
 
 pub mod answer;
@@ -7,7 +8,6 @@ pub mod event;
 pub mod fault;
 pub mod laws;
 pub mod next;
-pub mod plain;
 pub mod reorder;
 pub mod service;
 pub mod world;
@@ -19,6 +19,3 @@ pub use next::Next;
 pub use reorder::{Reorder, SLOTS};
 pub use service::{NoMemory, Service};
 pub use world::World;
-
-#[cfg(test)]
-mod tests;

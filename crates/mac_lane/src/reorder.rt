@@ -16,7 +16,8 @@ use std::marker::Model;
 /// The slots of a reorder buffer, and the most places of a connection that are unsent.
 pub const SLOTS: usize = 128;
 
-/// Replies put back into the order of arrivals: answers come for places in any order, and leave by place.
+/// Replies put back into the order of arrivals: answers come for places in any order, and leave by
+/// place.
 #[derive(Drop)]
 pub struct Reorder<S: Service> {
     next: u64,
@@ -38,7 +39,8 @@ impl<S: Service> Model for Reorder<S> {
 
     ghost view = { λ r. lies_as r.next r.slips.items r.answers.items r.closed };
 
-    ghost invariant = { λ r. IsLaidOut r.next r.slips.items (deque_capacity r.slips) r.answers.items r.closed };
+    ghost invariant = { λ r.
+        IsLaidOut r.next r.slips.items (deque_capacity r.slips) r.answers.items r.closed };
 }
 
 impl<S: Service> Reorder<S> {
@@ -56,7 +58,8 @@ impl<S: Service> Reorder<S> {
 
     /// Opens the job at the next place, and gives the place.
     pub fn open(&mut self, job: S::Job) -> Result<u64, (OpenFault, S::Job)>
-        ensures fault { MatchResult result (λ place. open_fault self.old ≡ None) (λ e. open_fault self.old ≡ Some e.0) }
+        ensures fault { MatchResult result
+            (λ place. open_fault self.old ≡ None) (λ e. open_fault self.old ≡ Some e.0) }
         ensures place { IfOk result (λ place. place ≡ place_to_open self.old) }
         ensures opened { OnOk result (self.new ≡ opened self.old job) }
         ensures refused { OnErr result (self.new ≡ self.old) }
@@ -88,7 +91,8 @@ impl<S: Service> Reorder<S> {
 
     /// Puts the answer at its place, which may be open or not.
     pub fn settle(&mut self, place: u64, answer: Answer<S>) -> Result<(), (SettleFault, Answer<S>)>
-        ensures fault { MatchResult result (λ _. settle_fault self.old place ≡ None) (λ e. settle_fault self.old place ≡ Some e.0) }
+        ensures fault { MatchResult result (λ _. settle_fault self.old place ≡ None)
+            (λ e. settle_fault self.old place ≡ Some e.0) }
         ensures settled { OnOk result (self.new ≡ settled self.old place answer) }
         ensures refused { OnErr result (self.new ≡ self.old) }
         ensures back { IfErr result (λ e. e.1 ≡ answer) }
@@ -155,7 +159,8 @@ impl<S: Service> Reorder<S> {
         requires live { self.old.closed ≡ false }
         requires settled { IsSome (get self.old.answers self.old.next) }
         requires slip { 0 < length self.old.slips }
-        ensures next { IfSome (get self.old.answers self.old.next) (λ answer. result ≡ Next.Reply self.old.next (S.reply_to answer)) }
+        ensures next { IfSome (get self.old.answers self.old.next)
+            (λ answer. result ≡ Next.Reply self.old.next (S.reply_to answer)) }
         ensures sent { self.new ≡ sent_off self.old (drop 1 self.old.slips) }
         ensures bounded { IsBounded self.new }
     {

@@ -1,13 +1,14 @@
-//! The world of events: connections, workers, and the one order in which their events happen to come.
+//! The world of events: connections, workers, and the one order in which their events happen to
+//! come.
 
 mod connection;
 
-ghost use Rattle.std.specs.Prelude.{◌≡◌, ◌≢◌, ◌<◌, IsTrue, IfOk, IfErr, OnErr, IfSome, length, slice_get, take};
+ghost use Rattle.std.specs.Prelude.{◌≡◌, ◌≢◌, ◌<◌, false, IfOk, IfErr, IfSome, length, replicate, slice_get, take};
 ghost use Rattle.mac_lane.specs.Ran.{ran};
 ghost use Rattle.mac_lane.specs.State.{opening};
-ghost use Rattle.mac_lane.specs.Step.{step, on_connection, arrive, claim_by, finish_by, send, close, takes_memory};
+ghost use Rattle.mac_lane.specs.Step.{step, on_connection, after_arrive, claim_by, finish_by, after_send, after_close, is_change, TakesMemory, ComesTo};
 
-use crate::event::{Event, Outcome, Task, no_claims};
+use crate::event::{Event, Outcome, Task};
 use crate::service::{NoMemory, Service};
 use connection::Connection;
 use std::alloc::Global;
@@ -30,7 +31,8 @@ impl<S: Service> Model for World<S> {
 
     ghost use Rattle.mac_lane.specs.Staffed.{IsStaffed};
 
-    ghost view = { λ world. record { connections = world.connections.items; workers = world.workers.items } };
+    ghost view = { λ world.
+        record { connections = world.connections.items; workers = world.workers.items } };
 
     ghost invariant = { λ world. IsStaffed world.connections.items world.workers.items };
 }
@@ -50,10 +52,13 @@ impl<S: Service> World<S> {
         })
     }
 
-    /// Lets the event happen. Want of memory, which only an arrive or a finish may meet, changes nothing.
+    /// Lets the event happen. Only an arrive that would be admitted and a finish that would be kept
+    /// take memory.
     pub fn step(&mut self, alloc: Global, event: Event<S>) -> Outcome
-        ensures step { result ≢ Outcome.NoMemory → (self.new, result) ≡ step S.reply_to self.old event }
-        ensures no_memory { result ≡ Outcome.NoMemory → (self.new ≡ self.old) × IsTrue (takes_memory event) }
+        ensures step { result ≢ Outcome.NoMemory →
+            (self.new, result) ≡ step S.reply_to self.old event }
+        ensures no_memory { result ≡ Outcome.NoMemory → TakesMemory S.reply_to self.old event }
+        ensures refused { is_change result ≡ false → self.new ≡ self.old }
         ensures there { length self.new.connections ≡ length self.old.connections }
     {
         match event {
@@ -74,11 +79,17 @@ impl<S: Service> World<S> {
         }
     }
 
-    /// Lets the events happen one after another. After `Err(n)`, for want of memory, just the first n have
-    /// happened.
+    /// Lets the events happen one after another. After `Err(n)`, for want of memory, just the first
+    /// n have happened, and the next one takes memory; `Err(0)` may also tell that there was no
+    /// room for the outcomes.
     pub fn run(&mut self, alloc: Global, events: Vec<Event<S>>) -> Result<Vec<Outcome>, usize>
-        ensures ok { IfOk result (λ outcomes. (self.new, outcomes.items) ≡ ran S.reply_to self.old events.items) }
-        ensures err { IfErr result (λ count. (count < length events.items) × (self.new ≡ (ran S.reply_to self.old (take count events.items)).0)) }
+        ensures ok { IfOk result (λ outcomes.
+            (self.new, outcomes.items) ≡ ran S.reply_to self.old events.items) }
+        ensures err { IfErr result (λ count.
+            self.new ≡ (ran S.reply_to self.old (take count events.items)).0) }
+        ensures within { IfErr result (λ count. count < length events.items) }
+        ensures no_memory { IfErr result (λ count. 0 < count →
+            IfSome (slice_get events.items count) (TakesMemory S.reply_to self.new)) }
         ensures there { length self.new.connections ≡ length self.old.connections }
     {
         let Ok(mut outcomes) = Vec::with_capacity(alloc, events.len()) else {
@@ -94,8 +105,8 @@ impl<S: Service> World<S> {
     }
 
     fn arrive(&mut self, alloc: Global, number: u32, job: S::Job) -> Result<Outcome, NoMemory>
-        ensures ok { IfOk result (λ outcome. (self.new, outcome) ≡ on_connection self.old number (slice_get self.old.connections number) (arrive job)) }
-        ensures err { OnErr result (self.new ≡ self.old) }
+        ensures { ComesTo self.old self.new result
+            (on_connection self.old number (after_arrive job)) }
     {
         let at = number as usize;
         if at >= self.connections.len() {
@@ -105,7 +116,7 @@ impl<S: Service> World<S> {
     }
 
     fn send(&mut self, number: u32) -> Outcome
-        ensures { (self.new, result) ≡ on_connection self.old number (slice_get self.old.connections number) (send S.reply_to) }
+        ensures { (self.new, result) ≡ on_connection self.old number (after_send S.reply_to) }
     {
         let at = number as usize;
         if at >= self.connections.len() {
@@ -115,7 +126,7 @@ impl<S: Service> World<S> {
     }
 
     fn close(&mut self, number: u32) -> Outcome
-        ensures { (self.new, result) ≡ on_connection self.old number (slice_get self.old.connections number) close }
+        ensures { (self.new, result) ≡ on_connection self.old number after_close }
     {
         let at = number as usize;
         if at >= self.connections.len() {
@@ -125,7 +136,7 @@ impl<S: Service> World<S> {
     }
 
     fn claim(&mut self, worker: u32, task: Task) -> Outcome
-        ensures { (self.new, result) ≡ claim_by self.old worker (slice_get self.old.workers worker) task (slice_get self.old.connections task.connection) }
+        ensures { (self.new, result) ≡ claim_by self.old worker task }
     {
         let by = worker as usize;
         let at = task.connection as usize;
@@ -144,8 +155,7 @@ impl<S: Service> World<S> {
     }
 
     fn finish(&mut self, alloc: Global, worker: u32) -> Result<Outcome, NoMemory>
-        ensures ok { IfOk result (λ outcome. (self.new, outcome) ≡ finish_by self.old worker (slice_get self.old.workers worker)) }
-        ensures err { OnErr result (self.new ≡ self.old) }
+        ensures { ComesTo self.old self.new result (finish_by self.old worker) }
     {
         let by = worker as usize;
         if by >= self.workers.len() {
@@ -163,7 +173,8 @@ impl<S: Service> World<S> {
     /// The jobs that arrived on a connection that is there, in order.
     pub fn arrived(&self, number: u32) -> &[S::Job]
         requires { number < length self.now.connections }
-        ensures { IfSome (slice_get self.now.connections number) (λ link. result.now ≡ link.arrived) }
+        ensures { IfSome (slice_get self.now.connections number)
+            (λ link. result.now ≡ link.arrived) }
     {
         let link = &self.connections[number as usize];
         link.arrived()
@@ -172,9 +183,21 @@ impl<S: Service> World<S> {
     /// The replies that were sent on a connection that is there, in order.
     pub fn sent(&self, number: u32) -> &[S::Reply]
         requires { number < length self.now.connections }
-        ensures { IfSome (slice_get self.now.connections number) (λ link. result.now ≡ link.sent) }
+        ensures { IfSome (slice_get self.now.connections number)
+            (λ link. result.now ≡ link.sent) }
     {
         let link = &self.connections[number as usize];
         link.sent()
     }
+}
+
+/// What these workers have claimed, when none has claimed anything.
+fn no_claims(alloc: Global, workers: u32) -> Result<Vec<Option<Task>>, NoMemory>
+    ensures { IfOk result (λ claims. claims.items ≡ replicate workers None) }
+{
+    let mut claims = Vec::new(alloc);
+    for _ in 0..workers {
+        claims.push(None)?;
+    }
+    Ok(claims)
 }

@@ -1,9 +1,9 @@
 //! One connection of the world: its buffer, and a mark for each place.
 
-ghost use Rattle.std.specs.Prelude.{◌≡◌, true, false, IfOk, OnErr};
+ghost use Rattle.std.specs.Prelude.{◌≡◌, true, false, IfOk};
 ghost use Rattle.std.specs.FinSet.{contains};
 ghost use Rattle.mac_lane.specs.State.{fresh};
-ghost use Rattle.mac_lane.specs.Step.{arrive, claim, is_claimable, finish, send, close};
+ghost use Rattle.mac_lane.specs.Step.{after_arrive, after_claim, is_claimable, after_finish, after_send, after_close, ComesTo};
 ghost use Rattle.mac_lane.specs.Tracked.{is_claimed};
 
 use crate::answer::Answer;
@@ -33,7 +33,8 @@ impl Mark {
     }
 }
 
-/// One connection: its history, a mark for each place, and the reorder buffer of the places that are not sent.
+/// One connection: its history, a mark for each place, and the reorder buffer of the places that
+/// are not sent.
 #[derive(Drop)]
 pub(super) struct Connection<S: Service> {
     arrived: Vec<S::Job>,
@@ -54,9 +55,12 @@ impl<S: Service> Model for Connection<S> {
     ghost use Rattle.std.specs.Prelude.{length, vec_capacity};
     ghost use Rattle.mac_lane.specs.Tracked.{kept_as, IsTracked};
 
-    ghost view = { λ link. kept_as link.arrived.items link.sent.items link.marks.items link.closed };
+    ghost view = { λ link.
+        kept_as link.arrived.items link.sent.items link.marks.items link.closed };
 
-    ghost invariant = { λ link. IsTracked link.arrived.items (length link.sent.items) (vec_capacity link.sent) link.marks.items link.closed link.buffer };
+    ghost invariant = { λ link.
+        IsTracked link.arrived.items (length link.sent.items) (vec_capacity link.sent)
+        link.marks.items link.closed link.buffer };
 }
 
 impl<S: Service> Connection<S> {
@@ -75,8 +79,7 @@ impl<S: Service> Connection<S> {
 
     /// The job arrives, once there is room for all that will be kept of its place.
     pub(super) fn arrive(&mut self, alloc: Global, job: S::Job) -> Result<Outcome, NoMemory>
-        ensures ok { IfOk result (λ outcome. (self.new, outcome) ≡ arrive job self.old) }
-        ensures err { OnErr result (self.new ≡ self.old) }
+        ensures { ComesTo self.old self.new result (after_arrive job self.old) }
     {
         if self.closed {
             return Ok(Outcome::Ended);
@@ -108,7 +111,7 @@ impl<S: Service> Connection<S> {
     /// The place is claimed.
     pub(super) fn claim(&mut self, place: u64)
         requires { is_claimable self.old place ≡ true }
-        ensures { self.new ≡ claim self.old place }
+        ensures { self.new ≡ after_claim place self.old }
     {
         self.marks[place as usize] = Mark::Claimed;
     }
@@ -117,8 +120,7 @@ impl<S: Service> Connection<S> {
     pub(super) fn finish(&mut self, alloc: Global, place: u64) -> Result<Outcome, NoMemory>
         requires claimed { contains self.old.claimed place ≡ true }
         requires unfinished { contains self.old.finished place ≡ false }
-        ensures ok { IfOk result (λ outcome. (self.new, outcome) ≡ finish place self.old) }
-        ensures err { OnErr result (self.new ≡ self.old) }
+        ensures { ComesTo self.old self.new result (after_finish place self.old) }
     {
         if self.closed {
             return Ok(Outcome::Discarded);
@@ -138,7 +140,7 @@ impl<S: Service> Connection<S> {
 
     /// The next reply is sent.
     pub(super) fn send(&mut self) -> Outcome
-        ensures { (self.new, result) ≡ send S.reply_to self.old }
+        ensures { (self.new, result) ≡ after_send S.reply_to self.old }
     {
         match self.buffer.next() {
             Next::Reply(place, reply) => {
@@ -153,7 +155,7 @@ impl<S: Service> Connection<S> {
 
     /// The connection is closed, once.
     pub(super) fn close(&mut self) -> Outcome
-        ensures { (self.new, result) ≡ close self.old }
+        ensures { (self.new, result) ≡ after_close self.old }
     {
         if self.closed {
             return Outcome::Ended;

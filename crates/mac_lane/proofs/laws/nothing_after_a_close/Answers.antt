@@ -1,6 +1,6 @@
 -- Each step keeps it.
 use Rattle.std.proofs.Common.{slice_get, refl}
-use Rattle.mac_lane.specs.Step.{on_connection, close}
+use Rattle.mac_lane.specs.Step.{on_connection, after_close}
 use Rattle.mac_lane.proofs.Beginnings.{IsClosedWith, closed-moved, closed-by_close}
 use Rattle.mac_lane.proofs.Kept.{kept}
 use Rattle.mac_lane.proofs.laws.nothing_after_a_close.Goals as goal
@@ -13,5 +13,5 @@ returns-clause-closed g c state number events link known shut =
 pub returns-clause-close : goal.returns-clause-close
 returns-clause-close g c state number events link known =
     let (now, at, shut) = closed-by_close g.S.Service.reply_to state number link known in
-    let (after, there, is) = kept g.S.Service.reply_to (IsClosedWith g.S.Service.reply_to link.arrived link.sent) (closed-moved g.S.Service.reply_to link.arrived link.sent) (on_connection state number (slice_get state.connections number) close).0 events number now at shut in
+    let (after, there, is) = kept g.S.Service.reply_to (IsClosedWith g.S.Service.reply_to link.arrived link.sent) (closed-moved g.S.Service.reply_to link.arrived link.sent) (on_connection state number after_close).0 events number now at shut in
     (after, there, is.1, is.2)

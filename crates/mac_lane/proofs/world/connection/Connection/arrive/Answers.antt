@@ -17,8 +17,8 @@ invariant_of-self-2 g c =
     rw (c.push_reserved.ensures.items, c.push_reserved-2.ensures.items, c.in_ok-reserve.ensures.items, c.in_ok-reserve-2.ensures.items, c.in_ok-reserve-3.ensures.items, c.in-Ok.ensures.opened, c.in_ok-slip.ensures, c.if-self.false)
     (tracked-arrive tracked c.args.job _ (omega (arith, c.self.invariant.sent_fits)) (open_fault-room inside.buffer c.in-Ok.ensures.fault))
 
-pub returns-clause-ok : goal.returns-clause-ok
-returns-clause-ok g c =
+pub returns : goal.returns
+returns g c =
     let inside = c.self.inside in
     let follows = c.self.invariant.follows c.if-self.false in
     let count = ap length follows.slips ∙ length-drop (length inside.sent.items) inside.arrived.items in

@@ -40,8 +40,8 @@ unreachable-requires g c =
     let none = tracked-settleable (tracked-live c.self.invariant c.if-self.false) c.args.place (omega (arith, c.self.invariant.marks_fit)) unfinished in
     none-some _ (sym none ∙ c.in-Err.ensures.fault)
 
-pub returns-clause-ok : goal.returns-clause-ok
-returns-clause-ok g c =
+pub returns : goal.returns
+returns g c =
     let inside = c.self.inside in
     let claimed = sym (contains-marked is_claimed inside.marks.items c.args.place) ∙ ap (λ (link : Connection _ _). contains link.claimed c.args.place) c.self.view_is ∙ c.requires.claimed in
     let within = passes-within is_claimed inside.marks.items c.args.place claimed in

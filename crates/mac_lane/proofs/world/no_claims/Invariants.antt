@@ -1,5 +1,5 @@
 use Rattle.std.proofs.Common.{◌≡◌, None, replicate}
-use Rattle.mac_lane.proofs.event.no_claims.Given as goal
+use Rattle.mac_lane.proofs.world.no_claims.Given as goal
 
 -- as many as were counted
 abbrev pub invariant-loop : goal.invariant-loop
