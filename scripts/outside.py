@@ -4,8 +4,10 @@ import os
 import sys
 
 import case_files
+import edges
 import peers
 import pipe_runs
+import quotes
 import statuses
 import tutorial
 
@@ -21,10 +23,16 @@ def main():
     others = peers.installed_peers()
     runs = pipe_runs.runs({**readme.cases, **files, **statuses.cases(), **peers.cases(others)})
     faults = readme.compared(runs) + case_files.faults(runs) + statuses.faults(runs) + peers.faults(others, runs)
+    edge_faults, edge_runs = edges.faults() if pipe_runs.is_built() else ([], 0)
+    faults += edge_faults + quotes.faults()
     if faults:
         raise SystemExit("\n".join(faults))
     print(f"README: {len(readme.shown)} runs of the pipe print what it shows")
     print(f"cases: {len(files)} runs of the pipe print what they must, and {len(statuses.ENDINGS)} end as they must")
+    if edge_runs:
+        print(f"edges: {edge_runs} runs over failing devices, little memory and no UTF-8 end as they must")
+    else:
+        print("edges: bin/macaroond isn't built from these sources (make build), so no run over failing devices was made")
     for peer in others:
         print(f"{peer.name}: tokens exchanged in {', '.join(peer.forms)}")
 

@@ -1,4 +1,4 @@
-"""Runs of `macaroond pipe`: by bin/macaroond where it is up to date, else by one unproved build of the toolchain's `rt try`."""
+"""Runs of `macaroond`: by bin/macaroond where it is up to date, else by one unproved build of the toolchain's `rt try`."""
 import os
 import pathlib
 import re
@@ -11,10 +11,10 @@ PROGRAM = TOP / "bin" / "macaroond"
 
 
 class Case(typing.NamedTuple):
-    """What a run is given: its standard input, and the words behind `pipe`."""
+    """What a run is given: its standard input, and its words."""
 
     input: str
-    words: typing.Sequence[str] = ()
+    words: typing.Sequence[str] = ("pipe",)
 
 
 class Run(typing.NamedTuple):
@@ -38,8 +38,10 @@ def runs(cases):
     return tried_runs(cases)
 
 
-def built_run(case):
-    run = subprocess.run([PROGRAM, "pipe", *case.words], input=case.input, capture_output=True, text=True)
+def built_run(case, **how):
+    """A run of the program; `how` may say what it reads from, writes to or is kept to."""
+    given = {"stdout": subprocess.PIPE, **how} if "stdin" in how else {"stdout": subprocess.PIPE, "input": case.input, **how}
+    run = subprocess.run([PROGRAM, *case.words], stderr=subprocess.PIPE, text=True, **given)
     return Run(run.returncode, run.stdout, run.stderr)
 
 
@@ -47,9 +49,8 @@ def tried_runs(cases):
     with tempfile.TemporaryDirectory() as folder:
         for name, case in cases.items():
             (pathlib.Path(folder) / name).write_text(case.input)
-            if case.words:
-                (pathlib.Path(folder) / f"{name}.args").write_text("\n".join(case.words) + "\n")
-        command = ["rt", "try", "--steps", "1", "--cases", folder, "--", "pipe"]
+            (pathlib.Path(folder) / f"{name}.args").write_text("".join(f"{word}\n" for word in case.words))
+        command = ["rt", "try", "--steps", "1", "--cases", folder]
         tried = subprocess.run(command, cwd=TOP / "crates" / "macaroond", capture_output=True, text=True)
     if tried.returncode != 0:
         raise SystemExit(f"rt try ended with status {tried.returncode}:\n{tried.stdout}{tried.stderr}")

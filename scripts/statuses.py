@@ -1,26 +1,88 @@
-"""How the program ends: its exit statuses, and what it says on standard error."""
+"""How the program ends: its exit statuses, and how its standard output and standard error begin."""
+import typing
+
 from pipe_runs import Case
 
-# The case, its status, and how its standard error begins.
+KEY = "key bank 74686973206973206f757220737570657220736563726574206b6579\n\n"
+PROGRAM = "Mints, narrows and verifies macaroons\n"
+PIPE = "Answers the requests on standard input, one line each\n"
+INPUT_MAX = 16_777_216
+# The greatest payload that a frame carries, in digits.
+FRAME_DIGITS = 131_072
+
+
+class Ending(typing.NamedTuple):
+    """What a run ends with; a stream that is told as empty stays empty, another one begins so."""
+
+    status: int
+    output: str
+    error: str
+
+
+def bad(what):
+    return Ending(2, "", f"error: {what}")
+
+
+def keys_fault(line, kind):
+    return Ending(1, "", f"keys: line {line} kind {kind}\n")
+
+
+def named_keys(count):
+    """A key file of so many names."""
+    return "".join(f"key k{number} 00\n" for number in range(count))
+
+
 ENDINGS = {
-    "answered": (Case("\n\n"), 0, ""),
-    "help": (Case("", ["--help"]), 0, ""),
-    "key_fault": (Case("lock a 00\n"), 1, "keys: line 1 kind 6\n"),
-    "third_word": (Case("", ["x"]), 2, "error: unexpected argument 'x' found\n"),
-    "too_long": (Case("#" * 16_777_217), 3, "fault 3\n"),
+    "nothing": (Case(""), Ending(0, "", "")),
+    "no_requests": (Case(KEY), Ending(0, "", "")),
+    "answered": (Case("\n\n"), Ending(0, "refused 16\n", "")),
+    "two_hyphens": (Case("\n\n", ["pipe", "--"]), Ending(0, "refused 16\n", "")),
+    "help": (Case("", ["--help"]), Ending(0, PROGRAM, "")),
+    "short_help": (Case("", ["-h"]), Ending(0, PROGRAM, "")),
+    "pipe_help": (Case("", ["pipe", "--help"]), Ending(0, PIPE, "")),
+    "version": (Case("", ["--version"]), Ending(0, "macaroond ", "")),
+    "no_word": (Case("", []), Ending(2, "", "error: ")),
+    "empty_word": (Case("", ["pipe", ""]), bad("unexpected argument '' found\n")),
+    "empty_first_word": (Case("", [""]), bad("unrecognized subcommand ''\n")),
+    "second_word": (Case("", ["pipe", "x"]), bad("unexpected argument 'x' found\n")),
+    "third_word": (Case("", ["pipe", "--", "x"]), bad("unexpected argument 'x' found\n")),
+    "option": (Case("", ["-x"]), bad("unexpected argument '-x' found\n")),
+    "other_subcommand": (Case("", ["mint"]), bad("unrecognized subcommand 'mint'\n")),
+    "help_subcommand": (Case("", ["help"]), bad("unrecognized subcommand 'help'\n")),
+    "bad_line": (Case("lock a 00\n"), keys_fault(1, 6)),
+    "bad_name": (Case("key  00\n\n"), keys_fault(1, 1)),
+    "bad_hex": (Case("key a 0\n\n"), keys_fault(1, 2)),
+    "empty_secret": (Case("key a \n\n"), keys_fault(1, 3)),
+    "twice": (Case("key a 00\nkey a 01\n\n"), keys_fault(2, 4)),
+    "names_1000": (Case(named_keys(1000) + "\n"), Ending(0, "", "")),
+    "names_1001": (Case(named_keys(1001) + "\n"), keys_fault(1001, 5)),
+    "fault_in_line_12": (Case("#\n" * 11 + "lock\n"), keys_fault(12, 6)),
+    "greatest_payload": (Case(KEY + "0" * FRAME_DIGITS + "\n\n"), Ending(0, "refused 16\nrefused 16\n", "")),
+    "oversize": (Case(KEY + "0" * (FRAME_DIGITS + 2) + "\n\n"), Ending(0, "refused 17\n", "")),
+    "long_line_of_letters": (Case(KEY + "z" * 200_000 + "\n\n"), Ending(0, "refused 16\nrefused 16\n", "")),
+    "long_odd_line": (Case(KEY + "0" * (FRAME_DIGITS + 3) + "\n\n"), Ending(0, "refused 16\nrefused 16\n", "")),
+    "greatest_input": (Case("!" * INPUT_MAX), keys_fault(1, 6)),
+    "too_long": (Case("!" * (INPUT_MAX + 1)), Ending(3, "", "fault 3\n")),
 }
 
 
 def cases():
-    return {f"ending_{name}": case for name, (case, _, _) in ENDINGS.items()}
+    return {f"ending_{name}": case for name, (case, _) in ENDINGS.items()}
+
+
+def begins(text, wanted):
+    return text == "" if wanted == "" else text.startswith(wanted)
+
+
+def is_so(run, wanted):
+    return run.status == wanted.status and begins(run.output, wanted.output) and begins(run.error, wanted.error)
+
+
+def told(name, run, wanted):
+    return f"{name}: ends with {run.status}, {run.output[:80]!r} and {run.error[:80]!r}, where {wanted} is due"
 
 
 def faults(runs):
     """Which of them end otherwise."""
-    found = []
-    for name, (_, status, error) in ENDINGS.items():
-        run = runs[f"ending_{name}"]
-        is_silent = status != 0 or run.error == ""
-        if run.status != status or not run.error.startswith(error) or not is_silent:
-            found.append(f"{name}: ends with status {run.status} and {run.error!r}, not with {status} and {error!r}")
-    return found
+    ended = [(name, runs[f"ending_{name}"], wanted) for name, (_, wanted) in ENDINGS.items()]
+    return [told(name, run, wanted) for name, run, wanted in ended if not is_so(run, wanted)]

@@ -1,12 +1,12 @@
 -- What `clap`'s faults are at this command line, for all words.
-use Rattle.std.proofs.Common.{◌≡◌, ◌∙◌, ◌==◌, ◌&&◌, ◌⊎◌, inl, inr, ℕ, Bool, cond, codes, true, false, refl, sym, ap, ap₂, subst, List, [], ◌∷◌, length, drop, not, Option, Some, None, is_some, suc}
+use Rattle.std.proofs.Common.{◌≡◌, ◌∙◌, ◌==◌, ◌&&◌, ◌||◌, ◌⊎◌, inl, inr, ℕ, Bool, cond, codes, true, false, refl, sym, ap, ap₂, subst, List, [], ◌∷◌, length, drop, not, Option, Some, None, is_some, suc}
 use Rattle.std.specs.Prelude.{if◌then◌else◌, option_map, slice_get}
 use Rattle.std.specs.Option.{option_map_or}
 use Rattle.std.specs.Str.{bytes_eq, chars}
 use Rattle.std.proofs.lemmas.Slice.Eq.{bytes_eq-Decides}
 use Rattle.clap.specs.Lexer.{long_of, short_of}
 use Rattle.clap.specs.Walk.{Names, finished, settled, Rule, Text, Walk, arg_by_long, idle, long_or_other, nothing_held, plain, bundle_met, short_or_plain, walk_from}
-use Rattle.clap.specs.Simple.{Shape, built, entered, built_leaf, filled_from, help_rule, inherited, marked_built, names_of, with_leaf_noted}
+use Rattle.clap.specs.Simple.{Shape, built, entered, built_leaf, filled_from, help_rule, inherited, marked_built, names_of, version_rule, with_leaf_noted}
 use Rattle.clap.specs.Kinds.{HasKind, IsAmong, Kinds, or_else}
 use Rattle.clap.specs.Faults.{built_fault, bundle_fault, bundle_step_fault, check_fault, defaults_fault, entered_fault, fault_of, settle_fault, flag_word_fault, flags_fault, level_fault, long_fault, step_fault, stray_fault, turn_fault, walk_fault}
 use Rattle.clap.specs.Values.{kind_of}
@@ -16,24 +16,13 @@ use Rattle.clap.specs.declared.error.kind.ErrorKind.TheVariants.{InvalidSubcomma
 use Rattle.clap.proofs.OnLiterals.{clap_on_literals}
 use Rattle.clap.proofs.FaultLemmas.{fault_ends, stopped_fault}
 use Rattle.clap.proofs.WalkLemmas.{bundle_ends, walk_stopped}
-use Rattle.macaroond.specs.CommandLine.{command_line, exit_status, pipe_command, status_of}
+use Rattle.macaroond.specs.CommandLine.{AllLeadTo, LeadsTo, MayEnd, command_line, exit_status, pipe_command}
 
 -- ---- statuses of lists of kinds
 
--- each kind leads to the exit status n
-abbrev pub AllLeadTo : ℕ → Kinds → Type 0
-AllLeadTo n [] = Unit {0}
-AllLeadTo n (k ∷ ks) = (exit_status k ≡ n) × AllLeadTo n ks
-
 -- there is a fault, and each leads to n
 abbrev pub Refuses : ℕ → Kinds → Type 0
-Refuses n [] = ⊥
-Refuses n (k ∷ ks) = (exit_status k ≡ n) × AllLeadTo n ks
-
--- there is no fault, or each leads to that status
-abbrev pub LeadsTo : Option ℕ → Kinds → Type 0
-LeadsTo None kinds = kinds ≡ []
-LeadsTo (Some n) kinds = Refuses n kinds
+Refuses n kinds = LeadsTo (Some n) kinds
 
 pub refuses_first : (n : ℕ) (a b : Kinds) → Refuses n a → Refuses n (or_else a b)
 refuses_first n [] b h = absurd h
@@ -43,70 +32,70 @@ pub leads_alone : (o : Option ℕ) (kinds : Kinds) → LeadsTo o kinds → Leads
 leads_alone o [] h = h
 leads_alone o (k ∷ ks) h = h
 
-all_one : (n : ℕ) (kinds : Kinds) (k : ErrorKind) → AllLeadTo n kinds → IsAmong k kinds → exit_status k ≡ n
-all_one n [] k h among = absurd among
-all_one n (x ∷ xs) k h (inl same) = ap exit_status same ∙ h.0
-all_one n (x ∷ xs) k h (inr later) = all_one n xs k h.1 later
-
--- a kind among the faults leads to the status
-pub status_of_kind : (o : Option ℕ) (kinds : Kinds) (k : ErrorKind) → LeadsTo o kinds → IsAmong k kinds → Some (exit_status k) ≡ o
-status_of_kind None kinds k h among = absurd (subst (IsAmong k) h among)
-status_of_kind (Some n) [] k h among = absurd h
-status_of_kind (Some n) (x ∷ xs) k h among = ap Some (all_one n (x ∷ xs) k h among)
-
--- the status is that of the first
-pub first_status : (o : Option ℕ) (kinds : Kinds) → LeadsTo o kinds → option_map exit_status (slice_get kinds 0) ≡ o
-first_status None kinds h = rw h refl
-first_status (Some n) [] h = absurd h
-first_status (Some n) (x ∷ xs) h = ap Some h.0
-
 -- ---- a word that is no subcommand
 
 abbrev pub top : Shape
 top = (built command_line).top
 
-abbrev pub help_only : List Rule
-help_only = filled_from 1 (help_rule ∷ [])
+-- the options of a level, which has the version or not
+abbrev pub options : Bool → List Rule
+options true = filled_from 1 (help_rule ∷ version_rule ∷ [])
+options false = filled_from 1 (help_rule ∷ [])
 
--- `--name` and `--name=value` at a level whose only argument is help
-pub long_refused : (name : Text) (v : Option Text)
-    → Refuses (if bytes_eq (codes "help") name && not (is_some v) then 0 else 2) (long_fault help_only false (arg_by_long help_only name) v nothing_held)
-long_refused name v = go (bytes_eq (codes "help") name) refl v
+-- what `--name` and `--name=value` lead to
+abbrev pub is_asked : Bool → Text → Bool
+is_asked v name = bytes_eq (codes "help") name || (v && bytes_eq (codes "version") name)
+
+abbrev pub long_status : Bool → Text → Option Text → ℕ
+long_status v name val = if is_asked v name && not (is_some val) then 0 else 2
+
+pub long_refused : (v : Bool) (name : Text) (val : Option Text)
+    → Refuses (long_status v name val) (long_fault (options v) false (arg_by_long (options v) name) val nothing_held)
+long_refused v name val = go v (bytes_eq (codes "help") name) refl (bytes_eq (codes "version") name) refl val
   where
-    go : (b : Bool) → bytes_eq (codes "help") name ≡ b → (v : Option Text)
-        → Refuses (if bytes_eq (codes "help") name && not (is_some v) then 0 else 2) (long_fault help_only false (arg_by_long help_only name) v nothing_held)
-    go true e None = rw e (refl, tt)
-    go true e (Some t) = rw e (refl, tt)
-    go false e v = rw e (refl, tt)
+    go : (v b : Bool) → bytes_eq (codes "help") name ≡ b → (c : Bool) → bytes_eq (codes "version") name ≡ c → (val : Option Text)
+        → Refuses (long_status v name val) (long_fault (options v) false (arg_by_long (options v) name) val nothing_held)
+    go false true e c f None = rw e (refl, tt)
+    go false true e c f (Some t) = rw e (refl, tt)
+    go false false e c f val = rw e (refl, tt)
+    go true true e c f None = rw e (refl, tt)
+    go true true e c f (Some t) = rw e (refl, tt)
+    go true false e true f None = rw (e, f) (refl, tt)
+    go true false e true f (Some t) = rw (e, f) (refl, tt)
+    go true false e false f val = rw (e, f) (refl, tt)
 
--- what the first character of a bundle of flags leads to: 104 is `h`
-abbrev pub letter_status : Option ℕ → ℕ
-letter_status None = 2
-letter_status (Some x) = if 104 == x then 0 else 2
+-- what the first character of a bundle of flags leads to: 104 is `h`, 86 is `V`
+abbrev pub letter_status : Bool → Option ℕ → ℕ
+letter_status v None = 2
+letter_status v (Some x) = if (104 == x) || (v && (86 == x)) then 0 else 2
 
-pub letter_refused : (x : ℕ) (flags : Text) (k : ℕ) → slice_get (chars flags) 0 ≡ Some x → Refuses (letter_status (Some x)) (flags_fault help_only false (suc k) flags 0 nothing_held)
+pub letter_refused : (v : Bool) (x : ℕ) (flags : Text) (k : ℕ) → slice_get (chars flags) 0 ≡ Some x → Refuses (letter_status v (Some x)) (flags_fault (options v) false (suc k) flags 0 nothing_held)
 unfolding flags_fault
-letter_refused x flags k first = go (104 == x) refl
+letter_refused v x flags k first = go v (104 == x) refl (86 == x) refl
   where
-    go : (b : Bool) → (104 == x) ≡ b → Refuses (if 104 == x then 0 else 2) (bundle_step_fault help_only false (slice_get (chars flags) 0) flags 0 nothing_held (flags_fault help_only false k))
-    go true e = rw (first, e) (refl, tt)
-    go false e = rw (first, e) (refl, tt)
+    go : (v b : Bool) → (104 == x) ≡ b → (c : Bool) → (86 == x) ≡ c
+        → Refuses (letter_status v (Some x)) (bundle_step_fault (options v) false (slice_get (chars flags) 0) flags 0 nothing_held (flags_fault (options v) false k))
+    go false true e c f = rw (first, e) (refl, tt)
+    go false false e c f = rw (first, e) (refl, tt)
+    go true true e c f = rw (first, e) (refl, tt)
+    go true false e true f = rw (first, e, f) (refl, tt)
+    go true false e false f = rw (first, e, f) (refl, tt)
 
-pub no_letter : (flags : Text) → slice_get (chars flags) 0 ≡ None → bundle_met help_only (length flags) flags 0 plain nothing_held ≡ (nothing_held, plain)
-no_letter flags none = sym (bundle_ends help_only (length flags) flags 0 plain nothing_held (sym none))
+pub no_letter : (v : Bool) (flags : Text) → slice_get (chars flags) 0 ≡ None → bundle_met (options v) (length flags) flags 0 plain nothing_held ≡ (nothing_held, plain)
+no_letter v flags none = sym (bundle_ends (options v) (length flags) flags 0 plain nothing_held (sym none))
 
 -- the status of a word, by what it looks like to `clap`
-abbrev pub short_status : Option Text → ℕ
-short_status None = 2
-short_status (Some flags) = letter_status (slice_get (chars flags) 0)
+abbrev pub short_status : Bool → Option Text → ℕ
+short_status v None = 2
+short_status v (Some flags) = letter_status v (slice_get (chars flags) 0)
 
-abbrev pub flag_status : Text → Option (Text × Option Text) → ℕ
-flag_status word None = short_status (short_of word)
-flag_status word (Some p) = if bytes_eq (codes "help") p.0 && not (is_some p.1) then 0 else 2
+abbrev pub flag_status : Bool → Text → Option (Text × Option Text) → ℕ
+flag_status v word None = short_status v (short_of word)
+flag_status v word (Some p) = long_status v p.0 p.1
 
--- a level with this only argument
-abbrev pub level : Shape → Shape
-level s = record s { rules = help_only; args_override_self = false }
+-- a level with these options alone
+abbrev pub level : Bool → Shape → Shape
+level v s = record s { rules = options v; args_override_self = false }
 
 pub stray_refused : (s : Shape) → Refuses 2 (stray_fault s)
 stray_refused s = go s.is_leaf
@@ -115,32 +104,37 @@ stray_refused s = go s.is_leaf
     go true = (refl, tt)
     go false = (refl, (refl, tt))
 
-abbrev pub faults_at : Shape → Text → Option (Text × Option Text) → Kinds
-faults_at s word long =
-    let met = long_or_other help_only idle word long nothing_held in
-    or_else (flag_word_fault help_only false long word nothing_held) (step_fault (level s) 1 met.0 met.1)
+abbrev pub faults_at : Bool → Shape → Text → Option (Text × Option Text) → Kinds
+faults_at v s word long =
+    let met = long_or_other (options v) idle word long nothing_held in
+    or_else (flag_word_fault (options v) false long word nothing_held) (step_fault (level v s) 1 met.0 met.1)
 
 -- a word that begins with a hyphen, and not with two
-abbrev pub faults_at_short : Shape → Text → Option Text → Kinds
-faults_at_short s word short =
-    let met = short_or_plain help_only idle word short nothing_held in
-    or_else (option_map_or (λ flags. bundle_fault help_only false flags nothing_held) short []) (step_fault (level s) 1 met.0 met.1)
+abbrev pub faults_at_short : Bool → Shape → Text → Option Text → Kinds
+faults_at_short v s word short =
+    let met = short_or_plain (options v) idle word short nothing_held in
+    or_else (option_map_or (λ flags. bundle_fault (options v) false flags nothing_held) short []) (step_fault (level v s) 1 met.0 met.1)
 
-pub bundle_refused : (s : Shape) (word flags : Text) (letter : Option ℕ) → slice_get (chars flags) 0 ≡ letter → Refuses (letter_status letter) (faults_at_short s word (Some flags))
+pub bundle_refused : (v : Bool) (s : Shape) (word flags : Text) (letter : Option ℕ) → slice_get (chars flags) 0 ≡ letter
+    → Refuses (letter_status v letter) (faults_at_short v s word (Some flags))
 unfolding chars
-bundle_refused s word flags None none =
-    rw (sym (fault_ends help_only false (length flags) flags 0 nothing_held (sym none)), no_letter flags none) (stray_refused s)
-bundle_refused s word [] (Some x) first = cc
-bundle_refused s word (b ∷ bs) (Some x) first = refuses_first (letter_status (Some x)) (flags_fault help_only false (length (b ∷ bs)) (b ∷ bs) 0 nothing_held) _ (letter_refused x (b ∷ bs) (length bs) first)
+bundle_refused true s word flags None none =
+    rw (sym (fault_ends (options true) false (length flags) flags 0 nothing_held (sym none)), no_letter true flags none) (stray_refused s)
+bundle_refused false s word flags None none =
+    rw (sym (fault_ends (options false) false (length flags) flags 0 nothing_held (sym none)), no_letter false flags none) (stray_refused s)
+bundle_refused v s word [] (Some x) first = cc
+bundle_refused v s word (b ∷ bs) (Some x) first =
+    refuses_first (letter_status v (Some x)) (flags_fault (options v) false (length (b ∷ bs)) (b ∷ bs) 0 nothing_held) _ (letter_refused v x (b ∷ bs) (length bs) first)
 
-pub short_refused : (s : Shape) (word : Text) (short : Option Text) → Refuses (short_status short) (faults_at_short s word short)
-short_refused s word None = stray_refused s
-short_refused s word (Some flags) = bundle_refused s word flags (slice_get (chars flags) 0) refl
+pub short_refused : (v : Bool) (s : Shape) (word : Text) (short : Option Text) → Refuses (short_status v short) (faults_at_short v s word short)
+short_refused true s word None = stray_refused s
+short_refused false s word None = stray_refused s
+short_refused v s word (Some flags) = bundle_refused v s word flags (slice_get (chars flags) 0) refl
 
 -- each word that is no subcommand, and not `--`, is refused
-pub word_refused : (s : Shape) (word : Text) (long : Option (Text × Option Text)) → Refuses (flag_status word long) (faults_at s word long)
-word_refused s word (Some p) = refuses_first (flag_status word (Some p)) (long_fault help_only false (arg_by_long help_only p.0) p.1 nothing_held) _ (long_refused p.0 p.1)
-word_refused s word None = short_refused s word (short_of word)
+pub word_refused : (v : Bool) (s : Shape) (word : Text) (long : Option (Text × Option Text)) → Refuses (flag_status v word long) (faults_at v s word long)
+word_refused v s word (Some p) = refuses_first (flag_status v word (Some p)) (long_fault (options v) false (arg_by_long (options v) p.0) p.1 nothing_held) _ (long_refused v p.0 p.1)
+word_refused v s word None = short_refused v s word (short_of word)
 
 -- ---- the levels
 
@@ -150,8 +144,8 @@ pipe = built_leaf (inherited (with_leaf_noted (marked_built command_line.top)) p
 -- the statuses of the words after `pipe`, and of those after the program's name, by what they look like to `clap`
 abbrev pub after_pipe : List Text → Option ℕ
 after_pipe [] = None
-after_pipe (word ∷ []) = if bytes_eq word (codes "--") then None else Some (flag_status word (long_of word))
-after_pipe (word ∷ next ∷ rest) = Some (flag_status word (long_of word))
+after_pipe (word ∷ []) = if bytes_eq word (codes "--") then None else Some (flag_status false word (long_of word))
+after_pipe (word ∷ next ∷ rest) = Some (flag_status false word (long_of word))
 
 abbrev pub pipe_faults : List Text → Kinds
 pipe_faults words = level_fault pipe [] nothing_held words false []
@@ -161,11 +155,11 @@ unfolding clap_on_literals
 dashes_after_pipe [] = refl
 dashes_after_pipe (word ∷ rest) = (refl, tt)
 
-other_after_pipe : (word : Text) (rest : List Text) → bytes_eq word (codes "--") ≡ false → Refuses (flag_status word (long_of word)) (pipe_faults (word ∷ rest))
+other_after_pipe : (word : Text) (rest : List Text) → bytes_eq word (codes "--") ≡ false → Refuses (flag_status false word (long_of word)) (pipe_faults (word ∷ rest))
 unfolding walk_fault
 other_after_pipe word rest e =
-    let turn : turn_fault pipe [] (walk_from nothing_held) word ≡ faults_at pipe word (long_of word) = rw e refl in
-    let refused = subst (Refuses (flag_status word (long_of word))) (sym turn) (word_refused pipe word (long_of word)) in
+    let turn : turn_fault pipe [] (walk_from nothing_held) word ≡ faults_at false pipe word (long_of word) = rw e refl in
+    let refused = subst (Refuses (flag_status false word (long_of word))) (sym turn) (word_refused false pipe word (long_of word)) in
     refuses_first _ _ _ (refuses_first _ (turn_fault pipe [] (walk_from nothing_held) word) _ refused)
 
 pub pipe_leads : (words : List Text) → LeadsTo (after_pipe words) (pipe_faults words)
@@ -176,7 +170,7 @@ pipe_leads (word ∷ []) = go (bytes_eq word (codes "--")) refl
     go : (b : Bool) → bytes_eq word (codes "--") ≡ b → LeadsTo (after_pipe (word ∷ [])) (pipe_faults (word ∷ []))
     go true e = subst (λ w. LeadsTo (after_pipe (w ∷ [])) (pipe_faults (w ∷ []))) (sym ((bytes_eq-Decides word (codes "--")).0 e)) (dashes_after_pipe [])
     go false e =
-        let status : after_pipe (word ∷ []) ≡ Some (flag_status word (long_of word)) = rw e refl in
+        let status : after_pipe (word ∷ []) ≡ Some (flag_status false word (long_of word)) = rw e refl in
         subst (λ o. LeadsTo o (pipe_faults (word ∷ []))) (sym status) (other_after_pipe word [] e)
 pipe_leads (word ∷ next ∷ rest) = go (bytes_eq word (codes "--")) refl
   where
@@ -191,7 +185,7 @@ names = names_of (built command_line)
 
 abbrev pub of_arguments : List Text → Option ℕ
 of_arguments [] = Some 2
-of_arguments (word ∷ rest) = if bytes_eq word (codes "pipe") then after_pipe rest else Some (flag_status word (long_of word))
+of_arguments (word ∷ rest) = if bytes_eq word (codes "pipe") then after_pipe rest else Some (flag_status true word (long_of word))
 
 abbrev pub line_faults : List Text → Kinds
 line_faults words = built_fault (built command_line) nothing_held words
@@ -214,11 +208,11 @@ unfolding clap_on_literals
 dashes_first [] = (refl, tt)
 dashes_first (word ∷ rest) = (refl, (refl, tt))
 
-other_first : (word : Text) (rest : List Text) → bytes_eq (codes "pipe") word ≡ false → bytes_eq word (codes "--") ≡ false → Refuses (flag_status word (long_of word)) (line_faults (word ∷ rest))
+other_first : (word : Text) (rest : List Text) → bytes_eq (codes "pipe") word ≡ false → bytes_eq word (codes "--") ≡ false → Refuses (flag_status true word (long_of word)) (line_faults (word ∷ rest))
 unfolding walk_fault
 other_first word rest no_name e =
-    let turn : turn_fault top names (walk_from nothing_held) word ≡ faults_at top word (long_of word) = rw (no_name, e) refl in
-    let refused = subst (Refuses (flag_status word (long_of word))) (sym turn) (word_refused top word (long_of word)) in
+    let turn : turn_fault top names (walk_from nothing_held) word ≡ faults_at true top word (long_of word) = rw (no_name, e) refl in
+    let refused = subst (Refuses (flag_status true word (long_of word))) (sym turn) (word_refused true top word (long_of word)) in
     refuses_first _ _ _ (refuses_first _ (turn_fault top names (walk_from nothing_held) word) _ refused)
 
 pub other_way : (a b : Text) → bytes_eq a b ≡ false → bytes_eq b a ≡ false
@@ -228,11 +222,11 @@ other_way a b differ = go (bytes_eq b a) refl
     go true e = let same : bytes_eq a b ≡ true = (bytes_eq-Decides a b).1 (sym ((bytes_eq-Decides b a).0 e)) in cc
     go false e = e
 
-unnamed_leads : (word : Text) (rest : List Text) → bytes_eq word (codes "pipe") ≡ false → Refuses (flag_status word (long_of word)) (line_faults (word ∷ rest))
+unnamed_leads : (word : Text) (rest : List Text) → bytes_eq word (codes "pipe") ≡ false → Refuses (flag_status true word (long_of word)) (line_faults (word ∷ rest))
 unnamed_leads word rest differ = go (bytes_eq word (codes "--")) refl
   where
-    go : (b : Bool) → bytes_eq word (codes "--") ≡ b → Refuses (flag_status word (long_of word)) (line_faults (word ∷ rest))
-    go true e = subst (λ w. Refuses (flag_status w (long_of w)) (line_faults (w ∷ rest))) (sym ((bytes_eq-Decides word (codes "--")).0 e)) (dashes_first rest)
+    go : (b : Bool) → bytes_eq word (codes "--") ≡ b → Refuses (flag_status true word (long_of word)) (line_faults (word ∷ rest))
+    go true e = subst (λ w. Refuses (flag_status true w (long_of w)) (line_faults (w ∷ rest))) (sym ((bytes_eq-Decides word (codes "--")).0 e)) (dashes_first rest)
     go false e = other_first word rest (other_way word (codes "pipe") differ) e
 
 -- what all words lead to
@@ -244,16 +238,10 @@ line_leads (word ∷ rest) = go (bytes_eq word (codes "pipe")) refl
     go : (b : Bool) → bytes_eq word (codes "pipe") ≡ b → LeadsTo (of_arguments (word ∷ rest)) (line_faults (word ∷ rest))
     go true e = subst (λ w. LeadsTo (of_arguments (w ∷ rest)) (line_faults (w ∷ rest))) (sym ((bytes_eq-Decides word (codes "pipe")).0 e)) (after_name rest)
     go false e =
-        let status : of_arguments (word ∷ rest) ≡ Some (flag_status word (long_of word)) = rw e refl in
+        let status : of_arguments (word ∷ rest) ≡ Some (flag_status true word (long_of word)) = rw e refl in
         subst (λ o. LeadsTo o (line_faults (word ∷ rest))) (sym status) (unnamed_leads word rest e)
 
--- the faults that `clap` may tell have one exit status
-pub status_of_fault : (words : List Text) (k : ErrorKind) → IsAmong k (fault_of command_line words) → status_of words ≡ Some (exit_status k)
-status_of_fault words k among =
-    let leads = line_leads (drop 1 words) in
-    first_status _ _ leads ∙ sym (status_of_kind _ _ k leads among)
-
 -- the exit status of an error of `clap`
-pub status_of_error : (words : List Text) (e : Error) → HasKind (fault_of command_line words) e → (status_of words ≡ Some (exit_status (kind_of e))) ⊎ (exit_status (kind_of e) ≡ 4)
+pub status_of_error : (words : List Text) (e : Error) → HasKind (fault_of command_line words) e → (MayEnd words (exit_status (kind_of e))) ⊎ (exit_status (kind_of e) ≡ 4)
 status_of_error words e (inl memory) = inr (ap exit_status memory)
-status_of_error words e (inr among) = inl (status_of_fault words (kind_of e) among)
+status_of_error words e (inr among) = inl (kind_of e, among, refl)

@@ -4,7 +4,7 @@ use Rattle.std.proofs.lemmas.List.{append-nil, take_at, take-append-drop}
 use Rattle.std.specs.Prelude.{Result, Ok, Err, IsErrAnd}
 use Rattle.macaroond.specs.declared.fault.PipeFault.{PipeFault}
 use Rattle.macaroond.specs.declared.fault.PipeFault.TheVariants as fault
-use Rattle.macaroond.specs.Output.{Begins, Writes}
+use Rattle.macaroond.specs.Output.{Begins, EndsWriting, Writes}
 
 -- the output was old and is new, and the rest of the text is still to come
 pub record Remains (text old new rest : List ℕ) : Type 0 where
@@ -59,3 +59,11 @@ pub writes-device : {T : Type 0} (r : Result T PipeFault) (text old new : List �
     IsErrAnd r (λ f. f ≡ fault.Device) → Begins text old new → Writes r text old new
 writes-device {T} (Ok x) text old new e b = absurd e
 writes-device {T} (Err f) text old new e b = subst (λ (f' : PipeFault). Writes {T = T} (Err f') text old new) (sym e) b
+
+pub ends-memory : {T : Type 0} (r : Result T PipeFault) → IsErrAnd r (λ f. f ≡ fault.Memory) → EndsWriting r
+ends-memory {T} (Ok x) e = absurd e
+ends-memory {T} (Err f) e = rw e tt
+
+pub ends-device : {T : Type 0} (r : Result T PipeFault) → IsErrAnd r (λ f. f ≡ fault.Device) → EndsWriting r
+ends-device {T} (Ok x) e = absurd e
+ends-device {T} (Err f) e = rw e tt

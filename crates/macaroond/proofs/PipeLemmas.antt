@@ -1,5 +1,5 @@
 -- A run of the pipe, put together from what its parts did.
-use Rattle.std.proofs.Common.{◌≡◌, ◌⊎◌, inl, inr, ℕ, ◌≤◌, List, [], ◌++◌, length, map, refl, sym, ap, ◌∙◌, arith}
+use Rattle.std.proofs.Common.{◌≡◌, ◌⊎◌, inl, inr, ℕ, ◌+◌, ◌≤◌, List, [], ◌++◌, length, map, refl, sym, ap, ◌∙◌, arith}
 use Rattle.std.proofs.lemmas.List.{append_cancel_left, append-nil}
 use Rattle.std.specs.Prelude.{Bool, IsTrue, Result, Ok, Err, IsErrAnd}
 use Rattle.mac_keys.specs.Table.{Keys, table_of}
@@ -12,9 +12,10 @@ use Rattle.macaroond.specs.declared.fault.PipeFault.TheVariants as fault
 use Rattle.macaroond.specs.declared.input.TheConstants.{INPUT_MAX}
 use Rattle.macaroond.specs.Arrived.{arrival_of}
 use Rattle.macaroond.specs.Lines.{lines, key_text, request_lines}
-use Rattle.macaroond.specs.Output.{Writes}
-use Rattle.macaroond.specs.Pipe.{Takes, Tells, Pipes}
+use Rattle.macaroond.specs.Output.{EndsWriting, Writes}
+use Rattle.macaroond.specs.Pipe.{GivesOutput, Takes, TakesInput, Tells}
 use Rattle.macaroond.specs.PipeText.{answers, answers_under, pipe_text}
+use Rattle.macaroond.proofs.OutputLemmas.{remains-begins, remains-none}
 
 -- what the pipe writes where the key lines have no fault
 pub pipe_text-ok : (answer : Keys → Arrival → Reply) (input : List ℕ) (table : Keys) → table_of (key_text input) ≡ Ok table →
@@ -23,19 +24,69 @@ unfolding pipe_text
 pipe_text-ok answer input table e = ap (answers_under answer (request_lines input)) e
 
 -- the answers that were written are the pipe's text
-pub pipes-answers : (answer : Keys → Arrival → Reply) (r : Result (Unit {0}) PipeFault) (ended : Bool) (input : List ℕ) (table : Keys)
-    (requests : List (List ℕ)) (old new : List ℕ) → IsTrue ended → length input ≤ INPUT_MAX → table_of (key_text input) ≡ Ok table →
+pub output-answers : (answer : Keys → Arrival → Reply) (r : Result (Unit {0}) PipeFault) (input : List ℕ) (table : Keys)
+    (requests : List (List ℕ)) (old new : List ℕ) → table_of (key_text input) ≡ Ok table →
     requests ≡ request_lines input → Writes r (answers (answer table) (map arrival_of requests)) old new →
-    Pipes answer r ended input old new
-pipes-answers answer (Ok x) ended input table requests old new is_ended bound ok is_requests w =
+    GivesOutput answer r input old new
+output-answers answer (Ok x) input table requests old new ok is_requests w =
     let text = pipe_text-ok answer input table ok in
-    (is_ended, bound, rw ok refl, w ∙ ap (λ (l : List ℕ). old ++ l) (ap (λ (l : List (List ℕ)). answers (answer table) (map arrival_of l)) is_requests ∙ sym text))
-pipes-answers answer (Err fault.Device) ended input table requests old new is_ended bound ok is_requests w =
+    (rw ok refl, w ∙ ap (λ (l : List ℕ). old ++ l) (ap (λ (l : List (List ℕ)). answers (answer table) (map arrival_of l)) is_requests ∙ sym text))
+output-answers answer (Err fault.Device) input table requests old new ok is_requests w =
     rw (pipe_text-ok answer input table ok, ← is_requests) w
-pipes-answers answer (Err fault.Memory) ended input table requests old new is_ended bound ok is_requests w =
+output-answers answer (Err fault.Memory) input table requests old new ok is_requests w =
     rw (pipe_text-ok answer input table ok, ← is_requests) w
-pipes-answers answer (Err fault.TooLong) ended input table requests old new is_ended bound ok is_requests w = absurd w
-pipes-answers answer (Err (fault.Keys line kind)) ended input table requests old new is_ended bound ok is_requests w = absurd w
+output-answers answer (Err fault.TooLong) input table requests old new ok is_requests w = absurd w
+output-answers answer (Err (fault.Keys line kind)) input table requests old new ok is_requests w = absurd w
+
+-- a run that wrote its answers had taken the whole input
+pub source-answers : (r : Result (Unit {0}) PipeFault) (ended : Bool) (input : List ℕ) →
+    IsTrue ended → length input ≤ INPUT_MAX → EndsWriting r → TakesInput r ended input
+source-answers (Ok x) ended input is_ended bound w = (is_ended, bound)
+source-answers (Err fault.Device) ended input is_ended bound w = omega arith
+source-answers (Err fault.Memory) ended input is_ended bound w = omega arith
+source-answers (Err fault.TooLong) ended input is_ended bound w = absurd w
+source-answers (Err (fault.Keys line kind)) ended input is_ended bound w = absurd w
+
+-- a run whose input wasn't read to its end has taken what was read of it
+pub source-unread : (f : PipeFault) (r : Result (Unit {0}) PipeFault) (ended : Bool) (old new : List ℕ) →
+    IsErrAnd r (λ e. e ≡ f) → Takes (Err f) old new → (input : List ℕ) × (new ≡ old ++ input) × TakesInput r ended input
+source-unread f (Ok x) ended old new e takes = absurd e
+source-unread fault.Device (Err g) ended old new e takes = (takes.0, takes.1, rw e takes.2)
+source-unread fault.Memory (Err g) ended old new e takes = (takes.0, takes.1, rw e takes.2)
+source-unread fault.TooLong (Err g) ended old new e takes = (takes.0, takes.1, rw e takes.2)
+source-unread (fault.Keys line kind) (Err g) ended old new e takes = absurd takes
+
+-- and it has written nothing
+pub output-unread : (answer : Keys → Arrival → Reply) (f : PipeFault) (r : Result (Unit {0}) PipeFault) (old new input out : List ℕ) →
+    IsErrAnd r (λ e. e ≡ f) → Takes (Err f) old new → GivesOutput answer r input out out
+output-unread answer f (Ok x) old new input out e takes = absurd e
+output-unread answer fault.Device (Err g) old new input out e takes =
+    rw e (remains-begins _ out out _ (remains-none (pipe_text answer input) out))
+output-unread answer fault.Memory (Err g) old new input out e takes =
+    rw e (remains-begins _ out out _ (remains-none (pipe_text answer input) out))
+output-unread answer fault.TooLong (Err g) old new input out e takes = rw e refl
+output-unread answer (fault.Keys line kind) (Err g) old new input out e takes = absurd takes
+
+-- a run whose key lines couldn't be read has taken the whole input
+pub source-told : (f : PipeFault) (r : Result (Unit {0}) PipeFault) (table : Result Keys KeyFault) (ended : Bool) (input : List ℕ) →
+    IsErrAnd r (λ e. e ≡ f) → Tells table f → IsTrue ended → length input ≤ INPUT_MAX → TakesInput r ended input
+source-told f (Ok x) table ended input e tells is_ended bound = absurd e
+source-told fault.Memory (Err g) table ended input e tells is_ended bound =
+    let within : length input ≤ INPUT_MAX + 1 = omega arith in
+    rw e within
+source-told (fault.Keys line kind) (Err g) table ended input e tells is_ended bound = rw e (is_ended, bound)
+source-told fault.Device (Err g) table ended input e tells is_ended bound = absurd tells
+source-told fault.TooLong (Err g) table ended input e tells is_ended bound = absurd tells
+
+-- and it has written nothing
+pub output-told : (answer : Keys → Arrival → Reply) (f : PipeFault) (r : Result (Unit {0}) PipeFault) (input out : List ℕ) →
+    IsErrAnd r (λ e. e ≡ f) → Tells (table_of (key_text input)) f → GivesOutput answer r input out out
+output-told answer f (Ok x) input out e tells = absurd e
+output-told answer fault.Memory (Err g) input out e tells =
+    rw e (remains-begins _ out out _ (remains-none (pipe_text answer input) out))
+output-told answer (fault.Keys line kind) (Err g) input out e tells = rw e (tells, refl)
+output-told answer fault.Device (Err g) input out e tells = absurd tells
+output-told answer fault.TooLong (Err g) input out e tells = absurd tells
 
 -- the empty text has no key line, and so no fault
 pub table_of-none : (line kind : ℕ) → table_of (key_text []) ≡ Err (key.Line line kind) → ⊥

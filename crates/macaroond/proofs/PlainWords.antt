@@ -1,5 +1,5 @@
 -- The words of the command line as a reader sees them, and as `clap` does.
-use Rattle.std.proofs.Common.{◌≡◌, ◌∙◌, ◌==◌, ◌&&◌, ◌+◌, ℕ, Bool, codes, true, false, refl, sym, ap, ap₂, subst, arith, List, [], ◌∷◌, drop, take, not, Some, None, is_some, suc}
+use Rattle.std.proofs.Common.{◌≡◌, ◌∙◌, ◌==◌, ◌&&◌, ◌||◌, ◌+◌, ◌<◌, ℕ, Bool, codes, true, false, refl, sym, ap, ap₂, subst, arith, List, [], ◌∷◌, drop, take, not, Some, None, is_some, suc}
 use Rattle.std.specs.Prelude.{if◌then◌else◌, option_and_then, slice_get, encode_utf8_all}
 use Rattle.std.specs.List.{All, after_first, before_first, position_or_len}
 use Rattle.std.specs.Str.{IsUtf8, bytes_eq, chars}
@@ -9,8 +9,9 @@ use Rattle.std.proofs.lemmas.Slice.Eq.{bytes_eq-Decides}
 use Rattle.std.proofs.lemmas.Str.{IsCharBoundary-after_ascii, IsUtf8-drop, byte_from_char, char_from_byte, chars-encodes}
 use Rattle.clap.specs.Lexer.{has_byte, long_of, long_of_rest, short_of, short_of_rest, strip_byte}
 use Rattle.clap.specs.Walk.{Text}
-use Rattle.macaroond.specs.CommandLine.{status_of, status_of_arguments, status_after_pipe, status_of_word}
-use Rattle.macaroond.proofs.CommandLineLemmas.{after_pipe, first_status, flag_status, letter_status, line_leads, of_arguments, other_way, short_status}
+use Rattle.clap.specs.Faults.{fault_of}
+use Rattle.macaroond.specs.CommandLine.{LeadsTo, command_line, status_after_pipe, status_of_arguments, status_of_word}
+use Rattle.macaroond.proofs.CommandLineLemmas.{after_pipe, flag_status, is_asked, letter_status, line_leads, long_status, of_arguments, other_way, short_status}
 
 number_other_way : (a b : ℕ) → (a == b) ≡ false → (b == a) ≡ false
 number_other_way a b differ = go (b == a) refl
@@ -40,109 +41,129 @@ never : (b : Bool) → ◌≡◌ {A = ℕ} (if b && false then 0 else 2) 2
 never true = refl
 never false = refl
 
--- only `--help` asks for help, of the words that begin with two hyphens
-abbrev long_status : Text → Bool → Text → ℕ
-long_status text has name =
-    if bytes_eq (codes "help") name && not (is_some (if has then Some (after_first is_equals text) else None)) then 0 else 2
+-- of the words that begin with two hyphens, those ask that are `--help`, or `--version` where there is one
+abbrev long_part : Bool → Text → Bool → Text → ℕ
+long_part v text has name = long_status v name (if has then Some (after_first is_equals text) else None)
 
-help_either_way : (text : Text) → long_status text false text ≡ status_of_word (45 ∷ 45 ∷ text)
-help_either_way text = go (bytes_eq text (codes "help")) refl
+asked_either_way : (v : Bool) (text : Text) → long_part v text false text ≡ status_of_word v (45 ∷ 45 ∷ text)
+asked_either_way v text = go (bytes_eq text (codes "help")) refl
   where
-    go : (t : Bool) → bytes_eq text (codes "help") ≡ t → long_status text false text ≡ status_of_word (45 ∷ 45 ∷ text)
-    go true e = subst (λ w. long_status w false w ≡ status_of_word (45 ∷ 45 ∷ w)) (sym ((bytes_eq-Decides text (codes "help")).0 e)) refl
-    go false e = rw (e, other_way text (codes "help") e) refl
+    later : (v t : Bool) → bytes_eq text (codes "version") ≡ t → bytes_eq text (codes "help") ≡ false → long_part v text false text ≡ status_of_word v (45 ∷ 45 ∷ text)
+    later true true f e = subst (λ w. long_part true w false w ≡ status_of_word true (45 ∷ 45 ∷ w)) (sym ((bytes_eq-Decides text (codes "version")).0 f)) refl
+    later true false f e = rw (e, f, other_way text (codes "help") e, other_way text (codes "version") f) refl
+    later false t f e = rw (e, other_way text (codes "help") e) refl
 
-no_help : (text : Text) → has_byte 61 text ≡ true → status_of_word (45 ∷ 45 ∷ text) ≡ 2
-no_help text has = go (bytes_eq text (codes "help")) refl
+    go : (t : Bool) → bytes_eq text (codes "help") ≡ t → long_part v text false text ≡ status_of_word v (45 ∷ 45 ∷ text)
+    go true e = subst (λ w. long_part v w false w ≡ status_of_word v (45 ∷ 45 ∷ w)) (sym ((bytes_eq-Decides text (codes "help")).0 e)) refl
+    go false e = later v (bytes_eq text (codes "version")) refl e
+
+not_asked : (v : Bool) (text : Text) → has_byte 61 text ≡ true → status_of_word v (45 ∷ 45 ∷ text) ≡ 2
+not_asked v text has = go v (bytes_eq text (codes "help")) refl (bytes_eq text (codes "version")) refl
   where
-    go : (t : Bool) → bytes_eq text (codes "help") ≡ t → status_of_word (45 ∷ 45 ∷ text) ≡ 2
-    go true e = let bad : false ≡ true = subst (λ w. has_byte 61 w ≡ true) ((bytes_eq-Decides text (codes "help")).0 e) has in cc
-    go false e = rw e refl
+    go : (v t : Bool) → bytes_eq text (codes "help") ≡ t → (u : Bool) → bytes_eq text (codes "version") ≡ u → status_of_word v (45 ∷ 45 ∷ text) ≡ 2
+    go v true e u f = let bad : false ≡ true = subst (λ w. has_byte 61 w ≡ true) ((bytes_eq-Decides text (codes "help")).0 e) has in cc
+    go true false e true f = let bad : false ≡ true = subst (λ w. has_byte 61 w ≡ true) ((bytes_eq-Decides text (codes "version")).0 f) has in cc
+    go true false e false f = rw (e, f) refl
+    go false false e u f = rw e refl
 
-long_status_is : (text : Text) (has : Bool) → has_byte 61 text ≡ has → long_status text has (before_first is_equals text) ≡ status_of_word (45 ∷ 45 ∷ text)
-long_status_is text true e = never (bytes_eq (codes "help") (before_first is_equals text)) ∙ sym (no_help text e)
-long_status_is text false e = ap (long_status text false) (name_alone text e) ∙ help_either_way text
+long_part_is : (v : Bool) (text : Text) (has : Bool) → has_byte 61 text ≡ has → long_part v text has (before_first is_equals text) ≡ status_of_word v (45 ∷ 45 ∷ text)
+long_part_is v text true e = never (is_asked v (before_first is_equals text)) ∙ sym (not_asked v text e)
+long_part_is v text false e = ap (long_part v text false) (name_alone text e) ∙ asked_either_way v text
 
-long_word_is : (text : Text) → flag_status (45 ∷ 45 ∷ text) (long_of (45 ∷ 45 ∷ text)) ≡ status_of_word (45 ∷ 45 ∷ text)
-long_word_is [] = refl
-long_word_is (x ∷ xs) = long_status_is (x ∷ xs) (has_byte 61 (x ∷ xs)) refl
+long_word_is : (v : Bool) (text : Text) → flag_status v (45 ∷ 45 ∷ text) (long_of (45 ∷ 45 ∷ text)) ≡ status_of_word v (45 ∷ 45 ∷ text)
+long_word_is true [] = refl
+long_word_is false [] = refl
+long_word_is v (x ∷ xs) = long_part_is v (x ∷ xs) (has_byte 61 (x ∷ xs)) refl
 
--- 0 for `h`
-abbrev status_of_letter : ℕ → ℕ
-status_of_letter x = if 104 == x then 0 else 2
+-- 0 for `h`, and for `V` where there is a version
+abbrev status_of_letter : Bool → ℕ → ℕ
+status_of_letter v x = if (104 == x) || (v && (86 == x)) then 0 else 2
 
--- the first character is `h` where the first byte is
-letter_is : (cs : List ℕ) (y : ℕ) (ys : Text) → encode_utf8_all cs ≡ y ∷ ys → letter_status (slice_get cs 0) ≡ status_of_letter y
-letter_is [] y ys spelled = cc
-letter_is (c ∷ cs) y ys spelled = go (104 == c) refl
+-- the first character is an ASCII letter where the first byte is
+letter_agrees : (n c : ℕ) (cs : List ℕ) (y : ℕ) (ys : Text) → n < 128 → encode_utf8_all (c ∷ cs) ≡ y ∷ ys → (n == c) ≡ (n == y)
+letter_agrees n c cs y ys small spelled = go (n == c) refl
   where
-    later : (t : Bool) → (104 == y) ≡ t → (104 == c) ≡ false → status_of_letter c ≡ status_of_letter y
+    later : (t : Bool) → (n == y) ≡ t → (n == c) ≡ false → (n == c) ≡ (n == y)
     later true e differ =
-        let y_is : 104 ≡ y = (Decides-eqb 104 y).0 e in
-        ap status_of_letter (char_from_byte (y ∷ ys) (encode_utf8_all cs) c (sym spelled) (omega arith) (omega arith))
-    later false e differ = rw (e, differ) refl
+        let y_is : n ≡ y = (Decides-eqb n y).0 e in
+        ap (λ (x : ℕ). n == x) (char_from_byte (y ∷ ys) (encode_utf8_all cs) c (sym spelled) (omega arith) (omega arith))
+    later false e differ = differ ∙ sym e
 
-    go : (t : Bool) → (104 == c) ≡ t → status_of_letter c ≡ status_of_letter y
+    go : (t : Bool) → (n == c) ≡ t → (n == c) ≡ (n == y)
     go true e =
-        let c_is : 104 ≡ c = (Decides-eqb 104 c).0 e in
-        ap status_of_letter (sym (byte_from_char (y ∷ ys) (encode_utf8_all cs) c (sym spelled) (omega arith)))
-    go false e = later (104 == y) refl e
+        let c_is : n ≡ c = (Decides-eqb n c).0 e in
+        ap (λ (x : ℕ). n == x) (sym (byte_from_char (y ∷ ys) (encode_utf8_all cs) c (sym spelled) (omega arith)))
+    go false e = later (n == y) refl e
 
--- of the words that begin with one hyphen, those ask for help that have `h` next
-short_word_is : (y : ℕ) (ys : Text) → (y == 45) ≡ false → IsUtf8 (45 ∷ y ∷ ys) → flag_status (45 ∷ y ∷ ys) (long_of (45 ∷ y ∷ ys)) ≡ status_of_word (45 ∷ y ∷ ys)
-short_word_is y ys differ utf8 =
+letter_is : (v : Bool) (cs : List ℕ) (y : ℕ) (ys : Text) → encode_utf8_all cs ≡ y ∷ ys → letter_status v (slice_get cs 0) ≡ status_of_letter v y
+letter_is v [] y ys spelled = cc
+letter_is v (c ∷ cs) y ys spelled =
+    ap₂ (λ (a b : Bool). if a || (v && b) then 0 else 2) (letter_agrees 104 c cs y ys (omega arith) spelled) (letter_agrees 86 c cs y ys (omega arith) spelled)
+
+-- of the words that begin with one hyphen, those ask that have such a letter next
+short_word_is : (v : Bool) (y : ℕ) (ys : Text) → (y == 45) ≡ false → IsUtf8 (45 ∷ y ∷ ys) → flag_status v (45 ∷ y ∷ ys) (long_of (45 ∷ y ∷ ys)) ≡ status_of_word v (45 ∷ y ∷ ys)
+short_word_is v y ys differ utf8 =
     let word : Text = 45 ∷ y ∷ ys in
     let u : IsUtf8 (y ∷ ys) = IsUtf8-drop (45 ∷ y ∷ ys) 1 utf8 (IsCharBoundary-after_ascii (45 ∷ y ∷ ys) 0 utf8 (omega arith) (omega arith)) in
     let characters : chars (y ∷ ys) ≡ u.0 = ap chars (sym u.1.1) ∙ chars-encodes u.0 u.1.0 in
     let long : long_of word ≡ None = ap (λ (b : Bool). option_and_then long_of_rest (if b then Some ys else None)) differ in
     let short : short_of word ≡ Some (y ∷ ys) = ap (λ (b : Bool). if b then None else Some (y ∷ ys)) differ in
-    ap (flag_status word) long ∙ ap short_status short ∙ ap (λ cs. letter_status (slice_get cs 0)) characters ∙ letter_is u.0 y ys u.1.1 ∙ sym (plain (104 == y) refl)
+    ap (flag_status v word) long ∙ ap (short_status v) short ∙ ap (λ cs. letter_status v (slice_get cs 0)) characters ∙ letter_is v u.0 y ys u.1.1
+    ∙ sym (plain v (104 == y) refl (86 == y) refl)
   where
-    plain : (t : Bool) → (104 == y) ≡ t → status_of_word (45 ∷ y ∷ ys) ≡ status_of_letter y
-    plain true e = rw (differ, e) refl
-    plain false e = rw (differ, e) refl
+    plain : (v t : Bool) → (104 == y) ≡ t → (u : Bool) → (86 == y) ≡ u → status_of_word v (45 ∷ y ∷ ys) ≡ status_of_letter v y
+    plain v true e u f = rw (differ, e) refl
+    plain true false e true f = rw (differ, e, f) refl
+    plain true false e false f = rw (differ, e, f) refl
+    plain false false e u f = rw (differ, e) refl
 
-hyphen_word_is : (xs : Text) → IsUtf8 (45 ∷ xs) → flag_status (45 ∷ xs) (long_of (45 ∷ xs)) ≡ status_of_word (45 ∷ xs)
-hyphen_word_is [] utf8 = refl
-hyphen_word_is (y ∷ ys) utf8 = go (y == 45) refl
+hyphen_word_is : (v : Bool) (xs : Text) → IsUtf8 (45 ∷ xs) → flag_status v (45 ∷ xs) (long_of (45 ∷ xs)) ≡ status_of_word v (45 ∷ xs)
+hyphen_word_is true [] utf8 = refl
+hyphen_word_is false [] utf8 = refl
+hyphen_word_is v (y ∷ ys) utf8 = go (y == 45) refl
   where
-    go : (t : Bool) → (y == 45) ≡ t → flag_status (45 ∷ y ∷ ys) (long_of (45 ∷ y ∷ ys)) ≡ status_of_word (45 ∷ y ∷ ys)
-    go true e = subst (λ n. flag_status (45 ∷ n ∷ ys) (long_of (45 ∷ n ∷ ys)) ≡ status_of_word (45 ∷ n ∷ ys)) (sym ((Decides-eqb y 45).0 e)) (long_word_is ys)
-    go false e = short_word_is y ys e utf8
+    go : (t : Bool) → (y == 45) ≡ t → flag_status v (45 ∷ y ∷ ys) (long_of (45 ∷ y ∷ ys)) ≡ status_of_word v (45 ∷ y ∷ ys)
+    go true e = subst (λ n. flag_status v (45 ∷ n ∷ ys) (long_of (45 ∷ n ∷ ys)) ≡ status_of_word v (45 ∷ n ∷ ys)) (sym ((Decides-eqb y 45).0 e)) (long_word_is v ys)
+    go false e = short_word_is v y ys e utf8
 
-other_word_is : (x : ℕ) (xs : Text) → (x == 45) ≡ false → flag_status (x ∷ xs) (long_of (x ∷ xs)) ≡ status_of_word (x ∷ xs)
-other_word_is x xs differ =
+other_word_is : (v : Bool) (x : ℕ) (xs : Text) → (x == 45) ≡ false → flag_status v (x ∷ xs) (long_of (x ∷ xs)) ≡ status_of_word v (x ∷ xs)
+other_word_is v x xs differ =
     let word : Text = x ∷ xs in
     let stripped : strip_byte 45 word ≡ None = rw differ refl in
     let long : long_of word ≡ None = ap (λ o. option_and_then long_of_rest (option_and_then (strip_byte 45) o)) stripped in
     let short : short_of word ≡ None = ap (option_and_then short_of_rest) stripped in
-    let plain : status_of_word word ≡ 2 = rw (differ, number_other_way x 45 differ) refl in
-    ap (flag_status word) long ∙ ap short_status short ∙ sym plain
+    ap (flag_status v word) long ∙ ap (short_status v) short ∙ sym (plain v)
+  where
+    plain : (v : Bool) → status_of_word v (x ∷ xs) ≡ 2
+    plain true = rw (differ, number_other_way x 45 differ) refl
+    plain false = rw (differ, number_other_way x 45 differ) refl
 
 -- `clap` and a reader agree on each word
-pub word_is : (word : Text) → IsUtf8 word → flag_status word (long_of word) ≡ status_of_word word
-word_is [] utf8 = refl
-word_is (x ∷ xs) utf8 = go (x == 45) refl
+pub word_is : (v : Bool) (word : Text) → IsUtf8 word → flag_status v word (long_of word) ≡ status_of_word v word
+word_is true [] utf8 = refl
+word_is false [] utf8 = refl
+word_is v (x ∷ xs) utf8 = go (x == 45) refl
   where
-    go : (t : Bool) → (x == 45) ≡ t → flag_status (x ∷ xs) (long_of (x ∷ xs)) ≡ status_of_word (x ∷ xs)
+    go : (t : Bool) → (x == 45) ≡ t → flag_status v (x ∷ xs) (long_of (x ∷ xs)) ≡ status_of_word v (x ∷ xs)
     go true e =
         let hyphen : x ≡ 45 = (Decides-eqb x 45).0 e in
-        subst (λ n. flag_status (n ∷ xs) (long_of (n ∷ xs)) ≡ status_of_word (n ∷ xs)) (sym hyphen) (hyphen_word_is xs (subst (λ n. IsUtf8 (n ∷ xs)) hyphen utf8))
-    go false e = other_word_is x xs e
+        subst (λ n. flag_status v (n ∷ xs) (long_of (n ∷ xs)) ≡ status_of_word v (n ∷ xs)) (sym hyphen) (hyphen_word_is v xs (subst (λ n. IsUtf8 (n ∷ xs)) hyphen utf8))
+    go false e = other_word_is v x xs e
 
 first_word : (word : Text) (rest : List Text) → All IsUtf8 (word ∷ rest) → IsUtf8 word
 first_word word rest utf8 = All-get_or IsUtf8 (word ∷ rest) 0 [] (omega arith) utf8
 
 words_after_pipe_are : (words : List Text) → All IsUtf8 words → after_pipe words ≡ status_after_pipe words
 words_after_pipe_are [] utf8 = refl
-words_after_pipe_are (word ∷ []) utf8 = ap (λ n. if bytes_eq word (codes "--") then None else Some n) (word_is word (first_word word [] utf8))
-words_after_pipe_are (word ∷ next ∷ rest) utf8 = ap Some (word_is word (first_word word (next ∷ rest) utf8))
+words_after_pipe_are (word ∷ []) utf8 = ap (λ n. if bytes_eq word (codes "--") then None else Some n) (word_is false word (first_word word [] utf8))
+words_after_pipe_are (word ∷ next ∷ rest) utf8 = ap Some (word_is false word (first_word word (next ∷ rest) utf8))
 
 pub arguments_are : (words : List Text) → All IsUtf8 words → of_arguments words ≡ status_of_arguments words
 arguments_are [] utf8 = refl
 arguments_are (word ∷ rest) utf8 =
-    ap₂ (λ o n. if bytes_eq word (codes "pipe") then o else Some n) (words_after_pipe_are rest (All-tail IsUtf8 word rest utf8)) (word_is word (first_word word rest utf8))
+    ap₂ (λ o n. if bytes_eq word (codes "pipe") then o else Some n) (words_after_pipe_are rest (All-tail IsUtf8 word rest utf8)) (word_is true word (first_word word rest utf8))
 
 -- the exit status in plain words is that of `clap`'s faults
-pub plain_status : (words : List Text) → All IsUtf8 words → status_of words ≡ status_of_arguments (drop 1 words)
-plain_status words utf8 = first_status _ _ (line_leads (drop 1 words)) ∙ arguments_are (drop 1 words) (All-drop IsUtf8 1 words utf8)
+pub plain_status : (words : List Text) → All IsUtf8 words → LeadsTo (status_of_arguments (drop 1 words)) (fault_of command_line words)
+plain_status words utf8 =
+    subst (λ o. LeadsTo o (fault_of command_line words)) (arguments_are (drop 1 words) (All-drop IsUtf8 1 words utf8)) (line_leads (drop 1 words))

@@ -1,5 +1,5 @@
 -- What a run of the pipe does.
-use Rattle.std.specs.Prelude.{◌≡◌, ℕ, ◌≤◌, ◌<◌, Bool, IsTrue, IsOk, List, ◌++◌, length, Result, Ok, Err}
+use Rattle.std.specs.Prelude.{◌≡◌, ℕ, ◌+◌, ◌≤◌, Bool, IsTrue, IsOk, List, ◌++◌, length, Result, Ok, Err}
 use Rattle.std.specs.declared.vec.Vec.{Vec}
 use Rattle.std.specs.declared.alloc.Global.{Global}
 use Rattle.mac_keys.specs.Table.{Keys, table_of}
@@ -14,13 +14,26 @@ use Rattle.macaroond.specs.Lines.{key_text}
 use Rattle.macaroond.specs.Output.{Begins}
 use Rattle.macaroond.specs.PipeText.{pipe_text}
 
--- the whole input was taken, or as much of it as a failed run took
+-- ---- what holds of the source
+
+-- what a run with this result took: the whole input, where it is within its bound; a byte past the bound where it is too
+-- long; and never more than that
+abbrev pub TakesInput : Result (Unit {0}) PipeFault → Bool → List ℕ → Type 0
+TakesInput (Ok x) ended input = IsTrue ended × (length input ≤ INPUT_MAX)
+TakesInput (Err (fault.Keys line kind)) ended input = IsTrue ended × (length input ≤ INPUT_MAX)
+TakesInput (Err fault.TooLong) ended input = length input ≡ INPUT_MAX + 1
+TakesInput (Err fault.Device) ended input = length input ≤ INPUT_MAX + 1
+TakesInput (Err fault.Memory) ended input = length input ≤ INPUT_MAX + 1
+
+-- the same of the text that was read
 abbrev pub Takes : Result (Vec ℕ Global) PipeFault → List ℕ → List ℕ → Type 0
 Takes (Ok input) old new = (new ≡ old ++ input.items) × (length input.items ≤ INPUT_MAX)
-Takes (Err fault.TooLong) old new = (input : List ℕ) × (new ≡ old ++ input) × (INPUT_MAX < length input)
-Takes (Err fault.Device) old new = (input : List ℕ) × (new ≡ old ++ input)
-Takes (Err fault.Memory) old new = (input : List ℕ) × (new ≡ old ++ input)
+Takes (Err fault.TooLong) old new = (input : List ℕ) × (new ≡ old ++ input) × (length input ≡ INPUT_MAX + 1)
+Takes (Err fault.Device) old new = (input : List ℕ) × (new ≡ old ++ input) × (length input ≤ INPUT_MAX + 1)
+Takes (Err fault.Memory) old new = (input : List ℕ) × (new ≡ old ++ input) × (length input ≤ INPUT_MAX + 1)
 Takes (Err (fault.Keys line kind)) old new = ⊥
+
+-- ---- what holds of the output
 
 -- the fault tells that of the key lines, unless memory ran out
 abbrev pub Tells : Result Keys KeyFault → PipeFault → Type 0
@@ -29,12 +42,11 @@ Tells table fault.Memory = Unit {0}
 Tells table fault.Device = ⊥
 Tells table fault.TooLong = ⊥
 
--- a run that took this input, to its end or not, under the answers handed in, and whose output was old and is new
-abbrev pub Pipes : (Keys → Arrival → Reply) → Result (Unit {0}) PipeFault → Bool → List ℕ → List ℕ → List ℕ → Type 0
-Pipes answer (Ok x) ended input old new = IsTrue ended × (length input ≤ INPUT_MAX)
-    × IsOk (table_of (key_text input)) × (new ≡ old ++ pipe_text answer input)
-Pipes answer (Err (fault.Keys line kind)) ended input old new = IsTrue ended × (length input ≤ INPUT_MAX)
-    × (table_of (key_text input) ≡ Err (key.Line line kind)) × (new ≡ old)
-Pipes answer (Err fault.TooLong) ended input old new = (INPUT_MAX < length input) × (new ≡ old)
-Pipes answer (Err fault.Device) ended input old new = Begins (pipe_text answer input) old new
-Pipes answer (Err fault.Memory) ended input old new = Begins (pipe_text answer input) old new
+-- what a run with this result made of the input that it took, under the answers handed in: the output was old and is new
+abbrev pub GivesOutput : (Keys → Arrival → Reply) → Result (Unit {0}) PipeFault → List ℕ → List ℕ → List ℕ → Type 0
+GivesOutput answer (Ok x) input old new = IsOk (table_of (key_text input)) × (new ≡ old ++ pipe_text answer input)
+GivesOutput answer (Err (fault.Keys line kind)) input old new =
+    (table_of (key_text input) ≡ Err (key.Line line kind)) × (new ≡ old)
+GivesOutput answer (Err fault.TooLong) input old new = new ≡ old
+GivesOutput answer (Err fault.Device) input old new = Begins (pipe_text answer input) old new
+GivesOutput answer (Err fault.Memory) input old new = Begins (pipe_text answer input) old new

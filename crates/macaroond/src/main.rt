@@ -1,9 +1,11 @@
 //! `macaroond`: answers requests to mint, to narrow and to verify macaroons.
 //!
-//! `main` reads the command line and does what it asks for; all that is decided stands in [`chosen`] and [`pipe`].
+//! `main` reads the command line and does what it asks for; all that is decided stands in [`chosen`]
+//! and [`pipe`].
 #![tactic(auto)]
 
-ghost use Rattle.std.specs.Prelude.{◌≡◌, ◌⊎◌};
+ghost use Rattle.std.specs.Prelude.{◌≡◌, IfErr};
+ghost use Rattle.macaroond.specs.Status.{IsShown, run_status};
 
 mod arrived;
 mod command_line;
@@ -14,8 +16,7 @@ mod lines;
 mod piping;
 mod reply_line;
 
-pub use command_line::{Choice, chosen, words_of};
-use command_line::{HELP_SHOWN, NO_MEMORY};
+pub use command_line::{BAD_LINE, Choice, HELP_SHOWN, NO_MEMORY, chosen, words_of};
 pub use fault::PipeFault;
 pub use input::INPUT_MAX;
 use mac_wire::{ReaderSource, WriterSink};
@@ -25,8 +26,11 @@ use std::env::Env;
 use std::io;
 use std::process::ExitCode;
 
+/// The exit status of a run that answered all its requests.
+pub const ANSWERED: u8 = 0;
+
 /// The exit status where a device failed.
-const DEVICE_FAULT: u8 = 3;
+pub const DEVICE_FAULT: u8 = 3;
 
 fn main(rt: HostRuntime) -> ExitCode {
     ExitCode::from(run(&rt))
@@ -37,7 +41,20 @@ fn run<R: Env + Alloc<A = Global> + Input + Print + Eprint + Sync>(rt: &R) -> u8
 where
     R::Reader: Send,
 {
-    match words_of(rt).and_then(|words| chosen(rt.alloc(), words.as_slice())) {
+    let choice = words_of(rt).and_then(|words| chosen(rt.alloc(), words.as_slice()));
+    done(rt, choice)
+}
+
+// Does what was chosen, and gives the exit status; what was refused is shown and not done.
+fn done<R: Alloc<A = Global> + Input + Print + Eprint + Sync>(
+    rt: &R,
+    choice: Result<Choice, (u8, String)>,
+) -> u8
+where
+    R::Reader: Send,
+    ensures { IfErr choice (λ refusal. IsShown refusal.0 result) }
+{
+    match choice {
         Ok(Choice::Pipe) => run_pipe(rt),
         Err((status, text)) => show(rt, status, text.as_str()),
     }
@@ -50,8 +67,16 @@ where
 {
     let mut source = ReaderSource::new(rt.reader());
     let mut sink = WriterSink::new(io::writer(rt));
-    match pipe(rt.alloc(), &mut source, &mut sink) {
-        Ok(()) => 0,
+    let ending = pipe(rt.alloc(), &mut source, &mut sink);
+    told(rt, ending)
+}
+
+// Names the fault that a run ended with on standard error, and gives the run's exit status.
+fn told<R: Eprint>(rt: &R, ending: Result<(), PipeFault>) -> u8
+    ensures { result ≡ run_status ending }
+{
+    match ending {
+        Ok(()) => ANSWERED,
         Err(fault) => {
             let _ = eprintln!(rt; "{fault}");
             fault.status()
@@ -61,7 +86,7 @@ where
 
 // Shows what came of a line that asks for no work, and gives the exit status.
 fn show<R: Print + Eprint>(rt: &R, status: u8, text: &str) -> u8
-    ensures { (result ≡ status) ⊎ ((status ≡ HELP_SHOWN) × (result ≡ DEVICE_FAULT)) }
+    ensures { IsShown status result }
 {
     match status {
         HELP_SHOWN if print!(rt; "{text}").is_err() => tell_fault(rt, DEVICE_FAULT),

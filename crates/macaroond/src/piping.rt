@@ -9,8 +9,8 @@ ghost use Rattle.macaroond.specs.declared.input.TheConstants.{INPUT_MAX};
 ghost use Rattle.mac_decide.specs.Answer.{answer_of};
 ghost use Rattle.macaroond.specs.Arrived.{arrival_of};
 ghost use Rattle.macaroond.specs.Lines.{lines, key_text};
-ghost use Rattle.macaroond.specs.Output.{Begins, Writes, CountsDevice};
-ghost use Rattle.macaroond.specs.Pipe.{Pipes, Tells};
+ghost use Rattle.macaroond.specs.Output.{CountsDevice, EndsWriting, Writes};
+ghost use Rattle.macaroond.specs.Pipe.{GivesOutput, TakesInput, Tells};
 ghost use Rattle.macaroond.specs.PipeText.{answers};
 ghost use Rattle.macaroond.specs.ReplyLine.{reply_line};
 
@@ -27,8 +27,8 @@ use std::alloc::Global;
 /// How many bytes of answers are gathered before they are written.
 const GATHERED: usize = 65_536;
 
-/// Reads the key lines up to the first empty line, then a request a line in hexadecimal, and writes a line for
-/// each answer, in order.
+/// Reads the key lines up to the first empty line, then a request a line in hexadecimal, and writes
+/// a line for each answer, in order.
 pub fn pipe<R: Source, W: Sink>(
     alloc: Global,
     source: &mut R,
@@ -36,9 +36,11 @@ pub fn pipe<R: Source, W: Sink>(
 ) -> Result<(), PipeFault>
     requires readable { R.faults source.old < u64.MAX }
     requires writable { W.faults sink.old < u64.MAX }
-    ensures run { IsTrue R.tells → IsTrue W.tells → (input : List ℕ)
-        × (R.taken source.new ≡ R.taken source.old ++ input)
-        × Pipes answer_of result (R.ended source.new) input (W.written sink.old) (W.written sink.new) }
+    ensures source { IsTrue R.tells → (input : List ℕ)
+        × (R.taken source.new ≡ R.taken source.old ++ input) × TakesInput result (R.ended source.new) input }
+    ensures output { IsTrue R.tells → IsTrue W.tells → (input : List ℕ)
+        → R.taken source.new ≡ R.taken source.old ++ input
+        → GivesOutput answer_of result input (W.written sink.old) (W.written sink.new) }
     ensures keys { IsTrue R.tells → (input : List ℕ) → R.taken source.new ≡ R.taken source.old ++ input
         → IsTrue (R.ended source.new) → length input ≤ INPUT_MAX
         → (line kind : ℕ) → table_of (key_text input) ≡ Err (key.Line line kind)
@@ -74,6 +76,7 @@ fn write_answers<W: Sink>(
     requires { W.faults sink.old < u64.MAX }
     ensures written { IsTrue W.tells → Writes result (answers (answer_of table.now) (map arrival_of (lines requests.now)))
         (W.written sink.old) (W.written sink.new) }
+    ensures ends { EndsWriting result }
     ensures faults { CountsDevice result (W.faults sink.old) (W.faults sink.new) }
 {
     let mut gathered = Vec::new(alloc);
@@ -123,6 +126,3 @@ fn reply_to(alloc: Global, table: &KeyTable, arrival: Arrival) -> Result<Reply, 
 {
     answer(alloc, &job_of(table, arrival))
 }
-
-#[cfg(test)]
-mod tests;

@@ -4,7 +4,7 @@ use Rattle.std.specs.Prelude.{Err}
 use Rattle.mac_keys.specs.Table.{table_of}
 use Rattle.mac_decide.specs.Answer.{answer_of}
 use Rattle.macaroond.specs.Lines.{lines, key_text, request_lines}
-use Rattle.macaroond.proofs.PipeLemmas.{pipes-answers, keys-unread, keys-told}
+use Rattle.macaroond.proofs.PipeLemmas.{keys-unread, keys-told, output-answers, output-told, output-unread, source-answers, source-told, source-unread}
 use Rattle.macaroond.proofs.piping.pipe.Goals as goal
 
 pub returns-in_err-input-clause-keys : goal.returns-in_err-input-clause-keys
@@ -20,17 +20,45 @@ returns-in_err-table-clause-keys g c tells input more ended bound line kind tabl
     keys-told c.in_err-table.field-0.0 c.from_residual-in_err-table.result (table_of (key_text input)) line kind
     c.from_residual-in_err-table.ensures.1 (rw text at c.in_err-table.ensures.fault) table
 
-pub returns-clause-run : goal.returns-clause-run
-returns-clause-run g c source_tells sink_tells =
-    let input = c.in_ok-input.input.items in
-    let taken = c.in_ok-input.ensures.input source_tells in
-    let value = c.as_slice.ensures.value in
-    let table = ap table_of (sym (c.divided.ensures.keys ∙ ap key_text value)) ∙ c.in_ok-table.ensures.table in (
-      input,
+pub returns-in_err-input-clause-source : goal.returns-in_err-input-clause-source
+returns-in_err-input-clause-source g c tells =
+    source-unread c.in_err-input.field-0.0 c.from_residual.result _ _ _ c.from_residual.ensures.1 (c.in_err-input.ensures.input tells)
+
+pub returns-in_err-input-clause-output : goal.returns-in_err-input-clause-output
+returns-in_err-input-clause-output g c source_tells sink_tells input more =
+    output-unread answer_of c.in_err-input.field-0.0 c.from_residual.result _ _ input _ c.from_residual.ensures.1 (c.in_err-input.ensures.input source_tells)
+
+pub returns-in_err-table-clause-source : goal.returns-in_err-table-clause-source
+returns-in_err-table-clause-source g c tells =
+    let taken = c.in_ok-input.ensures.input tells in (
+      c.in_ok-input.input.items,
       taken.0,
-      pipes-answers answer_of c.write_answers.result _ input c.in_ok-table.table (lines c.divided.result.1.now) _ _
-          c.in_ok-input.ensures.end taken.1 table (c.divided.ensures.requests ∙ ap request_lines value) (c.write_answers.ensures.written sink_tells),
+      source-told c.in_err-table.field-0.0 c.from_residual-in_err-table.result _ _ _ c.from_residual-in_err-table.ensures.1
+          c.in_err-table.ensures.fault c.in_ok-input.ensures.end taken.1,
     )
+
+pub returns-in_err-table-clause-output : goal.returns-in_err-table-clause-output
+returns-in_err-table-clause-output g c source_tells sink_tells input more =
+    let read : c.in_ok-input.input.items ≡ input = append_cancel_left _ _ _ (sym (c.in_ok-input.ensures.input source_tells).0 ∙ more) in
+    let text = c.divided.ensures.keys ∙ ap key_text (c.as_slice.ensures.value ∙ read) in
+    output-told answer_of c.in_err-table.field-0.0 c.from_residual-in_err-table.result input _ c.from_residual-in_err-table.ensures.1
+    (rw text at c.in_err-table.ensures.fault)
+
+pub returns-clause-source : goal.returns-clause-source
+returns-clause-source g c tells =
+    let taken = c.in_ok-input.ensures.input tells in (
+      c.in_ok-input.input.items,
+      taken.0,
+      source-answers c.write_answers.result _ _ c.in_ok-input.ensures.end taken.1 c.write_answers.ensures.ends,
+    )
+
+pub returns-clause-output : goal.returns-clause-output
+returns-clause-output g c source_tells sink_tells input more =
+    let read : c.in_ok-input.input.items ≡ input = append_cancel_left _ _ _ (sym (c.in_ok-input.ensures.input source_tells).0 ∙ more) in
+    let value = c.as_slice.ensures.value ∙ read in
+    let table = ap table_of (sym (c.divided.ensures.keys ∙ ap key_text value)) ∙ c.in_ok-table.ensures.table in
+    output-answers answer_of c.write_answers.result input c.in_ok-table.table (lines c.divided.result.1.now) _ _
+    table (c.divided.ensures.requests ∙ ap request_lines value) (c.write_answers.ensures.written sink_tells)
 
 pub returns-clause-keys : goal.returns-clause-keys
 returns-clause-keys g c tells input more ended bound line kind table =

@@ -4,7 +4,7 @@ use Rattle.mac_decide.specs.Answer.{answer_of}
 use Rattle.macaroond.specs.Arrived.{arrival_of}
 use Rattle.macaroond.specs.Lines.{lines}
 use Rattle.macaroond.specs.PipeText.{answers}
-use Rattle.macaroond.proofs.OutputLemmas.{remains-begins, remains-more, remains-cut, writes-memory, writes-device}
+use Rattle.macaroond.proofs.OutputLemmas.{ends-device, ends-memory, remains-begins, remains-more, remains-cut, writes-memory, writes-device}
 use Rattle.macaroond.proofs.piping.write_answers.Goals as goal
 
 pub returns-in_err-arrival-clause-written : goal.returns-in_err-arrival-clause-written
@@ -32,3 +32,15 @@ returns-in_err-send_all-2-clause-written g c tells =
     let gathered = c.as_slice-2.ensures.value in
     writes-device _ _ _ _ c.from_residual-in_err-send_all-2.ensures.1
     (remains-cut _ _ _ _ _ _ _ (c.loop-line.invariant.0 tells) (rw gathered at cut))
+
+pub returns-in_err-arrival-clause-ends : goal.returns-in_err-arrival-clause-ends
+returns-in_err-arrival-clause-ends g c = ends-memory _ c.from_residual.ensures.1
+
+pub returns-in_err-append_answer-clause-ends : goal.returns-in_err-append_answer-clause-ends
+returns-in_err-append_answer-clause-ends g c = ends-memory _ c.from_residual-in_err-append_answer.ensures.1
+
+pub returns-in_err-send_all-clause-ends : goal.returns-in_err-send_all-clause-ends
+returns-in_err-send_all-clause-ends g c = ends-device _ c.from_residual-in_err-send_all.ensures.1
+
+pub returns-in_err-send_all-2-clause-ends : goal.returns-in_err-send_all-2-clause-ends
+returns-in_err-send_all-2-clause-ends g c = ends-device _ c.from_residual-in_err-send_all-2.ensures.1

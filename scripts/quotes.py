@@ -1,0 +1,16 @@
+"""Code that the pages on calling a crate quote: it stands in `conformance`, which the gate proves and runs."""
+import re
+import textwrap
+
+from pipe_runs import TOP
+
+
+def faults():
+    """Which quoted blocks stand nowhere."""
+    sources = [path.read_text() for path in TOP.glob("crates/conformance/src/*.rt")]
+    found = []
+    for page in sorted(TOP.glob("crates/*/CALLING.md")):
+        for block in re.findall(r"^```rust\n(.*?)^```", page.read_text(), re.MULTILINE | re.DOTALL):
+            if not any(block in source for source in sources):
+                found.append(f"{page.relative_to(TOP)} quotes what stands nowhere in conformance:\n{textwrap.indent(block, '  ')}")
+    return found
