@@ -20,6 +20,8 @@ MOMENT = 1_780_272_000
 # An HMAC of at most 55 bytes: two pads, the text, the digest.
 HMAC_BLOCKS = 4
 BLOCKS_TIMED = 5_000_000
+# How many caveats of 245 bytes the tokens have that are read and written.
+SIZES = (8, 32, 127)
 # Each time is the least of so many: what else runs on a machine only adds to it.
 TRIALS = 5
 
@@ -92,17 +94,21 @@ def print_kinds():
         print(f"| {name} | {1 / each:,.0f} | {blocks} | {100 * blocks * block / each:.0f} % |")
 
 
+def sized_requests(count):
+    """A token of so many caveats in V2 binary and in V2 JSON: its size, and a request to write it as V2 binary."""
+    caveats = [f"{i:03} " + "c" * 241 for i in range(count)]
+    for form in ("v2-binary", "v2-json"):
+        token = answer(minted(form, caveats))
+        yield len(request.field(token)), request.attenuate("v2-binary", token)
+
+
 def print_sizes():
-    """A token read and written as V2 binary, from JSON and from V2 binary, by its size."""
+    """A token read and written as V2 binary, from V2 binary and from JSON, by its size."""
     print("| caveats | from V2 binary | from V2 JSON |")
     print("|---|---|---|")
-    for count in (8, 32, 127):
-        caveats = [f"{i:03} " + "c" * 241 for i in range(count)]
+    for count in SIZES:
         costs = []
-        for form in ("v2-binary", "v2-json"):
-            token = answer(minted(form, caveats))
-            size = len(request.field(token))
-            payload = request.attenuate("v2-binary", token)
+        for size, payload in sized_requests(count):
             each = min(pipe_seconds(payload, 2_000) for _ in range(TRIALS)) / 2_000
             costs.append(f"{size:,} bytes, {each * 1e9 / size:.1f} ns a byte")
         print(f"| {count} | {' | '.join(costs)} |")

@@ -1,22 +1,21 @@
 -- What `clap`'s faults are at this command line, for all words.
-use Rattle.std.proofs.Common.{◌≡◌, ◌∙◌, ◌==◌, ◌&&◌, ◌||◌, ◌⊎◌, inl, inr, ℕ, Bool, cond, codes, true, false, refl, sym, ap, ap₂, subst, List, [], ◌∷◌, length, drop, not, Option, Some, None, is_some, suc}
-use Rattle.std.specs.Prelude.{if◌then◌else◌, option_map, slice_get}
+use Rattle.std.proofs.Common.{◌≡◌, ◌==◌, ◌&&◌, ◌||◌, ◌⊎◌, inl, inr, ℕ, Bool, cond, codes, true, false, refl, sym, ap, ap₂, subst, List, [], ◌∷◌, length, not, Option, Some, None, is_some, suc}
+use Rattle.std.specs.Prelude.{if◌then◌else◌, slice_get}
 use Rattle.std.specs.Option.{option_map_or}
 use Rattle.std.specs.Str.{bytes_eq, chars}
 use Rattle.std.proofs.lemmas.Slice.Eq.{bytes_eq-Decides}
 use Rattle.clap.specs.Lexer.{long_of, short_of}
 use Rattle.clap.specs.Walk.{Names, finished, settled, Rule, Text, Walk, arg_by_long, idle, long_or_other, nothing_held, plain, bundle_met, short_or_plain, walk_from}
 use Rattle.clap.specs.Simple.{Shape, built, entered, built_leaf, filled_from, help_rule, inherited, marked_built, names_of, version_rule, with_leaf_noted}
-use Rattle.clap.specs.Kinds.{HasKind, IsAmong, Kinds, or_else}
+use Rattle.clap.specs.Kinds.{HasKind, Kinds, or_else}
 use Rattle.clap.specs.Faults.{built_fault, bundle_fault, bundle_step_fault, check_fault, defaults_fault, entered_fault, fault_of, settle_fault, flag_word_fault, flags_fault, level_fault, long_fault, step_fault, stray_fault, turn_fault, walk_fault}
 use Rattle.clap.specs.Values.{kind_of}
 use Rattle.clap.specs.declared.error.Error.{Error}
-use Rattle.clap.specs.declared.error.kind.ErrorKind.{ErrorKind}
 use Rattle.clap.specs.declared.error.kind.ErrorKind.TheVariants.{InvalidSubcommand, UnknownArgument}
 use Rattle.clap.proofs.OnLiterals.{clap_on_literals}
 use Rattle.clap.proofs.FaultLemmas.{fault_ends, stopped_fault}
 use Rattle.clap.proofs.WalkLemmas.{bundle_ends, walk_stopped}
-use Rattle.macaroond.specs.CommandLine.{AllLeadTo, LeadsTo, MayEnd, command_line, exit_status, pipe_command}
+use Rattle.macaroond.specs.CommandLine.{LeadsTo, MayEnd, command_line, exit_status, pipe_command}
 
 -- ---- statuses of lists of kinds
 

@@ -1,5 +1,5 @@
 -- The words of the command line as a reader sees them, and as `clap` does.
-use Rattle.std.proofs.Common.{◌≡◌, ◌∙◌, ◌==◌, ◌&&◌, ◌||◌, ◌+◌, ◌<◌, ℕ, Bool, codes, true, false, refl, sym, ap, ap₂, subst, arith, List, [], ◌∷◌, drop, take, not, Some, None, is_some, suc}
+use Rattle.std.proofs.Common.{◌≡◌, ◌∙◌, ◌==◌, ◌&&◌, ◌||◌, ◌+◌, ◌<◌, ℕ, Bool, codes, true, false, refl, sym, ap, ap₂, subst, arith, List, [], ◌∷◌, drop, take, Some, None, suc}
 use Rattle.std.specs.Prelude.{if◌then◌else◌, option_and_then, slice_get, encode_utf8_all}
 use Rattle.std.specs.List.{All, after_first, before_first, position_or_len}
 use Rattle.std.specs.Str.{IsUtf8, bytes_eq, chars}
