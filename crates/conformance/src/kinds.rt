@@ -1,7 +1,7 @@
 //! The kinds of cases, and what answers each. Each crate's cases stand in a file of its name.
 
 use crate::case::{CaseFault, Words};
-use crate::{decide, hmac, keys, token, wire, world};
+use crate::{decide, hmac, keys, lane, token, wire, world};
 use std::alloc::{AllocError, Global};
 
 /// What a line's case comes to, or that it is none.
@@ -41,6 +41,9 @@ pub(crate) fn outcome(alloc: Global, line: &str) -> Result<String, AllocError> {
 /// length FORM LOCATION IDENTIFIER CAVEAT,..                how many bytes a token of these has, or the refusal
 /// answer FILE PAYLOAD                                      the reply's frame
 /// world FILE WORKERS EVENT..                               what each event comes to, and what is sent
+/// lane CONNECTIONS WORKERS EVENT,..                        the same of a world of numbers, and what arrived
+/// buffer CALL,..                                           what calls come to, the next place, the open slips
+/// buffer_texts                                             the number and the text of each fault of a buffer
 /// ```
 fn case_outcome(alloc: Global, line: &str) -> Result<String, CaseFault> {
     let (kind, rest) = line.split_once(' ').unwrap_or((line, ""));
@@ -69,6 +72,9 @@ fn case_outcome(alloc: Global, line: &str) -> Result<String, CaseFault> {
         b"length" => decide::written_length(alloc, &mut words),
         b"answer" => decide::reply(alloc, &mut words),
         b"world" => world::ran(alloc, &mut words),
+        b"lane" => lane::outcomes(alloc, &mut words),
+        b"buffer" => lane::answers(alloc, &mut words),
+        b"buffer_texts" => lane::fault_texts(alloc),
         _ => Err(CaseFault::NoCase),
     }
 }

@@ -7,6 +7,7 @@ mod decide;
 mod hmac;
 mod keys;
 mod kinds;
+mod lane;
 mod token;
 mod verdicts;
 mod wire;

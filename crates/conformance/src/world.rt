@@ -83,7 +83,11 @@ fn job(alloc: Global, table: &KeyTable, words: &mut Words<'_>) -> Result<Job, Ca
 }
 
 /// Appends what an event came to, and a comma.
-fn append_outcome(alloc: Global, outcome: Outcome, text: &mut String) -> Result<(), AllocError> {
+pub(crate) fn append_outcome(
+    alloc: Global,
+    outcome: Outcome,
+    text: &mut String,
+) -> Result<(), AllocError> {
     let word = match outcome {
         Outcome::Admitted(place) => format!(in alloc; "admitted {place}, ")?,
         Outcome::Sent(place) => format!(in alloc; "sent {place}, ")?,
