@@ -41,7 +41,7 @@ def functions_of(lines, file, crate):
             start, end = body_of(lines, at, header[1])
             path = "::".join([crate, *module_of(file), *(it for _, it in scopes), header[2]])
             found.append(Function(file, path, first, start, end))
-            at = first = end
+            at, first = end, end + 1
         at += 1
     return [it for it in found if it.start < it.end]
 
