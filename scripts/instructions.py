@@ -11,7 +11,7 @@ import sys
 
 import bench
 
-FEW, MANY = 100, 300
+FEW, MANY = 20, 120
 FEW_BLOCKS, MANY_BLOCKS = 1_000, 3_000
 
 
