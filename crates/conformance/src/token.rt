@@ -1,7 +1,7 @@
 //! Cases of `mac_token`.
 
 use crate::case::{CaseFault, Words, append_digits, digits, lists};
-use mac_token::{RawCaveat, Token, TokenFault, read, read_raw, write};
+use mac_token::{RawCaveat, Token, TokenFault, TokenRefusal, read, read_raw, write};
 use std::alloc::{AllocError, Global};
 
 /// A token's parts, or its refusal.
@@ -120,11 +120,11 @@ pub(crate) fn longer(alloc: Global, words: &mut Words<'_>) -> Result<String, Cas
 /// The number of each fault, where it has one, and its text.
 pub(crate) fn fault_texts(alloc: Global) -> Result<String, CaseFault> {
     let faults = [
-        TokenFault::Transport,
-        TokenFault::Malformed,
-        TokenFault::ThirdParty,
-        TokenFault::Limit,
-        TokenFault::CaveatLocation,
+        TokenFault::Refused(TokenRefusal::Transport),
+        TokenFault::Refused(TokenRefusal::Malformed),
+        TokenFault::Refused(TokenRefusal::ThirdParty),
+        TokenFault::Refused(TokenRefusal::Limit),
+        TokenFault::Refused(TokenRefusal::CaveatLocation),
         TokenFault::Memory,
     ];
     let mut text = String::new(alloc);

@@ -4,7 +4,7 @@ use Rattle.std.specs.FinMap as map
 use Rattle.mac_keys.specs.Table.{Keys}
 use Rattle.mac_token.specs.RawToken.{TokenParts}
 use Rattle.mac_token.specs.Read.{read_of}
-use Rattle.mac_token.specs.declared.fault.TokenFault.{TokenFault}
+use Rattle.mac_token.specs.declared.fault.TokenRefusal.{TokenRefusal}
 use Rattle.mac_wire.specs.Request.{Asks, verify}
 use Rattle.mac_wire.specs.declared.arrival.Arrival.{Arrival}
 use Rattle.mac_wire.specs.declared.arrival.Arrival.TheVariants.{Payload}
@@ -25,7 +25,7 @@ granted-verdict BadSignature e = absurd (cc)
 granted-verdict (Unsatisfied index) e = absurd (cc)
 
 -- what is granted was read and accepted
-granted-read : (key : List ℕ) (bytes : List ℕ) (x : Context) (r : Result TokenParts TokenFault) → read_of bytes ≡ r → told r (λ t. verdict_reply (verdict_of key t x)) ≡ reply.Granted → IsGranted (Some key) bytes x
+granted-read : (key : List ℕ) (bytes : List ℕ) (x : Context) (r : Result TokenParts TokenRefusal) → read_of bytes ≡ r → told r (λ t. verdict_reply (verdict_of key t x)) ≡ reply.Granted → IsGranted (Some key) bytes x
 granted-read key bytes x (Ok t) read e =
     let verdict : verdict_of key t x ≡ Granted = granted-verdict (verdict_of key t x) e in
     record { named = key; has_key = refl; token = t; is_read = read; accepted = rw verdict at (verdict_of-is key t x) }

@@ -4,12 +4,14 @@ use Rattle.std.specs.List.{list_all}
 use Rattle.std.proofs.lemmas.List.{take_more, map-append}
 use Rattle.mac_hmac.specs.Chain.{extended}
 use Rattle.mac_hmac.proofs.ChainLemmas.{extended-append}
-use Rattle.mac_token.specs.Answers.{IsRefusal}
+use Rattle.mac_token.specs.Answers.{IsFault}
 use Rattle.mac_token.specs.Limits.{is_within, within}
 use Rattle.mac_token.specs.RawToken.{TokenParts, byte_lists}
 use Rattle.mac_token.specs.declared.limits.TheConstants.{LOCATION_MAX, IDENTIFIER_MAX, CAVEAT_MAX, CAVEATS_MAX}
 use Rattle.mac_token.specs.declared.fault.TokenFault.{TokenFault}
-use Rattle.mac_token.specs.declared.fault.TokenFault.TheVariants.{Limit}
+use Rattle.mac_token.specs.declared.fault.TokenFault.TheVariants.{Refused, Memory}
+use Rattle.mac_token.specs.declared.fault.TokenRefusal.{TokenRefusal}
+use Rattle.mac_token.specs.declared.fault.TokenRefusal.TheVariants.{Limit}
 use Rattle.mac_decide.specs.Minted.{minted}
 
 -- one more caveat is folded on
@@ -39,14 +41,14 @@ limit-by_test key location identifier caveats true test e = absurd (cc)
 limit-by_test key location identifier caveats false test e = rw (is_within-bare key location identifier caveats test)
 
 -- only a limit refuses
-only_limit : (t : TokenParts) (b : Bool) (fault : TokenFault) → (if b then Ok t else Err Limit) ≡ Err fault → fault ≡ Limit
-only_limit t true fault e = absurd (cc)
-only_limit t false fault e = cc
+only_limit : (t : TokenParts) (b : Bool) (refusal : TokenRefusal) → (if b then Ok t else Err Limit) ≡ Err refusal → refusal ≡ Limit
+only_limit t true refusal e = absurd (cc)
+only_limit t false refusal e = cc
 
 -- what refuses the bare token refuses the token with its caveats
-pub refused-whole : (key location identifier : List ℕ) (caveats : List (List ℕ)) (fault : TokenFault) → IsRefusal fault (within (minted key location identifier [])) → IsRefusal fault (within (minted key location identifier caveats))
-refused-whole key location identifier caveats fault (inl memory) = inl memory
-refused-whole key location identifier caveats fault (inr e) =
+pub refused-whole : (key location identifier : List ℕ) (caveats : List (List ℕ)) (fault : TokenFault) → IsFault fault (within (minted key location identifier [])) → IsFault fault (within (minted key location identifier caveats))
+refused-whole key location identifier caveats Memory e = tt
+refused-whole key location identifier caveats (Refused refusal) e =
     let bare = minted key location identifier [] in
-    let limit : fault ≡ Limit = only_limit bare (is_within bare) fault e in
-    inr (limit-by_test key location identifier caveats (is_within bare) refl (e ∙ ap Err limit) ∙ ap Err (sym limit))
+    let limit : refusal ≡ Limit = only_limit bare (is_within bare) refusal e in
+    limit-by_test key location identifier caveats (is_within bare) refl (e ∙ ap Err limit) ∙ ap Err (sym limit)

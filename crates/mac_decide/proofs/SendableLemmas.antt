@@ -8,8 +8,8 @@ use Rattle.mac_token.specs.Limits.{is_within, within}
 use Rattle.mac_token.specs.RawToken.{RawParts, TokenParts}
 use Rattle.mac_token.specs.Read.{parts_of, raw_read_of, token_of, token_of_read, read_of}
 use Rattle.mac_token.specs.Written.{written, write_of}
-use Rattle.mac_token.specs.declared.fault.TokenFault.{TokenFault}
-use Rattle.mac_token.specs.declared.fault.TokenFault.TheVariants.{ThirdParty, CaveatLocation, Limit}
+use Rattle.mac_token.specs.declared.fault.TokenRefusal.{TokenRefusal}
+use Rattle.mac_token.specs.declared.fault.TokenRefusal.TheVariants.{ThirdParty, CaveatLocation, Limit}
 use Rattle.mac_token.specs.declared.form.Form.{Form}
 use Rattle.mac_token.specs.declared.limits.TheConstants.{LOCATION_MAX, IDENTIFIER_MAX, CAVEAT_MAX, CAVEATS_MAX, TOKEN_MAX}
 use Rattle.mac_wire.specs.Reading.{request_of}
@@ -37,7 +37,7 @@ pub refused-sent : (reason : Refusal) → IsReply (refused reason)
 refused-sent reason = tt
 
 -- what is told of a token, or its fault
-pub told-sent : {X : Type 0} (result : Result X TokenFault) (tell : X → Reply) → ((x : X) → result ≡ Ok x → IsReply (tell x)) → IsReply (told result tell)
+pub told-sent : {X : Type 0} (result : Result X TokenRefusal) (tell : X → Reply) → ((x : X) → result ≡ Ok x → IsReply (tell x)) → IsReply (told result tell)
 told-sent (Ok x) tell each = each x refl
 told-sent (Err fault) tell each = refused-sent (refusal_of fault)
 
@@ -68,7 +68,7 @@ token_of-within true any_location t u e = absurd (cc)
 token_of-within false true t u e = absurd (cc)
 token_of-within false false t u e = few_if t u (is_within t) refl e
 
-read-within : (raw : Result RawParts TokenFault) (u : TokenParts) → token_of_read raw ≡ Ok u → is_within u ≡ true
+read-within : (raw : Result RawParts TokenRefusal) (u : TokenParts) → token_of_read raw ≡ Ok u → is_within u ≡ true
 unfolding token_of
 read-within (Ok r) u e = token_of-within _ _ (parts_of r) u e
 read-within (Err fault) u e = absurd (cc)

@@ -8,8 +8,8 @@ use Rattle.mac_token.specs.Read.{read_of}
 use Rattle.mac_token.specs.Written.{write_of}
 use Rattle.mac_token.specs.declared.form.Form.{Form}
 use Rattle.mac_token.specs.declared.form.Form.TheVariants as forms
-use Rattle.mac_token.specs.declared.fault.TokenFault.{TokenFault}
-use Rattle.mac_token.specs.declared.fault.TokenFault.TheVariants as fault
+use Rattle.mac_token.specs.declared.fault.TokenRefusal.{TokenRefusal}
+use Rattle.mac_token.specs.declared.fault.TokenRefusal.TheVariants as token
 use Rattle.mac_wire.specs.Reading.{request_of, key_name_of}
 use Rattle.mac_wire.specs.Reply.{IsReply}
 use Rattle.mac_wire.specs.Request.{Asked, mint, attenuate, verify}
@@ -32,19 +32,18 @@ use Rattle.mac_decide.specs.declared.verdict.Verdict.TheVariants as verdict
 abbrev pub refused : Refusal → Reply
 refused reason = reply.Refused reason
 
--- the reason that a token's fault is told by; want of memory is no fault of a token, and what is read or written never has it
-abbrev pub refusal_of : TokenFault → Refusal
-refusal_of fault.Transport = refusal.Transport
-refusal_of fault.Malformed = refusal.Malformed
-refusal_of fault.ThirdParty = refusal.ThirdParty
-refusal_of fault.Limit = refusal.Limit
-refusal_of fault.CaveatLocation = refusal.CaveatLocation
-refusal_of fault.Memory = refusal.BadRequest
+-- the reason that a token's refusal is told by
+abbrev pub refusal_of : TokenRefusal → Refusal
+refusal_of token.Transport = refusal.Transport
+refusal_of token.Malformed = refusal.Malformed
+refusal_of token.ThirdParty = refusal.ThirdParty
+refusal_of token.Limit = refusal.Limit
+refusal_of token.CaveatLocation = refusal.CaveatLocation
 
--- what is told of a token, or its fault
-abbrev pub told : {X : Type 0} → Result X TokenFault → (X → Reply) → Reply
+-- what is told of a token, or its refusal
+abbrev pub told : {X : Type 0} → Result X TokenRefusal → (X → Reply) → Reply
 told (Ok x) tell = tell x
-told (Err f) tell = refused (refusal_of f)
+told (Err reason) tell = refused (refusal_of reason)
 
 -- the form that is asked for, as a form of a token
 abbrev pub form_of : TokenForm → Form

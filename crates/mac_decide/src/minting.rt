@@ -45,7 +45,7 @@ fn bare(
     let signature = start(key, identifier);
     let location = String::from_str(alloc, location)?;
     let identifier = Vec::from_slice(alloc, identifier)?;
-    Token::new(location, identifier, Vec::new(alloc), signature.bytes())
+    Ok(Token::new(location, identifier, Vec::new(alloc), signature.bytes())?)
 }
 
 /// The token with these caveats behind its own, which anyone who holds it can make. `Limit` where a limit

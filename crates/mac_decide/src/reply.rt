@@ -1,9 +1,8 @@
 //! The answer to a job.
 
-ghost use Rattle.std.specs.Prelude.{◌≡◌, ◌≢◌, ◌↔◌, IfOk, OnOk, List, ℕ};
+ghost use Rattle.std.specs.Prelude.{◌≡◌, ◌↔◌, IfOk, List, ℕ};
 ghost use Rattle.mac_token.specs.RawToken.{byte_lists};
 ghost use Rattle.mac_token.specs.Read.{read_of};
-ghost use Rattle.mac_token.specs.declared.fault.TokenFault.TheVariants.{Memory};
 ghost use Rattle.mac_wire.specs.Reading.{request_of};
 ghost use Rattle.mac_wire.specs.Reply.{IsReply};
 ghost use Rattle.mac_wire.specs.Request.{Asks, verify, asked as asked_of};
@@ -16,7 +15,7 @@ use crate::job::Job;
 use crate::minting::{attenuate, mint};
 use crate::verdict::{Verdict, verify};
 use mac_hmac::RootKey;
-use mac_token::{Form, Token, TokenFault, read, write};
+use mac_token::{Form, Token, TokenFault, TokenRefusal, read, write};
 use mac_wire::{
     Arrival, Bytes, NoMemory, Refusal, Reply, Request, RequestFault, TokenForm, parse_request,
 };
@@ -114,7 +113,8 @@ fn mint_reply(
 {
     match mint(alloc, key, location, identifier, caveats) {
         Ok(token) => written_reply(alloc, form, &token),
-        Err(fault) => faulted(fault),
+        Err(TokenFault::Refused(reason)) => Ok(refused(refusal_of(reason))),
+        Err(TokenFault::Memory) => Err(AllocError),
     }
 }
 
@@ -129,7 +129,8 @@ fn attenuate_reply(
 {
     match read(alloc, token) {
         Ok(token) => narrowed_reply(alloc, form, token, caveats),
-        Err(fault) => faulted(fault),
+        Err(TokenFault::Refused(reason)) => Ok(refused(refusal_of(reason))),
+        Err(TokenFault::Memory) => Err(AllocError),
     }
 }
 
@@ -143,7 +144,8 @@ fn narrowed_reply(
 {
     match attenuate(alloc, token, caveats) {
         Ok(token) => written_reply(alloc, form, &token),
-        Err((fault, _)) => faulted(fault),
+        Err((TokenFault::Refused(reason), _)) => Ok(refused(refusal_of(reason))),
+        Err((TokenFault::Memory, _)) => Err(AllocError),
     }
 }
 
@@ -158,7 +160,8 @@ fn verify_reply(
 {
     match read(alloc, token) {
         Ok(token) => Ok(verdict_reply(verify(key, &token, context))),
-        Err(fault) => faulted(fault),
+        Err(TokenFault::Refused(reason)) => Ok(refused(refusal_of(reason))),
+        Err(TokenFault::Memory) => Err(AllocError),
     }
 }
 
@@ -178,7 +181,8 @@ fn written_reply(alloc: Global, form: TokenForm, token: &Token) -> Result<Reply,
 {
     match write(alloc, token, form_of(form)) {
         Ok(bytes) => Ok(Reply::Token(Bytes::new(bytes))),
-        Err(fault) => faulted(fault),
+        Err(TokenFault::Refused(reason)) => Ok(refused(refusal_of(reason))),
+        Err(TokenFault::Memory) => Err(AllocError),
     }
 }
 
@@ -193,17 +197,14 @@ fn form_of(form: TokenForm) -> Form
     }
 }
 
-fn faulted(fault: TokenFault) -> Result<Reply, NoMemory>
-    ensures reply { answers.Replies result (answers.refused (answers.refusal_of fault)) }
-    ensures no_memory { OnOk result (fault ≢ Memory) }
+fn refusal_of(reason: TokenRefusal) -> Refusal
+    ensures { result ≡ answers.refusal_of reason }
 {
-    let reason = match fault {
-        TokenFault::Transport => Refusal::Transport,
-        TokenFault::Malformed => Refusal::Malformed,
-        TokenFault::ThirdParty => Refusal::ThirdParty,
-        TokenFault::Limit => Refusal::Limit,
-        TokenFault::CaveatLocation => Refusal::CaveatLocation,
-        TokenFault::Memory => return Err(AllocError),
-    };
-    Ok(refused(reason))
+    match reason {
+        TokenRefusal::Transport => Refusal::Transport,
+        TokenRefusal::Malformed => Refusal::Malformed,
+        TokenRefusal::ThirdParty => Refusal::ThirdParty,
+        TokenRefusal::Limit => Refusal::Limit,
+        TokenRefusal::CaveatLocation => Refusal::CaveatLocation,
+    }
 }

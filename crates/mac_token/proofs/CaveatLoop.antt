@@ -2,8 +2,8 @@
 use Rattle.std.proofs.Common.{◌≡◌, ℕ, zero, suc, ◌<◌, List, [], ◌∷◌, ◌++◌, Option, Some, None, true, false, cond, length, refl, sym, ap, ◌∙◌, append_assoc, arith, length-append}
 use Rattle.std.specs.List.{flat_map}
 use Rattle.std.proofs.lemmas.List.{append-nil}
-use Rattle.mac_token.specs.declared.fault.TokenFault.{TokenFault}
-use Rattle.mac_token.specs.declared.fault.TokenFault.TheVariants.{Transport, Malformed, ThirdParty, Limit, CaveatLocation, Memory}
+use Rattle.mac_token.specs.declared.fault.ReadFault.{ReadFault}
+use Rattle.mac_token.specs.declared.fault.ReadFault.TheVariants.{Malformed, Memory}
 use Rattle.mac_token.specs.declared.v1.key.Key.TheVariants.{Cid}
 use Rattle.mac_token.specs.RawToken.{CaveatParts}
 use Rattle.mac_token.specs.Reads.{Fails}
@@ -58,17 +58,13 @@ goes_on front bytes c rest total test read so_far =
     let one : with_front front (caveats_at (suc (length bytes)) bytes) ≡ with_front (front ++ c ∷ []) (caveats_at (length bytes) rest) = rw (test, read) (regroup front c (caveats_at (length bytes) rest)) in
     sym (ap (with_front (front ++ c ∷ [])) fewer) ∙ sym one ∙ so_far
 
-pub stops : (fault : TokenFault) (front : List CaveatParts) (bytes : List ℕ) (total : Option (List CaveatParts × List ℕ)) → has_key Cid bytes ≡ true → Fails fault (caveat_at bytes)
+pub stops : (fault : ReadFault) (front : List CaveatParts) (bytes : List ℕ) (total : Option (List CaveatParts × List ℕ)) → has_key Cid bytes ≡ true → Fails fault (caveat_at bytes)
     → with_front front (caveats_at (suc (length bytes)) bytes) ≡ total → Fails fault total
 unfolding caveats_at
 stops Memory front bytes total test failed so_far = tt
 stops Malformed front bytes total test failed so_far =
     let one : with_front front (caveats_at (suc (length bytes)) bytes) ≡ None = rw (test, failed) refl in
     sym so_far ∙ one
-stops Transport front bytes total test failed so_far = absurd failed
-stops ThirdParty front bytes total test failed so_far = absurd failed
-stops Limit front bytes total test failed so_far = absurd failed
-stops CaveatLocation front bytes total test failed so_far = absurd failed
 
 pub is_done : (front : List CaveatParts) (bytes : List ℕ) (total : Option (List CaveatParts × List ℕ)) → has_key Cid bytes ≡ false → with_front front (caveats_at (suc (length bytes)) bytes) ≡ total → total ≡ Some (front, bytes)
 unfolding caveats_at

@@ -1,13 +1,13 @@
 -- A reader that answers by the grammar answers what a reading of lists gives.
 use Rattle.std.proofs.Common.{◌≡◌, Option, Some, None, Result, Ok, Err, refl}
-use Rattle.mac_token.specs.declared.fault.TokenFault.{TokenFault}
-use Rattle.mac_token.specs.declared.fault.TokenFault.TheVariants.{Transport, Malformed, ThirdParty, Limit, CaveatLocation, Memory}
+use Rattle.mac_token.specs.declared.fault.ReadFault.{ReadFault}
+use Rattle.mac_token.specs.declared.fault.ReadFault.TheVariants.{Malformed, Memory}
 use Rattle.mac_token.specs.RawToken.{RawParts}
 use Rattle.mac_token.specs.Reads.{Reads, Gives}
 
 -- the reading gives exactly what the grammar spells
 pub gives_from_reads : (Spelled : RawParts → Type 0) (reading : Option RawParts) → ((r : RawParts) → Spelled r → reading ≡ Some r) → ((r : RawParts) → reading ≡ Some r → Spelled r)
-    → (result : Result RawParts TokenFault) → Reads (λ r. r) Spelled result → Gives (λ r. r) result reading
+    → (result : Result RawParts ReadFault) → Reads (λ r. r) Spelled result → Gives (λ r. r) result reading
 gives_from_reads Spelled reading again takes (Ok r) reads = again r reads
 gives_from_reads Spelled reading again takes (Err Malformed) reads = none_of reading (λ r e. reads r (takes r e))
   where
@@ -15,7 +15,10 @@ gives_from_reads Spelled reading again takes (Err Malformed) reads = none_of rea
     none_of None never = refl
     none_of (Some r) never = absurd (never r refl)
 gives_from_reads Spelled reading again takes (Err Memory) reads = tt
-gives_from_reads Spelled reading again takes (Err Transport) reads = absurd reads
-gives_from_reads Spelled reading again takes (Err ThirdParty) reads = absurd reads
-gives_from_reads Spelled reading again takes (Err Limit) reads = absurd reads
-gives_from_reads Spelled reading again takes (Err CaveatLocation) reads = absurd reads
+
+-- and the other way round
+pub reads_from_gives : (Spelled : RawParts → Type 0) (reading : Option RawParts) → ((r : RawParts) → Spelled r → reading ≡ Some r) → ((r : RawParts) → reading ≡ Some r → Spelled r)
+    → (result : Result RawParts ReadFault) → Gives (λ r. r) result reading → Reads (λ r. r) Spelled result
+reads_from_gives Spelled reading again takes (Ok r) given = takes r given
+reads_from_gives Spelled reading again takes (Err Malformed) given = λ r spelled. let read = again r spelled in cc
+reads_from_gives Spelled reading again takes (Err Memory) given = tt

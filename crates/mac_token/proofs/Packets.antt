@@ -1,6 +1,6 @@
 -- How long packets are.
-use Rattle.std.proofs.Common.{◌≡◌, ℕ, ◌+◌, ◌<◌, ◌≤◌, List, [], ◌∷◌, ◌++◌, map, length, get_or, take, sym, ap, ◌∙◌, arith, length-append}
-use Rattle.std.proofs.lemmas.List.{map_more, map-append, length-map, get_or-map}
+use Rattle.std.proofs.Common.{◌≡◌, ℕ, ◌+◌, ◌<◌, ◌≤◌, List, [], ◌∷◌, ◌++◌, map, length, get_or, take, arith, length-append}
+use Rattle.std.proofs.lemmas.List.{map-append, length-map, get_or-map}
 use Rattle.std.proofs.lemmas.List.Concat.{flat_map-append}
 use Rattle.std.specs.List.{flat_map}
 use Rattle.std.specs.declared.alloc.Global.{Global}
@@ -10,6 +10,7 @@ use Rattle.mac_token.specs.declared.v1.key.Key.TheVariants.{Location, Identifier
 use Rattle.mac_token.specs.RawToken.{TokenParts, byte_lists}
 use Rattle.mac_token.specs.Limits.{AreShort}
 use Rattle.mac_token.specs.V1.{Field, key_name, packet, packet_length, hex_digits, caveat_field, v1_bytes}
+use Rattle.mac_token.proofs.Lists.{byte_lists_more}
 
 -- a packet has as many bytes as its digits say
 pub length-packet : (f : Field) → length (packet f) ≡ packet_length f
@@ -29,8 +30,7 @@ pub length-caveat_packets-more : (buffers : List (Vec ℕ Global)) (i : ℕ) (bu
     → length (caveat_packets (byte_lists (take (i + 1) buffers))) ≡ length (caveat_packets (byte_lists (take i buffers))) + packet_length (caveat_field buffer.items)
 length-caveat_packets-more buffers i buffer below is =
     let so_far = byte_lists (take i buffers) in
-    let more : byte_lists (take (i + 1) buffers) ≡ so_far ++ buffer.items ∷ [] =
-    map_more (λ (b : Vec ℕ Global). b.items) buffers i buffer below ∙ ap (λ (b : Vec ℕ Global). so_far ++ b.items ∷ []) (sym is) in
+    let more = byte_lists_more buffers i buffer below is in
     let pushed = caveat_packets-push so_far buffer.items in
     rw (more, pushed) (omega (arith, length-append (caveat_packets so_far) (packet (caveat_field buffer.items) ++ []), length-append (packet (caveat_field buffer.items)) [], length-packet (caveat_field buffer.items)))
 

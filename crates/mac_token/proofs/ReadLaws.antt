@@ -1,26 +1,33 @@
 -- What the functions of reading give is what reading means.
 use Rattle.std.proofs.Common.{◌≡◌, ℕ, ◌≤◌, Bool, true, false, ◌||◌, cond, List, [], ◌∷◌, map, length, Option, Some, None, Result, Ok, Err, refl, sym, ap, subst, ◌∙◌, inl, inr}
-use Rattle.std.specs.Prelude.{nat_lt, is_some, Any}
+use Rattle.std.specs.Prelude.{nat_lt, is_some, IsSome, Any}
 use Rattle.std.specs.List.{list_any}
 use Rattle.std.proofs.lemmas.Bool.{ltb-true, ltb-false, lt-ltb, le-ltb, both_ways}
 use Rattle.std.proofs.lemmas.List.Folds.{Any-from_list_any, list_any-from_Any}
 use Rattle.base64.specs.GeneralPurpose.{IsBytes}
 use Rattle.mac_token.specs.declared.fault.TokenFault.{TokenFault}
-use Rattle.mac_token.specs.declared.fault.TokenFault.TheVariants.{Transport, Malformed, ThirdParty, Limit, CaveatLocation, Memory}
+use Rattle.mac_token.specs.declared.fault.TokenFault.TheVariants.{Refused, Memory}
+use Rattle.mac_token.specs.declared.fault.TokenRefusal.{TokenRefusal}
+use Rattle.mac_token.specs.declared.fault.TokenRefusal.TheVariants.{Transport, Malformed, ThirdParty, Limit, CaveatLocation}
 use Rattle.mac_token.specs.declared.limits.TheConstants.{TOKEN_MAX}
-use Rattle.mac_token.specs.Answers.{Answers, Ends}
+use Rattle.mac_token.specs.Answers.{IsFault, Answers, Ends}
 use Rattle.mac_token.specs.Limits.{IsWithinLimits, is_within, within}
 use Rattle.mac_token.specs.RawToken.{CaveatParts, RawParts, TokenParts, first_party, raw_of}
 use Rattle.mac_token.specs.Spells.{Carries, Spells}
-use Rattle.mac_token.specs.Read.{HasVid, HasLocation, parts_of, Read, ReadRaw, carried, bare_of, or_malformed, or_transport, raw_read_of, token_of, token_of_read, read_of}
+use Rattle.mac_token.specs.Read.{parts_of, Read, ReadRaw, carried, bare_of, or_malformed, or_transport, raw_read_of, token_of, token_of_read, read_of}
 use Rattle.mac_token.proofs.ReadLemmas.{carried_takes, carried_again, carried_bytes, carries_one, bare_takes, bare_again}
 use Rattle.mac_token.proofs.Within.{is_within-Decides, within-Ok, within-Err}
 
 -- the answer of a call is an end, where the function's answer is
-pub ends_from_answers : {X Y : Type 0} (view : X → Y) (IsEnd : Result Y TokenFault → Type 0) (answer : Result Y TokenFault) (result : Result X TokenFault) → IsEnd answer → Answers view result answer → Ends view result IsEnd
+pub ends_from_answers : {X Y : Type 0} (view : X → Y) (IsEnd : Result Y TokenRefusal → Type 0) (answer : Result Y TokenRefusal) (result : Result X TokenFault) → IsEnd answer → Answers view result answer → Ends view result IsEnd
 ends_from_answers view IsEnd answer (Ok x) is e = subst IsEnd e is
-ends_from_answers view IsEnd answer (Err fault) is (inl memory) = inl memory
-ends_from_answers view IsEnd answer (Err fault) is (inr e) = inr (subst IsEnd e is)
+ends_from_answers view IsEnd answer (Err (Refused refusal)) is e = subst IsEnd e is
+ends_from_answers view IsEnd answer (Err Memory) is e = tt
+
+-- the fault of what was read before is that of the whole
+pub fault_through : (fault : TokenFault) (raw : Result RawParts TokenRefusal) → IsFault fault raw → IsFault fault (token_of_read raw)
+fault_through (Refused refusal) raw e = ap token_of_read e
+fault_through Memory raw e = tt
 
 -- ---- a raw token
 
@@ -58,6 +65,12 @@ any_vid cs = list_any (λ c. is_some c.vid) cs
 
 abbrev any_location : List CaveatParts → Bool
 any_location cs = list_any (λ c. is_some c.location) cs
+
+abbrev HasVid : CaveatParts → Type 0
+HasVid c = IsSome c.vid
+
+abbrev HasLocation : CaveatParts → Type 0
+HasLocation c = IsSome c.location
 
 none_vid : (cs : List CaveatParts) → any_vid cs ≡ false → ¬ Any HasVid cs
 none_vid cs e any = both_ways (any_vid cs) e (list_any-from_Any (λ (c : CaveatParts). is_some c.vid) cs any)
@@ -101,26 +114,25 @@ token_parts_of r no_vid no_location = ap (λ (cs : List CaveatParts). raw_parts 
 token_by : (vid location fits : Bool) (bytes : List ℕ) (r : RawParts) → length bytes ≤ TOKEN_MAX → Spells bytes r → any_vid r.caveats ≡ vid → any_location r.caveats ≡ location → is_within (parts_of r) ≡ fits
     → Read bytes (cond vid (Err ThirdParty) (cond location (Err CaveatLocation) (cond fits (Ok (parts_of r)) (Err Limit))))
 token_by true location fits bytes r short spells has_vids has_locations within_is =
-    (short, (r, spells, Any-from_list_any (λ (c : CaveatParts). is_some c.vid) r.caveats has_vids))
+    (r, (short, spells), Any-from_list_any (λ (c : CaveatParts). is_some c.vid) r.caveats has_vids)
 token_by false true fits bytes r short spells no_vid has_locations within_is =
-    (short, (r, spells, none_vid r.caveats no_vid, Any-from_list_any (λ (c : CaveatParts). is_some c.location) r.caveats has_locations))
+    (r, (short, spells), none_vid r.caveats no_vid, Any-from_list_any (λ (c : CaveatParts). is_some c.location) r.caveats has_locations)
 token_by false false true bytes r short spells no_vid no_location within_is =
-    (short, subst (Spells bytes) (sym (token_parts_of r no_vid no_location)) spells, (is_within-Decides (parts_of r)).0 within_is)
+    ((short, subst (Spells bytes) (sym (token_parts_of r no_vid no_location)) spells), (is_within-Decides (parts_of r)).0 within_is)
 token_by false false false bytes r short spells no_vid no_location within_is =
-    inr (short, (r, spells, none_vid r.caveats no_vid, none_location r.caveats no_location, λ fits. both_ways (is_within (parts_of r)) within_is ((is_within-Decides (parts_of r)).1 fits)))
+    inr (r, (short, spells), none_vid r.caveats no_vid, none_location r.caveats no_location, λ fits. both_ways (is_within (parts_of r)) within_is ((is_within-Decides (parts_of r)).1 fits))
 
 token_means : (bytes : List ℕ) (r : RawParts) → length bytes ≤ TOKEN_MAX → Spells bytes r → Read bytes (token_of r)
 unfolding token_of
 token_means bytes r short spells = token_by (any_vid r.caveats) (any_location r.caveats) (is_within (parts_of r)) bytes r short spells refl refl refl
 
-read_from : (bytes : List ℕ) (raw : Result RawParts TokenFault) → ReadRaw bytes raw → Read bytes (token_of_read raw)
+read_from : (bytes : List ℕ) (raw : Result RawParts TokenRefusal) → ReadRaw bytes raw → Read bytes (token_of_read raw)
 read_from bytes (Ok r) raw = token_means bytes r raw.0 raw.1
 read_from bytes (Err Limit) raw = inl raw
 read_from bytes (Err Transport) raw = raw
 read_from bytes (Err Malformed) raw = raw
 read_from bytes (Err ThirdParty) raw = absurd raw
 read_from bytes (Err CaveatLocation) raw = absurd raw
-read_from bytes (Err Memory) raw = absurd raw
 
 -- what is read
 pub read_means : (bytes : List ℕ) → IsBytes bytes → Read bytes (read_of bytes)
@@ -129,7 +141,7 @@ read_means bytes fits = read_from bytes (raw_read_of bytes) (raw_read_means byte
 
 -- ---- one meaning
 
-short_read : (bytes : List ℕ) → length bytes ≤ TOKEN_MAX → raw_read_of bytes ≡ or_transport (carried bytes)
+pub short_read : (bytes : List ℕ) → length bytes ≤ TOKEN_MAX → raw_read_of bytes ≡ or_transport (carried bytes)
 unfolding raw_read_of
 short_read bytes short = rw (le-ltb TOKEN_MAX (length bytes) short) refl
 
@@ -147,7 +159,7 @@ nothing_spelled bytes bare None fits carries e never = refl
 nothing_spelled bytes bare (Some r) fits carries e never = absurd (never (r, (bare, carries, bare_takes bare r fits e)))
 
 -- reading up to the grammar ends in one way
-pub raw_read_once : (bytes : List ℕ) (x : Result RawParts TokenFault) → IsBytes bytes → ReadRaw bytes x → raw_read_of bytes ≡ x
+pub raw_read_once : (bytes : List ℕ) (x : Result RawParts TokenRefusal) → IsBytes bytes → ReadRaw bytes x → raw_read_of bytes ≡ x
 unfolding raw_read_of
 raw_read_once bytes (Ok r) fits raw = spelled_read bytes r raw.0 raw.1
 raw_read_once bytes (Err Limit) fits raw = rw (lt-ltb TOKEN_MAX (length bytes) raw) refl
@@ -159,7 +171,6 @@ raw_read_once bytes (Err Malformed) fits raw =
     ∙ ap or_malformed (nothing_spelled bytes bare (bare_of bare) (carried_bytes bytes bare fits carries) carries refl raw.2)
 raw_read_once bytes (Err ThirdParty) fits raw = absurd raw
 raw_read_once bytes (Err CaveatLocation) fits raw = absurd raw
-raw_read_once bytes (Err Memory) fits raw = absurd raw
 
 some_vid : (cs : List CaveatParts) → Any HasVid cs → any_vid cs ≡ true
 some_vid cs any = list_any-from_Any (λ (c : CaveatParts). is_some c.vid) cs any
@@ -198,24 +209,19 @@ token_of-raw_of t fits =
     rw (first_party_vids t.caveats, first_party_locations t.caveats) (ap within parts ∙ within-Ok t fits)
 
 -- reading ends in one way
-pub read_once : (bytes : List ℕ) (x : Result TokenParts TokenFault) → IsBytes bytes → Read bytes x → read_of bytes ≡ x
+pub read_once : (bytes : List ℕ) (x : Result TokenParts TokenRefusal) → IsBytes bytes → Read bytes x → read_of bytes ≡ x
 unfolding read_of token_of
-read_once bytes (Ok t) fits read = ap token_of_read (spelled_read bytes (raw_of t) read.0 read.1) ∙ token_of-raw_of t read.2
+read_once bytes (Ok t) fits read = ap token_of_read (spelled_read bytes (raw_of t) read.0.0 read.0.1) ∙ token_of-raw_of t read.1
 read_once bytes (Err Limit) fits (inl long) = ap token_of_read (raw_read_once bytes (Err Limit) fits long)
-read_once bytes (Err Limit) fits (inr (short, (r, spells, no_vid, no_location, passes))) =
+read_once bytes (Err Limit) fits (inr (r, (short, spells), no_vid, no_location, passes)) =
     ap token_of_read (spelled_read bytes r short spells) ∙ rw (no_vid_is r.caveats no_vid, no_location_is r.caveats no_location) (within-Err (parts_of r) passes)
 read_once bytes (Err Transport) fits read = ap token_of_read (raw_read_once bytes (Err Transport) fits read)
 read_once bytes (Err Malformed) fits read = ap token_of_read (raw_read_once bytes (Err Malformed) fits read)
-read_once bytes (Err ThirdParty) fits (short, (r, spells, vids)) =
+read_once bytes (Err ThirdParty) fits (r, (short, spells), vids) =
     ap token_of_read (spelled_read bytes r short spells) ∙ rw (some_vid r.caveats vids) refl
-read_once bytes (Err CaveatLocation) fits (short, (r, spells, no_vid, locations)) =
+read_once bytes (Err CaveatLocation) fits (r, (short, spells), no_vid, locations) =
     ap token_of_read (spelled_read bytes r short spells) ∙ rw (no_vid_is r.caveats no_vid, some_location r.caveats locations) refl
-read_once bytes (Err Memory) fits read = absurd read
 
 -- a token that is read is within the limits
 pub read_of-within : (bytes : List ℕ) (t : TokenParts) → IsBytes bytes → read_of bytes ≡ Ok t → IsWithinLimits t
-read_of-within bytes t fits e = (subst (Read bytes) e (read_means bytes fits)).2
-
--- reading never ends in want of memory
-pub read_of-memory : (bytes : List ℕ) → IsBytes bytes → read_of bytes ≡ Err Memory → ⊥
-read_of-memory bytes fits e = subst (Read bytes) e (read_means bytes fits)
+read_of-within bytes t fits e = (subst (Read bytes) e (read_means bytes fits)).1

@@ -1,16 +1,17 @@
 -- What bytes carry, and the bare form in it: what is read is spelled so, and what is spelled is read.
-use Rattle.std.proofs.Common.{◌≡◌, ◌≢◌, ℕ, Bool, true, false, cond, List, [], ◌∷◌, Option, Some, None, Result, Ok, Err, refl, sym, ap, subst, ◌∙◌, ◌⊎◌, inl, inr, arith}
+use Rattle.std.proofs.Common.{◌≡◌, ◌≢◌, ℕ, Bool, true, false, cond, List, [], ◌∷◌, Option, Some, None, refl, sym, ap, subst, ◌∙◌, ◌⊎◌, inl, inr, arith}
 use Rattle.std.specs.Prelude.{◌==◌, ◌||◌}
 use Rattle.std.specs.Bool.{Decides}
 use Rattle.std.proofs.lemmas.Bool.{eqb-true, eq-eqb, ne_eqb, both_ways}
 use Rattle.std.proofs.lemmas.Bool.Decides.{Decides-or}
 use Rattle.std.proofs.lemmas.Option.{same_Some}
 use Rattle.base64.specs.GeneralPurpose.{IsBytes}
-use Rattle.mac_token.specs.declared.fault.TokenFault.{TokenFault}
-use Rattle.mac_token.specs.declared.fault.TokenFault.TheVariants.{Transport, Malformed, ThirdParty, Limit, CaveatLocation, Memory}
+use Rattle.mac_token.specs.declared.fault.ReadFault.{ReadFault}
+use Rattle.mac_token.specs.declared.fault.ReadFault.TheVariants.{Malformed, Memory}
 use Rattle.mac_token.specs.RawToken.{RawParts}
-use Rattle.mac_token.specs.Answers.{Answers}
-use Rattle.mac_token.specs.Reads.{Gives}
+use Rattle.mac_token.specs.Answers.{IsFault}
+use Rattle.mac_token.specs.Fault.{fault_of}
+use Rattle.mac_token.specs.Reads.{Fails}
 use Rattle.mac_token.specs.Base64Reading.{base64_bytes}
 use Rattle.mac_token.specs.V1Reading.{v1_of}
 use Rattle.mac_token.specs.V2Whole.{v2_of}
@@ -124,12 +125,7 @@ spells_one bytes r s (a, carries_a, is_r) (b, carries_b, is_s) =
 
 -- ---- what readers answer
 
--- where a reading gives its values, the call answers them or Malformed
-pub answers_from_gives : (reading : Option RawParts) (result : Result RawParts TokenFault) → Gives (λ r. r) result reading → Answers (λ r. r) result (or_malformed reading)
-answers_from_gives reading (Ok r) gives = ap or_malformed gives
-answers_from_gives reading (Err Malformed) gives = inr (ap or_malformed gives)
-answers_from_gives reading (Err Memory) gives = inl refl
-answers_from_gives reading (Err Transport) gives = absurd gives
-answers_from_gives reading (Err ThirdParty) gives = absurd gives
-answers_from_gives reading (Err Limit) gives = absurd gives
-answers_from_gives reading (Err CaveatLocation) gives = absurd gives
+-- where a reading gives nothing, the bytes are malformed
+pub told_from_fails : (fault : ReadFault) (reading : Option RawParts) → Fails fault reading → IsFault (fault_of fault) (or_malformed reading)
+told_from_fails Malformed reading fails = ap or_malformed fails
+told_from_fails Memory reading fails = tt

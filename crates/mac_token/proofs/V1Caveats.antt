@@ -1,5 +1,5 @@
 -- A caveat that is read is the caveat that was spelled, and what was spelled is read again.
-use Rattle.std.proofs.Common.{◌≡◌, ℕ, Bool, true, false, cond, List, [], ◌∷◌, ◌++◌, Option, Some, None, refl, sym, ap, subst, ◌∙◌, append_assoc, inl, inr}
+use Rattle.std.proofs.Common.{◌≡◌, ℕ, Bool, true, false, cond, List, [], ◌∷◌, ◌++◌, Option, Some, None, option_map, refl, sym, ap, subst, ◌∙◌, append_assoc, inl, inr}
 use Rattle.std.specs.List.{flat_map, AllByRecursion}
 use Rattle.std.specs.Str.{is_utf8}
 use Rattle.std.proofs.lemmas.List.{append-nil}
@@ -11,7 +11,9 @@ use Rattle.mac_token.specs.declared.v1.key.Key.TheVariants.{Cid, Vid, Cl, Signat
 use Rattle.mac_token.specs.Steps.{◌>>=◌}
 use Rattle.mac_token.specs.RawToken.{CaveatParts}
 use Rattle.mac_token.specs.V1.{Field, HasLength, packet, vid_fields, AreLocationFields, AreCaveatFields}
-use Rattle.mac_token.specs.V1Reading.{field_at, has_key, optional_at, spelled_location, caveat_at}
+use Rattle.mac_token.specs.Location.{location_at}
+use Rattle.mac_token.specs.Section.{SectionParts, caveat_said}
+use Rattle.mac_token.specs.V1Reading.{field_at, has_key, optional_at, section_at, caveat_at}
 use Rattle.mac_token.proofs.Steps.{bind_some, kept}
 use Rattle.mac_token.proofs.V1Fields.{IsField, field_at_takes, field_at_again}
 
@@ -115,6 +117,11 @@ none_again key bytes no_more = rw no_more refl
 
 -- ---- a caveat
 
+-- the location in a caveat's last packet
+abbrev spelled_location : Option (List ℕ) → Option (Option (List ℕ))
+spelled_location None = Some None
+spelled_location (Some value) = location_at value
+
 location_takes : (cl location : Option (List ℕ)) → spelled_location cl ≡ Some location → AreLocationFields location (optional_fields Cl cl)
 location_takes None location e =
     subst (λ (l : Option (List ℕ)). AreLocationFields l []) (same_Some None location e) (inl refl)
@@ -140,6 +147,9 @@ vid_fields_are : (vid : Option (List ℕ)) → optional_fields Vid vid ≡ vid_f
 vid_fields_are None = refl
 vid_fields_are (Some v) = refl
 
+abbrev caveat_parts : List ℕ → Option (List ℕ) → Option (List ℕ) → CaveatParts
+caveat_parts id vid location = record { id = id; vid = vid; location = location }
+
 abbrev caveat_done : List ℕ → Option (List ℕ) → List ℕ → Option (List ℕ) → Option (CaveatParts × List ℕ)
 caveat_done id vid rest location = Some (record { id = id; vid = vid; location = location }, rest)
 
@@ -152,6 +162,54 @@ caveat_vid id vid = optional_at Cl vid.1 >>= caveat_cl id vid.0
 abbrev caveat_id : List ℕ × List ℕ → Option (CaveatParts × List ℕ)
 caveat_id id = optional_at Vid id.1 >>= caveat_vid id.0
 
+-- the same step by step, the location read last
+abbrev steps_at : List ℕ → Option (CaveatParts × List ℕ)
+steps_at bytes = field_at Cid bytes >>= caveat_id
+
+abbrev fields_of : List ℕ → Option (List ℕ) → Option (List ℕ) → SectionParts
+fields_of id vid cl = record { location = cl; identifier = id; vid = vid }
+
+abbrev with_rest : List ℕ → CaveatParts → Option (CaveatParts × List ℕ)
+with_rest rest c = Some (c, rest)
+
+abbrev said_with : SectionParts × List ℕ → Option (CaveatParts × List ℕ)
+said_with s = caveat_said s.0 >>= with_rest s.1
+
+abbrev section_cl : List ℕ → Option (List ℕ) → Option (List ℕ) × List ℕ → Option (SectionParts × List ℕ)
+section_cl id vid cl = Some (fields_of id vid cl.0, cl.1)
+
+abbrev section_vid : List ℕ → Option (List ℕ) × List ℕ → Option (SectionParts × List ℕ)
+section_vid id vid = optional_at Cl vid.1 >>= section_cl id vid.0
+
+abbrev section_id : List ℕ × List ℕ → Option (SectionParts × List ℕ)
+section_id id = optional_at Vid id.1 >>= section_vid id.0
+
+mapped : (id : List ℕ) (vid : Option (List ℕ)) (rest : List ℕ) (location : Option (Option (List ℕ)))
+    → (option_map (λ l. caveat_parts id vid l) location >>= with_rest rest) ≡ (location >>= caveat_done id vid rest)
+mapped id vid rest None = refl
+mapped id vid rest (Some location) = refl
+
+said_by_location : (id : List ℕ) (vid cl : Option (List ℕ)) (rest : List ℕ) → said_with (fields_of id vid cl, rest) ≡ caveat_cl id vid (cl, rest)
+said_by_location id vid None rest = refl
+said_by_location id vid (Some value) rest = mapped id vid rest (location_at value)
+
+said_cl : (id : List ℕ) (vid : Option (List ℕ)) (cl : Option (Option (List ℕ) × List ℕ)) → ((cl >>= section_cl id vid) >>= said_with) ≡ (cl >>= caveat_cl id vid)
+said_cl id vid None = refl
+said_cl id vid (Some cl) = said_by_location id vid cl.0 cl.1
+
+said_vid : (id : List ℕ) (vid : Option (Option (List ℕ) × List ℕ)) → ((vid >>= section_vid id) >>= said_with) ≡ (vid >>= caveat_vid id)
+said_vid id None = refl
+said_vid id (Some vid) = said_cl id vid.0 (optional_at Cl vid.1)
+
+said_id : (id : Option (List ℕ × List ℕ)) → ((id >>= section_id) >>= said_with) ≡ (id >>= caveat_id)
+said_id None = refl
+said_id (Some id) = said_vid id.0 (optional_at Vid id.1)
+
+-- what the fields say is what the steps give
+caveat_at_steps : (bytes : List ℕ) → caveat_at bytes ≡ steps_at bytes
+unfolding caveat_at section_at
+caveat_at_steps bytes = said_id (field_at Cid bytes)
+
 -- a caveat stands at the front
 pub record IsCaveat (bytes : List ℕ) (c : CaveatParts) (rest : List ℕ) : Type 0 where
   pub fields : List Field
@@ -159,9 +217,8 @@ pub record IsCaveat (bytes : List ℕ) (c : CaveatParts) (rest : List ℕ) : Typ
   pub stand : AreFields bytes fields rest
 
 pub caveat_at_takes : (bytes : List ℕ) (c : CaveatParts) (rest : List ℕ) → caveat_at bytes ≡ Some (c, rest) → IsCaveat bytes c rest
-unfolding caveat_at
 caveat_at_takes bytes c rest e =
-    let id = bind_some (field_at Cid bytes) caveat_id (c, rest) e in
+    let id = bind_some (field_at Cid bytes) caveat_id (c, rest) (sym (caveat_at_steps bytes) ∙ e) in
     let vid = bind_some (optional_at Vid id.0.1) (caveat_vid id.0.0) (c, rest) id.2 in
     let cl = bind_some (optional_at Cl vid.0.1) (caveat_cl id.0.0 vid.0.0) (c, rest) vid.2 in
     let location = bind_some (spelled_location cl.0.0) (caveat_done id.0.0 vid.0.0 cl.0.1) (c, rest) cl.2 in
@@ -195,10 +252,10 @@ cl_again (Some cl) rest ends lengths = one_again Cl has_cl cl rest lengths.0
 parts_again : (id : List ℕ) (vid cl location : Option (List ℕ)) (rest : List ℕ) → EndsCaveat rest → AllByRecursion HasLength (one_field Cid id ++ (vid_fields vid ++ optional_fields Cl cl))
     → spelled_location cl ≡ Some location
     → caveat_at (packet (record { key = Cid; value = id }) ++ (flat_map packet (vid_fields vid) ++ (flat_map packet (optional_fields Cl cl) ++ rest))) ≡ caveat_done id vid rest location
-unfolding caveat_at
 parts_again id vid cl location rest ends lengths read =
     let later = AllByRecursion-parts (vid_fields vid) (optional_fields Cl cl) lengths.1 in
-    rw (field_at_again Cid id (flat_map packet (vid_fields vid) ++ (flat_map packet (optional_fields Cl cl) ++ rest)) lengths.0, vid_again vid cl rest ends later.0, cl_again cl rest ends later.1, read) refl
+    caveat_at_steps (packet (record { key = Cid; value = id }) ++ (flat_map packet (vid_fields vid) ++ (flat_map packet (optional_fields Cl cl) ++ rest)))
+    ∙ rw (field_at_again Cid id (flat_map packet (vid_fields vid) ++ (flat_map packet (optional_fields Cl cl) ++ rest)) lengths.0, vid_again vid cl rest ends later.0, cl_again cl rest ends later.1, read) refl
 
 pub caveat_at_again : (c : CaveatParts) (fields : List Field) (rest : List ℕ) → AreCaveatFields c fields → AllByRecursion HasLength fields → EndsCaveat rest
     → caveat_at (flat_map packet fields ++ rest) ≡ Some (c, rest)

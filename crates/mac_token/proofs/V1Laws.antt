@@ -8,9 +8,6 @@ use Rattle.std.proofs.lemmas.List.{append-nil}
 use Rattle.std.proofs.lemmas.List.Concat.{flat_map-append}
 use Rattle.std.proofs.lemmas.Option.{same_Some, some_pair_parts}
 use Rattle.mac_token.specs.declared.v1.key.Key.TheVariants.{Location, Identifier, Cid, Signature}
-use Rattle.mac_token.specs.declared.fault.TokenFault.{TokenFault}
-use Rattle.mac_token.specs.declared.fault.TokenFault.TheVariants.{Transport, Malformed, ThirdParty, Limit, CaveatLocation, Memory}
-use Rattle.mac_token.specs.Reads.{Gives, Reads}
 use Rattle.mac_token.specs.Steps.{◌>>=◌}
 use Rattle.mac_token.specs.RawToken.{CaveatParts, RawParts}
 use Rattle.mac_token.specs.Location.{text_at}
@@ -191,13 +188,3 @@ v1_again bytes r v =
 -- V1 packets spell at most one raw token
 pub v1_one : (bytes : List ℕ) (r s : RawParts) → V1 bytes r → V1 bytes s → r ≡ s
 v1_one bytes r s v w = same_Some r s (sym (v1_again bytes r v) ∙ v1_again bytes s w)
-
--- what a reading of lists gives is what the packets spell
-pub v1_reads : (bytes : List ℕ) (result : Result RawParts TokenFault) → Gives (λ raw. raw) result (v1_of bytes) → Reads (λ raw. raw) (V1 bytes) result
-v1_reads bytes (Ok r) given = v1_takes bytes r given
-v1_reads bytes (Err Malformed) given = λ r v. let read = v1_again bytes r v in cc
-v1_reads bytes (Err Memory) given = tt
-v1_reads bytes (Err Transport) given = given
-v1_reads bytes (Err ThirdParty) given = given
-v1_reads bytes (Err Limit) given = given
-v1_reads bytes (Err CaveatLocation) given = given

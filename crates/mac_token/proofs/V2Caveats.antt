@@ -4,7 +4,8 @@ use Rattle.std.specs.List.{flat_map}
 use Rattle.std.proofs.lemmas.List.{append-nil, length-append}
 use Rattle.base64.specs.GeneralPurpose.{IsBytes}
 use Rattle.mac_token.specs.RawToken.{CaveatParts}
-use Rattle.mac_token.specs.V2.{SectionParts, field, optional, section, end_mark, caveat_said}
+use Rattle.mac_token.specs.V2.{field, optional, section, end_mark}
+use Rattle.mac_token.specs.Section.{SectionParts, caveat_said}
 use Rattle.mac_token.specs.V2Reading.{end_at, section_at, AreCaveats}
 use Rattle.mac_token.specs.declared.v2.FieldType.TheVariants.{Location, Identifier, Vid}
 use Rattle.mac_token.proofs.V2Fields.{some_is, end_is}

@@ -6,7 +6,8 @@ use Rattle.std.specs.List.{flat_map}
 use Rattle.base64.specs.GeneralPurpose.{IsBytes}
 use Rattle.mac_token.specs.RawToken.{CaveatParts, RawParts, TokenParts, first_party, raw_of}
 use Rattle.mac_token.specs.Location.{text_at}
-use Rattle.mac_token.specs.V2.{SectionParts, V2, section, sections, field, end_mark, location_bytes, caveat_said, written_location, written_section, v2_bytes}
+use Rattle.mac_token.specs.V2.{V2, section, sections, field, end_mark, written_location, written_section, v2_bytes}
+use Rattle.mac_token.specs.Section.{SectionParts, location_bytes, caveat_said}
 use Rattle.mac_token.specs.V2Reading.{head_at, signature_at, AreCaveats}
 use Rattle.mac_token.specs.declared.v2.FieldType.TheVariants.{Signature}
 use Rattle.mac_token.proofs.Texts.{text_at-IsUtf8}

@@ -4,7 +4,8 @@ use Rattle.std.specs.Prelude.{is_none}
 use Rattle.std.proofs.lemmas.Bool.{eqb-true, eq-eqb, and_parts}
 use Rattle.std.proofs.lemmas.List.{append-nil, nil_from_length}
 use Rattle.base64.specs.GeneralPurpose.{IsBytes}
-use Rattle.mac_token.specs.V2.{SectionParts, field, optional, end_mark, section}
+use Rattle.mac_token.specs.V2.{field, optional, end_mark, section}
+use Rattle.mac_token.specs.Section.{SectionParts}
 use Rattle.mac_token.specs.V2Reading.{field_at, optional_at, end_at, section_at, without_vid, head_at, signature_at}
 use Rattle.mac_token.specs.declared.v2.FieldType.TheVariants.{Location, Identifier, Vid, Signature}
 use Rattle.mac_token.specs.Steps.{◌>>=◌}

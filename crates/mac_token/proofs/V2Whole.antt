@@ -6,7 +6,8 @@ use Rattle.base64.specs.GeneralPurpose.{IsBytes}
 use Rattle.mac_token.specs.RawToken.{CaveatParts, RawParts}
 use Rattle.mac_token.specs.Location.{text_at}
 use Rattle.mac_token.specs.Steps.{◌>>=◌}
-use Rattle.mac_token.specs.V2.{V2, SectionParts, optional, field, section, end_mark, location_bytes, caveat_said}
+use Rattle.mac_token.specs.V2.{V2, optional, field, section, end_mark}
+use Rattle.mac_token.specs.Section.{SectionParts, location_bytes, caveat_said}
 use Rattle.mac_token.specs.V2Reading.{end_at, section_at, head_at, signature_at, AreCaveats}
 use Rattle.mac_token.specs.V2Whole.{from_section, caveats_at, v2_of}
 use Rattle.mac_token.specs.declared.v2.FieldType.TheVariants.{Location, Identifier, Vid, Signature}

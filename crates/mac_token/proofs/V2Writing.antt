@@ -1,14 +1,17 @@
 -- Writing V2 binary: parts appended one after another, and how long they are.
-use Rattle.std.proofs.Common.{◌≡◌, ℕ, ◌+◌, ◌<◌, ◌≤◌, List, [], ◌∷◌, ◌++◌, length, map, take, get_or, cond, All, Option, Some, None, refl, sym, ap, subst, ◌∙◌, append_assoc, arith}
-use Rattle.std.specs.Prelude.{slice_get, Result, Ok, Err, is_ok, OnOk}
+use Rattle.std.proofs.Common.{◌≡◌, ℕ, ◌+◌, ◌<◌, ◌≤◌, List, [], ◌∷◌, ◌++◌, length, map, take, get_or, cond, Option, Some, None, refl, sym, ap, ◌∙◌, append_assoc, arith}
+use Rattle.std.specs.Prelude.{Result, Ok, Err, is_ok, OnOk}
+use Rattle.std.specs.declared.alloc.Global.{Global}
+use Rattle.std.specs.declared.vec.Vec.{Vec}
 use Rattle.std.specs.List.{flat_map}
-use Rattle.std.proofs.lemmas.List.{append-nil, length-append, take_more, map_push, flat_map_more}
-use Rattle.std.proofs.lemmas.Option.{slice_get_within, get_or_from_slice_get}
+use Rattle.std.proofs.lemmas.List.{append-nil, length-append, map_push, flat_map_more}
 use Rattle.mac_token.specs.Varint.{varint}
-use Rattle.mac_token.specs.RawToken.{TokenParts}
-use Rattle.mac_token.specs.V2.{SectionParts, type_number, field, optional, end_mark, section, written_location, written_section, v2_bytes}
+use Rattle.mac_token.specs.RawToken.{TokenParts, byte_lists}
+use Rattle.mac_token.specs.V2.{type_number, field, optional, end_mark, section, written_location, written_section, v2_bytes}
+use Rattle.mac_token.specs.Section.{SectionParts}
 use Rattle.mac_token.specs.declared.v2.FieldType.{FieldType}
 use Rattle.mac_token.specs.declared.v2.FieldType.TheVariants.{Location, Identifier, Signature}
+use Rattle.mac_token.proofs.Lists.{byte_lists_more}
 use Rattle.mac_token.proofs.V2Fields.{type_byte, end_is}
 
 -- a field, its type's byte first
@@ -55,13 +58,13 @@ abbrev pub caveat_sections : List (List ℕ) → List ℕ
 caveat_sections caveats = flat_map section (map (written_section None) caveats)
 
 -- one caveat more
-pub caveat_sections_more : (caveats : List (List ℕ)) (i : ℕ) (caveat : List ℕ) → slice_get caveats i ≡ Some caveat → caveat_sections (take (i + 1) caveats) ≡ caveat_sections (take i caveats) ++ section (written_section None caveat)
-caveat_sections_more caveats i caveat at =
-    let there : i < length caveats = slice_get_within caveats i caveat at in
-    let item : get_or caveats i [] ≡ caveat = get_or_from_slice_get caveats i caveat [] at in
-    ap caveat_sections (take_more caveats i [] there ∙ ap (λ (c : List ℕ). take i caveats ++ c ∷ []) item)
-    ∙ ap (λ (t : List SectionParts). flat_map section t) (map_push (written_section None) (take i caveats) caveat)
-    ∙ sym (flat_map_more section [] (map (written_section None) (take i caveats)) (written_section None caveat))
+caveat_sections_more : (buffers : List (Vec ℕ Global)) (i : ℕ) (buffer : Vec ℕ Global) → i < length buffers → buffer ≡ get_or buffers i buffer
+    → caveat_sections (byte_lists (take (i + 1) buffers)) ≡ caveat_sections (byte_lists (take i buffers)) ++ section (written_section None buffer.items)
+caveat_sections_more buffers i buffer below is =
+    let so_far = byte_lists (take i buffers) in
+    ap caveat_sections (byte_lists_more buffers i buffer below is)
+    ∙ ap (λ (t : List SectionParts). flat_map section t) (map_push (written_section None) so_far buffer.items)
+    ∙ sym (flat_map_more section [] (map (written_section None) so_far) (written_section None buffer.items))
 
 -- the whole, part after part
 pub v2_pushed : (t : TokenParts) → 2 ∷ [] ++ section (written_section (written_location t.location) t.identifier) ++ caveat_sections t.caveats ++ 0 ∷ [] ++ field Signature t.sig ≡ v2_bytes t
@@ -74,15 +77,11 @@ length-v2_bytes t =
     omega (arith, length-append (2 ∷ head ++ caveat_sections t.caveats ++ end_mark) (field Signature t.sig), length-append (2 ∷ head ++ caveat_sections t.caveats) end_mark, length-append (2 ∷ head) (caveat_sections t.caveats), length-section (written_location t.location) t.identifier, one)
 
 -- the length with one caveat more
-pub length-caveat_sections_more : (caveats : List (List ℕ)) (i : ℕ) (caveat : List ℕ) → slice_get caveats i ≡ Some caveat → length (caveat_sections (take (i + 1) caveats)) ≡ length (caveat_sections (take i caveats)) + (length (field Identifier caveat) + 1)
-length-caveat_sections_more caveats i caveat at =
-    ap length (caveat_sections_more caveats i caveat at)
-    ∙ omega (arith, length-append (caveat_sections (take i caveats)) (section (written_section None caveat)), length-section None caveat)
-
--- a caveat that is there has the length that each has
-pub each_at : (caveats : List (List ℕ)) (i : ℕ) (caveat : List ℕ) (limit : ℕ) → All (λ c. length c ≤ limit) caveats → slice_get caveats i ≡ Some caveat → length caveat ≤ limit
-each_at caveats i caveat limit each at =
-    subst (λ (c : List ℕ). length c ≤ limit) (get_or_from_slice_get caveats i caveat [] at) (each i [] (slice_get_within caveats i caveat at))
+pub length-caveat_sections_more : (buffers : List (Vec ℕ Global)) (i : ℕ) (buffer : Vec ℕ Global) → i < length buffers → buffer ≡ get_or buffers i buffer
+    → length (caveat_sections (byte_lists (take (i + 1) buffers))) ≡ length (caveat_sections (byte_lists (take i buffers))) + (length (field Identifier buffer.items) + 1)
+length-caveat_sections_more buffers i buffer below is =
+    ap length (caveat_sections_more buffers i buffer below is)
+    ∙ omega (arith, length-append (caveat_sections (byte_lists (take i buffers))) (section (written_section None buffer.items)), length-section None buffer.items)
 
 whole : (a b c d e f g h : ℕ) → a ≡ e → b ≡ f → c ≡ g → d ≡ h → 1 + a + b + 1 + c + 1 + d ≡ 1 + e + f + 1 + g + 1 + h
 whole a b c d e f g h p q r s = omega arith

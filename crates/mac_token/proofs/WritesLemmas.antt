@@ -6,7 +6,8 @@ use Rattle.std.specs.declared.vec.Vec.{Vec}
 use Rattle.std.proofs.lemmas.Bool.{le-ltb, lt-ltb, cases_lt, iff_false}
 use Rattle.base64.specs.Rfc4648.{unpadded_len}
 use Rattle.mac_token.specs.declared.fault.TokenFault.{TokenFault}
-use Rattle.mac_token.specs.declared.fault.TokenFault.TheVariants.{Transport, Malformed, ThirdParty, Limit, CaveatLocation, Memory}
+use Rattle.mac_token.specs.declared.fault.TokenFault.TheVariants.{Refused, Memory}
+use Rattle.mac_token.specs.declared.fault.TokenRefusal.TheVariants.{Transport, Malformed, ThirdParty, Limit, CaveatLocation}
 use Rattle.mac_token.specs.declared.form.Form.{Form}
 use Rattle.mac_token.specs.declared.limits.TheConstants.{TOKEN_MAX}
 use Rattle.mac_token.specs.Answers.{Answers}
@@ -20,12 +21,12 @@ use Rattle.mac_token.proofs.Base64Spelling.{length-base64_of}
 pub write_answers : (t : TokenParts) (form : Form) (result : Result (Vec ℕ Global) TokenFault) → Writes (written t form) result → Answers (λ text. text.items) result (write_of t form)
 unfolding write_of
 write_answers t form (Ok text) w = rw (le-ltb TOKEN_MAX (length (written t form)) w.1) (ap (λ (bytes : List ℕ). Ok bytes) (sym w.0))
-write_answers t form (Err Limit) w = inr (rw (lt-ltb TOKEN_MAX (length (written t form)) w) refl)
-write_answers t form (Err Memory) w = inl refl
-write_answers t form (Err Transport) w = absurd w
-write_answers t form (Err Malformed) w = absurd w
-write_answers t form (Err ThirdParty) w = absurd w
-write_answers t form (Err CaveatLocation) w = absurd w
+write_answers t form (Err (Refused Limit)) w = rw (lt-ltb TOKEN_MAX (length (written t form)) w) refl
+write_answers t form (Err (Refused Transport)) w = absurd w
+write_answers t form (Err (Refused Malformed)) w = absurd w
+write_answers t form (Err (Refused ThirdParty)) w = absurd w
+write_answers t form (Err (Refused CaveatLocation)) w = absurd w
+write_answers t form (Err Memory) w = tt
 
 -- bytes whose text passes the limit
 pub text_too_long : (bytes : List ℕ) (len : ℕ) (test : Bool) → (IsTrue test ↔ (unpadded_len len ≤ TOKEN_MAX)) → test ≡ false → len ≡ length bytes → TOKEN_MAX < length (base64_of bytes)

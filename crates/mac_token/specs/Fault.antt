@@ -1,13 +1,26 @@
 -- The numbers of the refusals on the wire.
 use Rattle.std.specs.Prelude.{ℕ, Option, Some, None}
+use Rattle.mac_token.specs.declared.fault.ReadFault.{ReadFault}
+use Rattle.mac_token.specs.declared.fault.ReadFault.TheVariants as reading
 use Rattle.mac_token.specs.declared.fault.TokenFault.{TokenFault}
-use Rattle.mac_token.specs.declared.fault.TokenFault.TheVariants.{Transport, Malformed, ThirdParty, Limit, CaveatLocation, Memory}
+use Rattle.mac_token.specs.declared.fault.TokenFault.TheVariants.{Refused, Memory}
+use Rattle.mac_token.specs.declared.fault.TokenRefusal.{TokenRefusal}
+use Rattle.mac_token.specs.declared.fault.TokenRefusal.TheVariants.{Transport, Malformed, ThirdParty, Limit, CaveatLocation}
 
--- the number of a refusal in this project's replies; want of memory is no refusal and has none
+-- the number of a refusal in this project's replies
+abbrev pub refusal_code : TokenRefusal → ℕ
+refusal_code Transport = 19
+refusal_code Malformed = 20
+refusal_code ThirdParty = 21
+refusal_code Limit = 22
+refusal_code CaveatLocation = 26
+
+-- the number of a fault; want of memory is no refusal and has none
 abbrev pub fault_code : TokenFault → Option ℕ
-fault_code Transport = Some 19
-fault_code Malformed = Some 20
-fault_code ThirdParty = Some 21
-fault_code Limit = Some 22
-fault_code CaveatLocation = Some 26
+fault_code (Refused refusal) = Some (refusal_code refusal)
 fault_code Memory = None
+
+-- what the fault of a form's reader is told as
+abbrev pub fault_of : ReadFault → TokenFault
+fault_of reading.Malformed = Refused Malformed
+fault_of reading.Memory = Memory

@@ -4,6 +4,7 @@ pub mod Limits
 pub mod RawToken
 pub mod Reads
 pub mod Location
+pub mod Section
 pub mod V1
 pub mod Steps
 pub mod V1Reading

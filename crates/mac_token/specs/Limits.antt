@@ -1,8 +1,8 @@
 -- The limits of a token.
 use Rattle.std.specs.Prelude.{ℕ, ◌≤◌, nat_le, Bool, ◌&&◌, if◌then◌else◌, List, length, All, Result, Ok, Err}
 use Rattle.std.specs.List.{list_all}
-use Rattle.mac_token.specs.declared.fault.TokenFault.{TokenFault}
-use Rattle.mac_token.specs.declared.fault.TokenFault.TheVariants.{Limit}
+use Rattle.mac_token.specs.declared.fault.TokenRefusal.{TokenRefusal}
+use Rattle.mac_token.specs.declared.fault.TokenRefusal.TheVariants.{Limit}
 use Rattle.mac_token.specs.RawToken.{TokenParts}
 use Rattle.mac_token.specs.declared.limits.TheConstants.{LOCATION_MAX, IDENTIFIER_MAX, CAVEAT_MAX, CAVEATS_MAX}
 
@@ -27,5 +27,5 @@ is_within t = nat_le (length t.location) LOCATION_MAX && nat_le (length t.identi
     && list_all (λ caveat. nat_le (length caveat) CAVEAT_MAX) t.caveats
 
 -- the token, or Limit where a part passes its limit
-abbrev pub within : TokenParts → Result TokenParts TokenFault
+abbrev pub within : TokenParts → Result TokenParts TokenRefusal
 within t = if is_within t then Ok t else Err Limit

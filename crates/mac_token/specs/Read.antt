@@ -1,8 +1,8 @@
 -- What reading answers, in the order of its tests.
 use Rattle.std.specs.Prelude.{◌⊎◌, ℕ, ◌<◌, ◌≤◌, ◌==◌, ◌||◌, nat_lt, Bool, if◌then◌else◌, List, [], ◌∷◌, map, length, is_some, Option, Some, None, IsSome, Result, Ok, Err, Any}
 use Rattle.std.specs.List.{list_any}
-use Rattle.mac_token.specs.declared.fault.TokenFault.{TokenFault}
-use Rattle.mac_token.specs.declared.fault.TokenFault.TheVariants.{Transport, Malformed, ThirdParty, Limit, CaveatLocation, Memory}
+use Rattle.mac_token.specs.declared.fault.TokenRefusal.{TokenRefusal}
+use Rattle.mac_token.specs.declared.fault.TokenRefusal.TheVariants.{Transport, Malformed, ThirdParty, Limit, CaveatLocation}
 use Rattle.mac_token.specs.declared.limits.TheConstants.{TOKEN_MAX}
 use Rattle.mac_token.specs.RawToken.{CaveatParts, RawParts, TokenParts, token_parts, raw_of}
 use Rattle.mac_token.specs.Limits.{IsWithinLimits, within}
@@ -14,39 +14,40 @@ use Rattle.mac_token.specs.JsonReading.{json_text_of}
 
 -- ---- the meaning, in the words of the forms
 
--- the caveat is third-party: it has a verifier's id, be it empty
-abbrev pub HasVid : CaveatParts → Type 0
-HasVid c = IsSome c.vid
+-- a caveat of the raw token is third-party: it has a verifier's id, be it empty
+abbrev pub AnyVid : RawParts → Type 0
+AnyVid r = Any (λ c. IsSome c.vid) r.caveats
 
--- the caveat has a location
-abbrev pub HasLocation : CaveatParts → Type 0
-HasLocation c = IsSome c.location
+-- a caveat of the raw token has a location
+abbrev pub AnyLocation : RawParts → Type 0
+AnyLocation r = Any (λ c. IsSome c.location) r.caveats
 
 -- the parts of a raw token that a token has too
 abbrev pub parts_of : RawParts → TokenParts
 parts_of r = token_parts r.location r.identifier (map (λ c. c.id) r.caveats) r.sig
 
--- how reading these bytes ends; each refusal only where none before it applies: the input's length, its transport,
--- the grammar, a verifier's id anywhere, a caveat's location anywhere, the other limits
-abbrev pub Read : List ℕ → Result TokenParts TokenFault → Type 0
-Read bytes (Ok t) = (length bytes ≤ TOKEN_MAX) × Spells bytes (raw_of t) × IsWithinLimits t
-Read bytes (Err Limit) = (TOKEN_MAX < length bytes)
-    ⊎ ((length bytes ≤ TOKEN_MAX) × ((r : RawParts) × Spells bytes r × (¬ Any HasVid r.caveats) × (¬ Any HasLocation r.caveats) × (¬ IsWithinLimits (parts_of r))))
-Read bytes (Err Transport) = (length bytes ≤ TOKEN_MAX) × (¬ ((bare : List ℕ) × Carries bytes bare))
-Read bytes (Err Malformed) = (length bytes ≤ TOKEN_MAX) × ((bare : List ℕ) × Carries bytes bare) × (¬ ((r : RawParts) × Spells bytes r))
-Read bytes (Err ThirdParty) = (length bytes ≤ TOKEN_MAX) × ((r : RawParts) × Spells bytes r × Any HasVid r.caveats)
-Read bytes (Err CaveatLocation) = (length bytes ≤ TOKEN_MAX) × ((r : RawParts) × Spells bytes r × (¬ Any HasVid r.caveats) × Any HasLocation r.caveats)
-Read bytes (Err Memory) = ⊥
+-- the input is no longer than a token may be
+abbrev pub IsInBound : List ℕ → Type 0
+IsInBound bytes = length bytes ≤ TOKEN_MAX
 
--- the same, up to the grammar
-abbrev pub ReadRaw : List ℕ → Result RawParts TokenFault → Type 0
-ReadRaw bytes (Ok r) = (length bytes ≤ TOKEN_MAX) × Spells bytes r
+-- how reading ends up to the grammar; each refusal only where none before it applies: the input's length, its transport, its form
+abbrev pub ReadRaw : List ℕ → Result RawParts TokenRefusal → Type 0
+ReadRaw bytes (Ok r) = IsInBound bytes × Spells bytes r
 ReadRaw bytes (Err Limit) = TOKEN_MAX < length bytes
-ReadRaw bytes (Err Transport) = (length bytes ≤ TOKEN_MAX) × (¬ ((bare : List ℕ) × Carries bytes bare))
-ReadRaw bytes (Err Malformed) = (length bytes ≤ TOKEN_MAX) × ((bare : List ℕ) × Carries bytes bare) × (¬ ((r : RawParts) × Spells bytes r))
-ReadRaw bytes (Err ThirdParty) = ⊥
-ReadRaw bytes (Err CaveatLocation) = ⊥
-ReadRaw bytes (Err Memory) = ⊥
+ReadRaw bytes (Err Transport) = IsInBound bytes × (¬ ((bare : List ℕ) × Carries bytes bare))
+ReadRaw bytes (Err Malformed) = IsInBound bytes × ((bare : List ℕ) × Carries bytes bare) × (¬ ((r : RawParts) × Spells bytes r))
+ReadRaw bytes (Err _) = ⊥
+
+-- how reading ends; each refusal only where none before it applies: those up to the grammar, a verifier's id anywhere, a
+-- caveat's location anywhere, the other limits
+abbrev pub Read : List ℕ → Result TokenParts TokenRefusal → Type 0
+Read bytes (Ok t) = ReadRaw bytes (Ok (raw_of t)) × IsWithinLimits t
+Read bytes (Err Transport) = ReadRaw bytes (Err Transport)
+Read bytes (Err Malformed) = ReadRaw bytes (Err Malformed)
+Read bytes (Err ThirdParty) = (r : RawParts) × ReadRaw bytes (Ok r) × AnyVid r
+Read bytes (Err CaveatLocation) = (r : RawParts) × ReadRaw bytes (Ok r) × (¬ AnyVid r) × AnyLocation r
+Read bytes (Err Limit) = ReadRaw bytes (Err Limit)
+    ⊎ ((r : RawParts) × ReadRaw bytes (Ok r) × (¬ AnyVid r) × (¬ AnyLocation r) × (¬ IsWithinLimits (parts_of r)))
 
 -- ---- the same as functions, which the laws of this crate tie to it
 
@@ -65,30 +66,30 @@ bare_of [] = None
 bare_of (b ∷ bytes) = if b == 48 then v1_of (b ∷ bytes) else if b == 2 then v2_of (b ∷ bytes) else if b == 123 then json_text_of (b ∷ bytes) else None
 
 -- the raw token, or Malformed
-abbrev pub or_malformed : Option RawParts → Result RawParts TokenFault
+abbrev pub or_malformed : Option RawParts → Result RawParts TokenRefusal
 or_malformed None = Err Malformed
 or_malformed (Some r) = Ok r
 
 -- the raw token in what is carried, or Transport
-abbrev pub or_transport : Option (List ℕ) → Result RawParts TokenFault
+abbrev pub or_transport : Option (List ℕ) → Result RawParts TokenRefusal
 or_transport None = Err Transport
 or_transport (Some bare) = or_malformed (bare_of bare)
 
 -- what `read_raw` answers
-unfoldable pub raw_read_of : List ℕ → Result RawParts TokenFault
+unfoldable pub raw_read_of : List ℕ → Result RawParts TokenRefusal
 raw_read_of bytes = if nat_lt TOKEN_MAX (length bytes) then Err Limit else or_transport (carried bytes)
 
 -- a raw token as a token, or why it is none
-unfoldable pub token_of : RawParts → Result TokenParts TokenFault
+unfoldable pub token_of : RawParts → Result TokenParts TokenRefusal
 token_of r = if list_any (λ c. is_some c.vid) r.caveats then Err ThirdParty
     else if list_any (λ c. is_some c.location) r.caveats then Err CaveatLocation
     else within (parts_of r)
 
 -- a token, or the refusal of what was read before
-abbrev pub token_of_read : Result RawParts TokenFault → Result TokenParts TokenFault
+abbrev pub token_of_read : Result RawParts TokenRefusal → Result TokenParts TokenRefusal
 token_of_read (Err fault) = Err fault
 token_of_read (Ok r) = token_of r
 
 -- what `read` answers
-unfoldable pub read_of : List ℕ → Result TokenParts TokenFault
+unfoldable pub read_of : List ℕ → Result TokenParts TokenRefusal
 read_of bytes = token_of_read (raw_read_of bytes)

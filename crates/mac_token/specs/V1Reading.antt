@@ -4,7 +4,8 @@ use Rattle.std.specs.List.{starts_with}
 use Rattle.mac_token.specs.declared.v1.key.Key.{Key}
 use Rattle.mac_token.specs.declared.v1.key.Key.TheVariants.{Location, Identifier, Cid, Vid, Cl, Signature}
 use Rattle.mac_token.specs.RawToken.{CaveatParts, RawParts}
-use Rattle.mac_token.specs.Location.{text_at, location_at}
+use Rattle.mac_token.specs.Location.{text_at}
+use Rattle.mac_token.specs.Section.{SectionParts, caveat_said}
 use Rattle.mac_token.specs.Steps.{◌>>=◌}
 use Rattle.mac_token.specs.V1.{key_name}
 
@@ -55,18 +56,20 @@ has_key key _ = false
 unfoldable pub optional_at : Key → List ℕ → Option (Option (List ℕ) × List ℕ)
 optional_at key bytes = if has_key key bytes then (field_at key bytes >>= λ f. Some (Some f.0, f.1)) else Some (None, bytes)
 
--- the location in a caveat's last packet
-abbrev pub spelled_location : Option (List ℕ) → Option (Option (List ℕ))
-spelled_location None = Some None
-spelled_location (Some value) = location_at value
+-- a caveat's fields
+unfoldable pub section_at : List ℕ → Option (SectionParts × List ℕ)
+section_at bytes = do
+  identifier ← field_at Cid bytes
+  vid ← optional_at Vid identifier.1
+  location ← optional_at Cl vid.1
+  Some (record { location = location.0; identifier = identifier.0; vid = vid.0 }, location.1)
 
+-- a caveat
 unfoldable pub caveat_at : List ℕ → Option (CaveatParts × List ℕ)
 caveat_at bytes = do
-  id ← field_at Cid bytes
-  vid ← optional_at Vid id.1
-  cl ← optional_at Cl vid.1
-  location ← spelled_location cl.0
-  Some (record { id = id.0; vid = vid.0; location = location }, cl.1)
+  section ← section_at bytes
+  caveat ← caveat_said section.0
+  Some (caveat, section.1)
 
 -- fewer than so many caveats, while the next packet is a caveat's
 unfoldable pub caveats_at : ℕ → List ℕ → Option (List CaveatParts × List ℕ)

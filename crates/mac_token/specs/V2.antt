@@ -1,9 +1,10 @@
 -- V2 binary (libmacaroons): a token as sections of fields behind the version byte 2.
-use Rattle.std.specs.Prelude.{◌≡◌, ℕ, List, [], ◌∷◌, ◌++◌, length, map, Option, Some, None, unwrap_or, option_map}
+use Rattle.std.specs.Prelude.{◌≡◌, ℕ, List, [], ◌∷◌, ◌++◌, length, map, Option, Some, None}
 use Rattle.std.specs.List.{flat_map}
 use Rattle.mac_token.specs.Varint.{varint}
-use Rattle.mac_token.specs.Location.{text_at, location_at}
-use Rattle.mac_token.specs.RawToken.{CaveatParts, RawParts, TokenParts}
+use Rattle.mac_token.specs.Location.{text_at}
+use Rattle.mac_token.specs.RawToken.{RawParts, TokenParts}
+use Rattle.mac_token.specs.Section.{SectionParts, location_bytes, caveat_said}
 use Rattle.mac_token.specs.declared.v2.FieldType.{FieldType}
 use Rattle.mac_token.specs.declared.v2.FieldType.TheVariants.{Location, Identifier, Vid, Signature}
 
@@ -27,23 +28,9 @@ optional kind (Some bytes) = field kind bytes
 abbrev pub end_mark : List ℕ
 end_mark = varint 0
 
--- the fields of a section as they stand there, an empty location among them
-pub record SectionParts : Type 0 where
-  pub location : Option (List ℕ)
-  pub identifier : List ℕ
-  pub vid : Option (List ℕ)
-
 -- a section: a location or none, the identifier, a verifier's id or none, the end mark
 abbrev pub section : SectionParts → List ℕ
 section s = optional Location s.location ++ field Identifier s.identifier ++ optional Vid s.vid ++ end_mark
-
--- the bytes of a section's location; where there is none they are empty
-abbrev pub location_bytes : SectionParts → List ℕ
-location_bytes s = unwrap_or s.location []
-
--- what a section says as a caveat's: an empty location counts as absent, another is UTF-8
-abbrev pub caveat_said : SectionParts → Option CaveatParts
-caveat_said s = option_map (λ location. record { id = s.identifier; vid = s.vid; location = location }) (location_at (location_bytes s))
 
 -- the version, the token's own section, those of its caveats, one more end mark, the signature's field, and nothing more
 abbrev pub sections : SectionParts → List SectionParts → List ℕ → List ℕ

@@ -3,7 +3,8 @@ use Rattle.std.specs.Prelude.{◌≡◌, ℕ, zero, suc, ◌+◌, ◌*◌, ◌%�
 use Rattle.std.specs.List.{flat_map}
 use Rattle.mac_token.specs.RawToken.{CaveatParts}
 use Rattle.mac_token.specs.Steps.{◌>>=◌}
-use Rattle.mac_token.specs.V2.{SectionParts, type_number, section, end_mark, caveat_said}
+use Rattle.mac_token.specs.V2.{type_number, section, end_mark}
+use Rattle.mac_token.specs.Section.{SectionParts, caveat_said}
 use Rattle.mac_token.specs.declared.v2.FieldType.{FieldType}
 use Rattle.mac_token.specs.declared.v2.FieldType.TheVariants.{Location, Identifier, Vid, Signature}
 

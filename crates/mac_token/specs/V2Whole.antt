@@ -3,7 +3,7 @@ use Rattle.std.specs.Prelude.{ℕ, zero, suc, List, [], ◌∷◌, length, Optio
 use Rattle.mac_token.specs.RawToken.{CaveatParts, RawParts}
 use Rattle.mac_token.specs.Location.{text_at}
 use Rattle.mac_token.specs.Steps.{◌>>=◌}
-use Rattle.mac_token.specs.V2.{SectionParts, location_bytes, caveat_said}
+use Rattle.mac_token.specs.Section.{SectionParts, location_bytes, caveat_said}
 use Rattle.mac_token.specs.V2Reading.{end_at, section_at, head_at, signature_at}
 
 -- no caveat is left where no section comes next, but the end mark

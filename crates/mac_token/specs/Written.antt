@@ -1,7 +1,7 @@
 -- What is written for a token, in each form.
 use Rattle.std.specs.Prelude.{ℕ, List, length, nat_lt, if◌then◌else◌, Result, Ok, Err}
-use Rattle.mac_token.specs.declared.fault.TokenFault.{TokenFault}
-use Rattle.mac_token.specs.declared.fault.TokenFault.TheVariants.{Limit}
+use Rattle.mac_token.specs.declared.fault.TokenRefusal.{TokenRefusal}
+use Rattle.mac_token.specs.declared.fault.TokenRefusal.TheVariants.{Limit}
 use Rattle.mac_token.specs.declared.form.Form.{Form}
 use Rattle.mac_token.specs.declared.form.Form.TheVariants.{V1Text, V2Binary, V2Json, V2Text}
 use Rattle.mac_token.specs.declared.limits.TheConstants.{TOKEN_MAX}
@@ -19,5 +19,5 @@ written t V2Json = json_bytes t
 written t V2Text = base64_of (v2_bytes t)
 
 -- what writing answers: Limit exactly where the bytes would pass a token's greatest length
-unfoldable pub write_of : TokenParts → Form → Result (List ℕ) TokenFault
+unfoldable pub write_of : TokenParts → Form → Result (List ℕ) TokenRefusal
 write_of t form = if nat_lt TOKEN_MAX (length (written t form)) then Err Limit else Ok (written t form)

@@ -1,8 +1,9 @@
 //! Why a token is refused.
 
 ghost use Rattle.std.specs.Prelude.{◌≡◌};
-ghost use Rattle.mac_token.specs.Fault.{fault_code};
-ghost use Rattle.mac_token.specs.declared.fault.TokenFault.TheVariants.{Memory};
+ghost use Rattle.mac_token.specs.Fault.{refusal_code, fault_code, fault_of};
+ghost use Rattle.mac_token.specs.declared.fault.ReadFault.TheVariants as reading;
+ghost use Rattle.mac_token.specs.declared.fault.TokenFault.TheVariants.{Refused, Memory};
 
 use std::alloc::{AllocError, AllocFailed};
 use thiserror::Error;
@@ -10,9 +11,9 @@ use thiserror::Error;
 /// Want of memory.
 pub type NoMemory = AllocError;
 
-/// Why a token could not be read, made or written.
+/// Why bytes are no token that is taken, or a token isn't made or written.
 #[derive(Clone, Copy, Debug, PartialEq, Eq, Error)]
-pub enum TokenFault {
+pub enum TokenRefusal {
     /// The input is empty, or begins as no bare form and is no base64 text.
     #[error("the token is neither a bare form nor base64 text")]
     Transport,
@@ -28,6 +29,29 @@ pub enum TokenFault {
     /// A caveat without a verifier's id has a location.
     #[error("a first-party caveat of the token has a location")]
     CaveatLocation,
+}
+
+impl TokenRefusal {
+    /// The refusal's number on the wire.
+    pub fn code(&self) -> u8
+        ensures { result ≡ refusal_code self.now }
+    {
+        match self {
+            TokenRefusal::Transport => 19,
+            TokenRefusal::Malformed => 20,
+            TokenRefusal::ThirdParty => 21,
+            TokenRefusal::Limit => 22,
+            TokenRefusal::CaveatLocation => 26,
+        }
+    }
+}
+
+/// Why a token could not be read, made or written: it is refused, or memory was.
+#[derive(Clone, Copy, Debug, PartialEq, Eq, Error)]
+pub enum TokenFault {
+    /// The token is refused.
+    #[error("{0}")]
+    Refused(TokenRefusal),
     /// Memory was refused.
     #[error("there is not enough memory for the token")]
     Memory,
@@ -39,13 +63,17 @@ impl TokenFault {
         ensures { result ≡ fault_code self.now }
     {
         match self {
-            TokenFault::Transport => Some(19),
-            TokenFault::Malformed => Some(20),
-            TokenFault::ThirdParty => Some(21),
-            TokenFault::Limit => Some(22),
-            TokenFault::CaveatLocation => Some(26),
+            TokenFault::Refused(refusal) => Some(refusal.code()),
             TokenFault::Memory => None,
         }
+    }
+}
+
+impl From<TokenRefusal> for TokenFault {
+    ghost from_gives = { λ refusal fault. fault ≡ Refused refusal };
+
+    fn from(refusal: TokenRefusal) -> TokenFault {
+        TokenFault::Refused(refusal)
     }
 }
 
@@ -62,5 +90,41 @@ impl<T: Drop> From<AllocFailed<T>> for TokenFault {
 
     fn from(_refused: AllocFailed<T>) -> TokenFault {
         TokenFault::Memory
+    }
+}
+
+/// Why the reader of a form gives no token.
+#[derive(Clone, Copy)]
+pub(crate) enum ReadFault {
+    /// The bytes spell none.
+    Malformed,
+    /// Memory was refused.
+    Memory,
+}
+
+impl From<AllocError> for ReadFault {
+    ghost from_gives = { λ _ fault. fault ≡ reading.Memory };
+
+    fn from(_refused: AllocError) -> ReadFault {
+        ReadFault::Memory
+    }
+}
+
+impl<T: Drop> From<AllocFailed<T>> for ReadFault {
+    ghost from_gives = { λ _ fault. fault ≡ reading.Memory };
+
+    fn from(_refused: AllocFailed<T>) -> ReadFault {
+        ReadFault::Memory
+    }
+}
+
+impl From<ReadFault> for TokenFault {
+    ghost from_gives = { λ fault told. told ≡ fault_of fault };
+
+    fn from(fault: ReadFault) -> TokenFault {
+        match fault {
+            ReadFault::Malformed => TokenFault::Refused(TokenRefusal::Malformed),
+            ReadFault::Memory => TokenFault::Memory,
+        }
     }
 }

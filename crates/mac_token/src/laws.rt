@@ -4,17 +4,21 @@ ghost use Rattle.std.specs.Prelude.{All, ◌≡◌, ◌≤◌, ◌↔◌, ◌++�
 ghost use Rattle.std.specs.Str.{IsUtf8};
 ghost use Rattle.base64.specs.Engines.{standard, standard_no_pad, url_safe, url_safe_no_pad};
 ghost use Rattle.base64.specs.GeneralPurpose.{IsBytes, engine_symbols};
-ghost use Rattle.mac_token.specs.declared.fault.TokenFault.{TokenFault};
+ghost use Rattle.mac_token.specs.declared.fault.TokenRefusal.{TokenRefusal};
 ghost use Rattle.mac_token.specs.declared.form.Form.{Form};
-ghost use Rattle.mac_token.specs.declared.limits.TheConstants.{TOKEN_MAX};
+ghost use Rattle.mac_token.specs.declared.limits.TheConstants.{LOCATION_MAX, IDENTIFIER_MAX, CAVEAT_MAX, CAVEATS_MAX, TOKEN_MAX};
+ghost use Rattle.mac_token.specs.Base64Reading.{base64_bytes};
 ghost use Rattle.mac_token.specs.Base64Text.{IsBase64Of, base64_of};
 ghost use Rattle.mac_token.specs.Json.{JsonText, json_bytes};
+ghost use Rattle.mac_token.specs.JsonReading.{json_text_of};
 ghost use Rattle.mac_token.specs.Limits.{IsWithinLimits, is_within};
 ghost use Rattle.mac_token.specs.RawToken.{RawParts, TokenParts, IsToken, byte_lists, raw_of};
 ghost use Rattle.mac_token.specs.Read.{Read, ReadRaw, read_of, raw_read_of};
 ghost use Rattle.mac_token.specs.Spells.{Spells};
 ghost use Rattle.mac_token.specs.V1.{V1, v1_bytes};
+ghost use Rattle.mac_token.specs.V1Reading.{v1_of};
 ghost use Rattle.mac_token.specs.V2.{V2, v2_bytes};
+ghost use Rattle.mac_token.specs.V2Whole.{v2_of};
 ghost use Rattle.mac_token.specs.Varint.{varint, IsVarint, IsLeb128, number_of};
 ghost use Rattle.mac_token.specs.Written.{written};
 
@@ -50,7 +54,7 @@ fn parts_of_a_token(token: &Token)
 {
     is_text(token.location());
     are_bytes(token.identifier());
-    all_are_bytes(token.caveat_buffers());
+    all_are_bytes(token.caveat_list());
     are_bytes(&token.sig());
 }
 
@@ -73,12 +77,41 @@ fn all_are_bytes(lists: &[Vec<u8>])
 
 /// What the function of reading gives is the one way in which reading may end.
 pub fn read_is_meant()
-    ensures { (bytes : List ℕ) (end : Result TokenParts TokenFault) → IsBytes bytes → Read bytes end ↔ (read_of bytes ≡ end) }
+    ensures { (bytes : List ℕ) (end : Result TokenParts TokenRefusal) → IsBytes bytes → Read bytes end ↔ (read_of bytes ≡ end) }
 {}
 
 /// The same up to the grammar.
 pub fn raw_read_is_meant()
-    ensures { (bytes : List ℕ) (end : Result RawParts TokenFault) → IsBytes bytes → ReadRaw bytes end ↔ (raw_read_of bytes ≡ end) }
+    ensures { (bytes : List ℕ) (end : Result RawParts TokenRefusal) → IsBytes bytes → ReadRaw bytes end ↔ (raw_read_of bytes ≡ end) }
+{}
+
+/// What is read from V1 packets is the raw token that they spell.
+pub fn v1_is_meant()
+    ensures { (bytes : List ℕ) (r : RawParts) → V1 bytes r ↔ (v1_of bytes ≡ Some r) }
+{}
+
+/// What is read from V2 binary is the raw token that it spells.
+pub fn v2_is_meant()
+    ensures { (bytes : List ℕ) (r : RawParts) → IsBytes bytes → V2 bytes r ↔ (v2_of bytes ≡ Some r) }
+{}
+
+/// What is read from V2 JSON is the raw token that it spells.
+pub fn json_is_meant()
+    ensures { (bytes : List ℕ) (r : RawParts) → JsonText bytes r ↔ (json_text_of bytes ≡ Some r) }
+{}
+
+/// What is read from base64 text is the bytes that it spells.
+pub fn base64_is_meant()
+    ensures { (text bytes : List ℕ) → IsBase64Of text bytes ↔ (base64_bytes text ≡ Some bytes) }
+{}
+
+/// The limits, as numbers.
+pub fn limits_are_these()
+    ensures location { LOCATION_MAX ≡ 1024 }
+    ensures identifier { IDENTIFIER_MAX ≡ 4096 }
+    ensures caveat { CAVEAT_MAX ≡ 4096 }
+    ensures caveats { CAVEATS_MAX ≡ 128 }
+    ensures token { TOKEN_MAX ≡ 32768 }
 {}
 
 /// The test of the limits holds exactly within them.

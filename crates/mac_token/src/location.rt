@@ -5,21 +5,21 @@ ghost use Rattle.mac_token.specs.Location.{text_at, location_at};
 ghost use Rattle.mac_token.specs.RawToken.{text_of};
 ghost use Rattle.mac_token.specs.Reads.{Gives};
 
-use crate::fault::TokenFault;
+use crate::fault::ReadFault;
 use std::alloc::Global;
 
 /// The text of these bytes; `Malformed` where they are not UTF-8.
-pub(crate) fn copied_text(alloc: Global, bytes: &[u8]) -> Result<String, TokenFault>
+pub(crate) fn copied_text(alloc: Global, bytes: &[u8]) -> Result<String, ReadFault>
     ensures { Gives (λ text. string_bytes text) result (text_at bytes.now) }
 {
     match str::from_utf8(bytes) {
         Ok(text) => Ok(String::from_str(alloc, text)?),
-        Err(_) => Err(TokenFault::Malformed),
+        Err(_) => Err(ReadFault::Malformed),
     }
 }
 
 /// The location of these bytes, none where there are none.
-pub(crate) fn copied_location(alloc: Global, bytes: &[u8]) -> Result<Option<String>, TokenFault>
+pub(crate) fn copied_location(alloc: Global, bytes: &[u8]) -> Result<Option<String>, ReadFault>
     ensures { Gives text_of result (location_at bytes.now) }
 {
     if bytes.is_empty() {

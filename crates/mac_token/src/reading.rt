@@ -15,17 +15,14 @@ ghost use Rattle.mac_token.specs.RawToken.{byte_lists};
 ghost use Rattle.std.specs.List.{list_any};
 ghost use Rattle.mac_token.specs.Answers.{Answers, Ends};
 ghost use Rattle.mac_token.specs.Base64Reading.{base64_bytes};
-ghost use Rattle.mac_token.specs.Read.{Read, ReadRaw, calls_for_bare, carried, bare_of, or_transport, raw_read_of, parts_of, token_of, read_of};
+ghost use Rattle.mac_token.specs.Read.{IsInBound, Read, ReadRaw, calls_for_bare, carried, bare_of, or_transport, raw_read_of, token_of, read_of};
 ghost use Rattle.mac_token.specs.Reads.{Gives};
 
-use crate::base64_text;
-use crate::fault::{NoMemory, TokenFault};
-use crate::json_read::read_json;
+use crate::fault::{NoMemory, ReadFault, TokenFault, TokenRefusal};
 use crate::limits::TOKEN_MAX;
 use crate::raw::{RawCaveat, RawToken};
 use crate::token::Token;
-use crate::v1::read_v1;
-use crate::v2::read_v2;
+use crate::{base64_text, v1, v2, v2_json};
 use std::alloc::Global;
 
 fn calls_for_bare(first: u8) -> bool
@@ -35,55 +32,49 @@ fn calls_for_bare(first: u8) -> bool
 }
 
 #[tactic(auto, unfolding(crate::specs::Read::bare_of))]
-fn read_bare(alloc: Global, bytes: &[u8]) -> Result<RawToken, TokenFault>
+fn bare(alloc: Global, bytes: &[u8]) -> Result<RawToken, ReadFault>
     ensures { Gives (λ raw. raw) result (bare_of bytes.now) }
 {
     match bytes {
-        [b'0', ..] => read_v1(alloc, bytes),
-        [2, ..] => read_v2(alloc, bytes),
-        [b'{', ..] => read_json(alloc, bytes),
-        _ => Err(TokenFault::Malformed),
+        [b'0', ..] => v1::read(alloc, bytes),
+        [2, ..] => v2::read(alloc, bytes),
+        [b'{', ..] => v2_json::read(alloc, bytes),
+        _ => Err(ReadFault::Malformed),
     }
 }
 
-fn read_text(alloc: Global, text: &[u8]) -> Result<RawToken, TokenFault>
+fn decoded(alloc: Global, text: &[u8]) -> Result<RawToken, TokenFault>
     ensures { Answers (λ raw. raw) result (or_transport (base64_bytes text.now)) }
 {
     match base64_text::decode(alloc, text)? {
-        None => Err(TokenFault::Transport),
-        Some(bare) => read_bare(alloc, &bare),
+        Some(bytes) => Ok(bare(alloc, &bytes)?),
+        None => Err(TokenFault::Refused(TokenRefusal::Transport)),
     }
 }
 
 #[tactic(auto, unfolding(crate::specs::Read::carried))]
-fn read_carried(alloc: Global, bytes: &[u8]) -> Result<RawToken, TokenFault>
+fn carried(alloc: Global, bytes: &[u8]) -> Result<RawToken, TokenFault>
     ensures { Answers (λ raw. raw) result (or_transport (carried bytes.now)) }
 {
     match bytes {
-        [] => Err(TokenFault::Transport),
-        [first, ..] if calls_for_bare(*first) => read_bare(alloc, bytes),
-        _ => read_text(alloc, bytes),
+        [] => Err(TokenFault::Refused(TokenRefusal::Transport)),
+        [first, ..] if calls_for_bare(*first) => Ok(bare(alloc, bytes)?),
+        _ => decoded(alloc, bytes),
     }
-}
-
-#[tactic(auto, unfolding(crate::specs::Read::raw_read_of))]
-fn raw_token(alloc: Global, bytes: &[u8]) -> Result<RawToken, TokenFault>
-    ensures { Answers (λ raw. raw) result (raw_read_of bytes.now) }
-{
-    if bytes.len() > TOKEN_MAX {
-        return Err(TokenFault::Limit);
-    }
-    read_carried(alloc, bytes)
 }
 
 /// What the bytes spell, a token or not. Time and memory are linear in the bytes. The first refusal that
 /// applies: `Limit` where the bytes are longer than a token may be, `Transport` where they carry no bare
-/// form, `Malformed` where they spell nothing; `Memory` may come in place of any answer.
+/// form, `Malformed` where they spell nothing; `Memory` may come in place of any answer but `Limit`.
 pub fn read_raw(alloc: Global, bytes: &[u8]) -> Result<RawToken, TokenFault>
     ensures answer { Answers (λ raw. raw) result (raw_read_of bytes.now) }
     ensures meaning { Ends (λ raw. raw) result (ReadRaw bytes.now) }
+    ensures memory { result ≡ Err TokenFault.Memory → IsInBound bytes.now }
 {
-    raw_token(alloc, bytes)
+    if bytes.len() > TOKEN_MAX {
+        return Err(TokenFault::Refused(TokenRefusal::Limit));
+    }
+    carried(alloc, bytes)
 }
 
 fn has_vid(raw: &RawToken) -> bool
@@ -119,10 +110,10 @@ fn token(alloc: Global, raw: RawToken) -> Result<Token, TokenFault>
     ensures { Answers (λ token. token) result (token_of raw) }
 {
     if has_vid(&raw) {
-        return Err(TokenFault::ThirdParty);
+        return Err(TokenFault::Refused(TokenRefusal::ThirdParty));
     }
     if has_location(&raw) {
-        return Err(TokenFault::CaveatLocation);
+        return Err(TokenFault::Refused(TokenRefusal::CaveatLocation));
     }
     let RawToken {
         location,
@@ -131,15 +122,7 @@ fn token(alloc: Global, raw: RawToken) -> Result<Token, TokenFault>
         sig,
     } = raw;
     let caveats = ids(alloc, caveats)?;
-    Token::new(location, identifier, caveats, sig)
-}
-
-#[tactic(auto, unfolding(crate::specs::Read::read_of))]
-fn read_token(alloc: Global, bytes: &[u8]) -> Result<Token, TokenFault>
-    ensures { Answers (λ token. token) result (read_of bytes.now) }
-{
-    let raw = read_raw(alloc, bytes)?;
-    token(alloc, raw)
+    Ok(Token::new(location, identifier, caveats, sig)?)
 }
 
 /// The token that the bytes spell, within the limits. Time and memory are linear in the bytes. The first
@@ -148,6 +131,8 @@ fn read_token(alloc: Global, bytes: &[u8]) -> Result<Token, TokenFault>
 pub fn read(alloc: Global, bytes: &[u8]) -> Result<Token, TokenFault>
     ensures answer { Answers (λ token. token) result (read_of bytes.now) }
     ensures meaning { Ends (λ token. token) result (Read bytes.now) }
+    ensures memory { result ≡ Err TokenFault.Memory → IsInBound bytes.now }
 {
-    read_token(alloc, bytes)
+    let raw = read_raw(alloc, bytes)?;
+    token(alloc, raw)
 }

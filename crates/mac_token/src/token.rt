@@ -1,12 +1,11 @@
 //! A token of first-party caveats, within the limits.
 
 ghost use Rattle.std.specs.Prelude.{◌≡◌, ◌<◌, ◌≤◌, ◌↔◌, ◌++◌, ◌∷◌, [], length, IsTrue, IfErr, OkIff, OnOk, OnErr, slice_get, string_bytes, option_map};
-ghost use Rattle.mac_token.specs.declared.fault.TokenFault.TheVariants.{Limit};
 ghost use Rattle.mac_token.specs.RawToken.{token_parts, byte_lists};
 ghost use Rattle.mac_token.specs.Limits.{IsWithinLimits, PartsFit, AreShort, within};
 ghost use Rattle.mac_token.specs.Push.{Pushes, with_caveats};
 
-use crate::fault::{NoMemory, TokenFault};
+use crate::fault::{NoMemory, TokenFault, TokenRefusal};
 use crate::limits::{CAVEAT_MAX, CAVEATS_MAX, IDENTIFIER_MAX, LOCATION_MAX};
 use std::alloc::Global;
 use std::marker::Model;
@@ -80,12 +79,12 @@ impl Token {
         identifier: Vec<u8>,
         caveats: Vec<Vec<u8>>,
         sig: [u8; 32],
-    ) -> Result<Token, TokenFault>
+    ) -> Result<Token, TokenRefusal>
         ensures made { let parts = token_parts (string_bytes location) identifier.items (byte_lists caveats.items) sig in OkIff result (IsWithinLimits parts) parts }
         ensures answer { result ≡ within (token_parts (string_bytes location) identifier.items (byte_lists caveats.items) sig) }
     {
         if !is_within(&location, &identifier, &caveats) {
-            return Err(TokenFault::Limit);
+            return Err(TokenRefusal::Limit);
         }
         Ok(Token {
             location,
@@ -107,7 +106,7 @@ impl Token {
         ensures { Pushes self (with_caveats self (byte_lists caveats.now) sig) result }
     {
         if caveats.len() > CAVEATS_MAX - self.caveats.len() || !are_short(caveats) {
-            return Err((TokenFault::Limit, self));
+            return Err((TokenFault::Refused(TokenRefusal::Limit), self));
         }
         match append_copies(&mut self.caveats, alloc, caveats) {
             Ok(()) => Ok(Token { sig, ..self }),
@@ -134,7 +133,7 @@ impl Token {
         ensures value { result ≡ length self.now.caveats }
         ensures within { IsWithinLimits self.now }
     {
-        self.caveat_buffers().len()
+        self.caveat_list().len()
     }
 
     /// The caveat at place `i`, counted from 0.
@@ -146,7 +145,7 @@ impl Token {
     }
 
     /// The caveats, in order.
-    pub(crate) fn caveat_buffers(&self) -> &[Vec<u8>]
+    pub fn caveat_list(&self) -> &[Vec<u8>]
         ensures value { byte_lists result.now ≡ self.now.caveats }
         ensures within { IsWithinLimits self.now }
     {

@@ -14,5 +14,5 @@ mod key;
 mod reading;
 mod writing;
 
-pub(crate) use reading::read_v1;
-pub(crate) use writing::{v1_len, write_v1};
+pub(crate) use reading::read;
+pub(crate) use writing::{write, written_len};

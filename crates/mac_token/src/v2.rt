@@ -12,11 +12,11 @@
 
 ghost use Rattle.std.specs.Prelude.{◌≡◌};
 
-mod read;
-mod write;
+mod reading;
+mod writing;
 
-pub(crate) use read::read_v2;
-pub(crate) use write::{v2_len, write_v2};
+pub(crate) use reading::read;
+pub(crate) use writing::{write, written_len};
 
 /// The first byte, which tells V2 binary from the other forms.
 const VERSION: u8 = 2;

@@ -1,69 +1,70 @@
 //! Packets read, from left to right.
 
-ghost use Rattle.std.specs.Prelude.{◌≡◌, ◌<◌, suc, length, option_map, IfOk};
-ghost use Rattle.mac_token.specs.RawToken.{bytes_of, text_of};
+ghost use Rattle.std.specs.Prelude.{◌≡◌, ◌<◌, suc, length, option_map, IfSome};
+ghost use Rattle.std.specs.Option.{option_copied};
 ghost use Rattle.mac_token.specs.Reads.{Gives, Reads};
 ghost use Rattle.mac_token.specs.V1.{V1};
-ghost use Rattle.mac_token.specs.V1Reading.{hex_value, hex_number, line_at, field_at, has_key, optional_at, spelled_location, caveat_at, caveats_at, signature_at, v1_of};
+ghost use Rattle.mac_token.specs.V1Reading.{hex_value, hex_number, line_at, field_at, has_key, optional_at, section_at, caveat_at, caveats_at, signature_at, v1_of};
 
 use super::key::Key;
-use crate::fault::{NoMemory, TokenFault};
-use crate::location::{copied_location, copied_text};
+use crate::fault::ReadFault;
+use crate::location::copied_text;
 use crate::raw::{RawCaveat, RawToken};
+use crate::section::Section;
 use std::alloc::Global;
 
-fn hex_value(digit: u8) -> Result<usize, TokenFault>
-    ensures value { Gives (λ n. n) result (hex_value digit) }
-    ensures bound { IfOk result (λ n. n < 16) }
+fn hex_value(digit: u8) -> Option<usize>
+    ensures value { result ≡ hex_value digit }
+    ensures bound { IfSome result (λ n. n < 16) }
 {
     match digit {
-        b'0'..=b'9' => Ok(usize::from(digit - b'0')),
-        b'a'..=b'f' => Ok(usize::from(digit - b'a') + 10),
-        _ => Err(TokenFault::Malformed),
+        b'0'..=b'9' => Some(usize::from(digit - b'0')),
+        b'a'..=b'f' => Some(usize::from(digit - b'a') + 10),
+        _ => None,
     }
 }
 
 #[tactic(auto, unfolding(crate::specs::V1Reading::hex_number))]
-fn hex_number(a: u8, b: u8, c: u8, d: u8) -> Result<usize, TokenFault>
-    ensures { Gives (λ n. n) result (hex_number a b c d) }
+fn hex_number(a: u8, b: u8, c: u8, d: u8) -> Option<usize>
+    ensures { result ≡ hex_number a b c d }
 {
     let h = hex_value(a)?;
     let i = hex_value(b)?;
     let j = hex_value(c)?;
     let k = hex_value(d)?;
-    Ok(4096 * h + 256 * i + 16 * j + k)
+    Some(4096 * h + 256 * i + 16 * j + k)
 }
 
 /// What stands between the digits and the line feed of the packet at the front, and what follows it.
 #[tactic(auto, unfolding(crate::specs::V1Reading::line_at))]
-fn line(bytes: &[u8]) -> Result<(&[u8], &[u8]), TokenFault>
-    ensures { Gives (λ x. (x.0.now, x.1.now)) result (line_at bytes.now) }
+fn line(bytes: &[u8]) -> Option<(&[u8], &[u8])>
+    ensures { option_map (λ x. (x.0.now, x.1.now)) result ≡ line_at bytes.now }
 {
     let [a, b, c, d, after @ ..] = bytes else {
-        return Err(TokenFault::Malformed);
+        return None;
     };
     let len = hex_number(*a, *b, *c, *d)?;
     if len < 5 || after.len() < len - 5 {
-        return Err(TokenFault::Malformed);
+        return None;
     }
     let (line, end) = after.split_at(len - 5);
     match end {
-        [b'\n', rest @ ..] => Ok((line, rest)),
-        _ => Err(TokenFault::Malformed),
+        [b'\n', rest @ ..] => Some((line, rest)),
+        _ => None,
     }
 }
 
 /// The value of the packet at the front, which has this key, and what follows it.
 #[tactic(auto, unfolding(crate::specs::V1Reading::field_at))]
-fn field(key: Key, bytes: &[u8]) -> Result<(&[u8], &[u8]), TokenFault>
-    ensures { Gives (λ x. (x.0.now, x.1.now)) result (field_at key bytes.now) }
+fn field(key: Key, bytes: &[u8]) -> Option<(&[u8], &[u8])>
+    ensures { option_map (λ x. (x.0.now, x.1.now)) result ≡ field_at key bytes.now }
 {
     let (line, rest) = line(bytes)?;
     let front = key.name_and_space();
     if !line.starts_with(front) {
-        return Err(TokenFault::Malformed);
+        return None;
     }
-    Ok((&line[front.len()..], rest))
+    Some((&line[front.len()..], rest))
 }
 
 #[tactic(auto, unfolding(crate::specs::V1Reading::has_key))]
@@ -76,50 +77,48 @@ fn has_key(key: Key, bytes: &[u8]) -> bool
     }
 }
 
+/// The value of the packet at the front, if it has this key, and what follows it.
 #[tactic(auto, unfolding(crate::specs::V1Reading::optional_at))]
-fn optional(key: Key, bytes: &[u8]) -> Result<(Option<&[u8]>, &[u8]), TokenFault>
-    ensures { Gives (λ x. (option_map (λ v. v.now) x.0, x.1.now)) result (optional_at key bytes.now) }
+fn optional(key: Key, bytes: &[u8]) -> Option<(Option<&[u8]>, &[u8])>
+    ensures { option_map (λ x. (option_copied x.0, x.1.now)) result ≡ optional_at key bytes.now }
 {
     if !has_key(key, bytes) {
-        return Ok((None, bytes));
+        return Some((None, bytes));
     }
     let (value, rest) = field(key, bytes)?;
-    Ok((Some(value), rest))
+    Some((Some(value), rest))
 }
 
-fn copied_vid(alloc: Global, value: Option<&[u8]>) -> Result<Option<Vec<u8>>, NoMemory>
-    ensures { IfOk result (λ copy. bytes_of copy ≡ option_map (λ v. v.now) value.entry) }
+/// A caveat's fields, and what follows them.
+#[tactic(auto, unfolding(crate::specs::V1Reading::section_at))]
+fn section(bytes: &[u8]) -> Option<(Section<'_>, &[u8])>
+    ensures { option_map (λ x. (x.0, x.1.now)) result ≡ section_at bytes.now }
 {
-    match value {
-        None => Ok(None),
-        Some(bytes) => Ok(Some(Vec::from_slice(alloc, bytes)?)),
-    }
-}
-
-fn spelled_location(alloc: Global, value: Option<&[u8]>) -> Result<Option<String>, TokenFault>
-    ensures { Gives text_of result (spelled_location (option_map (λ v. v.now) value.entry)) }
-{
-    match value {
-        None => Ok(None),
-        Some(bytes) => copied_location(alloc, bytes),
-    }
+    let (identifier, rest) = field(Key::Cid, bytes)?;
+    let (vid, rest) = optional(Key::Vid, rest)?;
+    let (location, rest) = optional(Key::Cl, rest)?;
+    Some((
+        Section {
+            location,
+            identifier,
+            vid,
+        },
+        rest,
+    ))
 }
 
 #[tactic(auto, unfolding(crate::specs::V1Reading::caveat_at))]
-fn caveat(alloc: Global, bytes: &[u8]) -> Result<(RawCaveat, &[u8]), TokenFault>
+fn caveat(alloc: Global, bytes: &[u8]) -> Result<(RawCaveat, &[u8]), ReadFault>
     ensures { Gives (λ x. (x.0, x.1.now)) result (caveat_at bytes.now) }
 {
-    let (id, rest) = field(Key::Cid, bytes)?;
-    let (vid, rest) = optional(Key::Vid, rest)?;
-    let (location, rest) = optional(Key::Cl, rest)?;
-    let location = spelled_location(alloc, location)?;
-    let vid = copied_vid(alloc, vid)?;
-    let id = Vec::from_slice(alloc, id)?;
-    Ok((RawCaveat { id, vid, location }, rest))
+    let Some((section, rest)) = section(bytes) else {
+        return Err(ReadFault::Malformed);
+    };
+    Ok((section.caveat(alloc)?, rest))
 }
 
 /// The caveats at the front, as many as there are.
-fn caveats(alloc: Global, bytes: &[u8]) -> Result<(Vec<RawCaveat>, &[u8]), TokenFault>
+fn caveats(alloc: Global, bytes: &[u8]) -> Result<(Vec<RawCaveat>, &[u8]), ReadFault>
     ensures { Gives (λ x. (x.0.items, x.1.now)) result (caveats_at (suc (length bytes.now)) bytes.now) }
 {
     let mut caveats = Vec::new(alloc);
@@ -132,29 +131,36 @@ fn caveats(alloc: Global, bytes: &[u8]) -> Result<(Vec<RawCaveat>, &[u8]), Token
     Ok((caveats, rest))
 }
 
+/// The signature, of 32 bytes, with nothing behind it.
 #[tactic(auto, unfolding(crate::specs::V1Reading::signature_at))]
-fn signature(bytes: &[u8]) -> Result<[u8; 32], TokenFault>
-    ensures { Gives (λ x. x) result (signature_at bytes.now) }
+fn signature(bytes: &[u8]) -> Option<[u8; 32]>
+    ensures { result ≡ signature_at bytes.now }
 {
     let (value, rest) = field(Key::Signature, bytes)?;
     if !rest.is_empty() {
-        return Err(TokenFault::Malformed);
+        return None;
     }
     match <[u8; 32]>::try_from(value) {
-        Ok(sig) => Ok(sig),
-        Err(_) => Err(TokenFault::Malformed),
+        Ok(sig) => Some(sig),
+        Err(_) => None,
     }
 }
 
 #[tactic(auto, unfolding(crate::specs::V1Reading::v1_of))]
-fn packets(alloc: Global, bytes: &[u8]) -> Result<RawToken, TokenFault>
+fn packets(alloc: Global, bytes: &[u8]) -> Result<RawToken, ReadFault>
     ensures { Gives (λ x. x) result (v1_of bytes.now) }
 {
-    let (location, rest) = field(Key::Location, bytes)?;
+    let Some((location, rest)) = field(Key::Location, bytes) else {
+        return Err(ReadFault::Malformed);
+    };
     let location = copied_text(alloc, location)?;
-    let (identifier, rest) = field(Key::Identifier, rest)?;
+    let Some((identifier, rest)) = field(Key::Identifier, rest) else {
+        return Err(ReadFault::Malformed);
+    };
     let (caveats, rest) = caveats(alloc, rest)?;
-    let sig = signature(rest)?;
+    let Some(sig) = signature(rest) else {
+        return Err(ReadFault::Malformed);
+    };
     let identifier = Vec::from_slice(alloc, identifier)?;
     Ok(RawToken {
         location,
@@ -166,7 +172,7 @@ fn packets(alloc: Global, bytes: &[u8]) -> Result<RawToken, TokenFault>
 
 /// The raw token that these packets spell, all of the bytes. The work is linear in the bytes, and so is
 /// the memory.
-pub(crate) fn read_v1(alloc: Global, bytes: &[u8]) -> Result<RawToken, TokenFault>
+pub(crate) fn read(alloc: Global, bytes: &[u8]) -> Result<RawToken, ReadFault>
     ensures exact { Gives (λ raw. raw) result (v1_of bytes.now) }
     ensures read { Reads (λ raw. raw) (V1 bytes.now) result }
 {

@@ -57,13 +57,13 @@ fn caveats_len(caveats: &[Vec<u8>]) -> usize
     len
 }
 
-/// How many bytes the token's packets take.
+/// How many bytes [`write`] gives for the token; linear in the number of its caveats.
 #[tactic(auto, using(crate::proofs::Packets::v1_lengths))]
-pub(crate) fn v1_len(token: &Token) -> usize
+pub(crate) fn written_len(token: &Token) -> usize
     ensures value { result ≡ length (v1_bytes token.now) }
     ensures bound { result < 2 ^ 32 }
 {
-    let caveats = caveats_len(token.caveat_buffers());
+    let caveats = caveats_len(token.caveat_list());
     packet_len(Key::Location, token.location().as_bytes())
         + packet_len(Key::Identifier, token.identifier())
         + caveats
@@ -79,14 +79,14 @@ fn put_caveats(out: &mut Vec<u8>, caveats: &[Vec<u8>]) -> Result<(), NoMemory>
     Ok(())
 }
 
-/// The token's packets; `len` is how many bytes they take.
-pub(crate) fn write_v1(alloc: Global, token: &Token, len: usize) -> Result<Vec<u8>, NoMemory>
-    ensures { IfOk result (λ v. v.items ≡ v1_bytes token.now) }
+/// The token's packets, in a buffer of exactly their length.
+pub(crate) fn write(alloc: Global, token: &Token) -> Result<Vec<u8>, NoMemory>
+    ensures { IfOk result (λ out. out.items ≡ v1_bytes token.now) }
 {
-    let mut out = Vec::with_capacity(alloc, len)?;
+    let mut out = Vec::with_capacity(alloc, written_len(token))?;
     put_packet(&mut out, Key::Location, token.location().as_bytes())?;
     put_packet(&mut out, Key::Identifier, token.identifier())?;
-    put_caveats(&mut out, token.caveat_buffers())?;
+    put_caveats(&mut out, token.caveat_list())?;
     put_packet(&mut out, Key::Signature, &token.sig())?;
     Ok(out)
 }

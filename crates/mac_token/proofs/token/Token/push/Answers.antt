@@ -1,4 +1,4 @@
-use Rattle.std.proofs.Common.{◌≤◌, ◌-◌, ◌++◌, string_bytes, length, refl, inr, arith, rules}
+use Rattle.std.proofs.Common.{◌≤◌, ◌-◌, ◌++◌, string_bytes, length, refl, arith, rules}
 use Rattle.mac_token.specs.RawToken.{token_parts, byte_lists}
 use Rattle.mac_token.specs.Limits.{PartsFit, AreShort}
 use Rattle.mac_token.specs.declared.limits.TheConstants.{CAVEATS_MAX}
@@ -22,7 +22,7 @@ returns-then-caveats-len c =
       | then-caveats-len-via-else-caveats-len+then-not-are_short w ↦ λ fit. let short = fit_short location identifier caveats added fit in search rules
     ] in
     let parts = token_parts location identifier (caveats ++ added) c.args.sig in
-    (inr (rw (← c.self.view_is) (within-Err parts fails)), refl)
+    (rw (← c.self.view_is) (within-Err parts fails), refl)
 
 pub invariant_of-result : goal.invariant_of-result
 invariant_of-result c =

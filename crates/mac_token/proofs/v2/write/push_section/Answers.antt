@@ -1,6 +1,0 @@
-use Rattle.mac_token.specs.V2.{written_location}
-use Rattle.mac_token.proofs.V2Writing.{section_pushed}
-use Rattle.mac_token.proofs.v2.write.push_section.Goals as goal
-
-pub returns : goal.returns
-returns c = rw (c.in_ok-push.ensures.items, c.in_ok-push_field.ensures, c.in_ok-push_location.ensures) (section_pushed c.args.out.now.items (written_location c.args.location.now) c.args.identifier.now)

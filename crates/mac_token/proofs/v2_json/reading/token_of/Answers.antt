@@ -1,0 +1,19 @@
+-- A token is refused where one of its members is.
+use Rattle.std.proofs.lemmas.Result.{err_from_is_err_and}
+use Rattle.mac_token.proofs.Refusals.{Refuses-whole}
+use Rattle.mac_token.proofs.v2_json.reading.token_of.Goals as goal
+
+pub returns-in_err-location_member : goal.returns-in_err-location_member
+returns-in_err-location_member c =
+    let p = err_from_is_err_and c.from_residual.result c.from_residual.ensures.1 in
+    rw (p.1, p.2) (Refuses-whole _ _ (λ token h. (token.location, h.location)) _ c.in_err-location_member.ensures)
+
+pub returns-in_err-bytes_member : goal.returns-in_err-bytes_member
+returns-in_err-bytes_member c =
+    let p = err_from_is_err_and c.from_residual-in_err-bytes_member.result c.from_residual-in_err-bytes_member.ensures.1 in
+    rw (p.1, p.2) (Refuses-whole _ _ (λ token h. (token.identifier, h.identifier)) _ c.in_err-bytes_member.ensures)
+
+pub returns-in_err-caveats_member : goal.returns-in_err-caveats_member
+returns-in_err-caveats_member c =
+    let p = err_from_is_err_and c.from_residual-in_err-caveats_member.result c.from_residual-in_err-caveats_member.ensures.1 in
+    rw (p.1, p.2) (Refuses-whole _ _ (λ token h. (token.caveats, h.caveats)) _ c.in_err-caveats_member.ensures)

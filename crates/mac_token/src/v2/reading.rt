@@ -1,0 +1,160 @@
+//! Reading V2 binary: each function takes its part from the front and gives the bytes after it.
+
+ghost use Rattle.std.specs.Prelude.{◌≡◌, ℕ, List, option_map};
+ghost use Rattle.std.specs.Option.{option_copied};
+ghost use Rattle.mac_token.specs.RawToken.{CaveatParts};
+ghost use Rattle.mac_token.specs.Reads.{Reads, Gives};
+ghost use Rattle.mac_token.specs.V2.{V2};
+ghost use Rattle.mac_token.specs.V2Whole.{v2_of};
+ghost use Rattle.mac_token.specs.V2Reading.{counted_at, field_at, optional_at, end_at, section_at, head_at, signature_at, AreCaveats};
+
+use crate::fault::ReadFault;
+use crate::location::copied_text;
+use crate::raw::{RawCaveat, RawToken};
+use crate::section::Section;
+use crate::v2::{END, FieldType, VERSION};
+use crate::varint::read_varint;
+use std::alloc::Global;
+
+/// A length, and that many bytes.
+fn counted(bytes: &[u8]) -> Option<(&[u8], &[u8])>
+    ensures { option_map (λ x. (x.0.now, x.1.now)) result ≡ counted_at bytes.now }
+{
+    let (length, rest) = read_varint(bytes)?;
+    if (rest.len() as u64) < length {
+        return None;
+    }
+    Some(rest.split_at(length as usize))
+}
+
+/// A field of this type: its bytes, and those after it.
+#[tactic(auto, unfolding(crate::specs::V2Reading::field_at))]
+fn field(kind: FieldType, bytes: &[u8]) -> Option<(&[u8], &[u8])>
+    ensures { option_map (λ x. (x.0.now, x.1.now)) result ≡ field_at kind bytes.now }
+{
+    let (first, rest) = bytes.split_first()?;
+    if *first != kind.number() {
+        return None;
+    }
+    counted(rest)
+}
+
+/// A field that may be left out: it is there where its type comes next.
+#[tactic(auto, unfolding(crate::specs::V2Reading::optional_at))]
+fn optional(kind: FieldType, bytes: &[u8]) -> Option<(Option<&[u8]>, &[u8])>
+    ensures { option_map (λ x. (option_copied x.0, x.1.now)) result ≡ optional_at kind bytes.now }
+{
+    match bytes.split_first() {
+        Some((first, rest)) if *first == kind.number() => {
+            let (value, rest) = counted(rest)?;
+            Some((Some(value), rest))
+        }
+        _ => Some((None, bytes)),
+    }
+}
+
+/// The end mark: the bytes after it.
+#[tactic(auto, unfolding(crate::specs::V2Reading::end_at))]
+fn end(bytes: &[u8]) -> Option<&[u8]>
+    ensures { option_map (λ rest. rest.now) result ≡ end_at bytes.now }
+{
+    match bytes {
+        [END, rest @ ..] => Some(rest),
+        _ => None,
+    }
+}
+
+/// A section: its fields, and the bytes after it.
+#[tactic(auto, unfolding(crate::specs::V2Reading::section_at))]
+fn section(bytes: &[u8]) -> Option<(Section<'_>, &[u8])>
+    ensures { option_map (λ x. (x.0, x.1.now)) result ≡ section_at bytes.now }
+{
+    let (location, rest) = optional(FieldType::Location, bytes)?;
+    let (identifier, rest) = field(FieldType::Identifier, rest)?;
+    let (vid, rest) = optional(FieldType::Vid, rest)?;
+    let rest = end(rest)?;
+    Some((
+        Section {
+            location,
+            identifier,
+            vid,
+        },
+        rest,
+    ))
+}
+
+/// The version byte and the token's own section, which has no verifier's id.
+#[tactic(auto, unfolding(crate::specs::V2Reading::head_at))]
+fn head(bytes: &[u8]) -> Option<(Section<'_>, &[u8])>
+    ensures { option_map (λ x. (x.0, x.1.now)) result ≡ head_at bytes.now }
+{
+    let (version, rest) = bytes.split_first()?;
+    if *version != VERSION {
+        return None;
+    }
+    let (head, rest) = section(rest)?;
+    if head.vid.is_some() {
+        return None;
+    }
+    Some((head, rest))
+}
+
+/// The signature's field, up to the end of the bytes.
+#[tactic(auto, unfolding(crate::specs::V2Reading::signature_at))]
+fn signature(bytes: &[u8]) -> Option<[u8; 32]>
+    ensures { result ≡ signature_at bytes.now }
+{
+    let (value, rest) = field(FieldType::Signature, bytes)?;
+    if value.len() != 32 || !rest.is_empty() {
+        return None;
+    }
+    let mut sig = [0; 32];
+    sig.copy_from_slice(value);
+    Some(sig)
+}
+
+/// The caveats' sections and the end mark behind them: the caveats, and the bytes after it.
+fn caveats(alloc: Global, bytes: &[u8]) -> Result<(Vec<RawCaveat>, &[u8]), ReadFault>
+    ensures { Reads {Y = List CaveatParts × List ℕ} (λ x. (x.0.items, x.1.now)) (λ x. AreCaveats bytes.now x.0 x.1) result }
+{
+    let mut caveats = Vec::new(alloc);
+    let mut rest = bytes;
+    while let Some((section, after)) = section(rest) {
+        caveats.push(section.caveat(alloc)?)?;
+        rest = after;
+    }
+    match end(rest) {
+        Some(rest) => Ok((caveats, rest)),
+        None => Err(ReadFault::Malformed),
+    }
+}
+
+/// The token that the sections spell.
+fn sections(alloc: Global, bytes: &[u8]) -> Result<RawToken, ReadFault>
+    ensures { Reads (λ raw. raw) (V2 bytes.now) result }
+{
+    let Some((own, rest)) = head(bytes) else {
+        return Err(ReadFault::Malformed);
+    };
+    let location = copied_text(alloc, own.location_or_empty())?;
+    let identifier = Vec::from_slice(alloc, own.identifier)?;
+    let (caveats, rest) = caveats(alloc, rest)?;
+    let Some(sig) = signature(rest) else {
+        return Err(ReadFault::Malformed);
+    };
+    Ok(RawToken {
+        location,
+        identifier,
+        caveats,
+        sig,
+    })
+}
+
+/// The raw token that these bytes spell in V2 binary, all of them. The work is linear in the bytes, and so
+/// is the memory.
+pub(crate) fn read(alloc: Global, bytes: &[u8]) -> Result<RawToken, ReadFault>
+    ensures exact { Gives (λ raw. raw) result (v2_of bytes.now) }
+    ensures read { Reads (λ raw. raw) (V2 bytes.now) result }
+{
+    sections(alloc, bytes)
+}

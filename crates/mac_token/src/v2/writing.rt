@@ -1,0 +1,116 @@
+//! Writing V2 binary: the exact length first, so that one reserve is enough.
+
+ghost use Rattle.std.specs.Prelude.{◌≡◌, ◌+◌, ◌*◌, ◌<◌, ◌≤◌, ◌^◌, ◌++◌, None, length, map, IfOk, OnOk};
+ghost use Rattle.std.specs.List.{flat_map};
+ghost use Rattle.mac_token.specs.Limits.{AreShort};
+ghost use Rattle.mac_token.specs.RawToken.{byte_lists};
+ghost use Rattle.mac_token.specs.V2.{field, optional, section, written_location, written_section, v2_bytes};
+ghost use Rattle.mac_token.specs.declared.v2.FieldType.TheVariants.{Location};
+
+use crate::fault::NoMemory;
+use crate::limits::{CAVEAT_MAX, CAVEATS_MAX};
+use crate::token::Token;
+use crate::v2::{END, FieldType, VERSION};
+use crate::varint::{push_varint, varint_len};
+use std::alloc::Global;
+
+/// How many bytes a field of these bytes has.
+fn field_len(kind: FieldType, bytes: &[u8]) -> usize
+    requires { length bytes.now < 2 ^ 32 }
+    ensures value { result ≡ length (field kind bytes.now) }
+    ensures bound { result ≤ length bytes.now + 11 }
+{
+    1 + varint_len(bytes.len() as u64) + bytes.len()
+}
+
+/// How many bytes a location has, which is left out where it is empty.
+fn location_len(location: &[u8]) -> usize
+    requires { length location.now < 2 ^ 32 }
+    ensures value { result ≡ length (optional Location (written_location location.now)) }
+    ensures bound { result ≤ length location.now + 11 }
+{
+    if location.is_empty() {
+        0
+    } else {
+        field_len(FieldType::Location, location)
+    }
+}
+
+/// How many bytes the caveats' sections have.
+fn caveats_len(caveats: &[Vec<u8>]) -> usize
+    requires count { length caveats.now ≤ CAVEATS_MAX }
+    requires each { AreShort (byte_lists caveats.now) }
+    ensures value { result ≡ length (flat_map section (map (written_section None) (byte_lists caveats.now))) }
+    ensures bound { result ≤ CAVEATS_MAX * (CAVEAT_MAX + 12) }
+{
+    let mut len = 0;
+    for caveat in caveats {
+        len += field_len(FieldType::Identifier, caveat) + 1;
+    }
+    len
+}
+
+/// How many bytes [`write`] gives for the token; linear in the number of its caveats.
+pub(crate) fn written_len(token: &Token) -> usize
+    ensures { result ≡ length (v2_bytes token.now) }
+{
+    let caveats = caveats_len(token.caveat_list());
+    let location = location_len(token.location().as_bytes());
+    let identifier = field_len(FieldType::Identifier, token.identifier());
+    let signature = field_len(FieldType::Signature, &token.sig());
+    1 + location + identifier + 1 + caveats + 1 + signature
+}
+
+/// Appends a field.
+fn put_field(out: &mut Vec<u8>, kind: FieldType, bytes: &[u8]) -> Result<(), NoMemory>
+    ensures { OnOk result (out.new.items ≡ out.old.items ++ field kind bytes.now) }
+{
+    out.push(kind.number())?;
+    push_varint(out, bytes.len() as u64)?;
+    out.extend_from_slice(bytes)
+}
+
+/// Appends a location, which is left out where it is empty.
+fn put_location(out: &mut Vec<u8>, location: &[u8]) -> Result<(), NoMemory>
+    ensures { OnOk result (out.new.items ≡ out.old.items ++ optional Location (written_location location.now)) }
+{
+    if location.is_empty() {
+        Ok(())
+    } else {
+        put_field(out, FieldType::Location, location)
+    }
+}
+
+/// Appends a section without a verifier's id.
+fn put_section(out: &mut Vec<u8>, location: &[u8], identifier: &[u8]) -> Result<(), NoMemory>
+    ensures { OnOk result (out.new.items ≡ out.old.items ++ section (written_section (written_location location.now) identifier.now)) }
+{
+    put_location(out, location)?;
+    put_field(out, FieldType::Identifier, identifier)?;
+    out.push(END)?;
+    Ok(())
+}
+
+/// Appends the caveats' sections.
+fn put_caveats(out: &mut Vec<u8>, caveats: &[Vec<u8>]) -> Result<(), NoMemory>
+    ensures { OnOk result (out.new.items
+        ≡ out.old.items ++ flat_map section (map (written_section None) (byte_lists caveats.now))) }
+{
+    for caveat in caveats {
+        put_section(out, &[], caveat)?;
+    }
+    Ok(())
+}
+
+/// The token in V2 binary, in a buffer of exactly its length.
+pub(crate) fn write(alloc: Global, token: &Token) -> Result<Vec<u8>, NoMemory>
+    ensures { IfOk result (λ out. out.items ≡ v2_bytes token.now) }
+{
+    let mut out = Vec::with_capacity(alloc, written_len(token))?;
+    out.push(VERSION)?;
+    put_section(&mut out, token.location().as_bytes(), token.identifier())?;
+    put_caveats(&mut out, token.caveat_list())?;
+    out.push(END)?;
+    put_field(&mut out, FieldType::Signature, &token.sig())?;
+    Ok(out)
+}
