@@ -203,7 +203,7 @@ class Report:
 
 
 def is_at(line, function):
-    at = re.match(r"note: (\S+?):(\d+):\d+: ", line)
+    at = re.match(r"(?:note: )?(src/\S+?):(\d+):\d+: (?!note|warning|help)", line)
     return at and at[1] == function.file and function.first < int(at[2]) <= function.end + 1
 
 
@@ -240,14 +240,21 @@ def tried(batch, copy):
     """A verdict on each body of the batch; one that isn't refused among others is tried again."""
     report = copy.check(batch)
     if len(batch) > 1 and not report.has_ended:
-        half = len(batch) // 2
-        return tried(batch[:half], copy) + tried(batch[half:], copy)
+        return [it for part in parted(batch, report) for it in tried(part, copy)]
     found = []
     for body in batch:
         verdict = judged(body, report, copy.source)
         is_sure = verdict.is_refused or len(batch) == 1
         found += [verdict] if is_sure else tried([body], copy)
     return found
+
+
+def parted(batch, report):
+    """The batch in parts: the bodies in which the check stopped, each by itself, and the rest; else two halves."""
+    stopping = [it for it in batch if any(is_at(line, function) for line in report.lines for function in it.functions)]
+    if not stopping or len(stopping) == len(batch):
+        return [batch[: len(batch) // 2], batch[len(batch) // 2 :]]
+    return [*([it] for it in stopping), [it for it in batch if it not in stopping]]
 
 
 def edits_of(crate):
