@@ -4,7 +4,7 @@ import request
 
 
 def ask(key_file, *payloads):
-    """A line for each request, in order, as `macaroond pipe` answers it under the keys of a file."""
+    """The line of `macaroond pipe` for each request, in order, under the keys of a file."""
     text = open(key_file).read() + "\n" + "".join(payload.hex() + "\n" for payload in payloads)
     run = subprocess.run(["bin/macaroond", "pipe"], input=text, capture_output=True, text=True)
     if run.returncode != 0:

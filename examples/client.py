@@ -1,12 +1,13 @@
 #!/usr/bin/env python3
 """Asks a `macaroond` that listens on a socket, and prints a line for each reply.
 
-    client.py SOCKET mint FORM NAME LOCATION IDENTIFIER [CAVEAT ..]     the words are those of request.py
+    client.py SOCKET mint FORM NAME LOCATION IDENTIFIER [CAVEAT ..]
     client.py SOCKET attenuate FORM TOKEN [CAVEAT ..]
     client.py SOCKET verify NAME TOKEN MOMENT [FACT ..]
-    client.py SOCKET                                                    a request a line in hexadecimal on standard
-                                                                        input, as request.py prints it; all are sent
-                                                                        without waiting for a reply
+    client.py SOCKET
+
+The words are those of request.py. Without them the requests are on standard input, a line each in
+hexadecimal, as request.py prints them; all are sent without waiting for a reply.
 """
 import select
 import socket
@@ -37,7 +38,7 @@ class Client:
         return next(self.ask_all([payload]))
 
     def ask_all(self, payloads):
-        """The replies to these requests, each as soon as it is there; no request waits for a reply."""
+        """The replies, each as soon as it is there; no request waits for a reply."""
         payloads = list(payloads)
         unsent = memoryview(b"".join(self.frame(payload) for payload in payloads))
         for _ in payloads:
@@ -47,7 +48,7 @@ class Client:
 
     def frame(self, payload):
         if len(payload) > self.FRAME_MAX:
-            raise ValueError(f"a request has at most {self.FRAME_MAX} bytes, and this one {len(payload)}")
+            raise ValueError(f"{len(payload)} bytes are no request: {self.FRAME_MAX} are the most")
         return len(payload).to_bytes(4, "big") + payload
 
     def moved(self, unsent):

@@ -6,10 +6,10 @@
     request.py attenuate FORM TOKEN [CAVEAT ..]                      the token, narrowed
     request.py verify NAME TOKEN MOMENT [FACT ..]                    whether it is granted
 
-FORM is v1-text, v2-binary, v2-json or v2-text. NAME is 1 to 64 letters, digits, dots, underscores or dashes.
-MOMENT is in seconds since 1970-01-01T00:00:00Z. Each other field is its bytes as they are given, or `hex:` and its
-bytes in hexadecimal, as the pipe prints a binary token. Without SECRET the secret is all that standard input holds,
-a line feed at its end too: `request.py key NAME < FILE`.
+FORM is v1-text, v2-binary, v2-json or v2-text. NAME is 1 to 64 letters, digits, dots, underscores
+or dashes. MOMENT is in seconds since 1970-01-01T00:00:00Z. Each other field is its bytes as they are
+given, or `hex:` and its bytes in hexadecimal, as the pipe prints a binary token. Without SECRET the
+secret is all that standard input holds, a line feed at its end too: `request.py key NAME < FILE`.
 """
 import os
 import re
@@ -69,7 +69,8 @@ def key(name, secret=None):
 
 def mint(form, name, location, identifier, *caveats):
     fields = sized(field(location), 2, "location") + sized(field(identifier), 2, "identifier")
-    return b"\x01" + form_of(form) + sized(name_of(name), 1, "name") + fields + listed(caveats, "caveat")
+    front = b"\x01" + form_of(form) + sized(name_of(name), 1, "name")
+    return front + fields + listed(caveats, "caveat")
 
 
 def attenuate(form, token, *caveats):

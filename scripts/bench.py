@@ -95,7 +95,7 @@ def print_kinds():
 
 
 def sized_requests(count):
-    """A token of so many caveats in V2 binary and in V2 JSON: its size, and a request to write it as V2 binary."""
+    """A token of so many caveats in both V2 forms: its size, and a request to write it as binary."""
     caveats = [f"{i:03} " + "c" * 241 for i in range(count)]
     for form in ("v2-binary", "v2-json"):
         token = answer(minted(form, caveats))
@@ -115,9 +115,10 @@ def print_sizes():
 
 
 def stop_unless_built():
-    lacking = [name for name in ("macaroond", "hash_blocks") if not os.access(TOP / "bin" / name, os.X_OK)]
+    programs = ["bin/macaroond", "bin/hash_blocks"]
+    lacking = " and ".join(name for name in programs if not os.access(TOP / name, os.X_OK))
     if lacking:
-        sys.exit(f"bin/{' and bin/'.join(lacking)} isn't there: run `make build` first, which proves and builds it")
+        sys.exit(f"no {lacking}: run `make build` first, which proves and builds the programs")
 
 
 if __name__ == "__main__":

@@ -1,8 +1,10 @@
-"""Runs that only the built program can show: over devices that fail, with little memory, and with a word that isn't UTF-8.
+"""Runs that only the built program can show: over devices that fail, with little memory, and with
+a word that isn't UTF-8.
 
-A full device takes nothing. A file that may not grow past so many bytes takes these and no more. A socket whose other end
-was closed before it had read what it was sent gives what is on its way, and then fails. `rt try` can give a program none
-of these, so without bin/macaroond these runs are not made.
+A full device takes nothing. A file that may not grow past so many bytes takes these and no more. A
+socket whose other end was closed before it had read what it was sent gives what is on its way, and
+then fails. `rt try` can give a program none of these, so without bin/macaroond these runs are not
+made.
 """
 import os
 import resource
@@ -15,10 +17,12 @@ from pipe_runs import Case, Run
 from statuses import Ending
 
 DEVICE = Ending(3, "", "fault 3\n")
+NOT_UTF8 = statuses.bad("a word of the command line is not UTF-8\n")
 ANSWER = "refused 16\n"
 # Answers of more bytes than the program gathers before it writes them.
 MANY = statuses.KEY + "\n" * 20_000
-# What the program itself, its stack and the C library take of the address space, and too little for a long input.
+# Enough of the address space for the program, its stack and the C library, and too little for a
+# long input.
 LITTLE_MEMORY = 12 * 1024 * 1024
 
 
@@ -67,7 +71,7 @@ def faults():
     """Which of these runs end otherwise, and how many there are."""
     answers = ANSWER * 20_000
     ended = [
-        ("not_utf8", pipe_runs.built_run(Case("", ["pipe", b"\xff"])), statuses.bad("a word of the command line is not UTF-8\n")),
+        ("not_utf8", pipe_runs.built_run(Case("", ["pipe", b"\xff"])), NOT_UTF8),
         ("help_to_full", to_full(["--help"]), DEVICE),
         ("pipe_help_to_full", to_full(["pipe", "--help"]), DEVICE),
         ("answers_to_full", to_full(["pipe"], "\n\n"), DEVICE),
@@ -75,10 +79,11 @@ def faults():
         ("folder_as_input", from_folder(), DEVICE),
         ("little_memory", with_little_memory(), Ending(4, "", "fault 4\n")),
     ]
-    found = [statuses.told(name, run, wanted) for name, run, wanted in ended if not statuses.is_so(run, wanted)]
+    found = [statuses.told(*it) for it in ended if not statuses.is_so(*it[1:])]
     counts = [0, 1, 65_535, 65_536, 100_000, len(answers) - 1]
     for count in counts:
         run = to_file_of(count)
         if run != Run(3, answers[:count], "fault 3\n"):
-            found.append(f"output of {count} bytes: ends with {run.status} and {run.error!r} after {len(run.output)} bytes")
+            wrote = f"{len(run.output)} bytes written"
+            found.append(f"output of {count} bytes: {run.status}, {run.error!r}, {wrote}")
     return found, len(ended) + len(counts)

@@ -1,8 +1,9 @@
 #!/usr/bin/env python3
-"""Counts what `macaroond pipe` executes for a request, beside what its SHA-256 does: by valgrind, over bin/macaroond and bin/hash_blocks.
+"""Counts what `macaroond pipe` executes for a request, beside what its SHA-256 does: by valgrind,
+over bin/macaroond and bin/hash_blocks.
 
-A count doesn't depend on what else the machine does. What a request takes is the difference between two runs, so that
-starting the program and reading the keys count for nothing.
+A count doesn't depend on what else the machine does. What a request takes is the difference between
+two runs, so that starting the program and reading the keys count for nothing.
 """
 import re
 import shutil
@@ -17,8 +18,8 @@ FEW_BLOCKS, MANY_BLOCKS = 1_000, 3_000
 
 def instructions(command, text=""):
     """How many instructions a run executes."""
-    counting = ["valgrind", "--tool=callgrind", "--callgrind-out-file=/dev/null", *map(str, command)]
-    run = subprocess.run(counting, input=text, capture_output=True, text=True)
+    counting = ["valgrind", "--tool=callgrind", "--callgrind-out-file=/dev/null"]
+    run = subprocess.run([*counting, *map(str, command)], input=text, capture_output=True, text=True)
     found = re.search(r"Collected : (\d+)", run.stderr)
     if run.returncode != 0 or not found:
         sys.exit(f"valgrind doesn't count {command}: {run.stderr}")
@@ -27,7 +28,8 @@ def instructions(command, text=""):
 
 def block_instructions():
     """How many a block of SHA-256 takes."""
-    few, many = (instructions([bench.TOP / "bin" / "hash_blocks", count]) for count in (FEW_BLOCKS, MANY_BLOCKS))
+    program = bench.TOP / "bin" / "hash_blocks"
+    few, many = (instructions([program, count]) for count in (FEW_BLOCKS, MANY_BLOCKS))
     return (many - few) / (MANY_BLOCKS - FEW_BLOCKS)
 
 
@@ -55,7 +57,8 @@ def main():
     print("| caveats | from V2 binary, a byte | from V2 JSON, a byte |")
     print("|---|---|---|")
     for count in bench.SIZES:
-        costs = [request_instructions(payload) / size for size, payload in bench.sized_requests(count)]
+        asked = bench.sized_requests(count)
+        costs = [request_instructions(payload) / size for size, payload in asked]
         print(f"| {count} | {' | '.join(f'{cost:.0f}' for cost in costs)} |")
 
 

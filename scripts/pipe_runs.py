@@ -1,4 +1,5 @@
-"""Runs of `macaroond`: by bin/macaroond where it is up to date, else by one unproved build of the toolchain's `rt try`."""
+"""Runs of `macaroond`: by bin/macaroond where it is up to date, else by one unproved build of the
+toolchain's `rt try`."""
 import os
 import pathlib
 import re
@@ -40,8 +41,9 @@ def runs(cases):
 
 def built_run(case, **how):
     """A run of the program; `how` may say what it reads from, writes to or is kept to."""
-    given = {"stdout": subprocess.PIPE, **how} if "stdin" in how else {"stdout": subprocess.PIPE, "input": case.input, **how}
-    run = subprocess.run([PROGRAM, *case.words], stderr=subprocess.PIPE, text=True, **given)
+    given = {} if "stdin" in how else {"input": case.input}
+    pipes = {"stdout": subprocess.PIPE, "stderr": subprocess.PIPE}
+    run = subprocess.run([PROGRAM, *case.words], text=True, **given, **{**pipes, **how})
     return Run(run.returncode, run.stdout, run.stderr)
 
 
@@ -49,9 +51,11 @@ def tried_runs(cases):
     with tempfile.TemporaryDirectory() as folder:
         for name, case in cases.items():
             (pathlib.Path(folder) / name).write_text(case.input)
-            (pathlib.Path(folder) / f"{name}.args").write_text("".join(f"{word}\n" for word in case.words))
+            words = "".join(f"{word}\n" for word in case.words)
+            (pathlib.Path(folder) / f"{name}.args").write_text(words)
         command = ["rt", "try", "--steps", "1", "--cases", folder]
-        tried = subprocess.run(command, cwd=TOP / "crates" / "macaroond", capture_output=True, text=True)
+        crate = TOP / "crates" / "macaroond"
+        tried = subprocess.run(command, cwd=crate, capture_output=True, text=True)
     if tried.returncode != 0:
         raise SystemExit(f"rt try ended with status {tried.returncode}:\n{tried.stdout}{tried.stderr}")
     outputs, endings = tried_outputs(tried.stdout), tried_endings(tried.stderr)

@@ -1,4 +1,4 @@
-"""Code that the pages on calling a crate quote: it stands in `conformance`, which the gate proves and runs."""
+"""Code that the pages on calling a crate quote: it stands in `conformance`, which the gate proves."""
 import re
 import textwrap
 
@@ -12,5 +12,6 @@ def faults():
     for page in sorted(TOP.glob("crates/*/CALLING.md")):
         for block in re.findall(r"^```rust\n(.*?)^```", page.read_text(), re.MULTILINE | re.DOTALL):
             if not any(block in source for source in sources):
-                found.append(f"{page.relative_to(TOP)} quotes what stands nowhere in conformance:\n{textwrap.indent(block, '  ')}")
+                quoted = f"{page.relative_to(TOP)} quotes what stands nowhere in conformance:"
+                found.append(f"{quoted}\n{textwrap.indent(block, '  ')}")
     return found

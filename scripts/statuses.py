@@ -7,6 +7,7 @@ KEY = "key bank 74686973206973206f757220737570657220736563726574206b6579\n\n"
 PROGRAM = "Mints, narrows and verifies macaroons\n"
 PIPE = "Answers the requests on standard input, one line each\n"
 INPUT_MAX = 16_777_216
+TWO_BAD = "refused 16\nrefused 16\n"
 # The greatest payload that a frame carries, in digits.
 FRAME_DIGITS = 131_072
 
@@ -57,10 +58,10 @@ ENDINGS = {
     "names_1000": (Case(named_keys(1000) + "\n"), Ending(0, "", "")),
     "names_1001": (Case(named_keys(1001) + "\n"), keys_fault(1001, 5)),
     "fault_in_line_12": (Case("#\n" * 11 + "lock\n"), keys_fault(12, 6)),
-    "greatest_payload": (Case(KEY + "0" * FRAME_DIGITS + "\n\n"), Ending(0, "refused 16\nrefused 16\n", "")),
+    "greatest_payload": (Case(KEY + "0" * FRAME_DIGITS + "\n\n"), Ending(0, TWO_BAD, "")),
     "oversize": (Case(KEY + "0" * (FRAME_DIGITS + 2) + "\n\n"), Ending(0, "refused 17\n", "")),
-    "long_line_of_letters": (Case(KEY + "z" * 200_000 + "\n\n"), Ending(0, "refused 16\nrefused 16\n", "")),
-    "long_odd_line": (Case(KEY + "0" * (FRAME_DIGITS + 3) + "\n\n"), Ending(0, "refused 16\nrefused 16\n", "")),
+    "long_line_of_letters": (Case(KEY + "z" * 200_000 + "\n\n"), Ending(0, TWO_BAD, "")),
+    "long_odd_line": (Case(KEY + "0" * (FRAME_DIGITS + 3) + "\n\n"), Ending(0, TWO_BAD, "")),
     "greatest_input": (Case("!" * INPUT_MAX), keys_fault(1, 6)),
     "too_long": (Case("!" * (INPUT_MAX + 1)), Ending(3, "", "fault 3\n")),
 }
@@ -75,11 +76,13 @@ def begins(text, wanted):
 
 
 def is_so(run, wanted):
-    return run.status == wanted.status and begins(run.output, wanted.output) and begins(run.error, wanted.error)
+    printed = begins(run.output, wanted.output) and begins(run.error, wanted.error)
+    return run.status == wanted.status and printed
 
 
 def told(name, run, wanted):
-    return f"{name}: ends with {run.status}, {run.output[:80]!r} and {run.error[:80]!r}, where {wanted} is due"
+    ended = f"{run.status}, {run.output[:80]!r} and {run.error[:80]!r}"
+    return f"{name}: ends with {ended}, where {wanted} is due"
 
 
 def faults(runs):

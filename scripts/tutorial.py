@@ -58,7 +58,8 @@ class Tutorial:
 
     def run(self, folder):
         found = steps()
-        if f"```python\n{(TOP / 'examples' / 'ask.py').read_text()}```\n" not in (TOP / "README.md").read_text():
+        ask = (TOP / "examples" / "ask.py").read_text()
+        if f"```python\n{ask}```\n" not in (TOP / "README.md").read_text():
             self.faults.append("the README shows another examples/ask.py than there is")
         notes = folder / "notes"
         notes.mkdir()
