@@ -1,5 +1,5 @@
 -- What arrived on a connection is what was admitted.
-use Rattle.std.proofs.Common.{◌≡◌, ℕ, zero, suc, ◌+◌, inl, inr, true, false, if◌then◌else◌, ◌==◌, nat_le, List, [], ◌∷◌, ◌++◌, length, map, set, Option, Some, None, slice_get, sym, ◌∙◌, ap, refl, subst, arith, append_assoc, append-nil, length-append}
+use Rattle.std.proofs.Common.{◌≡◌, ℕ, ◌+◌, inl, inr, true, false, if◌then◌else◌, ◌==◌, nat_le, List, [], ◌∷◌, ◌++◌, length, map, set, Option, Some, None, slice_get, sym, ◌∙◌, ap, refl, arith, append_assoc, append-nil, length-append}
 use Rattle.std.proofs.lemmas.Bool.{cases_Bool}
 use Rattle.std.proofs.lemmas.Bool.Decides.{eqb_tells}
 use Rattle.std.proofs.lemmas.Option.{same_Some, slice_get_within}
@@ -9,7 +9,7 @@ use Rattle.mac_lane.specs.declared.event.Task.{Task}
 use Rattle.mac_lane.specs.declared.event.Event.{Event}
 use Rattle.mac_lane.specs.declared.event.Event.TheVariants.{Arrive, Claim, Finish, Send, Close}
 use Rattle.mac_lane.specs.declared.event.Outcome.{Outcome}
-use Rattle.mac_lane.specs.declared.event.Outcome.TheVariants.{Admitted, Claimed, Taken}
+use Rattle.mac_lane.specs.declared.event.Outcome.TheVariants.{Claimed, Taken}
 use Rattle.mac_lane.specs.State.{Connection, State, unsent}
 use Rattle.mac_lane.specs.Step.{after_arrive, after_send, after_reply, after_close, after_claim, after_finish, is_claimable, step}
 use Rattle.mac_lane.specs.Ran.{ran}

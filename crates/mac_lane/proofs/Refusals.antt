@@ -1,12 +1,12 @@
 -- A refusal changes nothing.
-use Rattle.std.proofs.Common.{◌≡◌, ℕ, inl, inr, true, false, Bool, length, Option, Some, None, set, slice_get, sym, ◌∙◌, ap, refl, arith}
-use Rattle.std.proofs.lemmas.Bool.{false≢true, cases_Bool}
+use Rattle.std.proofs.Common.{◌≡◌, ℕ, true, false, length, Option, Some, None, set, slice_get, sym, ◌∙◌, ap, refl, arith}
+use Rattle.std.proofs.lemmas.Bool.{false≢true}
 use Rattle.mac_lane.specs.declared.event.Task.{Task}
 use Rattle.mac_lane.specs.declared.event.Event.{Event}
 use Rattle.mac_lane.specs.declared.event.Event.TheVariants.{Arrive, Claim, Finish, Send, Close}
 use Rattle.mac_lane.specs.declared.event.Outcome.{Outcome}
 use Rattle.mac_lane.specs.State.{Connection, State}
-use Rattle.mac_lane.specs.Step.{after_arrive, after_send, after_reply, after_close, after_finish, is_claimable, on_connection, step, is_change}
+use Rattle.mac_lane.specs.Step.{after_arrive, after_send, after_reply, after_close, after_finish, on_connection, step, is_change}
 use Rattle.mac_lane.proofs.Steps.{set-found, found_connection, found_claim, found_task, found_finish}
 
 -- what follows for a call that comes to what is given

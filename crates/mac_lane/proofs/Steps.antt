@@ -4,12 +4,10 @@ use Rattle.std.proofs.lemmas.Bool.{false≢true}
 use Rattle.std.proofs.lemmas.Option.{none-some, same_Some}
 use Rattle.mac_lane.specs.declared.event.Task.{Task}
 use Rattle.mac_lane.specs.declared.event.Outcome.{Outcome}
-use Rattle.mac_lane.specs.declared.event.Event.{Event}
-use Rattle.mac_lane.specs.declared.event.Event.TheVariants.{Arrive, Claim, Finish, Send, Close}
-use Rattle.mac_lane.specs.declared.event.Outcome.TheVariants.{Claimed, NoMemory}
+use Rattle.mac_lane.specs.declared.event.Outcome.TheVariants.{Claimed}
 use Rattle.mac_lane.specs.State.{Connection, State}
 use Rattle.mac_lane.proofs.Staffed.{slice_get-set_other}
-use Rattle.mac_lane.specs.Step.{after_arrive, after_send, after_close, after_claim, after_finish, is_claimable, where_known, put_back, on_connection, claim_with, claim_by, finish_task, finish_with, finish_by, step, is_growth, ComesTo}
+use Rattle.mac_lane.specs.Step.{after_arrive, after_send, after_close, after_claim, after_finish, is_claimable, where_known, put_back, on_connection, claim_with, claim_by, finish_task, finish_with, finish_by, is_growth, ComesTo}
 
 -- what is put back where it was found changes nothing
 pub set-found : {Item : Type 0} (items : List Item) (index : ℕ) (item : Item) → slice_get items index ≡ Some item → set items index item ≡ items

@@ -8,7 +8,7 @@ use Rattle.mac_lane.specs.declared.event.Task.{Task}
 use Rattle.mac_lane.specs.declared.event.Event.{Event}
 use Rattle.mac_lane.specs.declared.event.Event.TheVariants.{Arrive, Claim, Finish, Send, Close}
 use Rattle.mac_lane.specs.declared.event.Outcome.{Outcome}
-use Rattle.mac_lane.specs.declared.event.Outcome.TheVariants.{Admitted, Claimed, Finished, Discarded, Sent, Closed, Ended, Full, Busy, Taken, Idle, Waiting, Nowhere, NoMemory}
+use Rattle.mac_lane.specs.declared.event.Outcome.TheVariants.{Admitted, Claimed, Finished, Discarded, Sent, Closed, Ended, Full, Busy, Taken, Idle, Waiting, Nowhere}
 
 module _ {Job Reply : Type 0} where
   -- a job arrives and takes the next place, unless the connection is closed or 128 are unsent

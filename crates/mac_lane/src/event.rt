@@ -19,7 +19,7 @@ pub enum Event<S: Service> {
 }
 
 /// What an event came to.
-#[derive(Clone, Copy, Debug, PartialEq, Eq)]
+#[derive(Clone, Copy)]
 pub enum Outcome {
     /// The job that arrived has this place.
     Admitted(u64),

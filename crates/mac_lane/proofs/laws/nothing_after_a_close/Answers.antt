@@ -1,5 +1,5 @@
 -- Each step keeps it.
-use Rattle.std.proofs.Common.{slice_get, refl}
+use Rattle.std.proofs.Common.{refl}
 use Rattle.mac_lane.specs.Step.{on_connection, after_close}
 use Rattle.mac_lane.proofs.Beginnings.{IsClosedWith, closed-moved, closed-by_close}
 use Rattle.mac_lane.proofs.Kept.{kept}

@@ -1,5 +1,4 @@
 -- An outcome that is no change is one of a step that changed nothing.
-use Rattle.std.proofs.Common.{refl}
 use Rattle.mac_lane.specs.Step.{on_connection, after_arrive, after_send, after_close}
 use Rattle.mac_lane.proofs.Refusals.{refused_by, on_connection-refused, arrive-refused, send-refused, close-refused}
 use Rattle.mac_lane.proofs.world.World.step.Goals as goal
