@@ -8,3 +8,5 @@ pub mod NarrowingLemmas
 pub mod MintingLemmas
 pub mod AnswerLemmas
 pub mod SendableLemmas
+pub mod CarriedLemmas
+pub mod WorldLemmas

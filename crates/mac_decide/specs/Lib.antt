@@ -5,3 +5,4 @@ pub mod Reading
 pub mod SameJobs
 pub mod Time
 pub mod Verdict
+pub mod World

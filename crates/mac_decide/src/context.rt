@@ -9,7 +9,7 @@ use crate::time::time_limit;
 use mac_wire::ByteLists;
 
 /// What the verifier knows: the moment, in seconds since 1970-01-01T00:00:00Z, and facts.
-#[derive(Debug, Drop)]
+#[derive(Drop)]
 pub struct Context {
     pub moment: u64,
     pub facts: ByteLists,

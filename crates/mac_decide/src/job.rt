@@ -2,13 +2,14 @@
 
 ghost use Rattle.std.specs.Prelude.{◌≡◌};
 ghost use Rattle.mac_decide.specs.Answer.{key_for};
+ghost use Rattle.mac_decide.specs.World.{job_under};
 
 use mac_hmac::RootKey;
 use mac_keys::KeyTable;
 use mac_wire::{Arrival, key_name};
 
 /// An arrival, with the key that the table has for the name in its front.
-#[derive(Debug, PartialEq, Eq, Drop)]
+#[derive(PartialEq, Eq, Drop)]
 pub struct Job {
     pub arrival: Arrival,
     pub key: Option<RootKey>,
@@ -16,8 +17,7 @@ pub struct Job {
 
 /// The job of an arrival under a table. It takes no memory.
 pub fn job_of(table: &KeyTable, arrival: Arrival) -> Job
-    ensures arrival { result.arrival ≡ arrival }
-    ensures key { result.key ≡ key_for table.now arrival }
+    ensures { result ≡ job_under table.now arrival }
 {
     let key = named_key(table, &arrival);
     Job { arrival, key }

@@ -1,20 +1,30 @@
 //! Laws of the definitions, as functions whose contracts state them.
 
-ghost use Rattle.std.specs.Prelude.{◌≡◌, ◌↔◌, ℕ, ℤ, List, ◌++◌, Option, All, Contains};
-ghost use Rattle.mac_token.specs.RawToken.{TokenParts};
+ghost use Rattle.std.specs.Prelude.{◌≡◌, ◌↔◌, ℕ, ℤ, List, ◌++◌, Option, All, Contains, slice_get, map as map_list};
+ghost use Rattle.mac_lane.specs.declared.event.Event as event;
+ghost use Rattle.mac_lane.specs.History.{IsBeginningOf, reached};
+ghost use Rattle.mac_lane.specs.State.{Connection};
+ghost use Rattle.mac_token.specs.RawToken.{TokenParts, IsToken};
+ghost use Rattle.mac_token.specs.Read.{read_of};
 ghost use Rattle.mac_decide.specs.declared.context.Context.{Context as PlainContext};
 ghost use Rattle.mac_decide.specs.declared.verdict.Verdict.{Verdict as PlainVerdict};
 ghost use Rattle.std.specs.FinMap as map;
 ghost use Rattle.mac_keys.specs.Table.{Keys};
 ghost use Rattle.mac_wire.specs.Reply.{IsReply};
-ghost use Rattle.mac_wire.specs.Request.{Asks, verify};
+ghost use Rattle.mac_wire.specs.Request.{Asks, IsBytes, mint, attenuate, verify};
+ghost use Rattle.mac_wire.specs.declared.request.TokenForm.{TokenForm};
 ghost use Rattle.mac_wire.specs.declared.arrival.Arrival.{Arrival as PlainArrival};
+ghost use Rattle.mac_wire.specs.declared.reply.Reply.{Reply as PlainReply};
+ghost use Rattle.mac_decide.specs.declared.job.Job.{Job as PlainJob};
+ghost use Rattle.mac_decide.specs.World.{job_under};
 ghost use Rattle.mac_decide.specs.Answer.{reply_of, answer_of, IsGranted};
 ghost use Rattle.mac_decide.specs.Minted.{Minted, minted, add};
 ghost use Rattle.mac_decide.specs.Reading.{limit_of, verdict_of};
 ghost use Rattle.mac_decide.specs.Time.{IsTimeLimit};
 ghost use Rattle.mac_decide.specs.Verdict.{Satisfied, Accepts, IsVerdict};
 
+use crate::macaroons::Macaroons;
+use mac_lane::Service;
 use mac_wire::{Arrival, Reply};
 
 /// Attenuation only narrows: a token minted under the key is accepted with caveats added exactly where it
@@ -60,6 +70,49 @@ pub fn verify_is_granted()
         → Asks payload (verify name token moment facts)
         → (answer_of table (Arrival.Payload payload) ≡ Reply.Granted)
         ↔ IsGranted (map.get table name) token (record { moment = moment; facts = facts }) }
+{}
+
+/// A mint that is answered with bytes was under the table's key for its name, and the bytes read as the token
+/// that it asked for, minted under that key.
+pub fn minted_bytes_are_read()
+    ensures { (table : Keys) (payload name location identifier bytes : List ℕ) (form : TokenForm) (caveats : List (List ℕ))
+        → IsBytes payload → Asks payload (mint form name location identifier caveats)
+        → answer_of table (Arrival.Payload payload) ≡ Reply.Token bytes
+        → (key : List ℕ) × (map.get table name ≡ Some key)
+        × (read_of bytes ≡ Ok (minted key location identifier caveats)) }
+{}
+
+/// An attenuate that is answered with bytes was handed a token, and the bytes read as that token with the
+/// caveats added. What the second clause asks of the token, each [`Token`](mac_token::Token) is.
+pub fn attenuated_bytes_are_read()
+    ensures handed { (table : Keys) (payload old bytes : List ℕ) (form : TokenForm) (caveats : List (List ℕ))
+        → Asks payload (attenuate form old caveats) → answer_of table (Arrival.Payload payload) ≡ Reply.Token bytes
+        → (t : TokenParts) × (read_of old ≡ Ok t) }
+    ensures added { (table : Keys) (payload old bytes : List ℕ) (form : TokenForm) (caveats : List (List ℕ)) (t : TokenParts)
+        → IsToken t → IsBytes payload → Asks payload (attenuate form old caveats) → read_of old ≡ Ok t
+        → answer_of table (Arrival.Payload payload) ≡ Reply.Token bytes → read_of bytes ≡ Ok (add t caveats) }
+{}
+
+/// Attenuation only narrows, from bytes to bytes: where the old bytes read as a token minted under the name's
+/// key, and the new ones as it with caveats added, a verify of the new ones is granted exactly where one of
+/// the old ones is and each of the caveats is satisfied.
+pub fn narrower_bytes_are_granted()
+    ensures { (table : Keys) (name key : List ℕ) (t : TokenParts) (old new before after : List ℕ) (moment : ℕ) (facts caveats : List (List ℕ))
+        → map.get table name ≡ Some key → Minted key t → read_of old ≡ Ok t → read_of new ≡ Ok (add t caveats)
+        → Asks before (verify name old moment facts) → Asks after (verify name new moment facts)
+        → (answer_of table (Arrival.Payload after) ≡ Reply.Granted)
+        ↔ ((answer_of table (Arrival.Payload before) ≡ Reply.Granted)
+        × All (λ caveat. Satisfied caveat (record { moment = moment; facts = facts })) caveats) }
+{}
+
+/// The world of macaroons: where what arrived on a connection are the jobs of arrivals under a table, what was
+/// sent on it is a beginning of these arrivals' answers.
+pub fn world_sends_answers()
+    ensures { (table : Keys) (connections workers number : ℕ) (events : List (event.Event Macaroons PlainJob PlainReply))
+        (link : Connection PlainJob PlainReply) (arrivals : List PlainArrival)
+        → slice_get (reached ⟦<Macaroons as Service>⟧.reply_to connections workers events).connections number ≡ Some link
+        → link.arrived ≡ map_list (job_under table) arrivals
+        → IsBeginningOf link.sent (map_list (answer_of table) arrivals) }
 {}
 
 /// Each reply can be sent: a refusal has a number of its own, and a token and an index fit.

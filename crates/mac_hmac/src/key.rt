@@ -9,7 +9,7 @@ use std::marker::Model;
 const KEY_GENERATOR: [u8; 32] = *b"macaroons-key-generator\0\0\0\0\0\0\0\0\0";
 
 /// The key that signs a macaroon's identifier, derived from a secret.
-#[derive(Clone, Copy, PartialEq, Eq, Debug)]
+#[derive(Clone, Copy, PartialEq, Eq)]
 pub struct RootKey {
     bytes: [u8; 32],
 }

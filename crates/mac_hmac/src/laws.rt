@@ -1,5 +1,5 @@
 //! Laws of the definitions, as functions whose contracts state them.
-ghost use Rattle.std.specs.Prelude.{◌≡◌, List, ℕ, [], ◌∷◌, ◌++◌};
+ghost use Rattle.std.specs.Prelude.{◌≡◌, ◌<◌, List, ℕ, [], ◌∷◌, ◌++◌, length, slice_index};
 ghost use Rattle.mac_hmac.specs.Hmac.{hmac};
 ghost use Rattle.mac_hmac.specs.Chain.{chain, extended};
 
@@ -13,4 +13,10 @@ pub fn chain_of_one_more()
 pub fn extended_in_two_runs()
     ensures { (signature : List ℕ) (first second : List (List ℕ)) →
         extended signature (first ++ second) ≡ extended (extended signature first) second }
+{}
+
+/// HMAC is 32 bytes, whatever its key and its text.
+pub fn hmac_is_32_bytes()
+    ensures length { (key text : List ℕ) → length (hmac key text) ≡ 32 }
+    ensures bytes { (key text : List ℕ) (place : ℕ) → slice_index (hmac key text) place < 256 }
 {}

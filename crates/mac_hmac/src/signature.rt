@@ -7,7 +7,7 @@ use crate::key::RootKey;
 use std::marker::Model;
 
 /// The signature of a macaroon: the HMAC at the end of its chain.
-#[derive(Clone, Copy, PartialEq, Eq, Debug)]
+#[derive(Clone, Copy, PartialEq, Eq)]
 pub struct Sig {
     bytes: [u8; 32],
 }
