@@ -2,3 +2,4 @@ pub mod Totals
 pub mod Balance
 pub mod Passes
 pub mod Claims
+pub mod Parcels

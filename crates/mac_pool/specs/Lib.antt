@@ -5,3 +5,4 @@ pub mod Pass
 pub mod Balance
 pub mod Claim
 pub mod Tally
+pub mod Parcel

@@ -1,7 +1,7 @@
 //! What a pool calls round each job.
 
 /// Calls round each job of a worker: tests use them to hold workers back.
-pub trait Gate: Send + Sync {
+pub trait Gate: Send + Sync + Drop {
     /// Called before the job at this place is worked on.
     fn before(&self, place: u64);
 

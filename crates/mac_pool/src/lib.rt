@@ -10,6 +10,7 @@ pub mod line;
 pub mod mailbox;
 pub mod post;
 pub mod ticket;
+pub mod work;
 
 pub use bell::{Bell, Notice};
 pub use desk::{Desk, Putter, Taker};
@@ -19,3 +20,4 @@ pub use line::{Claim, LINE_MAX, Line, LinePass, PASSES, PUTS_MAX, Tally};
 pub use mailbox::Mailbox;
 pub use post::Post;
 pub use ticket::Ticket;
+pub use work::{Worked, worker};

@@ -86,6 +86,16 @@ impl<S: Service> Model for LinePass<S> {
     ghost invariant = { λ p. (p.seat.me.1 ≡ []) × ((what p.seat).parts ≡ 1) × (p.puts ≡ length (what p.seat).put) × (p.puts ≤ PUTS_MAX) × (p.number < PASSES) };
 }
 
+impl<S: Service> LinePass<S> {
+    /// The number of the pass, from 0 on.
+    pub fn number(&self) -> usize
+        ensures number { result ≡ self.now.number }
+        ensures below { result < PASSES }
+    {
+        self.number
+    }
+}
+
 /// What came of a claim.
 #[derive(Drop)]
 pub enum Claim<S: Service> {

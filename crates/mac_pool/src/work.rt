@@ -1,0 +1,253 @@
+//! A worker: it claims tickets, works on them, and posts the answers.
+
+ghost use Rattle.std.specs.Prelude.{◌≡◌, ◌+◌, ◌≤◌, ◌<◌, ◌^◌, [], length, IfSome, IfNone};
+ghost use Rattle.std.specs.VecDeque.{deque_len, deque_capacity};
+ghost use Rattle.mac_pool.specs.Balance.{entry_of};
+ghost use Rattle.mac_pool.specs.Pass.{with_claimed, HasClaimed};
+ghost use Rattle.mac_pool.specs.Parcel.{IsAnswerTo, AnswerEach};
+ghost use Rattle.mac_pool.specs.declared.gate.TheConstants.{TURN_MAX};
+
+use crate::gate::{Gate, TURN_MAX};
+use crate::line::{Claim, Line, LinePass};
+use crate::mailbox::Mailbox;
+use crate::post::Post;
+use crate::ticket::Ticket;
+use mac_lane::{Answer, NoMemory, Service};
+use std::alloc::Global;
+use std::collections::VecDeque;
+use std::sync::{Arc, Wait};
+
+/// What a worker leaves behind.
+#[derive(Drop)]
+pub struct Worked<S: Service> {
+    /// Its pass.
+    pub pass: LinePass<S>,
+    /// How many tickets it claimed.
+    pub claimed: u64,
+}
+
+// A post on its way to a mailbox.
+#[derive(Drop)]
+pub struct Parcel<S: Service> {
+    pub post: Post<S>,
+    pub mail: Arc<Mailbox<S>, Global>,
+}
+
+type Tickets<S> = VecDeque<Ticket<S>>;
+
+type Parcels<S> = VecDeque<Parcel<S>>;
+
+type Mails<S> = VecDeque<Arc<Mailbox<S>, Global>>;
+
+// The room of a turn: what is claimed, what is to be posted, and the mailboxes that are to be rung.
+#[derive(Drop)]
+pub struct Turn<S: Service> {
+    tickets: Tickets<S>,
+    parcels: Parcels<S>,
+    owed: Mails<S>,
+    ghost idle: { (tickets.items ≡ []) × (parcels.items ≡ []) × (owed.items ≡ []) },
+    ghost room: { (TURN_MAX ≤ deque_capacity tickets) × (TURN_MAX ≤ deque_capacity parcels) × (TURN_MAX ≤ deque_capacity owed) },
+}
+
+impl<S: Service> Turn<S> {
+    fn new(alloc: Global) -> Result<Turn<S>, NoMemory> {
+        let tickets = VecDeque::with_capacity(alloc, TURN_MAX)?;
+        let parcels = VecDeque::with_capacity(alloc, TURN_MAX)?;
+        let owed = VecDeque::with_capacity(alloc, TURN_MAX)?;
+        Ok(Turn {
+            tickets,
+            parcels,
+            owed,
+        })
+    }
+}
+
+/// Claims tickets and posts their answers until the line is closed and empty. A full mailbox is waited
+/// for; at a closed one the post is dropped.
+pub fn worker<S: Service, G: Gate, R: Wait>(
+    rt: &R,
+    alloc: Global,
+    line: &Line<S>,
+    pass: LinePass<S>,
+    gate: &G,
+) -> Worked<S>
+    requires { pass.line ≡ line.now }
+    ensures { HasClaimed pass result.claimed result.pass }
+{
+    line.enter();
+    let worked = work_off(rt, alloc, line, pass, gate);
+    line.leave();
+    worked
+}
+
+fn work_off<S: Service, G: Gate, R: Wait>(
+    rt: &R,
+    alloc: Global,
+    line: &Line<S>,
+    mut pass: LinePass<S>,
+    gate: &G,
+) -> Worked<S>
+    requires { pass.line ≡ line.now }
+    ensures { HasClaimed pass result.claimed result.pass }
+{
+    let mut claimed = 0;
+    let mut room = Turn::new(alloc).ok();
+    for _ in rt.forever() {
+        let ticket = match line.wait(rt, &mut pass) {
+            Some(ticket) => ticket,
+            None => return Worked { pass, claimed },
+        };
+        claimed += 1;
+        match &mut room {
+            Some(turn) => claimed += turn_from(rt, alloc, line, &mut pass, gate, turn, ticket),
+            None => {
+                give_up(rt, gate, ticket);
+                room = Turn::new(alloc).ok();
+            }
+        }
+    }
+    unreachable!()
+}
+
+/// Posts that there was no memory for the ticket.
+fn give_up<S: Service, G: Gate, R: Wait>(rt: &R, gate: &G, ticket: Ticket<S>) {
+    gate.before(ticket.place);
+    ticket.mail.deliver(rt, Post::Failed(ticket.place));
+    ticket.mail.ring();
+    gate.after(ticket.place);
+}
+
+/// Works on the ticket, and on others that wait, so many that no other worker idles for it. Answers
+/// how many others.
+fn turn_from<S: Service, G: Gate, R: Wait>(
+    rt: &R,
+    alloc: Global,
+    line: &Line<S>,
+    pass: &mut LinePass<S>,
+    gate: &G,
+    turn: &mut Turn<S>,
+    ticket: Ticket<S>,
+) -> u64
+    requires { pass.old.line ≡ line.now }
+    ensures claimed { HasClaimed pass.old result pass.new }
+    ensures few { result ≤ TURN_MAX }
+{
+    turn.tickets.push_back_reserved(ticket);
+    let waiting = line.waiting(rt, pass);
+    let others = turn_size(waiting, line.workers(), gate.most()) - 1;
+    let claimed = claim_more(rt, line, pass, others, &mut turn.tickets);
+    if waiting > others {
+        line.ring();
+    }
+    answer_all(alloc, gate, &mut turn.tickets, &mut turn.parcels);
+    post_all(rt, gate, &mut turn.parcels, &mut turn.owed);
+    ring_all(&mut turn.owed);
+    claimed
+}
+
+/// How many tickets a turn takes, of which one is claimed and so many wait.
+fn turn_size(waiting: usize, workers: u64, most: usize) -> usize
+    ensures least { 1 ≤ result }
+    ensures most { result ≤ TURN_MAX }
+{
+    let share = waiting.saturating_add(1) as u64 / workers.max(1);
+    let share = if share < TURN_MAX as u64 {
+        share as usize
+    } else {
+        TURN_MAX
+    };
+    share.min(most).max(1)
+}
+
+/// Claims up to so many tickets more.
+fn claim_more<S: Service, R: Wait>(
+    rt: &R,
+    line: &Line<S>,
+    pass: &mut LinePass<S>,
+    most: usize,
+    tickets: &mut Tickets<S>,
+) -> u64
+    requires line { pass.old.line ≡ line.now }
+    requires room { deque_len tickets.old + most ≤ deque_capacity tickets.old }
+    ensures claimed { HasClaimed pass.old result pass.new }
+    ensures few { result ≤ most }
+    ensures count { deque_len tickets.new ≡ deque_len tickets.old + result }
+    ensures capacity { deque_capacity tickets.new ≡ deque_capacity tickets.old }
+{
+    let mut claimed = 0;
+    for _ in 0..most {
+        let Claim::Got(ticket) = line.claim(rt, pass) else {
+            break;
+        };
+        tickets.push_back_reserved(ticket);
+        claimed += 1;
+    }
+    claimed
+}
+
+/// Works on a run of tickets, in order. All that is claimed at a time comes through here.
+fn answer_all<S: Service, G: Gate>(
+    alloc: Global,
+    gate: &G,
+    tickets: &mut Tickets<S>,
+    parcels: &mut Parcels<S>,
+)
+    requires empty { parcels.old.items ≡ [] }
+    requires room { deque_len tickets.old ≤ deque_capacity parcels.old }
+    ensures answers { AnswerEach tickets.old.items parcels.new.items }
+    ensures done { tickets.new.items ≡ [] }
+    ensures count { deque_len parcels.new ≡ deque_len tickets.old }
+    ensures capacity { (deque_capacity tickets.new ≡ deque_capacity tickets.old) × (deque_capacity parcels.new ≡ deque_capacity parcels.old) }
+{
+    while let Some(ticket) = tickets.pop_front() {
+        gate.before(ticket.place);
+        parcels.push_back_reserved(answer(alloc, ticket));
+    }
+}
+
+/// Works on a ticket.
+fn answer<S: Service>(alloc: Global, ticket: Ticket<S>) -> Parcel<S>
+    ensures { IsAnswerTo ticket result }
+{
+    let Ticket { place, job, mail } = ticket;
+    let post = match Answer::make(alloc, job) {
+        Ok(answer) => Post::Answered(place, answer),
+        Err(_) => Post::Failed(place),
+    };
+    Parcel { post, mail }
+}
+
+/// Posts the parcels, in order, and wakes nobody: their mailboxes are owed a ring.
+fn post_all<S: Service, G: Gate, R: Wait>(
+    rt: &R,
+    gate: &G,
+    parcels: &mut Parcels<S>,
+    owed: &mut Mails<S>,
+)
+    requires { deque_len owed.old + deque_len parcels.old ≤ deque_capacity owed.old }
+    ensures done { parcels.new.items ≡ [] }
+    ensures capacity { (deque_capacity parcels.new ≡ deque_capacity parcels.old) × (deque_capacity owed.new ≡ deque_capacity owed.old) }
+{
+    while let Some(Parcel { post, mail }) = parcels.pop_front() {
+        let place = place_of(&post);
+        mail.deliver(rt, post);
+        gate.after(place);
+        owed.push_back_reserved(mail);
+    }
+}
+
+fn place_of<S: Service>(post: &Post<S>) -> u64 {
+    match post {
+        Post::Answered(place, _) | Post::Failed(place) => *place,
+    }
+}
+
+/// Rings the mailboxes. A second ring of one that has not been answered costs a load or two.
+fn ring_all<S: Service>(owed: &mut Mails<S>)
+    ensures done { owed.new.items ≡ [] }
+    ensures capacity { deque_capacity owed.new ≡ deque_capacity owed.old }
+{
+    while let Some(mail) = owed.pop_front() {
+        mail.ring();
+    }
+}
