@@ -58,6 +58,10 @@ pub raw_read_means : (bytes : List ℕ) → IsBytes bytes → ReadRaw bytes (raw
 unfolding raw_read_of
 raw_read_means bytes fits = raw_read_by (nat_lt TOKEN_MAX (length bytes)) bytes refl fits
 
+-- what answers as the function does ends as it is meant
+pub raw_ends : {X : Type 0} (view : X → RawParts) (bytes : List ℕ) → IsBytes bytes → (result : Result X TokenFault) → Answers view result (raw_read_of bytes) → Ends view result (ReadRaw bytes)
+raw_ends view bytes fits result answers = ends_from_answers view (ReadRaw bytes) (raw_read_of bytes) result (raw_read_means bytes fits) answers
+
 -- ---- a token
 
 abbrev any_vid : List CaveatParts → Bool

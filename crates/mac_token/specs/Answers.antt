@@ -15,7 +15,8 @@ Answers view (Ok x) answer = answer ≡ Ok (view x)
 Answers view (Err fault) answer = IsFault fault answer
 
 -- what was returned, seen by view, is an end that this relation has, or there was want of memory
-abbrev pub Ends : {X Y : Type 0} → (X → Y) → Result X TokenFault → (Result Y TokenRefusal → Type 0) → Type 0
+abbrev pub Ends : {X Y : Type 0} → (X → Y) → Result X TokenFault → (Result Y TokenRefusal → Type 0)
+    → Type 0
 Ends view (Ok x) IsEnd = IsEnd (Ok (view x))
 Ends view (Err (Refused refusal)) IsEnd = IsEnd (Err refusal)
 Ends view (Err Memory) IsEnd = Unit {0}

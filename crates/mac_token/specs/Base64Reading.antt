@@ -1,4 +1,5 @@
--- The bytes that a base64 text spells, as a function; the laws of this crate say that it is what `IsBase64Of` relates them to.
+-- For proofs: the bytes that a base64 text spells, as a function; law `base64_is_meant` ties it to
+-- `IsBase64Of`.
 use Rattle.std.specs.Prelude.{ℕ, ◌-◌, ◌==◌, ◌&&◌, nat_lt, Bool, true, false, not, if◌then◌else◌, List, length, slice_get, Option, Some, None, Result, Ok, Err}
 use Rattle.std.specs.List.{list_all}
 use Rattle.base64.specs.declared.decode.DecodeError.{DecodeError}
@@ -15,7 +16,7 @@ abbrev pub is_padding : Option ℕ → Bool
 is_padding None = false
 is_padding (Some letter) = letter == 61
 
--- the one engine that a text may be read by: its letters tell the alphabet, its last letter the padding
+-- the one engine that may read a text: its letters tell the alphabet, its last letter the padding
 abbrev pub engine_for : Bool → Bool → GeneralPurpose
 engine_for true true = standard
 engine_for true false = standard_no_pad
@@ -34,5 +35,6 @@ decoded_bytes (Err error) = None
 -- the bytes that the text spells
 unfoldable pub base64_bytes : List ℕ → Option (List ℕ)
 base64_bytes text = if are_bytes text
-    then decoded_bytes (decode_of (engine_for (list_all is_no_url_letter text) (is_padding (slice_get text (length text - 1)))) text)
+    then decoded_bytes (decode_of (engine_for (list_all is_no_url_letter text)
+    (is_padding (slice_get text (length text - 1)))) text)
     else None

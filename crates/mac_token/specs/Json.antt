@@ -1,4 +1,4 @@
--- V2 JSON (libmacaroons' member names, this project's profile): what a JSON value spells, and what is written.
+-- V2 JSON (libmacaroons' member names, this project's profile): what is spelled, what is written.
 -- Only an object has members: `get` finds none in any other value, and each object here needs one.
 use Rattle.std.specs.Prelude.{◌≡◌, ℕ, List, [], ◌∷◌, ◌⊎◌, map, codes, length, Option, Some, None, if◌then◌else◌}
 use Rattle.std.specs.List.{AllZip}
@@ -15,7 +15,8 @@ use Rattle.mac_token.specs.RawToken.{CaveatParts, RawParts, TokenParts}
 abbrev pub HasBytes : Option Data → Option Data → List ℕ → Type 0
 HasBytes text coded bytes =
     ((text ≡ Some (string bytes)) × (coded ≡ None))
-    ⊎ ((text ≡ None) × ((letters : List ℕ) × (coded ≡ Some (string letters)) × IsBase64Of letters bytes))
+    ⊎ ((text ≡ None)
+    × ((letters : List ℕ) × (coded ≡ Some (string letters)) × IsBase64Of letters bytes))
 
 -- neither member is there, or exactly one of them is, with these bytes
 abbrev pub MayHaveBytes : Option Data → Option Data → Option (List ℕ) → Type 0
@@ -50,7 +51,8 @@ pub record IsCaveat (d : Data) (c : CaveatParts) : Type 0 where
 abbrev pub HasCaveats : Option Data → List CaveatParts → Type 0
 HasCaveats value caveats =
     ((value ≡ None) × (caveats ≡ []))
-    ⊎ ((items : List Data) × (value ≡ Some (array (items_of items))) × AllZip IsCaveat items caveats)
+    ⊎ ((items : List Data)
+    × (value ≡ Some (array (items_of items))) × AllZip IsCaveat items caveats)
 
 -- the object is the token; members of other names say nothing
 pub record Json (d : Data) (r : RawParts) : Type 0 where

@@ -1,4 +1,4 @@
--- What private clauses say of one member of a JSON object.
+-- For proofs: what private clauses say of one member of a JSON object.
 use Rattle.std.specs.Prelude.{ℕ, List, [], ◌∷◌, Option, Some, None, option_map, codes, if◌then◌else◌}
 use Rattle.std.specs.Str.{is_utf8}
 use Rattle.serde_json.specs.Data.{Data, string, Members, put}

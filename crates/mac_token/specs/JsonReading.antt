@@ -1,4 +1,4 @@
--- What is read from V2 JSON; the laws of this crate say that it is what `JsonText` relates the bytes to.
+-- For proofs: what is read from V2 JSON, as a function; law `json_is_meant` ties it to `JsonText`.
 use Rattle.std.specs.Prelude.{ℕ, ◌==◌, Bool, true, false, if◌then◌else◌, List, [], ◌∷◌, codes, length, Option, Some, None}
 use Rattle.std.specs.Str.{is_utf8}
 use Rattle.serde_json.specs.Data.{unsigned, negative, float, Data, null, boolean, number, string, array, object, Items, no_items, item}
@@ -20,7 +20,8 @@ bytes_at (Some text) (Some coded) = None
 abbrev pub optional_bytes_at : Option Data → Option Data → Option (Option (List ℕ))
 optional_bytes_at None None = Some None
 optional_bytes_at (Some text) None = as_str text >>= λ bytes. Some (Some bytes)
-optional_bytes_at None (Some coded) = as_str coded >>= λ letters. base64_bytes letters >>= λ bytes. Some (Some bytes)
+optional_bytes_at None (Some coded) =
+    as_str coded >>= λ letters. base64_bytes letters >>= λ bytes. Some (Some bytes)
 optional_bytes_at (Some text) (Some coded) = None
 
 -- the text of a member, empty where it is absent
@@ -65,7 +66,14 @@ json_of d = if is_version (get (codes "v") d) then (do
   identifier ← bytes_at (get (codes "i") d) (get (codes "i64") d)
   caveats ← caveats_at (get (codes "c") d)
   sig ← bytes_at (get (codes "s") d) (get (codes "s64") d)
-  if length sig == 32 then Some (record { location = location; identifier = identifier; caveats = caveats; sig = sig }) else None) else None
+  if length sig == 32
+      then Some (record {
+        location = location;
+        identifier = identifier;
+        caveats = caveats;
+        sig = sig;
+      })
+      else None) else None
 
 -- a text as a token
 unfoldable pub json_text_of : List ℕ → Option RawParts

@@ -10,7 +10,7 @@ use Rattle.mac_token.specs.declared.limits.TheConstants.{LOCATION_MAX, IDENTIFIE
 abbrev pub AreShort : List (List ℕ) → Type 0
 AreShort caveats = All (λ caveat. length caveat ≤ CAVEAT_MAX) caveats
 
--- neither the location, nor the identifier, nor a caveat, nor the number of caveats passes its limit
+-- no part passes its limit: the location, the identifier, the number of caveats, each caveat
 pub record PartsFit (l i : List ℕ) (cs : List (List ℕ)) : Type 0 where
   pub location : length l ≤ LOCATION_MAX
   pub identifier : length i ≤ IDENTIFIER_MAX
@@ -23,7 +23,8 @@ IsWithinLimits t = PartsFit t.location t.identifier t.caveats
 
 -- the test of the same
 unfoldable pub is_within : TokenParts → Bool
-is_within t = nat_le (length t.location) LOCATION_MAX && nat_le (length t.identifier) IDENTIFIER_MAX && nat_le (length t.caveats) CAVEATS_MAX
+is_within t = nat_le (length t.location) LOCATION_MAX && nat_le (length t.identifier) IDENTIFIER_MAX
+    && nat_le (length t.caveats) CAVEATS_MAX
     && list_all (λ caveat. nat_le (length caveat) CAVEAT_MAX) t.caveats
 
 -- the token, or Limit where a part passes its limit

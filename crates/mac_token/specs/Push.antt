@@ -14,7 +14,7 @@ abbrev pub IsPushFault : TokenParts → TokenFault → Type 0
 IsPushFault new (Refused refusal) = within new ≡ Err refusal
 IsPushFault new Memory = IsWithinLimits new
 
--- the answer of a call that adds caveats: the longer token within the limits; after a fault the old token is handed back
+-- what a call that adds caveats answers: the longer token; after a fault the old one is handed back
 abbrev pub Pushes : TokenParts → TokenParts → Result TokenParts (TokenFault × TokenParts) → Type 0
 Pushes old new (Ok t) = within new ≡ Ok t
 Pushes old new (Err fault) = IsPushFault new fault.0 × (fault.1 ≡ old)

@@ -28,7 +28,8 @@ pub record TokenParts : Type 0 where
 
 -- a token by its four parts
 abbrev pub token_parts : List ℕ → List ℕ → List (List ℕ) → List ℕ → TokenParts
-token_parts location identifier caveats sig = record { location = location; identifier = identifier; caveats = caveats; sig = sig }
+token_parts location identifier caveats sig =
+    record { location = location; identifier = identifier; caveats = caveats; sig = sig }
 
 -- the bytes in each of these buffers
 abbrev pub byte_lists : List (Vec ℕ Global) → List (List ℕ)
@@ -48,9 +49,14 @@ first_party caveat = record { id = caveat; vid = None; location = None }
 
 -- a token as it is spelled
 abbrev pub raw_of : TokenParts → RawParts
-raw_of t = record { location = t.location; identifier = t.identifier; caveats = map first_party t.caveats; sig = t.sig }
+raw_of t = record {
+  location = t.location;
+  identifier = t.identifier;
+  caveats = map first_party t.caveats;
+  sig = t.sig;
+}
 
--- what is true of each `Token`: its parts are bytes, its location is text, its signature has 32 bytes
+-- what each `Token` is: its parts are bytes, its location is text, its signature has 32 bytes
 pub record IsToken (t : TokenParts) : Type 0 where
   pub location : IsUtf8 t.location
   pub location_bytes : IsBytes t.location

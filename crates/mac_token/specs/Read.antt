@@ -4,7 +4,7 @@ use Rattle.std.specs.List.{list_any}
 use Rattle.mac_token.specs.declared.fault.TokenRefusal.{TokenRefusal}
 use Rattle.mac_token.specs.declared.fault.TokenRefusal.TheVariants.{Transport, Malformed, ThirdParty, Limit, CaveatLocation}
 use Rattle.mac_token.specs.declared.limits.TheConstants.{TOKEN_MAX}
-use Rattle.mac_token.specs.RawToken.{CaveatParts, RawParts, TokenParts, token_parts, raw_of}
+use Rattle.mac_token.specs.RawToken.{RawParts, TokenParts, token_parts, raw_of}
 use Rattle.mac_token.specs.Limits.{IsWithinLimits, within}
 use Rattle.mac_token.specs.Spells.{Carries, Spells}
 use Rattle.mac_token.specs.Base64Reading.{base64_bytes}
@@ -30,26 +30,28 @@ parts_of r = token_parts r.location r.identifier (map (λ c. c.id) r.caveats) r.
 abbrev pub IsInBound : List ℕ → Type 0
 IsInBound bytes = length bytes ≤ TOKEN_MAX
 
--- how reading ends up to the grammar; each refusal only where none before it applies: the input's length, its transport, its form
+-- how reading ends up to the grammar: by the input's length, else its transport, else its form
 abbrev pub ReadRaw : List ℕ → Result RawParts TokenRefusal → Type 0
 ReadRaw bytes (Ok r) = IsInBound bytes × Spells bytes r
 ReadRaw bytes (Err Limit) = TOKEN_MAX < length bytes
 ReadRaw bytes (Err Transport) = IsInBound bytes × (¬ ((bare : List ℕ) × Carries bytes bare))
-ReadRaw bytes (Err Malformed) = IsInBound bytes × ((bare : List ℕ) × Carries bytes bare) × (¬ ((r : RawParts) × Spells bytes r))
+ReadRaw bytes (Err Malformed) =
+    IsInBound bytes × ((bare : List ℕ) × Carries bytes bare) × (¬ ((r : RawParts) × Spells bytes r))
 ReadRaw bytes (Err _) = ⊥
 
--- how reading ends; each refusal only where none before it applies: those up to the grammar, a verifier's id anywhere, a
--- caveat's location anywhere, the other limits
+-- how reading ends: as up to the grammar; else by a verifier's id, else a location, else a limit
 abbrev pub Read : List ℕ → Result TokenParts TokenRefusal → Type 0
 Read bytes (Ok t) = ReadRaw bytes (Ok (raw_of t)) × IsWithinLimits t
 Read bytes (Err Transport) = ReadRaw bytes (Err Transport)
 Read bytes (Err Malformed) = ReadRaw bytes (Err Malformed)
 Read bytes (Err ThirdParty) = (r : RawParts) × ReadRaw bytes (Ok r) × AnyVid r
-Read bytes (Err CaveatLocation) = (r : RawParts) × ReadRaw bytes (Ok r) × (¬ AnyVid r) × AnyLocation r
+Read bytes (Err CaveatLocation) =
+    (r : RawParts) × ReadRaw bytes (Ok r) × (¬ AnyVid r) × AnyLocation r
 Read bytes (Err Limit) = ReadRaw bytes (Err Limit)
-    ⊎ ((r : RawParts) × ReadRaw bytes (Ok r) × (¬ AnyVid r) × (¬ AnyLocation r) × (¬ IsWithinLimits (parts_of r)))
+    ⊎ ((r : RawParts) × ReadRaw bytes (Ok r) × (¬ AnyVid r) × (¬ AnyLocation r)
+    × (¬ IsWithinLimits (parts_of r)))
 
--- ---- the same as functions, which the laws of this crate tie to it
+-- ---- for proofs: the same as functions; laws `raw_read_is_meant`, `read_is_meant` tie them to it
 
 -- the first byte is one of `0`, 2 and `{`
 abbrev pub calls_for_bare : ℕ → Bool
@@ -63,7 +65,8 @@ carried (b ∷ bytes) = if calls_for_bare b then Some (b ∷ bytes) else base64_
 -- the raw token that a bare form spells
 unfoldable pub bare_of : List ℕ → Option RawParts
 bare_of [] = None
-bare_of (b ∷ bytes) = if b == 48 then v1_of (b ∷ bytes) else if b == 2 then v2_of (b ∷ bytes) else if b == 123 then json_text_of (b ∷ bytes) else None
+bare_of (b ∷ bytes) = if b == 48 then v1_of (b ∷ bytes) else if b == 2 then v2_of (b ∷ bytes)
+    else if b == 123 then json_text_of (b ∷ bytes) else None
 
 -- the raw token, or Malformed
 abbrev pub or_malformed : Option RawParts → Result RawParts TokenRefusal
@@ -77,7 +80,8 @@ or_transport (Some bare) = or_malformed (bare_of bare)
 
 -- what `read_raw` answers
 unfoldable pub raw_read_of : List ℕ → Result RawParts TokenRefusal
-raw_read_of bytes = if nat_lt TOKEN_MAX (length bytes) then Err Limit else or_transport (carried bytes)
+raw_read_of bytes =
+    if nat_lt TOKEN_MAX (length bytes) then Err Limit else or_transport (carried bytes)
 
 -- a raw token as a token, or why it is none
 unfoldable pub token_of : RawParts → Result TokenParts TokenRefusal

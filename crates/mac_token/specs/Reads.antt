@@ -1,4 +1,4 @@
--- What the answer of a form's reader says against its grammar.
+-- For proofs: what the answer of a form's reader says against its grammar.
 use Rattle.std.specs.Prelude.{◌≡◌, Result, Ok, Err, Option, Some, None}
 use Rattle.mac_token.specs.declared.fault.ReadFault.{ReadFault}
 use Rattle.mac_token.specs.declared.fault.ReadFault.TheVariants.{Malformed, Memory}

@@ -15,4 +15,6 @@ location_bytes s = unwrap_or s.location []
 
 -- what the fields say as a caveat's: an empty location counts as absent, another is UTF-8
 abbrev pub caveat_said : SectionParts → Option CaveatParts
-caveat_said s = option_map (λ location. record { id = s.identifier; vid = s.vid; location = location }) (location_at (location_bytes s))
+caveat_said s = option_map
+    (λ location. record { id = s.identifier; vid = s.vid; location = location })
+    (location_at (location_bytes s))

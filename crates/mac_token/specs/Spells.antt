@@ -16,11 +16,13 @@ CallsForBare bytes = BeginsWith 48 bytes ⊎ BeginsWith 2 bytes ⊎ BeginsWith 1
 
 -- the bytes are a bare form of the raw token, the one that their first byte calls for
 abbrev pub IsBare : List ℕ → RawParts → Type 0
-IsBare bytes r = (BeginsWith 48 bytes × V1 bytes r) ⊎ (BeginsWith 2 bytes × V2 bytes r) ⊎ (BeginsWith 123 bytes × JsonText bytes r)
+IsBare bytes r = (BeginsWith 48 bytes × V1 bytes r) ⊎ (BeginsWith 2 bytes × V2 bytes r)
+    ⊎ (BeginsWith 123 bytes × JsonText bytes r)
 
--- the bytes carry these: themselves, where they are to be a bare form; else, where they are base64 text of some, those
+-- the bytes carry these: themselves where they are to be a bare form, else what their base64 spells
 abbrev pub Carries : List ℕ → List ℕ → Type 0
-Carries bytes bare = (CallsForBare bytes × (bare ≡ bytes)) ⊎ ((¬ CallsForBare bytes) × (bytes ≢ []) × IsBase64Of bytes bare)
+Carries bytes bare = (CallsForBare bytes × (bare ≡ bytes))
+    ⊎ ((¬ CallsForBare bytes) × (bytes ≢ []) × IsBase64Of bytes bare)
 
 -- the bytes spell the raw token: what they carry is a bare form of it; base64 text is decoded once
 abbrev pub Spells : List ℕ → RawParts → Type 0

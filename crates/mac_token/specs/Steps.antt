@@ -1,4 +1,4 @@
--- Reading step by step: each step gives a value, or nothing.
+-- For proofs: reading step by step: each step gives a value, or nothing.
 use Rattle.std.specs.Prelude.{Option, Some, None}
 
 infixl 10 ◌>>=◌

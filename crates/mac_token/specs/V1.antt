@@ -21,7 +21,8 @@ hex_digit d = slice_index (codes "0123456789abcdef") d
 
 -- four hexadecimal digits, the highest first
 abbrev pub hex_digits : ℕ → List ℕ
-hex_digits n = hex_digit (n / 4096 % 16) ∷ hex_digit (n / 256 % 16) ∷ hex_digit (n / 16 % 16) ∷ hex_digit (n % 16) ∷ []
+hex_digits n = hex_digit (n / 4096 % 16) ∷ hex_digit (n / 256 % 16) ∷ hex_digit (n / 16 % 16)
+    ∷ hex_digit (n % 16) ∷ []
 
 -- a key and its value
 pub record Field : Type 0 where
@@ -48,7 +49,8 @@ vid_fields (Some vid) = record { key = Vid; value = vid } ∷ []
 -- the location of a caveat: none is no field or an empty one; else it is UTF-8
 abbrev pub AreLocationFields : Option (List ℕ) → List Field → Type 0
 AreLocationFields None fields = (fields ≡ []) ⊎ (fields ≡ record { key = Cl; value = [] } ∷ [])
-AreLocationFields (Some location) fields = (location ≢ []) × IsUtf8 location × (fields ≡ record { key = Cl; value = location } ∷ [])
+AreLocationFields (Some location) fields =
+    (location ≢ []) × IsUtf8 location × (fields ≡ record { key = Cl; value = location } ∷ [])
 
 -- a caveat: its bytes, the verifier's id, the location, in this order
 abbrev pub AreCaveatFields : CaveatParts → List Field → Type 0
@@ -58,15 +60,16 @@ AreCaveatFields c fields = (location : List Field) × AreLocationFields c.locati
 -- caveats, one after the other
 abbrev pub AreCaveatsFields : List CaveatParts → List Field → Type 0
 AreCaveatsFields [] fields = fields ≡ []
-AreCaveatsFields (c ∷ cs) fields = (first : List Field) × (others : List Field) × AreCaveatFields c first × AreCaveatsFields cs others
-    × (fields ≡ first ++ others)
+AreCaveatsFields (c ∷ cs) fields = (first : List Field) × (others : List Field)
+    × AreCaveatFields c first × AreCaveatsFields cs others × (fields ≡ first ++ others)
 
 -- a token: location, identifier, the caveats, the signature, each once and in this order
 abbrev pub fields_round : RawParts → List Field → List Field
-fields_round r caveats = record { key = Location; value = r.location } ∷ record { key = Identifier; value = r.identifier } ∷ caveats
+fields_round r caveats = record { key = Location; value = r.location }
+    ∷ record { key = Identifier; value = r.identifier } ∷ caveats
     ++ record { key = Signature; value = r.sig } ∷ []
 
--- the bytes are the joined packets of the raw token: its location is UTF-8, its signature has 32 bytes
+-- the bytes are the joined packets of a token whose location is UTF-8, its signature of 32 bytes
 pub record V1 (bytes : List ℕ) (r : RawParts) : Type 0 where
   pub caveats : List Field
   pub are_caveats : AreCaveatsFields r.caveats caveats
@@ -79,6 +82,6 @@ pub record V1 (bytes : List ℕ) (r : RawParts) : Type 0 where
 abbrev pub caveat_field : List ℕ → Field
 caveat_field caveat = record { key = Cid; value = caveat }
 
--- the packets that are written for a token: no field but those that it has, the location also where it is empty
+-- what is written for a token: the packets of its fields, an empty location among them
 abbrev pub v1_bytes : TokenParts → List ℕ
 v1_bytes t = flat_map packet (fields_round (raw_of t) (map caveat_field t.caveats))

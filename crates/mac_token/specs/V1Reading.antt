@@ -1,4 +1,4 @@
--- What is read from V1 packets, from left to right; the laws of this crate say that it is what `V1` relates them to.
+-- For proofs: what is read from V1 packets, as a function; law `v1_is_meant` ties it to `V1`.
 use Rattle.std.specs.Prelude.{ℕ, zero, suc, ◌+◌, ◌*◌, ◌-◌, ◌==◌, ◌&&◌, nat_lt, nat_le, nat_eq, Bool, false, if◌then◌else◌, List, [], ◌∷◌, ◌++◌, length, take, drop, Option, Some, None}
 use Rattle.std.specs.List.{starts_with}
 use Rattle.mac_token.specs.declared.v1.key.Key.{Key}
@@ -11,7 +11,8 @@ use Rattle.mac_token.specs.V1.{key_name}
 
 -- the number of a lower-case hexadecimal digit
 abbrev pub hex_value : ℕ → Option ℕ
-hex_value b = if nat_le 48 b && nat_le b 57 then Some (b - 48) else if nat_le 97 b && nat_le b 102 then Some (b - 87) else None
+hex_value b = if nat_le 48 b && nat_le b 57 then Some (b - 48)
+    else if nat_le 97 b && nat_le b 102 then Some (b - 87) else None
 
 -- the number of four of them
 unfoldable pub hex_number : ℕ → ℕ → ℕ → ℕ → Option ℕ
@@ -27,9 +28,10 @@ abbrev pub line_end : List ℕ → List ℕ → Option (List ℕ × List ℕ)
 line_end line [] = None
 line_end line (b ∷ rest) = if b == 10 then Some (line, rest) else None
 
--- a packet of this many bytes: what stands between its digits and its line feed, and what follows it
+-- a packet of so many bytes: what stands between its digits and its line feed, and what follows it
 abbrev pub line_of : ℕ → List ℕ → Option (List ℕ × List ℕ)
-line_of n after = if nat_lt n 5 then None else if nat_lt (length after) (n - 5) then None else line_end (take (n - 5) after) (drop (n - 5) after)
+line_of n after = if nat_lt n 5 then None else if nat_lt (length after) (n - 5) then None
+    else line_end (take (n - 5) after) (drop (n - 5) after)
 
 unfoldable pub line_at : List ℕ → Option (List ℕ × List ℕ)
 line_at (a ∷ b ∷ c ∷ d ∷ after) = do
@@ -45,7 +47,9 @@ front_of key = key_name key ++ 32 ∷ []
 unfoldable pub field_at : Key → List ℕ → Option (List ℕ × List ℕ)
 field_at key bytes = do
   line ← line_at bytes
-  if starts_with nat_eq line.0 (front_of key) then Some (drop (length (front_of key)) line.0, line.1) else None
+  if starts_with nat_eq line.0 (front_of key)
+      then Some (drop (length (front_of key)) line.0, line.1)
+      else None
 
 -- the next packet has this key
 unfoldable pub has_key : Key → List ℕ → Bool
@@ -54,7 +58,9 @@ has_key key _ = false
 
 -- the same where there is such a packet
 unfoldable pub optional_at : Key → List ℕ → Option (Option (List ℕ) × List ℕ)
-optional_at key bytes = if has_key key bytes then (field_at key bytes >>= λ f. Some (Some f.0, f.1)) else Some (None, bytes)
+optional_at key bytes = if has_key key bytes
+    then (field_at key bytes >>= λ f. Some (Some f.0, f.1))
+    else Some (None, bytes)
 
 -- a caveat's fields
 unfoldable pub section_at : List ℕ → Option (SectionParts × List ℕ)

@@ -30,13 +30,15 @@ end_mark = varint 0
 
 -- a section: a location or none, the identifier, a verifier's id or none, the end mark
 abbrev pub section : SectionParts → List ℕ
-section s = optional Location s.location ++ field Identifier s.identifier ++ optional Vid s.vid ++ end_mark
+section s =
+    optional Location s.location ++ field Identifier s.identifier ++ optional Vid s.vid ++ end_mark
 
--- the version, the token's own section, those of its caveats, one more end mark, the signature's field, and nothing more
+-- the version, the token's own section, its caveats', one more end mark, the signature, no more
 abbrev pub sections : SectionParts → List SectionParts → List ℕ → List ℕ
-sections head caveats sig = 2 ∷ section head ++ flat_map section caveats ++ end_mark ++ field Signature sig
+sections head caveats sig =
+    2 ∷ section head ++ flat_map section caveats ++ end_mark ++ field Signature sig
 
--- the bytes are the sections of this token: its own section has no verifier's id, its location is UTF-8, its signature has 32 bytes
+-- the bytes are the sections of this token, of which its own has no verifier's id
 pub record V2 (bytes : List ℕ) (r : RawParts) : Type 0 where
   pub head : SectionParts
   pub caveats : List SectionParts
@@ -54,8 +56,10 @@ written_location (b ∷ bytes) = Some (b ∷ bytes)
 
 -- the section of a caveat, or of a token, without a verifier's id
 abbrev pub written_section : Option (List ℕ) → List ℕ → SectionParts
-written_section location identifier = record { location = location; identifier = identifier; vid = None }
+written_section location identifier =
+    record { location = location; identifier = identifier; vid = None }
 
 -- the one list of bytes that is written for a token in this form
 abbrev pub v2_bytes : TokenParts → List ℕ
-v2_bytes t = sections (written_section (written_location t.location) t.identifier) (map (written_section None) t.caveats) t.sig
+v2_bytes t = sections (written_section (written_location t.location) t.identifier)
+    (map (written_section None) t.caveats) t.sig

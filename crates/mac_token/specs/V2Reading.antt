@@ -1,4 +1,4 @@
--- What stands at the front of bytes in V2 binary, and the bytes after it; none where nothing of the kind does.
+-- For proofs: what stands at the front of bytes in V2 binary, and the bytes after it.
 use Rattle.std.specs.Prelude.{◌≡◌, ℕ, zero, suc, ◌+◌, ◌*◌, ◌%◌, List, [], ◌∷◌, ◌++◌, length, map, take, drop, Option, Some, None, nat_lt, ◌==◌, ◌&&◌, is_none, if◌then◌else◌}
 use Rattle.std.specs.List.{flat_map}
 use Rattle.mac_token.specs.RawToken.{CaveatParts}
@@ -8,7 +8,7 @@ use Rattle.mac_token.specs.Section.{SectionParts, caveat_said}
 use Rattle.mac_token.specs.declared.v2.FieldType.{FieldType}
 use Rattle.mac_token.specs.declared.v2.FieldType.TheVariants.{Location, Identifier, Vid, Signature}
 
--- a number whose low part was read before: what is left is worth unit times as much, and may be 0 only where nothing came before
+-- a number whose low part was read before: the rest counts unit times, and is 0 only at unit 1
 unfoldable pub raised : ℕ → ℕ → Option (ℕ × List ℕ) → Option (ℕ × List ℕ)
 raised low unit None = None
 raised low unit (Some (zero, rest)) = if nat_lt 1 unit then None else Some (low, rest)
@@ -17,7 +17,8 @@ raised low unit (Some (suc n, rest)) = Some (low + unit * suc n, rest)
 -- a number in its shortest form
 unfoldable pub varint_at : List ℕ → Option (ℕ × List ℕ)
 varint_at [] = None
-varint_at (b ∷ bytes) = if nat_lt b 128 then Some (b, bytes) else raised (b % 128) 128 (varint_at bytes)
+varint_at (b ∷ bytes) =
+    if nat_lt b 128 then Some (b, bytes) else raised (b % 128) 128 (varint_at bytes)
 
 -- a length, and that many bytes
 unfoldable pub counted_at : List ℕ → Option (List ℕ × List ℕ)
@@ -33,7 +34,9 @@ field_at kind (b ∷ bytes) = if b == type_number kind then counted_at bytes els
 -- a field that may be left out: it is there where its type comes next
 unfoldable pub optional_at : FieldType → List ℕ → Option (Option (List ℕ) × List ℕ)
 optional_at kind [] = Some (None, [])
-optional_at kind (b ∷ bytes) = if b == type_number kind then (counted_at bytes >>= λ value. Some (Some value.0, value.1)) else Some (None, b ∷ bytes)
+optional_at kind (b ∷ bytes) = if b == type_number kind
+    then (counted_at bytes >>= λ value. Some (Some value.0, value.1))
+    else Some (None, b ∷ bytes)
 
 -- the end mark
 unfoldable pub end_at : List ℕ → Option (List ℕ)
@@ -57,7 +60,8 @@ without_vid head = if is_none head.0.vid then Some head else None
 -- the version byte 2, and the token's own section
 unfoldable pub head_at : List ℕ → Option (SectionParts × List ℕ)
 head_at [] = None
-head_at (version ∷ bytes) = if version == 2 then (section_at bytes >>= λ head. without_vid head) else None
+head_at (version ∷ bytes) =
+    if version == 2 then (section_at bytes >>= λ head. without_vid head) else None
 
 -- a signature's field of 32 bytes, up to the end
 unfoldable pub signature_at : List ℕ → Option (List ℕ)

@@ -1,4 +1,4 @@
--- What is read from V2 binary as a whole; the laws of this crate say that it is what `V2` relates the bytes to.
+-- For proofs: what is read from V2 binary, as a function; law `v2_is_meant` ties it to `V2`.
 use Rattle.std.specs.Prelude.{ℕ, zero, suc, List, [], ◌∷◌, length, Option, Some, None}
 use Rattle.mac_token.specs.RawToken.{CaveatParts, RawParts}
 use Rattle.mac_token.specs.Location.{text_at}
@@ -11,7 +11,8 @@ abbrev pub no_caveats : List ℕ → Option (List CaveatParts × List ℕ)
 no_caveats bytes = end_at bytes >>= λ rest. Some ([], rest)
 
 -- what a section and those behind it give; `more` reads those behind it
-abbrev pub from_section : (List ℕ → Option (List CaveatParts × List ℕ)) → List ℕ → Option (SectionParts × List ℕ) → Option (List CaveatParts × List ℕ)
+abbrev pub from_section : (List ℕ → Option (List CaveatParts × List ℕ)) → List ℕ
+    → Option (SectionParts × List ℕ) → Option (List CaveatParts × List ℕ)
 from_section more bytes None = no_caveats bytes
 from_section more bytes (Some s) = caveat_said s.0 >>= λ c. more s.1 >>= λ cs. Some (c ∷ cs.0, cs.1)
 
@@ -27,4 +28,9 @@ v2_of bytes = do
   location ← text_at (location_bytes head.0)
   caveats ← caveats_at (suc (length head.1)) head.1
   signature ← signature_at caveats.1
-  Some (record { location = location; identifier = head.0.identifier; caveats = caveats.0; sig = signature })
+  Some (record {
+    location = location;
+    identifier = head.0.identifier;
+    caveats = caveats.0;
+    sig = signature;
+  })

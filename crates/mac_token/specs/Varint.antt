@@ -1,7 +1,7 @@
 -- Varints: numbers as unsigned LEB128 (DWARF 5, section 7.6), each in its shortest form.
 use Rattle.std.specs.Prelude.{◌≡◌, ℕ, zero, suc, ◌+◌, ◌*◌, ◌/◌, ◌%◌, ◌<◌, ◌≤◌, List, [], ◌∷◌, nat_lt, if◌then◌else◌}
 
--- the groups of a number, at most k + 1 of them: seven bits a byte, the lowest first, the high bit set on each byte but the last
+-- the groups of a number, k + 1 at most: seven bits each, lowest first, a high bit where more come
 unfoldable pub groups : ℕ → ℕ → List ℕ
 groups zero n = n ∷ []
 groups (suc k) n = if nat_lt n 128 then n ∷ [] else (128 + n % 128) ∷ groups k (n / 128)

@@ -20,4 +20,5 @@ written t V2Text = base64_of (v2_bytes t)
 
 -- what writing answers: Limit exactly where the bytes would pass a token's greatest length
 unfoldable pub write_of : TokenParts → Form → Result (List ℕ) TokenRefusal
-write_of t form = if nat_lt TOKEN_MAX (length (written t form)) then Err Limit else Ok (written t form)
+write_of t form =
+    if nat_lt TOKEN_MAX (length (written t form)) then Err Limit else Ok (written t form)

@@ -24,9 +24,9 @@ fn is_padded(text: &[u8]) -> bool
     text.last().copied() == Some(b'=')
 }
 
-/// The bytes that a base64 text spells, or `None` where it spells none. Its letters decide on one alphabet for the
-/// whole text, so that a text which mixes the two is refused for the other's letters, and its last letter decides on
-/// padding. Time is linear in the text.
+/// The bytes that a base64 text spells, or `None` where it spells none. Its letters decide on one
+/// alphabet for the whole text, so that a text which mixes the two is refused for the other's
+/// letters, and its last letter decides on padding. Time is linear in the text.
 pub(crate) fn decode(alloc: Global, text: &[u8]) -> Result<Option<Vec<u8>>, NoMemory>
     ensures { IfOk result (λ found. MatchOption found
         ((bytes : List ℕ) → ¬ IsBase64Of text.now bytes)

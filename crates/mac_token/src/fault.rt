@@ -93,6 +93,10 @@ impl<T: Drop> From<AllocFailed<T>> for TokenFault {
     }
 }
 
+/// What stands there is no part of a token's form.
+#[derive(Clone, Copy)]
+pub(crate) struct Malformed;
+
 /// Why the reader of a form gives no token.
 #[derive(Clone, Copy)]
 pub(crate) enum ReadFault {
@@ -100,6 +104,14 @@ pub(crate) enum ReadFault {
     Malformed,
     /// Memory was refused.
     Memory,
+}
+
+impl From<Malformed> for ReadFault {
+    ghost from_gives = { λ _ fault. fault ≡ reading.Malformed };
+
+    fn from(_refused: Malformed) -> ReadFault {
+        ReadFault::Malformed
+    }
 }
 
 impl From<AllocError> for ReadFault {

@@ -1,6 +1,6 @@
 //! Laws about the definitions, each the contract of a function that does nothing.
 
-ghost use Rattle.std.specs.Prelude.{All, ◌≡◌, ◌≤◌, ◌↔◌, ◌++◌, ◌∷◌, ℕ, List, length, codes, Some, Ok, Result, IsTrue};
+ghost use Rattle.std.specs.Prelude.{All, ◌≡◌, ◌≤◌, ◌↔◌, ◌++◌, ◌∷◌, ℕ, List, length, Some, Ok, Result, IsTrue};
 ghost use Rattle.std.specs.Str.{IsUtf8};
 ghost use Rattle.base64.specs.Engines.{standard, standard_no_pad, url_safe, url_safe_no_pad};
 ghost use Rattle.base64.specs.GeneralPurpose.{IsBytes, engine_symbols};
@@ -8,7 +8,7 @@ ghost use Rattle.mac_token.specs.declared.fault.TokenRefusal.{TokenRefusal};
 ghost use Rattle.mac_token.specs.declared.form.Form.{Form};
 ghost use Rattle.mac_token.specs.declared.limits.TheConstants.{LOCATION_MAX, IDENTIFIER_MAX, CAVEAT_MAX, CAVEATS_MAX, TOKEN_MAX};
 ghost use Rattle.mac_token.specs.Base64Reading.{base64_bytes};
-ghost use Rattle.mac_token.specs.Base64Text.{IsBase64Of, base64_of};
+ghost use Rattle.mac_token.specs.Base64Text.{IsBase64Of, base64_of, plain_letters, url_safe_letters};
 ghost use Rattle.mac_token.specs.Json.{JsonText, json_bytes};
 ghost use Rattle.mac_token.specs.JsonReading.{json_text_of};
 ghost use Rattle.mac_token.specs.Limits.{IsWithinLimits, is_within};
@@ -32,17 +32,21 @@ pub fn spells_one()
 
 /// What is written for a token spells it, in each form.
 pub fn written_spells()
-    ensures { (t : TokenParts) (form : Form) → IsToken t → IsWithinLimits t → Spells (written t form) (raw_of t) }
+    ensures { (t : TokenParts) (form : Form) → IsToken t → IsWithinLimits t
+        → Spells (written t form) (raw_of t) }
 {}
 
 /// What was written is read again as the same token, unless it is longer than a token may be.
 pub fn written_is_read_again()
-    ensures { (t : TokenParts) (form : Form) → IsToken t → IsWithinLimits t → length (written t form) ≤ TOKEN_MAX → read_of (written t form) ≡ Ok t }
+    ensures { (t : TokenParts) (form : Form) → IsToken t → IsWithinLimits t
+        → length (written t form) ≤ TOKEN_MAX → read_of (written t form) ≡ Ok t }
 {}
 
-/// What is written for a `Token` is read again as it: its parts are what [`written_is_read_again`] asks for.
+/// What is written for a `Token` is read again as it: its parts are what [`written_is_read_again`]
+/// asks for.
 pub fn each_token_is_read_again(token: &Token, form: TokenForm)
-    ensures { length (written token.now form) ≤ TOKEN_MAX → read_of (written token.now form) ≡ Ok token.now }
+    ensures { length (written token.now form) ≤ TOKEN_MAX
+        → read_of (written token.now form) ≡ Ok token.now }
 {
     parts_of_a_token(token);
 }
@@ -77,12 +81,14 @@ fn all_are_bytes(lists: &[Vec<u8>])
 
 /// What the function of reading gives is the one way in which reading may end.
 pub fn read_is_meant()
-    ensures { (bytes : List ℕ) (end : Result TokenParts TokenRefusal) → IsBytes bytes → Read bytes end ↔ (read_of bytes ≡ end) }
+    ensures { (bytes : List ℕ) (end : Result TokenParts TokenRefusal) → IsBytes bytes
+        → Read bytes end ↔ (read_of bytes ≡ end) }
 {}
 
 /// The same up to the grammar.
 pub fn raw_read_is_meant()
-    ensures { (bytes : List ℕ) (end : Result RawParts TokenRefusal) → IsBytes bytes → ReadRaw bytes end ↔ (raw_read_of bytes ≡ end) }
+    ensures { (bytes : List ℕ) (end : Result RawParts TokenRefusal) → IsBytes bytes
+        → ReadRaw bytes end ↔ (raw_read_of bytes ≡ end) }
 {}
 
 /// What is read from V1 packets is the raw token that they spell.
@@ -92,7 +98,8 @@ pub fn v1_is_meant()
 
 /// What is read from V2 binary is the raw token that it spells.
 pub fn v2_is_meant()
-    ensures { (bytes : List ℕ) (r : RawParts) → IsBytes bytes → V2 bytes r ↔ (v2_of bytes ≡ Some r) }
+    ensures { (bytes : List ℕ) (r : RawParts) → IsBytes bytes
+        → V2 bytes r ↔ (v2_of bytes ≡ Some r) }
 {}
 
 /// What is read from V2 JSON is the raw token that it spells.
@@ -146,7 +153,8 @@ pub fn v2_spells_one()
 
 /// What is written in V2 binary spells its token.
 pub fn v2_is_read_again()
-    ensures { (t : TokenParts) → IsUtf8 t.location → length t.sig ≡ 32 → V2 (v2_bytes t) (raw_of t) }
+    ensures { (t : TokenParts) → IsUtf8 t.location → length t.sig ≡ 32
+        → V2 (v2_bytes t) (raw_of t) }
 {}
 
 /// What is spelled in V2 binary begins with the byte 2.
@@ -176,6 +184,8 @@ pub fn base64_is_read_again()
 
 /// The engines' tables hold the two alphabets of RFC 4648, sections 4 and 5.
 pub fn base64_has_these_letters()
-    ensures plain { (engine_symbols standard ≡ codes "ABCDEFGHIJKLMNOPQRSTUVWXYZabcdefghijklmnopqrstuvwxyz0123456789+/") × (engine_symbols standard_no_pad ≡ engine_symbols standard) }
-    ensures url_safe { (engine_symbols url_safe ≡ codes "ABCDEFGHIJKLMNOPQRSTUVWXYZabcdefghijklmnopqrstuvwxyz0123456789-_") × (engine_symbols url_safe_no_pad ≡ engine_symbols url_safe) }
+    ensures plain { (engine_symbols standard ≡ plain_letters)
+        × (engine_symbols standard_no_pad ≡ plain_letters) }
+    ensures url_safe { (engine_symbols url_safe ≡ url_safe_letters)
+        × (engine_symbols url_safe_no_pad ≡ url_safe_letters) }
 {}

@@ -18,7 +18,8 @@ impl Model for RawCaveat {
 
     ghost Value = { CaveatParts };
 
-    ghost view = { λ c. record { id = c.id.items; vid = bytes_of c.vid; location = text_of c.location } };
+    ghost view = { λ c.
+        record { id = c.id.items; vid = bytes_of c.vid; location = text_of c.location } };
 }
 
 /// A token as it is spelled. Contracts see it as a `RawParts`.
@@ -40,5 +41,10 @@ impl Model for RawToken {
 
     ghost Value = { RawParts };
 
-    ghost view = { λ t. record { location = string_bytes t.location; identifier = t.identifier.items; caveats = t.caveats.items; sig = t.sig } };
+    ghost view = { λ t. record {
+      location = string_bytes t.location;
+      identifier = t.identifier.items;
+      caveats = t.caveats.items;
+      sig = t.sig;
+    } };
 }

@@ -7,15 +7,15 @@
 //!       | V2 JSON, which begins with `{`
 //! ```
 //!
-//! An input whose first byte calls for a bare form is never base64 text, and what base64 text stands for
-//! is not decoded again.
+//! An input whose first byte calls for a bare form is never base64 text, and what base64 text
+//! stands for is not decoded again.
 
 ghost use Rattle.std.specs.Prelude.{◌≡◌, IfOk, is_some, map};
 ghost use Rattle.mac_token.specs.RawToken.{byte_lists};
 ghost use Rattle.std.specs.List.{list_any};
 ghost use Rattle.mac_token.specs.Answers.{Answers, Ends};
 ghost use Rattle.mac_token.specs.Base64Reading.{base64_bytes};
-ghost use Rattle.mac_token.specs.Read.{IsInBound, Read, ReadRaw, calls_for_bare, carried, bare_of, or_transport, raw_read_of, token_of, read_of};
+ghost use Rattle.mac_token.specs.Read.{IsInBound, Read, ReadRaw, calls_for_bare, bare_of, or_transport, raw_read_of, token_of, read_of};
 ghost use Rattle.mac_token.specs.Reads.{Gives};
 
 use crate::fault::{NoMemory, ReadFault, TokenFault, TokenRefusal};
@@ -52,20 +52,10 @@ fn decoded(alloc: Global, text: &[u8]) -> Result<RawToken, TokenFault>
     }
 }
 
-#[tactic(auto, unfolding(crate::specs::Read::carried))]
-fn carried(alloc: Global, bytes: &[u8]) -> Result<RawToken, TokenFault>
-    ensures { Answers (λ raw. raw) result (or_transport (carried bytes.now)) }
-{
-    match bytes {
-        [] => Err(TokenFault::Refused(TokenRefusal::Transport)),
-        [first, ..] if calls_for_bare(*first) => Ok(bare(alloc, bytes)?),
-        _ => decoded(alloc, bytes),
-    }
-}
-
-/// What the bytes spell, a token or not. Time and memory are linear in the bytes. The first refusal that
-/// applies: `Limit` where the bytes are longer than a token may be, `Transport` where they carry no bare
-/// form, `Malformed` where they spell nothing; `Memory` may come in place of any answer but `Limit`.
+/// What the bytes spell, a token or not. Time and memory are linear in the bytes. The first refusal
+/// that applies: `Limit` where the bytes are longer than a token may be, `Transport` where they
+/// carry no bare form, `Malformed` where they spell nothing; `Memory` in place of any but `Limit`.
+#[tactic(auto, unfolding(crate::specs::Read::carried, crate::specs::Read::raw_read_of))]
 pub fn read_raw(alloc: Global, bytes: &[u8]) -> Result<RawToken, TokenFault>
     ensures answer { Answers (λ raw. raw) result (raw_read_of bytes.now) }
     ensures meaning { Ends (λ raw. raw) result (ReadRaw bytes.now) }
@@ -74,7 +64,11 @@ pub fn read_raw(alloc: Global, bytes: &[u8]) -> Result<RawToken, TokenFault>
     if bytes.len() > TOKEN_MAX {
         return Err(TokenFault::Refused(TokenRefusal::Limit));
     }
-    carried(alloc, bytes)
+    match bytes {
+        [] => Err(TokenFault::Refused(TokenRefusal::Transport)),
+        [first, ..] if calls_for_bare(*first) => Ok(bare(alloc, bytes)?),
+        _ => decoded(alloc, bytes),
+    }
 }
 
 fn has_vid(raw: &RawToken) -> bool
@@ -125,9 +119,9 @@ fn token(alloc: Global, raw: RawToken) -> Result<Token, TokenFault>
     Ok(Token::new(location, identifier, caveats, sig)?)
 }
 
-/// The token that the bytes spell, within the limits. Time and memory are linear in the bytes. The first
-/// refusal that applies: those of `read_raw`; `ThirdParty` where a caveat has a verifier's id;
-/// `CaveatLocation` where one has a location; `Limit` where a part passes its limit.
+/// The token that the bytes spell, within the limits. Time and memory are linear in the bytes. The
+/// first refusal that applies: those of `read_raw`; `ThirdParty` where a caveat has a verifier's
+/// id; `CaveatLocation` where one has a location; `Limit` where a part passes its limit.
 pub fn read(alloc: Global, bytes: &[u8]) -> Result<Token, TokenFault>
     ensures answer { Answers (λ token. token) result (read_of bytes.now) }
     ensures meaning { Ends (λ token. token) result (Read bytes.now) }

@@ -26,7 +26,11 @@ impl<'a> Model for Section<'a> {
 
     ghost Value = { SectionParts };
 
-    ghost view = { λ s. record { location = option_copied s.location; identifier = s.identifier.now; vid = option_copied s.vid } };
+    ghost view = { λ s. record {
+      location = option_copied s.location;
+      identifier = s.identifier.now;
+      vid = option_copied s.vid;
+    } };
 }
 
 impl Section<'_> {

@@ -27,9 +27,11 @@ impl Model for Token {
 
     ghost Value = { TokenParts };
 
-    ghost view = { λ t. token_parts (string_bytes t.location) t.identifier.items (byte_lists t.caveats.items) t.sig };
+    ghost view = { λ t. token_parts (string_bytes t.location) t.identifier.items
+        (byte_lists t.caveats.items) t.sig };
 
-    ghost invariant = { λ t. IsWithinLimits (token_parts (string_bytes t.location) t.identifier.items (byte_lists t.caveats.items) t.sig) };
+    ghost invariant = { λ t. IsWithinLimits (token_parts (string_bytes t.location)
+        t.identifier.items (byte_lists t.caveats.items) t.sig) };
 }
 
 fn are_short(caveats: &[Vec<u8>]) -> bool
@@ -48,7 +50,8 @@ fn is_within(location: &str, identifier: &[u8], caveats: &[Vec<u8>]) -> bool
 }
 
 fn append_copy(list: &mut Vec<Vec<u8>>, alloc: Global, bytes: &[u8]) -> Result<(), NoMemory>
-    ensures ok { OnOk result (byte_lists list.new.items ≡ byte_lists list.old.items ++ bytes.now ∷ []) }
+    ensures ok { OnOk result (byte_lists list.new.items
+        ≡ byte_lists list.old.items ++ bytes.now ∷ []) }
     ensures err { OnErr result (byte_lists list.new.items ≡ byte_lists list.old.items) }
 {
     let copy = Vec::from_slice(alloc, bytes)?;
@@ -58,7 +61,8 @@ fn append_copy(list: &mut Vec<Vec<u8>>, alloc: Global, bytes: &[u8]) -> Result<(
 
 /// Appends copies, or nothing where memory is refused.
 fn append_copies(list: &mut Vec<Vec<u8>>, alloc: Global, added: &[Vec<u8>]) -> Result<(), NoMemory>
-    ensures ok { OnOk result (byte_lists list.new.items ≡ byte_lists list.old.items ++ byte_lists added.now) }
+    ensures ok { OnOk result (byte_lists list.new.items
+        ≡ byte_lists list.old.items ++ byte_lists added.now) }
     ensures err { OnErr result (byte_lists list.new.items ≡ byte_lists list.old.items) }
 {
     let before = list.len();
@@ -80,8 +84,10 @@ impl Token {
         caveats: Vec<Vec<u8>>,
         sig: [u8; 32],
     ) -> Result<Token, TokenRefusal>
-        ensures made { let parts = token_parts (string_bytes location) identifier.items (byte_lists caveats.items) sig in OkIff result (IsWithinLimits parts) parts }
-        ensures answer { result ≡ within (token_parts (string_bytes location) identifier.items (byte_lists caveats.items) sig) }
+        ensures made { let parts = token_parts (string_bytes location) identifier.items
+            (byte_lists caveats.items) sig in OkIff result (IsWithinLimits parts) parts }
+        ensures answer { result ≡ within (token_parts (string_bytes location) identifier.items
+            (byte_lists caveats.items) sig) }
     {
         if !is_within(&location, &identifier, &caveats) {
             return Err(TokenRefusal::Limit);
@@ -94,9 +100,9 @@ impl Token {
         })
     }
 
-    /// The token with copies of these caveats behind its own, and with this signature. `Limit` where a
-    /// caveat or the new number of caveats passes its limit, tested before memory is taken; `Memory`
-    /// where it is refused. A refusal hands the token back as it was.
+    /// The token with copies of these caveats behind its own, and with this signature. `Limit`
+    /// where a caveat or the new number of caveats passes its limit, tested before memory is taken;
+    /// `Memory` where it is refused. Either hands the token back as it was.
     pub fn push(
         mut self,
         alloc: Global,

@@ -1,7 +1,7 @@
 //! V1 packets.
 //!
-//! A packet begins with its own length, in four hexadecimal digits of lower case; behind it stand a key
-//! name, a space, a value and a line feed. A token's packets come in this order:
+//! A packet begins with its own length, in four hexadecimal digits of lower case; behind it stand a
+//! key name, a space, a value and a line feed. A token's packets come in this order:
 //!
 //! ```text
 //! location

@@ -7,8 +7,8 @@
 //! end     = the type 0, without a length
 //! ```
 //!
-//! By their types, a field of 1 is a location, of 2 an identifier, of 4 a vid, and of 6 the signature, which
-//! has 32 bytes and is the end.
+//! By their types, a field of 1 is a location, of 2 an identifier, of 4 a vid, and of 6 the
+//! signature, which has 32 bytes and is the end.
 
 ghost use Rattle.std.specs.Prelude.{◌≡◌};
 

@@ -4,7 +4,7 @@
 //! varint = { byte with the high bit set } byte without it
 //! ```
 //!
-//! Each byte carries seven bits, the lowest first; the last byte is not zero, save for the number 0.
+//! Each byte carries seven bits, the lowest first; the last is not zero, save for the number 0.
 
 ghost use Rattle.std.specs.Prelude.{◌≡◌, ℕ, List, ◌++◌, ◌+◌, ◌*◌, ◌%◌, ◌^◌, ◌<◌, ◌≤◌, length, IfSome, IfNone, SomeIff, OnOk};
 ghost use Rattle.mac_token.specs.Varint.{varint};
@@ -13,17 +13,20 @@ use crate::fault::NoMemory;
 
 /// The number with one group more, where it stays below 2^64.
 fn with_group(number: u64, unit: u64, byte: u8) -> Option<u64>
-    ensures { SomeIff result (number + unit * (byte % 128) < 2 ^ 64) (number + unit * (byte % 128)) }
+    ensures { SomeIff result (number + unit * (byte % 128) < 2 ^ 64)
+        (number + unit * (byte % 128)) }
 {
     number.checked_add(unit.checked_mul(u64::from(byte % 128))?)
 }
 
 /// Reads the number at the front of the bytes, and gives the bytes after it.
 ///
-/// `None` where no number below 2^64 stands there in its shortest form. It looks at ten bytes at most.
+/// `None` where no number below 2^64 stands there in its shortest form. At most ten bytes are
+/// looked at.
 pub fn read_varint(bytes: &[u8]) -> Option<(u64, &[u8])>
     ensures found { IfSome result (λ found. bytes.now ≡ varint found.0 ++ found.1.now) }
-    ensures none { IfNone result ((n : ℕ) (rest : List ℕ) → n < 2 ^ 64 → bytes.now ≡ varint n ++ rest → ⊥) }
+    ensures none { IfNone result
+        ((n : ℕ) (rest : List ℕ) → n < 2 ^ 64 → bytes.now ≡ varint n ++ rest → ⊥) }
 {
     let mut number: u64 = 0;
     let mut unit: u64 = 1;

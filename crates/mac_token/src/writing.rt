@@ -30,7 +30,8 @@ fn text_fits(len: usize) -> bool
 
 fn as_v1_text(alloc: Global, token: &Token) -> Result<Vec<u8>, TokenFault>
     ensures written { Writes (base64_of (v1_bytes token.now)) result }
-    ensures memory { result ≡ Err TokenFault.Memory → length (base64_of (v1_bytes token.now)) ≤ TOKEN_MAX }
+    ensures memory { result ≡ Err TokenFault.Memory
+        → length (base64_of (v1_bytes token.now)) ≤ TOKEN_MAX }
 {
     if !text_fits(v1::written_len(token)) {
         return Err(TokenFault::Refused(TokenRefusal::Limit));
@@ -51,7 +52,8 @@ fn as_v2_binary(alloc: Global, token: &Token) -> Result<Vec<u8>, TokenFault>
 
 fn as_v2_text(alloc: Global, token: &Token) -> Result<Vec<u8>, TokenFault>
     ensures written { Writes (base64_of (v2_bytes token.now)) result }
-    ensures memory { result ≡ Err TokenFault.Memory → length (base64_of (v2_bytes token.now)) ≤ TOKEN_MAX }
+    ensures memory { result ≡ Err TokenFault.Memory
+        → length (base64_of (v2_bytes token.now)) ≤ TOKEN_MAX }
 {
     if !text_fits(v2::written_len(token)) {
         return Err(TokenFault::Refused(TokenRefusal::Limit));
@@ -84,8 +86,8 @@ fn write_form(alloc: Global, token: &Token, form: Form) -> Result<Vec<u8>, Token
     }
 }
 
-/// The token in this form, in time linear in what is written. `Limit` where it would be longer than a token
-/// may be; forms 1, 2 and 4 take no memory then.
+/// The token in this form, in time linear in what is written. `Limit` where it would be longer than
+/// a token may be; forms 1, 2 and 4 take no memory then.
 pub fn write(alloc: Global, token: &Token, form: Form) -> Result<Vec<u8>, TokenFault>
     ensures written { Writes (written token.now form) result }
     ensures answer { Answers (λ text. text.items) result (write_of token.now form) }

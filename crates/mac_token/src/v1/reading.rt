@@ -35,7 +35,7 @@ fn hex_number(a: u8, b: u8, c: u8, d: u8) -> Option<usize>
     Some(4096 * h + 256 * i + 16 * j + k)
 }
 
-/// What stands between the digits and the line feed of the packet at the front, and what follows it.
+/// What stands between the digits and the line feed of the first packet, and what follows it.
 #[tactic(auto, unfolding(crate::specs::V1Reading::line_at))]
 fn line(bytes: &[u8]) -> Option<(&[u8], &[u8])>
     ensures { option_map (λ x. (x.0.now, x.1.now)) result ≡ line_at bytes.now }
@@ -119,7 +119,8 @@ fn caveat(alloc: Global, bytes: &[u8]) -> Result<(RawCaveat, &[u8]), ReadFault>
 
 /// The caveats at the front, as many as there are.
 fn caveats(alloc: Global, bytes: &[u8]) -> Result<(Vec<RawCaveat>, &[u8]), ReadFault>
-    ensures { Gives (λ x. (x.0.items, x.1.now)) result (caveats_at (suc (length bytes.now)) bytes.now) }
+    ensures { Gives (λ x. (x.0.items, x.1.now)) result
+        (caveats_at (suc (length bytes.now)) bytes.now) }
 {
     let mut caveats = Vec::new(alloc);
     let mut rest = bytes;
@@ -170,8 +171,8 @@ fn packets(alloc: Global, bytes: &[u8]) -> Result<RawToken, ReadFault>
     })
 }
 
-/// The raw token that these packets spell, all of the bytes. The work is linear in the bytes, and so is
-/// the memory.
+/// The raw token that these packets spell, all of the bytes. The work is linear in the bytes, and
+/// so is the memory.
 pub(crate) fn read(alloc: Global, bytes: &[u8]) -> Result<RawToken, ReadFault>
     ensures exact { Gives (λ raw. raw) result (v1_of bytes.now) }
     ensures read { Reads (λ raw. raw) (V1 bytes.now) result }

@@ -28,7 +28,8 @@ fn packet_len(key: Key, value: &[u8]) -> usize
 
 #[tactic(auto, unfolding(crate::specs::V1::packet))]
 fn put_packet(out: &mut Vec<u8>, key: Key, value: &[u8]) -> Result<(), NoMemory>
-    ensures { OnOk result (out.new.items ≡ out.old.items ++ packet (record { key = key; value = value.now })) }
+    ensures { OnOk result (out.new.items
+        ≡ out.old.items ++ packet (record { key = key; value = value.now })) }
 {
     let len = packet_len(key, value);
     let digits = [
@@ -71,7 +72,8 @@ pub(crate) fn written_len(token: &Token) -> usize
 }
 
 fn put_caveats(out: &mut Vec<u8>, caveats: &[Vec<u8>]) -> Result<(), NoMemory>
-    ensures { OnOk result (out.new.items ≡ out.old.items ++ flat_map packet (map caveat_field (byte_lists caveats.now))) }
+    ensures { OnOk result (out.new.items
+        ≡ out.old.items ++ flat_map packet (map caveat_field (byte_lists caveats.now))) }
 {
     for caveat in caveats {
         put_packet(out, Key::Cid, caveat)?;

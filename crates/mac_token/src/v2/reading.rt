@@ -115,7 +115,8 @@ fn signature(bytes: &[u8]) -> Option<[u8; 32]>
 
 /// The caveats' sections and the end mark behind them: the caveats, and the bytes after it.
 fn caveats(alloc: Global, bytes: &[u8]) -> Result<(Vec<RawCaveat>, &[u8]), ReadFault>
-    ensures { Reads {Y = List CaveatParts × List ℕ} (λ x. (x.0.items, x.1.now)) (λ x. AreCaveats bytes.now x.0 x.1) result }
+    ensures { Reads {Y = List CaveatParts × List ℕ} (λ x. (x.0.items, x.1.now))
+        (λ x. AreCaveats bytes.now x.0 x.1) result }
 {
     let mut caveats = Vec::new(alloc);
     let mut rest = bytes;
@@ -150,8 +151,8 @@ fn sections(alloc: Global, bytes: &[u8]) -> Result<RawToken, ReadFault>
     })
 }
 
-/// The raw token that these bytes spell in V2 binary, all of them. The work is linear in the bytes, and so
-/// is the memory.
+/// The raw token that these bytes spell in V2 binary, all of them. The work is linear in the bytes,
+/// and so is the memory.
 pub(crate) fn read(alloc: Global, bytes: &[u8]) -> Result<RawToken, ReadFault>
     ensures exact { Gives (λ raw. raw) result (v2_of bytes.now) }
     ensures read { Reads (λ raw. raw) (V2 bytes.now) result }

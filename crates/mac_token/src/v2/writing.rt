@@ -40,7 +40,8 @@ fn location_len(location: &[u8]) -> usize
 fn caveats_len(caveats: &[Vec<u8>]) -> usize
     requires count { length caveats.now ≤ CAVEATS_MAX }
     requires each { AreShort (byte_lists caveats.now) }
-    ensures value { result ≡ length (flat_map section (map (written_section None) (byte_lists caveats.now))) }
+    ensures value { result
+        ≡ length (flat_map section (map (written_section None) (byte_lists caveats.now))) }
     ensures bound { result ≤ CAVEATS_MAX * (CAVEAT_MAX + 12) }
 {
     let mut len = 0;
@@ -72,7 +73,8 @@ fn put_field(out: &mut Vec<u8>, kind: FieldType, bytes: &[u8]) -> Result<(), NoM
 
 /// Appends a location, which is left out where it is empty.
 fn put_location(out: &mut Vec<u8>, location: &[u8]) -> Result<(), NoMemory>
-    ensures { OnOk result (out.new.items ≡ out.old.items ++ optional Location (written_location location.now)) }
+    ensures { OnOk result (out.new.items
+        ≡ out.old.items ++ optional Location (written_location location.now)) }
 {
     if location.is_empty() {
         Ok(())
@@ -83,7 +85,8 @@ fn put_location(out: &mut Vec<u8>, location: &[u8]) -> Result<(), NoMemory>
 
 /// Appends a section without a verifier's id.
 fn put_section(out: &mut Vec<u8>, location: &[u8], identifier: &[u8]) -> Result<(), NoMemory>
-    ensures { OnOk result (out.new.items ≡ out.old.items ++ section (written_section (written_location location.now) identifier.now)) }
+    ensures { OnOk result (out.new.items ≡ out.old.items
+        ++ section (written_section (written_location location.now) identifier.now)) }
 {
     put_location(out, location)?;
     put_field(out, FieldType::Identifier, identifier)?;

@@ -1,6 +1,6 @@
 //! The members of a value that `serde_json` has read.
 
-ghost use Rattle.std.specs.Prelude.{◌≡◌, ◌↔◌, codes, length, IsTrue, option_map, string_bytes};
+ghost use Rattle.std.specs.Prelude.{◌≡◌, ◌↔◌, Some, None, MatchResult, codes, length, IsTrue, option_map, string_bytes};
 ghost use Rattle.serde_json.specs.Find.{get};
 ghost use Rattle.serde_json.specs.View.{view};
 ghost use Rattle.mac_token.specs.Json.{HasBytes, MayHaveBytes, HasText, MayHaveText, HasVersion, HasCaveats, IsCaveat, Json, JsonText};
@@ -10,26 +10,26 @@ ghost use Rattle.mac_token.specs.RawToken.{bytes_of, text_of};
 ghost use Rattle.mac_token.specs.Reads.{Reads, Gives};
 
 use crate::base64_text;
-use crate::fault::ReadFault;
+use crate::fault::{Malformed, ReadFault};
 use crate::raw::{RawCaveat, RawToken};
 use serde_json::Value;
 use std::alloc::Global;
 
 /// The text of a member, `None` where there is no such member.
-fn text_member<'v>(object: &'v Value, name: &str) -> Result<Option<&'v str>, ReadFault>
-    ensures { Gives (λ text. option_map (λ t. t.now) text) result
-        (text_member_of (get name.now (view object.now))) }
+fn text_member<'v>(object: &'v Value, name: &str) -> Result<Option<&'v str>, Malformed>
+    ensures { let member = text_member_of (get name.now (view object.now)) in MatchResult result
+        (λ text. member ≡ Some (option_map (λ t. t.now) text)) (λ _. member ≡ None) }
 {
     match object.get(name) {
         None => Ok(None),
         Some(value) => match value.as_str() {
             Some(text) => Ok(Some(text)),
-            None => Err(ReadFault::Malformed),
+            None => Err(Malformed),
         },
     }
 }
 
-/// The bytes of the one member that is there of two: `plain` has them as text, `coded` as base64 text.
+/// The bytes of the one member that is there of two: `plain` has them as text, `coded` as base64.
 fn bytes_member(
     alloc: Global,
     object: &Value,
@@ -162,8 +162,8 @@ fn read_text(alloc: Global, bytes: &[u8]) -> Result<RawToken, ReadFault>
     }
 }
 
-/// The token that the bytes are in V2 JSON: one object, with white space as JSON has it, of nesting at most 127.
-/// Of a name that stands twice the last value counts. Time is linear in the bytes. `Malformed` for anything else.
+/// The token that the bytes are in V2 JSON: one object, with white space as JSON has it, of nesting
+/// at most 127. Of a name that stands twice the last value counts. Time is linear in the bytes.
 pub(crate) fn read(alloc: Global, bytes: &[u8]) -> Result<RawToken, ReadFault>
     ensures exact { Gives (λ token. token) result (json_text_of bytes.now) }
     ensures read { Reads (λ token. token) (JsonText bytes.now) result }

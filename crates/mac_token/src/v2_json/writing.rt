@@ -1,4 +1,4 @@
-//! V2 JSON, written: an object as `serde_json` writes it without white space, its members sorted by name.
+//! An object as `serde_json` writes it without white space, its members sorted by name.
 
 ghost use Rattle.std.specs.Prelude.{◌≡◌, map, IfOk, OnOk};
 ghost use Rattle.serde_json.specs.View.{view, items_of, members_view};

@@ -1,21 +1,29 @@
-use Rattle.std.proofs.Common.{length, arith, refl}
-use Rattle.std.proofs.lemmas.Bool.{lt-ltb}
-use Rattle.mac_token.specs.declared.limits.TheConstants.{TOKEN_MAX}
-use Rattle.mac_token.specs.Read.{ReadRaw, raw_read_of}
-use Rattle.mac_token.proofs.ReadLaws.{ends_from_answers, raw_read_means, short_read}
+use Rattle.std.proofs.Common.{Ok, arith, rules}
+use Rattle.mac_token.specs.RawToken.{RawParts}
+use Rattle.mac_token.specs.Read.{carried, raw_read_of}
+use Rattle.mac_token.proofs.ReadLaws.{raw_ends}
 use Rattle.mac_token.proofs.reading.read_raw.Goals as goal
 
-pub returns-then-bytes-gt-TOKEN_MAX-clause-answer : goal.returns-then-bytes-gt-TOKEN_MAX-clause-answer
-unfolding raw_read_of
-returns-then-bytes-gt-TOKEN_MAX-clause-answer c =
-    let long = lt-ltb TOKEN_MAX (length c.args.bytes.now) c.if-bytes-gt-TOKEN_MAX.true in
-    rw long refl
+pub returns-in_err-bare-in-len1-up-clause-answer : goal.returns-in_err-bare-in-len1-up-clause-answer
+unfolding carried raw_read_of
+returns-in_err-bare-in-len1-up-clause-answer c = search rules
 
-pub returns-clause-answer : goal.returns-clause-answer
-returns-clause-answer c = rw (short_read c.args.bytes.now c.if-bytes-gt-TOKEN_MAX.false) c.carried.ensures
+pub returns-in_err-bare-in-len1-up-clause-meaning : goal.returns-in_err-bare-in-len1-up-clause-meaning
+returns-in_err-bare-in-len1-up-clause-meaning c =
+    raw_ends _ c.args.bytes.now (λ i. let fits = c.type_inv.bytes i in omega arith) c.from_residual.result (returns-in_err-bare-in-len1-up-clause-answer c)
 
-pub returns-clause-meaning : goal.returns-clause-meaning
-returns-clause-meaning c =
-    let bytes = c.args.bytes.now in
-    let means = raw_read_means bytes (λ i. let fits = c.type_inv.bytes i in omega arith) in
-    ends_from_answers _ (ReadRaw bytes) (raw_read_of bytes) c.carried.result means (returns-clause-answer c)
+pub returns-in_ok-bare-in-len1-up-clause-answer : goal.returns-in_ok-bare-in-len1-up-clause-answer
+unfolding carried raw_read_of
+returns-in_ok-bare-in-len1-up-clause-answer c = search rules
+
+pub returns-in_ok-bare-in-len1-up-clause-meaning : goal.returns-in_ok-bare-in-len1-up-clause-meaning
+returns-in_ok-bare-in-len1-up-clause-meaning c =
+    raw_ends {X = RawParts} (λ r. r) c.args.bytes.now (λ i. let fits = c.type_inv.bytes i in omega arith) (Ok c.in_ok-bare-in-len1-up.field-0) (returns-in_ok-bare-in-len1-up-clause-answer c)
+
+pub returns-in_default-clause-answer : goal.returns-in_default-clause-answer
+unfolding carried raw_read_of
+returns-in_default-clause-answer c = search rules
+
+pub returns-in_default-clause-meaning : goal.returns-in_default-clause-meaning
+returns-in_default-clause-meaning c =
+    raw_ends _ c.args.bytes.now (λ i. let fits = c.type_inv.bytes i in omega arith) c.decoded.result (returns-in_default-clause-answer c)
