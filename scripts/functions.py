@@ -9,7 +9,7 @@ HEADER = re.compile(r"( *)(?:pub(?:\([\w: ]+\))? )?(?:const )?(?:unsafe )?fn (\w
 
 @dataclass
 class Function:
-    """A function with a body: its path as rt check prints it, and its lines: `first` of its docs and clauses, and `start` of its body."""
+    """A function with a body: its path as rt check prints it, and where it and its body begin."""
 
     file: str
     path: str
@@ -58,12 +58,13 @@ def body_of(lines, at, indent):
 
 
 def scope_name(head):
-    """The part of a path that stands for an impl (its type, and its trait with what that is given), a trait or a module."""
+    """What stands in a path for an impl (its type, its trait, what that is given) or a module."""
     if not head.startswith("impl"):
         return re.findall(r"\w+", head)[1]
     rest = re.sub(r"^impl(<[^<>]*(<[^<>]*>[^<>]*)*>)? ", "", head)
     trait, _, made = rest.rpartition(" for ")
     trait, _, given = trait.partition("<")
     words = re.findall(r"\w+", re.sub(r"<.*>", "", given.removesuffix(">")))
-    count = f"Tuple{len(words)}" if given.startswith("(") else ""
-    return re.match(r"\w+", made)[0] + trait.split("::")[-1] + count + "".join(it[0].upper() + it[1:] for it in words)
+    words = [f"tuple{len(words)}"] * given.startswith("(") + words
+    names = [re.match(r"\w+", made)[0], trait.split("::")[-1], *words]
+    return "".join(it[:1].upper() + it[1:] for it in names)
