@@ -14,7 +14,8 @@ use rtrb::Producer;
 use std::alloc::Global;
 use std::marker::Model;
 
-/// The end of a lane that admits jobs. It moves to the thread that reads them. Contracts see its end of the ring.
+/// The end of a lane that admits jobs. It moves to the thread that reads them. Contracts see its
+/// end of the ring.
 #[derive(Drop)]
 pub struct Intake<S: Service> {
     pub(crate) producer: Producer<S::Job, Global, Numbered>,
@@ -33,7 +34,8 @@ impl<S: Service> Model for Intake<S> {
 
     ghost view = { λ intake. intake.producer };
 
-    ghost invariant = { λ intake. (intake.place ≡ length (sent intake.producer)) × (producer_capacity intake.producer ≡ RING_SLIPS_MAX) };
+    ghost invariant = { λ intake. (intake.place ≡ length (sent intake.producer))
+        × (producer_capacity intake.producer ≡ RING_SLIPS_MAX) };
 }
 
 impl<S: Service> Intake<S> {
@@ -46,16 +48,20 @@ impl<S: Service> Intake<S> {
         Intake { producer, place: 0 }
     }
 
-    /// Puts the job into the ring, and gives its place. One atomic store, and a load where no slip is known to be free.
+    /// Puts the job into the ring, and gives its place. One atomic store, and a load where no slip
+    /// is known to be free.
     pub fn admit(&mut self, job: S::Job) -> Result<u64, (AdmitFault, S::Job)>
         ensures lane { IsSameIntake self.old self.new }
-        ensures fault { MatchResult result (λ _. admit_fault (free_slips self.new + 1) (length (admitted self.old)) ≡ None) (λ e. admit_fault (free_slips self.new) (length (admitted self.old)) ≡ Some e.0) }
+        ensures fault { MatchResult result
+            (λ place. admit_fault (free_slips self.new + 1) place ≡ None)
+            (λ e. admit_fault (free_slips self.new) (length (admitted self.old)) ≡ Some e.0) }
         ensures place { IfOk result (λ place. place ≡ length (admitted self.old)) }
         ensures admitted { OnOk result (admitted self.new ≡ admitted self.old ++ job ∷ []) }
         ensures used { OnOk result (free_slips self.old ≤ free_slips self.new + 1) }
         ensures refused { OnErr result (Knows self.old self.new) }
         ensures back { IfErr result (λ e. e.1 ≡ job) }
-        ensures succeeds { 0 < free_slips self.old → length (admitted self.old) < 2 ^ 64 - 1 → IsOk result }
+        ensures succeeds { 0 < free_slips self.old →
+            length (admitted self.old) < 2 ^ 64 - 1 → IsOk result }
     {
         if self.producer.is_full() {
             return Err((AdmitFault::Full, job));
@@ -76,7 +82,8 @@ impl<S: Service> Intake<S> {
         self.producer.cached_slots()
     }
 
-    /// Whether the outlet was dropped, so that nobody takes what is admitted. No contract speaks of the answer.
+    /// Whether the outlet was dropped, so that nobody takes what is admitted. No contract speaks of
+    /// the answer.
     pub fn is_abandoned(&mut self) -> bool
         ensures { Knows self.old self.new }
     {

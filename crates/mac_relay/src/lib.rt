@@ -1,5 +1,6 @@
-//! A lane: the ring that carries a connection's jobs from its intake to its outlet, each end in a thread of
-//! its own. No call waits, and what the outlet releases are the replies to what the intake admitted.
+//! A lane: the ring that carries a connection's jobs from its intake to its outlet, each end in a
+//! thread of its own. No call waits, and what the outlet releases are the replies to what the
+//! intake admitted.
 #![tactic(auto)]
 
 pub mod fault;

@@ -8,7 +8,8 @@ use mac_lane::Service;
 use std::alloc::Global;
 use std::marker::Model;
 
-/// Shows all that an intake admitted, once it can admit no more. It owns no memory, and moves to the outlet's thread.
+/// Shows all that an intake admitted, once it can admit no more. It owns no memory, and moves to
+/// the outlet's thread.
 #[derive(Drop)]
 pub struct Finished<S: Service> {
     pub(crate) mark: rtrb::Finished<S::Job, Global, Numbered>,

@@ -15,8 +15,8 @@ use std::marker::Model;
 /// The most slips that an outlet has open.
 pub const OPEN_SLIPS_MAX: usize = 64;
 
-/// The end of a lane that releases replies. It moves to the thread that writes them. Contracts see its end of
-/// the ring and its reorder buffer.
+/// The end of a lane that releases replies. It moves to the thread that writes them. Contracts see
+/// its end of the ring and its reorder buffer.
 #[derive(Drop)]
 pub struct Outlet<S: Service> {
     pub(crate) consumer: Consumer<S::Job, Global, Numbered>,
@@ -37,7 +37,8 @@ impl<S: Service> Model for Outlet<S> {
 
     ghost view = { λ outlet. record { ring = outlet.consumer; buffer = outlet.buffer } };
 
-    ghost invariant = { λ outlet. IsKept (record { ring = outlet.consumer; buffer = outlet.buffer }) };
+    ghost invariant = { λ outlet.
+        IsKept (record { ring = outlet.consumer; buffer = outlet.buffer }) };
 }
 
 impl<S: Service> Outlet<S> {
@@ -50,13 +51,16 @@ impl<S: Service> Outlet<S> {
         Outlet { consumer, buffer }
     }
 
-    /// Takes one slip out of the ring and opens it, where fewer than 64 are open and the ring gives one. Whether it did.
+    /// Takes one slip out of the ring and opens it, where fewer than 64 are open and the ring gives
+    /// one. Whether it did.
     pub fn look(&mut self) -> bool
         ensures taken { IsTrue result → Takes self.old self.new }
         ensures may { IsTrue result → may_look self.old.buffer ≡ true }
         ensures left { IsFalse result → Looks self.old self.new }
-        ensures none { IsFalse result → may_look self.old.buffer ≡ true → waiting self.new ≡ [] }
-        ensures succeeds { may_look self.old.buffer ≡ true → 0 < length (waiting self.old) → IsTrue result }
+        ensures none { IsFalse result →
+            may_look self.old.buffer ≡ true → waiting self.new ≡ [] }
+        ensures succeeds { may_look self.old.buffer ≡ true →
+            0 < length (waiting self.old) → IsTrue result }
         ensures released { released S.reply_to self.new ≡ released S.reply_to self.old }
         ensures kept { IsKept self.new }
     {
@@ -75,7 +79,8 @@ impl<S: Service> Outlet<S> {
     /// Puts the answer at its place, which may be open or not.
     pub fn settle(&mut self, place: u64, answer: Answer<S>) -> Result<(), (SettleFault, Answer<S>)>
         ensures ring { Rests self.old self.new }
-        ensures fault { MatchResult result (λ _. settle_fault self.old.buffer place ≡ None) (λ e. settle_fault self.old.buffer place ≡ Some e.0) }
+        ensures fault { MatchResult result (λ _. settle_fault self.old.buffer place ≡ None)
+            (λ e. settle_fault self.old.buffer place ≡ Some e.0) }
         ensures settled { OnOk result (self.new.buffer ≡ settled self.old.buffer place answer) }
         ensures refused { OnErr result (self.new.buffer ≡ self.old.buffer) }
         ensures back { IfErr result (λ e. e.1 ≡ answer) }
@@ -90,7 +95,8 @@ impl<S: Service> Outlet<S> {
         ensures ring { Rests self.old self.new }
         ensures next { (result, self.new.buffer) ≡ next_of S.Job.eq S.reply_to self.old.buffer }
         ensures releases { Releases S.Job.eq S.reply_to self.old result }
-        ensures released { released S.reply_to self.new ≡ released S.reply_to self.old ++ replied result }
+        ensures released { released S.reply_to self.new ≡
+            released S.reply_to self.old ++ replied result }
         ensures kept { IsKept self.new }
     {
         self.buffer.next()
@@ -106,21 +112,25 @@ impl<S: Service> Outlet<S> {
         self.buffer.close();
     }
 
-    /// How many jobs the lane's intake has admitted in all, now that it has finished. What the ring still holds is known from then on.
+    /// How many jobs the lane's intake has admitted in all, now that it has finished. What the ring
+    /// still holds is known from then on.
     pub fn drain(&mut self, mark: &mut Finished<S>) -> u64
         requires mark { IsMarkOf mark.old self.old }
         ensures outlet { Looks self.old self.new }
-        ensures mark { IsMarkOf mark.new self.new × (all_admitted mark.new ≡ all_admitted mark.old) }
+        ensures mark { IsMarkOf mark.new self.new ×
+            (all_admitted mark.new ≡ all_admitted mark.old) }
         ensures rest { received self.new ++ waiting self.new ≡ all_admitted mark.old }
         ensures total { result ≡ length (all_admitted mark.old) }
-        ensures all { self.new.buffer.next ≡ result → released S.reply_to self.new ≡ map S.reply_to (all_admitted mark.old) }
+        ensures all { self.new.buffer.next ≡ result →
+            released S.reply_to self.new ≡ map S.reply_to (all_admitted mark.old) }
         ensures kept { IsKept self.new }
     {
         self.consumer.slots_after(&mut mark.mark);
         mark.admitted
     }
 
-    /// Whether the ring may hold a slip, which costs no hand-over. The intake may put one in at any time.
+    /// Whether the ring may hold a slip, which costs no hand-over. The intake may put one in at any
+    /// time.
     pub fn may_hold_slip(&mut self) -> bool
         ensures outlet { Looks self.old self.new }
         ensures holds { IsTrue result ↔ (0 < length (waiting self.new)) }

@@ -17,8 +17,10 @@ pub const RING_SLIPS_MAX: usize = 64;
 /// A lane with nothing in it. Takes all the memory that the lane ever takes.
 pub fn lane<S: Service>(alloc: Global) -> Result<(Intake<S>, Outlet<S>), NoMemory>
     ensures lane { IfOk result (λ ends. IsLane ends.0 ends.1) }
-    ensures intake { IfOk result (λ ends. (admitted ends.0 ≡ []) × (free_slips ends.0 ≡ RING_SLIPS_MAX)) }
-    ensures outlet { IfOk result (λ ends. (received ends.1 ≡ []) × (waiting ends.1 ≡ []) × (ends.1.buffer ≡ fresh_buffer)) }
+    ensures intake { IfOk result (λ ends.
+        (admitted ends.0 ≡ []) × (free_slips ends.0 ≡ RING_SLIPS_MAX)) }
+    ensures outlet { IfOk result (λ ends. (received ends.1 ≡ []) ×
+        (waiting ends.1 ≡ []) × (ends.1.buffer ≡ fresh_buffer)) }
 {
     let (producer, consumer) = RingBuffer::with_protocol::<Global, Numbered>(
         alloc,

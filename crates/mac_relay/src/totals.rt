@@ -25,8 +25,12 @@ pub fn meet<S: Service>(intake: &mut Intake<S>, outlet: &mut Outlet<S>) -> Total
     ensures outlet { Looks outlet.old outlet.new }
     ensures rest { received outlet.new ++ waiting outlet.new ≡ admitted intake.new }
     ensures free { RING_SLIPS_MAX ≤ free_slips intake.new + length (waiting outlet.new) }
-    ensures totals { result ≡ record { admitted = length (admitted intake.new); released = length (released S.reply_to outlet.new) } }
-    ensures released { released S.reply_to outlet.new ≡ map S.reply_to (take result.released (admitted intake.new)) }
+    ensures totals { result ≡ record {
+      admitted = length (admitted intake.new);
+      released = length (released S.reply_to outlet.new);
+    } }
+    ensures released { released S.reply_to outlet.new ≡
+        map S.reply_to (take result.released (admitted intake.new)) }
     ensures kept { IsKept outlet.new }
     ensures state { IsReached S S.reply_to (admitted intake.new) (released S.reply_to outlet.new) }
 {
