@@ -4,7 +4,8 @@ use Rattle.std.proofs.lemmas.List.{append-nil, take_at, take-append-drop}
 use Rattle.std.specs.Prelude.{Result, Ok, Err, IsErrAnd}
 use Rattle.macaroond.specs.declared.fault.PipeFault.{PipeFault}
 use Rattle.macaroond.specs.declared.fault.PipeFault.TheVariants as fault
-use Rattle.macaroond.specs.Output.{Begins, EndsWriting, Writes}
+use Rattle.macaroond.specs.Inner.{EndsWriting, Writes}
+use Rattle.macaroond.specs.Output.{Begins}
 
 -- the output was old and is new, and the rest of the text is still to come
 pub record Remains (text old new rest : List ℕ) : Type 0 where

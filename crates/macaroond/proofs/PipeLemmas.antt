@@ -12,8 +12,8 @@ use Rattle.macaroond.specs.declared.fault.PipeFault.TheVariants as fault
 use Rattle.macaroond.specs.declared.input.TheConstants.{INPUT_MAX}
 use Rattle.macaroond.specs.Arrived.{arrival_of}
 use Rattle.macaroond.specs.Lines.{lines, key_text, request_lines}
-use Rattle.macaroond.specs.Output.{EndsWriting, Writes}
-use Rattle.macaroond.specs.Pipe.{GivesOutput, Takes, TakesInput, Tells}
+use Rattle.macaroond.specs.Inner.{EndsWriting, Takes, Tells, Writes}
+use Rattle.macaroond.specs.Pipe.{GivesOutput, TakesInput}
 use Rattle.macaroond.specs.PipeText.{answers, answers_under, pipe_text}
 use Rattle.macaroond.proofs.OutputLemmas.{remains-begins, remains-none}
 

@@ -13,8 +13,10 @@ bytes_or_none (Err why) = []
 
 -- a payload, which arrives whole where a frame carries it
 unfoldable pub arrival_of_payload : List ℕ → Arrival
-arrival_of_payload payload = if nat_le (length payload) FRAME_MAX then arrival.Payload payload else arrival.Oversize
+arrival_of_payload payload =
+    if nat_le (length payload) FRAME_MAX then arrival.Payload payload else arrival.Oversize
 
--- the arrival of a line: the payload that it spells in hexadecimal of either case (RFC 4648, section 8)
+-- the arrival of a line: the payload that it spells in hexadecimal of either case
+-- (RFC 4648, section 8)
 unfoldable pub arrival_of : List ℕ → Arrival
 arrival_of line = arrival_of_payload (bytes_or_none (decode_of line))

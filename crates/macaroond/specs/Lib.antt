@@ -1,5 +1,6 @@
 pub mod Arrived
 pub mod CommandLine
+pub mod Inner
 pub mod Lines
 pub mod Output
 pub mod Pipe

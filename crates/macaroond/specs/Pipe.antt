@@ -1,9 +1,7 @@
 -- What a run of the pipe does.
-use Rattle.std.specs.Prelude.{◌≡◌, ℕ, ◌+◌, ◌≤◌, Bool, IsTrue, IsOk, List, ◌++◌, length, Result, Ok, Err}
-use Rattle.std.specs.declared.vec.Vec.{Vec}
-use Rattle.std.specs.declared.alloc.Global.{Global}
+use Rattle.std.specs.Prelude.{◌≡◌, ℕ, ◌+◌, ◌≤◌, Bool, IsTrue, IsOk, List, ◌++◌, length}
+use Rattle.std.specs.Prelude.{Result, Ok, Err}
 use Rattle.mac_keys.specs.Table.{Keys, table_of}
-use Rattle.mac_keys.specs.declared.fault.KeyFault.{KeyFault}
 use Rattle.mac_keys.specs.declared.fault.KeyFault.TheVariants as key
 use Rattle.mac_wire.specs.declared.arrival.Arrival.{Arrival}
 use Rattle.mac_wire.specs.declared.reply.Reply.{Reply}
@@ -16,8 +14,8 @@ use Rattle.macaroond.specs.PipeText.{pipe_text}
 
 -- ---- what holds of the source
 
--- what a run with this result took: the whole input, where it is within its bound; a byte past the bound where it is too
--- long; and never more than that
+-- what a run with this result took: the whole input, where it is within its bound; a byte past the
+-- bound where it is too long; and never more than that
 abbrev pub TakesInput : Result (Unit {0}) PipeFault → Bool → List ℕ → Type 0
 TakesInput (Ok x) ended input = IsTrue ended × (length input ≤ INPUT_MAX)
 TakesInput (Err (fault.Keys line kind)) ended input = IsTrue ended × (length input ≤ INPUT_MAX)
@@ -25,26 +23,14 @@ TakesInput (Err fault.TooLong) ended input = length input ≡ INPUT_MAX + 1
 TakesInput (Err fault.Device) ended input = length input ≤ INPUT_MAX + 1
 TakesInput (Err fault.Memory) ended input = length input ≤ INPUT_MAX + 1
 
--- the same of the text that was read
-abbrev pub Takes : Result (Vec ℕ Global) PipeFault → List ℕ → List ℕ → Type 0
-Takes (Ok input) old new = (new ≡ old ++ input.items) × (length input.items ≤ INPUT_MAX)
-Takes (Err fault.TooLong) old new = (input : List ℕ) × (new ≡ old ++ input) × (length input ≡ INPUT_MAX + 1)
-Takes (Err fault.Device) old new = (input : List ℕ) × (new ≡ old ++ input) × (length input ≤ INPUT_MAX + 1)
-Takes (Err fault.Memory) old new = (input : List ℕ) × (new ≡ old ++ input) × (length input ≤ INPUT_MAX + 1)
-Takes (Err (fault.Keys line kind)) old new = ⊥
-
 -- ---- what holds of the output
 
--- the fault tells that of the key lines, unless memory ran out
-abbrev pub Tells : Result Keys KeyFault → PipeFault → Type 0
-Tells table (fault.Keys line kind) = table ≡ Err (key.Line line kind)
-Tells table fault.Memory = Unit {0}
-Tells table fault.Device = ⊥
-Tells table fault.TooLong = ⊥
-
--- what a run with this result made of the input that it took, under the answers handed in: the output was old and is new
-abbrev pub GivesOutput : (Keys → Arrival → Reply) → Result (Unit {0}) PipeFault → List ℕ → List ℕ → List ℕ → Type 0
-GivesOutput answer (Ok x) input old new = IsOk (table_of (key_text input)) × (new ≡ old ++ pipe_text answer input)
+-- what a run with this result made of the input that it took, under the answers handed in: the
+-- output was old and is new
+abbrev pub GivesOutput : (Keys → Arrival → Reply) → Result (Unit {0}) PipeFault → List ℕ → List ℕ
+    → List ℕ → Type 0
+GivesOutput answer (Ok x) input old new =
+    IsOk (table_of (key_text input)) × (new ≡ old ++ pipe_text answer input)
 GivesOutput answer (Err (fault.Keys line kind)) input old new =
     (table_of (key_text input) ≡ Err (key.Line line kind)) × (new ≡ old)
 GivesOutput answer (Err fault.TooLong) input old new = new ≡ old

@@ -1,4 +1,5 @@
--- What the pipe writes for its whole input, where each arrival under a table has the answer that is handed in.
+-- What the pipe writes for its whole input, where each arrival under a table has the answer that is
+-- handed in.
 use Rattle.std.specs.Prelude.{ℕ, List, [], ◌++◌, ◌∷◌, map, Result, Ok, Err}
 use Rattle.mac_keys.specs.Table.{Keys, table_of}
 use Rattle.mac_keys.specs.declared.fault.KeyFault.{KeyFault}
@@ -12,7 +13,8 @@ use Rattle.macaroond.specs.ReplyLine.{reply_line}
 -- a line for the reply to each arrival, in order; an oversize arrival is the last
 abbrev pub answers : (Arrival → Reply) → List Arrival → List ℕ
 answers reply [] = []
-answers reply (arrival.Payload payload ∷ rest) = reply_line (reply (arrival.Payload payload)) ++ answers reply rest
+answers reply (arrival.Payload payload ∷ rest) =
+    reply_line (reply (arrival.Payload payload)) ++ answers reply rest
 answers reply (arrival.Oversize ∷ rest) = reply_line (reply arrival.Oversize)
 
 -- the answers under the table of the key lines; none where the key lines have a fault

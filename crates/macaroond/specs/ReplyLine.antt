@@ -6,9 +6,11 @@ use Rattle.mac_wire.specs.Reply.{refusal_code}
 use Rattle.mac_wire.specs.declared.reply.Reply.{Reply}
 use Rattle.mac_wire.specs.declared.reply.Reply.TheVariants as reply
 
--- a token: V2 binary, which begins with the byte 2, in hexadecimal, and any other as the text that it is
+-- a token: V2 binary, which begins with the byte 2, in hexadecimal, and any other as the text that
+-- it is
 abbrev pub token_words : List ℕ → List ℕ
-token_words token = if slice_index token 0 == 2 then codes "token hex:" ++ encode_lower token else codes "token " ++ token
+token_words token = if slice_index token 0 == 2 then codes "token hex:" ++ encode_lower token
+    else codes "token " ++ token
 
 abbrev pub reply_words : Reply → List ℕ
 reply_words reply.Granted = codes "granted"

@@ -15,6 +15,7 @@ abbrev pub run_status : Result (Unit {0}) PipeFault → ℕ
 run_status (Ok x) = 0
 run_status (Err fault) = pipe_status fault
 
--- a line that asks for no work ends with its own status; where help can't be printed, with that of a device
+-- a line that asks for no work ends with its own status; where help can't be printed, with that of
+-- a device
 abbrev pub IsShown : ℕ → ℕ → Type 0
 IsShown status ended = (ended ≡ status) ⊎ ((status ≡ 0) × (ended ≡ 3))

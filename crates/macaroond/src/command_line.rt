@@ -54,7 +54,7 @@ Exit status:
   4  memory ran out";
 
 /// What a command line asks the program to do.
-#[derive(Debug, Drop, PartialEq, Eq)]
+#[derive(Drop)]
 pub enum Choice {
     /// Answer the requests on standard input, each by a line on standard output.
     Pipe,

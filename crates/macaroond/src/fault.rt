@@ -8,7 +8,7 @@ use std::alloc::{AllocError, AllocFailed};
 use thiserror::Error;
 
 /// Why a run of the pipe ended early. The text is what the program prints.
-#[derive(Clone, Copy, Debug, PartialEq, Eq, Error)]
+#[derive(Clone, Copy, Debug, Error)]
 pub enum PipeFault {
     /// The first key line with a fault, counted from 1, and the fault's number.
     #[error("keys: line {line} kind {kind}")]

@@ -1,7 +1,7 @@
 //! Reading the whole input.
 ghost use Rattle.std.specs.Prelude.{◌≡◌, ◌<◌, IsTrue, OnOk};
 ghost use Rattle.macaroond.specs.Output.{CountsDevice};
-ghost use Rattle.macaroond.specs.Pipe.{Takes};
+ghost use Rattle.macaroond.specs.Inner.{Takes};
 ghost use Rattle.macaroond.specs.declared.fault.PipeFault.TheVariants.{Device};
 
 use crate::fault::PipeFault;

@@ -14,7 +14,8 @@ fn line_feed(text: &[u8]) -> Option<usize>
 
 /// The first line, and what stands behind it. The empty text has none.
 pub(crate) fn next_line(text: &[u8]) -> Option<(&[u8], &[u8])>
-    ensures line { MatchOption result (lines text.now ≡ []) (λ r. lines text.now ≡ r.0.now ∷ lines r.1.now) }
+    ensures line { MatchOption result (lines text.now ≡ [])
+        (λ r. lines text.now ≡ r.0.now ∷ lines r.1.now) }
     ensures shorter { IfSome result (λ r. length r.1.now < length text.now) }
 {
     match line_feed(text) {

@@ -1,7 +1,7 @@
 //! `macaroond`: answers requests to mint, to narrow and to verify macaroons.
 //!
-//! `main` reads the command line and does what it asks for; all that is decided stands in [`chosen`]
-//! and [`pipe`].
+//! `main` reads the command line and does what it asks for; all that is decided stands in
+//! [`chosen`] and [`pipe`].
 #![tactic(auto)]
 
 ghost use Rattle.std.specs.Prelude.{◌≡◌, IfErr};

@@ -9,8 +9,9 @@ ghost use Rattle.macaroond.specs.declared.input.TheConstants.{INPUT_MAX};
 ghost use Rattle.mac_decide.specs.Answer.{answer_of};
 ghost use Rattle.macaroond.specs.Arrived.{arrival_of};
 ghost use Rattle.macaroond.specs.Lines.{lines, key_text};
-ghost use Rattle.macaroond.specs.Output.{CountsDevice, EndsWriting, Writes};
-ghost use Rattle.macaroond.specs.Pipe.{GivesOutput, TakesInput, Tells};
+ghost use Rattle.macaroond.specs.Inner.{EndsWriting, Tells, Writes};
+ghost use Rattle.macaroond.specs.Output.{CountsDevice};
+ghost use Rattle.macaroond.specs.Pipe.{GivesOutput, TakesInput};
 ghost use Rattle.macaroond.specs.PipeText.{answers};
 ghost use Rattle.macaroond.specs.ReplyLine.{reply_line};
 
@@ -37,11 +38,13 @@ pub fn pipe<R: Source, W: Sink>(
     requires readable { R.faults source.old < u64.MAX }
     requires writable { W.faults sink.old < u64.MAX }
     ensures source { IsTrue R.tells → (input : List ℕ)
-        × (R.taken source.new ≡ R.taken source.old ++ input) × TakesInput result (R.ended source.new) input }
+        × (R.taken source.new ≡ R.taken source.old ++ input)
+        × TakesInput result (R.ended source.new) input }
     ensures output { IsTrue R.tells → IsTrue W.tells → (input : List ℕ)
         → R.taken source.new ≡ R.taken source.old ++ input
         → GivesOutput answer_of result input (W.written sink.old) (W.written sink.new) }
-    ensures keys { IsTrue R.tells → (input : List ℕ) → R.taken source.new ≡ R.taken source.old ++ input
+    ensures keys { IsTrue R.tells → (input : List ℕ)
+        → R.taken source.new ≡ R.taken source.old ++ input
         → IsTrue (R.ended source.new) → length input ≤ INPUT_MAX
         → (line kind : ℕ) → table_of (key_text input) ≡ Err (key.Line line kind)
         → (result ≡ Err (Keys line kind)) ⊎ (result ≡ Err Memory) }
@@ -74,7 +77,8 @@ fn write_answers<W: Sink>(
     sink: &mut W,
 ) -> Result<(), PipeFault>
     requires { W.faults sink.old < u64.MAX }
-    ensures written { IsTrue W.tells → Writes result (answers (answer_of table.now) (map arrival_of (lines requests.now)))
+    ensures written { IsTrue W.tells → Writes result
+        (answers (answer_of table.now) (map arrival_of (lines requests.now)))
         (W.written sink.old) (W.written sink.new) }
     ensures ends { EndsWriting result }
     ensures faults { CountsDevice result (W.faults sink.old) (W.faults sink.new) }
@@ -114,7 +118,8 @@ fn append_answer(
     arrival: Arrival,
     out: &mut Vec<u8>,
 ) -> Result<(), NoMemory>
-    ensures { OnOk result (out.new.items ≡ out.old.items ++ reply_line (answer_of table.now arrival)) }
+    ensures { OnOk result
+        (out.new.items ≡ out.old.items ++ reply_line (answer_of table.now arrival)) }
 {
     let reply = reply_to(alloc, table, arrival)?;
     append_reply_line(alloc, &reply, out)
