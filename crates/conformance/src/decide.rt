@@ -69,7 +69,8 @@ pub(crate) fn reply(alloc: Global, words: &mut Words<'_>) -> Result<String, Case
     digits(alloc, &frame)
 }
 
-/// How a token agrees with its parts: whether it reads as them, is written so, and what its key says of it.
+/// How a token agrees with its parts: whether it reads as them, is written so, and what its key
+/// says of it.
 pub(crate) fn agreement(alloc: Global, words: &mut Words<'_>) -> Result<String, CaseFault> {
     let form = words.form()?;
     let key = root_key(&words.bytes(alloc)?);

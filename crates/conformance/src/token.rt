@@ -98,7 +98,7 @@ pub(crate) fn rewritten(alloc: Global, words: &mut Words<'_>) -> Result<String, 
     }
 }
 
-/// A token with more caveats and a signature of zeros; after a refusal the token that is handed back.
+/// A token with more caveats and a signature of zeros; after a refusal the token handed back.
 pub(crate) fn longer(alloc: Global, words: &mut Words<'_>) -> Result<String, CaseFault> {
     let bytes = words.bytes(alloc)?;
     let caveats = lists(alloc, words.next()?)?;
@@ -138,7 +138,8 @@ pub(crate) fn fault_texts(alloc: Global) -> Result<String, CaseFault> {
     Ok(text)
 }
 
-/// The refusals of a token's front parts, from none of its bytes to all but one, in runs of one refusal.
+/// The refusals of a token's front parts, from none of its bytes to all but one, in runs of one
+/// refusal.
 pub(crate) fn cut_codes(alloc: Global, words: &mut Words<'_>) -> Result<String, CaseFault> {
     let bytes = words.bytes(alloc)?;
     let mut text = String::new(alloc);

@@ -17,7 +17,8 @@ enum Part {
     Signature,
 }
 
-/// The verdict on a token with all these facts, with all but the last, and with a bit turned in each part.
+/// The verdict on a token with all these facts, with all but the last, and with a bit turned in
+/// each part.
 pub(crate) fn verdicts(
     alloc: Global,
     key: &RootKey,
@@ -31,7 +32,8 @@ pub(crate) fn verdicts(
     let caveat = changed_verdict(alloc, key, bytes, facts, Part::LastCaveat)?;
     let signature = changed_verdict(alloc, key, bytes, facts, Part::Signature)?;
     Ok(format!(in alloc;
-        "{whole}, {fewer}, another location {location}, identifier {identifier}, caveat {caveat}, signature {signature}"
+        "{whole}, {fewer}, another location {location}, identifier {identifier}, \
+         caveat {caveat}, signature {signature}"
     )?)
 }
 
