@@ -1,10 +1,10 @@
 //! The words for events and calls: a name, and numbers behind colons.
 //!
 //! ```text
-//! arrive:CONNECTION:JOB    claim:WORKER:CONNECTION:PLACE    finish:WORKER    send:CONNECTION
-//! close:CONNECTION         of a world
-//! open:JOB                 settle:PLACE:JOB                 next             close
-//!                          of a buffer
+//! of a world     arrive:CONNECTION:JOB    claim:WORKER:CONNECTION:PLACE    finish:WORKER
+//!                send:CONNECTION          close:CONNECTION
+//! of a buffer    open:JOB                 settle:PLACE:JOB                 next
+//!                close
 //! ```
 
 use super::digits::Digits;
