@@ -1,6 +1,7 @@
 //! A desk: one connection's place at a pool, with an end for each of its two threads.
 
-ghost use Rattle.std.specs.Prelude.{◌≡◌, List, Option, ℕ, [], ◌∷◌, ◌++◌, IfErr, IfSome, IfNone, OnOk, OnErr};
+ghost use Rattle.std.specs.Prelude.{◌≡◌, List, Option, ℕ, [], ◌∷◌, ◌++◌, IfOk, IfErr, IfSome, IfNone, OnOk, OnErr};
+ghost use Rattle.std.specs.Arc.{arc_value};
 ghost use Rattle.mac_pool.specs.Pass.{with_put};
 ghost use Rattle.mac_pool.specs.Post.{entry_of};
 
@@ -10,7 +11,7 @@ use crate::line::{Line, LinePass};
 use crate::mailbox::{MailPass, Mailbox};
 use crate::post::Post;
 use crate::ticket::Ticket;
-use mac_lane::Service;
+use mac_lane::{NoMemory, Service};
 use std::alloc::Global;
 use std::marker::Model;
 use std::sync::{Arc, Wait};
@@ -67,6 +68,49 @@ impl<S: Service> Model for Taker<S> {
     ghost view = { λ t. what t.pass };
 
     ghost invariant = { λ t. (t.pass.table_id ≡ arc_value t.mail) × (t.pass.me.1 ≡ []) };
+}
+
+impl<S: Service> Desk<S> {
+    /// A desk at this line, with a fresh mailbox. Takes all the memory that the desk ever takes; where it
+    /// is refused, the pass comes back.
+    pub fn new(
+        alloc: Global,
+        line: Arc<Line<S>, Global>,
+        pass: LinePass<S>,
+    ) -> Result<Desk<S>, LinePass<S>>
+        requires { pass.line ≡ arc_value line }
+        ensures desk { IfOk result (λ desk. (desk.putter ≡ pass) × (desk.taker ≡ [])) }
+        ensures back { IfErr result (λ back. back ≡ pass) }
+    {
+        let Ok((mail, taker)) = mailbox(alloc) else {
+            return Err(pass);
+        };
+        let putter = Putter { line, pass, mail };
+        Ok(Desk { putter, taker })
+    }
+
+    /// The pass of the desk, which ends with it.
+    pub fn into_pass(self) -> LinePass<S>
+        ensures { result ≡ self.putter }
+    {
+        let Desk { putter, taker: _ } = self;
+        let Putter {
+            line: _,
+            pass,
+            mail: _,
+        } = putter;
+        pass
+    }
+}
+
+/// A mailbox, with its taker.
+fn mailbox<S: Service>(alloc: Global) -> Result<(Arc<Mailbox<S>, Global>, Taker<S>), NoMemory>
+    ensures { IfOk result (λ m. m.1 ≡ []) }
+{
+    let (mail, pass) = Mailbox::new(alloc)?;
+    let mail = Arc::new(alloc, mail)?;
+    let theirs = Arc::try_clone(&mail)?;
+    Ok((theirs, Taker { mail, pass }))
 }
 
 impl<S: Service> Putter<S> {
