@@ -17,9 +17,9 @@ pub(crate) fn read_parts(alloc: Global, words: &mut Words<'_>) -> Result<String,
 pub(crate) fn parts(alloc: Global, token: &Token) -> Result<String, AllocError> {
     let location = token.location().as_bytes();
     let mut text = front(alloc, location, token.identifier(), &token.sig())?;
-    for i in 0..token.caveats() {
+    for caveat in token.caveat_list() {
         text.push_str(" ")?;
-        append_digits(alloc, token.caveat(i).unwrap_or(&[]), &mut text)?;
+        append_digits(alloc, caveat, &mut text)?;
     }
     Ok(text)
 }
