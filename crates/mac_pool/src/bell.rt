@@ -1,8 +1,8 @@
 //! A bell: who finds nothing to do sleeps on it until it is rung, without a lock.
 //!
-//! A sleeper goes in three steps: it announces itself, looks once more at everything that it waits
-//! for, and sleeps. Who brings something changes what is looked at first and rings then. Either the
-//! ringer sees the sleeper announced, or the sleeper's look comes after the change.
+//! A sleeper goes in three steps: it announces itself, looks once more at everything that it
+//! waits for, and sleeps. Who brings something changes what is looked at first and rings then.
+//! Either the ringer sees the sleeper announced, or the sleeper's look comes after the change.
 
 use std::sync::Wait;
 use std::sync::atomic::Ordering::SeqCst;
@@ -64,8 +64,8 @@ impl Bell {
         self.sleepers.load(SeqCst) > 0
     }
 
-    /// Wakes one sleeper, after the change that it waits for. It costs one load where nobody sleeps,
-    /// and wakes nobody where one was woken that has not looked yet.
+    /// Wakes one sleeper, after the change that it waits for. It costs one load where nobody
+    /// sleeps, and wakes nobody where one was woken that has not looked yet.
     pub fn ring(&self) {
         if !self.is_awaited() || self.is_answered.swap(true, SeqCst) {
             return;

@@ -71,8 +71,8 @@ impl<S: Service> Model for Taker<S> {
 }
 
 impl<S: Service> Desk<S> {
-    /// A desk at this line, with a fresh mailbox. Takes all the memory that the desk ever takes; where it
-    /// is refused, the pass comes back.
+    /// A desk at this line, with a fresh mailbox. Takes all the memory that the desk ever takes;
+    /// where it is refused, the pass comes back.
     pub fn new(
         alloc: Global,
         line: Arc<Line<S>, Global>,
@@ -114,7 +114,8 @@ fn mailbox<S: Service>(alloc: Global) -> Result<(Arc<Mailbox<S>, Global>, Taker<
 }
 
 impl<S: Service> Putter<S> {
-    /// Puts the job at its place into the line. It takes no memory but one more handle on the mailbox.
+    /// Puts the job at its place into the line. It takes no memory but one more handle on the
+    /// mailbox.
     pub fn put<R: Wait>(
         &mut self,
         rt: &R,
@@ -150,13 +151,14 @@ impl<S: Service> Taker<S> {
         self.mail.take_as(rt, &mut self.pass)
     }
 
-    /// Announces a wait for a post or a ring. Look after it at everything that is waited for, and then
-    /// sleep, or withdraw where something was found.
+    /// Announces a wait for a post or a ring. Look after it at everything that is waited for, and
+    /// then sleep, or withdraw where something was found.
     pub fn announce(&self) -> Notice {
         self.mail.announce()
     }
 
-    /// Sleeps until a post or a ring after the announcement. It may return for no reason: look again.
+    /// Sleeps until a post or a ring after the announcement. It may return for no reason: look
+    /// again.
     pub fn sleep<R: Wait>(&self, rt: &R, notice: Notice) {
         self.mail.sleep(rt, notice);
     }

@@ -8,7 +8,8 @@ pub trait Gate: Send + Sync + Drop {
     /// Called after the post of this place went in, or was dropped at a closed mailbox.
     fn after(&self, place: u64);
 
-    /// The most tickets that a worker takes at a time. All are worked on before the first is posted.
+    /// The most tickets that a worker takes at a time. All are worked on before the first is
+    /// posted.
     fn most(&self) -> usize {
         1
     }

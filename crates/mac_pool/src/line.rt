@@ -62,8 +62,8 @@ impl<S: Service> Model for Line<S> {
     ghost invariant = { λ l. ruled_capacity l.queue ≡ LINE_MAX };
 }
 
-/// The right to put and to claim, one of the 80 of a line. It keeps for contracts what it has put and
-/// claimed, at no cost.
+/// The right to put and to claim, one of the 80 of a line. It keeps for contracts what it has put
+/// and claimed, at no cost.
 #[derive(Drop)]
 pub struct LinePass<S: Service> {
     seat: Seat<S>,
@@ -164,7 +164,8 @@ impl<S: Service> Line<S> {
         }
     }
 
-    /// Claims the oldest ticket, and sleeps while there is none. `None` once the line is closed and empty.
+    /// Claims the oldest ticket, and sleeps while there is none. `None` once the line is closed
+    /// and empty.
     pub(crate) fn wait<R: Wait>(&self, rt: &R, pass: &mut LinePass<S>) -> Option<Ticket<S>>
         requires { pass.old.line ≡ self.now }
         ensures claimed { IfSome result (λ ticket. pass.new ≡ with_claimed pass.old (entry_of ticket)) }

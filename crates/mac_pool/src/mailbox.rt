@@ -20,7 +20,8 @@ use std::sync::atomic::Ordering::SeqCst;
 /// The most posts that a mailbox holds.
 pub const MAIL_MAX: usize = 128;
 
-// What a taker has taken, for contracts: places, each with its answer's job, if any. No value is made.
+// What a taker has taken, for contracts: places, each with its answer's job, if any. No value is
+// made.
 type Taken<S> = LinkedList<(u64, Option<<S as Service>::Job>)>;
 
 // Anybody may push and pop at any time; a pop is told to the pass that made it.
@@ -117,7 +118,8 @@ impl<S: Service> Mailbox<S> {
         ensures none { IfNone result (view pass.new ≡ view pass.old) }
     {
         let post = self.queue.pop_as::<Takes, R>(rt, pass);
-        // A worker that waits for room is woken once half of the mailbox is free, and not for each slot.
+        // A worker that waits for room is woken once half of the mailbox is free, and not for
+        // each slot.
         if self.room.is_awaited() && self.queue.len_as::<Free, R>(rt, pass) <= MAIL_MAX / 2 {
             self.room.ring_all();
         }
@@ -130,7 +132,8 @@ impl<S: Service> Mailbox<S> {
         self.take_as(rt, &mut pass)
     }
 
-    /// Puts the post in, and waits while there is no room. At a closed mailbox the post is dropped.
+    /// Puts the post in, and waits while there is no room. At a closed mailbox the post is
+    /// dropped.
     pub(crate) fn deliver<R: Wait>(&self, rt: &R, mut post: Post<S>) {
         for _ in rt.forever() {
             let Some(back) = self.refused(rt, post) else {

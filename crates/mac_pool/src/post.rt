@@ -2,8 +2,8 @@
 
 use mac_lane::{Answer, Service};
 
-/// What a worker posts to a mailbox. That an answer's reply is the definition's for its job is kept by
-/// the answer's type.
+/// What a worker posts to a mailbox. That an answer's reply is the definition's for its job is
+/// kept by the answer's type.
 #[derive(Drop)]
 pub enum Post<S: Service> {
     /// The answer at this place.

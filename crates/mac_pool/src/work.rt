@@ -39,7 +39,8 @@ type Parcels<S> = VecDeque<Parcel<S>>;
 
 type Mails<S> = VecDeque<Arc<Mailbox<S>, Global>>;
 
-// The room of a turn: what is claimed, what is to be posted, and the mailboxes that are to be rung.
+// The room of a turn: what is claimed, what is to be posted, and the mailboxes that are to be
+// rung.
 #[derive(Drop)]
 pub struct Turn<S: Service> {
     tickets: Tickets<S>,
@@ -62,8 +63,8 @@ impl<S: Service> Turn<S> {
     }
 }
 
-/// Claims tickets and posts their answers until the line is closed and empty. A full mailbox is waited
-/// for; at a closed one the post is dropped.
+/// Claims tickets and posts their answers until the line is closed and empty. A full mailbox is
+/// waited for; at a closed one the post is dropped.
 pub fn worker<S: Service, G: Gate, R: Wait>(
     rt: &R,
     alloc: Global,
@@ -117,8 +118,8 @@ fn give_up<S: Service, G: Gate, R: Wait>(rt: &R, gate: &G, ticket: Ticket<S>) {
     gate.after(ticket.place);
 }
 
-/// Works on the ticket, and on others that wait, so many that no other worker idles for it. Answers
-/// how many others.
+/// Works on the ticket, and on others that wait, so many that no other worker idles for it.
+/// Answers how many others.
 fn turn_from<S: Service, G: Gate, R: Wait>(
     rt: &R,
     alloc: Global,

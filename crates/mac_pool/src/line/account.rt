@@ -1,4 +1,5 @@
-//! The line's rule: what each pass has put and claimed, and what each step adds. These types are for the proofs alone.
+//! The line's rule: what each pass has put and claimed, and what each step adds. These types are
+//! for the proofs alone.
 
 ghost use Rattle.std.specs.Prelude.{◌≡◌, ◌+◌, ◌-◌, ◌<◌, ◌^◌, [], ◌∷◌, ◌++◌, length};
 ghost use Rattle.mac_pool.specs.Balance.{account, entry_of};
@@ -8,7 +9,8 @@ use crossbeam_queue::protocol::{Join, Lesson, Outcome, Protocol, Split};
 use mac_lane::Service;
 use std::collections::LinkedList;
 
-// What a pass has put and claimed, and its parts of the right to know the whole. No value is made.
+// What a pass has put and claimed, and its parts of the right to know the whole. No value is
+// made.
 pub struct Account<J> {
     pub parts: u64,
     pub put: LinkedList<(u64, J)>,
