@@ -11,7 +11,7 @@ pub(crate) fn table(alloc: Global, words: &mut Words<'_>) -> Result<String, Case
         Ok(table) => Ok(format!(in alloc; "names {}", table.len())?),
         Err(KeyFault::Line { line, kind }) => {
             let fault = KeyFault::Line { line, kind };
-            Ok(format!(in alloc; "kind {kind}: {fault}")?)
+            Ok(format!(in alloc; "kind {}: {fault}", kind.code())?)
         }
         Err(KeyFault::Memory) => Err(CaseFault::Memory),
     }

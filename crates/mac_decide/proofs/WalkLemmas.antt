@@ -1,13 +1,13 @@
 -- A walk over a token's caveats.
-use Rattle.std.proofs.Common.{◌≡◌, ℕ, ◌+◌, ◌≤◌, List, [], ◌∷◌, ◌++◌, take, length, get_or, Option, Some, None, MatchOption, sym, ap, ◌∙◌}
+use Rattle.std.proofs.Common.{◌≡◌, ℕ, ◌+◌, ◌<◌, ◌≤◌, Vec, Global, option_map, refl, List, [], ◌∷◌, ◌++◌, take, length, get_or, Option, Some, None, MatchOption, sym, ap, ◌∙◌}
 use Rattle.std.specs.List.{All, slice_get}
-use Rattle.std.proofs.lemmas.List.{take_more, take_all}
+use Rattle.std.proofs.lemmas.List.{take_more, take_all, length-map}
 use Rattle.std.proofs.lemmas.List.Elements.{All-more}
-use Rattle.std.proofs.lemmas.Option.{slice_get_within, get_or_from_slice_get}
+use Rattle.std.proofs.lemmas.Option.{slice_get_within, get_or_from_slice_get, slice_get_read, slice_get-map}
 use Rattle.mac_hmac.specs.Chain.{chain, extended}
 use Rattle.mac_hmac.proofs.ChainLemmas.{extended-append}
 use Rattle.mac_decide.specs.declared.context.Context.{Context}
-use Rattle.mac_token.specs.RawToken.{TokenParts}
+use Rattle.mac_token.specs.RawToken.{TokenParts, byte_lists}
 use Rattle.mac_decide.specs.Verdict.{Satisfied, Accepts, IsFirstUnsatisfied}
 
 -- the caveats up to one, and that one
@@ -15,6 +15,17 @@ pub take-next : (caveats : List (List ℕ)) (i : ℕ) (caveat : List ℕ) → sl
 take-next caveats i caveat here =
     let same : get_or caveats i caveat ≡ caveat = get_or_from_slice_get caveats i caveat caveat here in
     take_more caveats i caveat (slice_get_within caveats i caveat here) ∙ ap (λ c. take i caveats ++ c ∷ []) same
+
+-- the caveat in a buffer that a token lends
+pub lent : (buffers : List (Vec ℕ Global)) (caveats : List (List ℕ)) (i : ℕ) (buffer : Vec ℕ Global) → byte_lists buffers ≡ caveats → i < length buffers → buffer ≡ get_or buffers i buffer → slice_get caveats i ≡ Some buffer.items
+lent buffers caveats i buffer are within here =
+    let read : slice_get buffers i ≡ Some buffer = slice_get_read buffers (length buffers) i buffer refl within here in
+    ap (λ cs. slice_get cs i) (sym are)
+    ∙ slice_get-map (λ (b : Vec ℕ Global). b.items) buffers i
+    ∙ ap (option_map {T = Vec ℕ Global} {U = List ℕ} (λ b. b.items)) read
+
+pub length-lent : (buffers : List (Vec ℕ Global)) (caveats : List (List ℕ)) → byte_lists buffers ≡ caveats → length buffers ≡ length caveats
+length-lent buffers caveats are = sym (length-map buffers (λ (b : Vec ℕ Global). b.items)) ∙ ap (λ (cs : List (List ℕ)). length cs) are
 
 -- the chain takes one more caveat
 pub chain-next : (key identifier : List ℕ) (caveats : List (List ℕ)) (i : ℕ) (caveat : List ℕ) → slice_get caveats i ≡ Some caveat → chain key identifier (take (i + 1) caveats) ≡ extended (chain key identifier (take i caveats)) (caveat ∷ [])
@@ -32,13 +43,13 @@ pub first-here : (x : Context) (caveats : List (List ℕ)) (i : ℕ) (caveat : L
 first-here x caveats i caveat here before none = record { before = before; here = rw here none }
 
 -- what was found before, and what is found here
-pub found-next : (x : Context) (caveats : List (List ℕ)) (i : ℕ) (caveat : List ℕ) (old new : Option ℕ) → slice_get caveats i ≡ Some caveat
+pub found-next : (x : Context) (caveats : List (List ℕ)) (i index : ℕ) (caveat : List ℕ) (old new : Option ℕ) → slice_get caveats i ≡ Some caveat → index ≡ i
     → MatchOption old (All (λ c. Satisfied c x) (take i caveats)) (IsFirstUnsatisfied caveats x)
-    → MatchOption old (MatchOption new (Satisfied caveat x) (λ n. (n ≡ i) × ¬ (Satisfied caveat x))) (λ n. new ≡ Some n)
+    → MatchOption old (MatchOption new (Satisfied caveat x) (λ n. (n ≡ index) × ¬ (Satisfied caveat x))) (λ n. new ≡ Some n)
     → MatchOption new (All (λ c. Satisfied c x) (take (i + 1) caveats)) (IsFirstUnsatisfied caveats x)
-found-next x caveats i caveat (Some n) new here before step = rw step before
-found-next x caveats i caveat None None here before step = satisfied-next x caveats i caveat here before step
-found-next x caveats i caveat None (Some n) here before (same, none) = rw same (first-here x caveats i caveat here before none)
+found-next x caveats i index caveat (Some n) new here numbered before step = rw step before
+found-next x caveats i index caveat None None here numbered before step = satisfied-next x caveats i caveat here before step
+found-next x caveats i index caveat None (Some n) here numbered before (same, none) = rw (same, numbered) (first-here x caveats i caveat here before none)
 
 -- at the end of the walk
 pub accepted-at_end : (key : List ℕ) (t : TokenParts) (x : Context) (i : ℕ) (signature : List ℕ) → length t.caveats ≤ i → signature ≡ chain key t.identifier (take i t.caveats) → signature ≡ t.sig → All (λ c. Satisfied c x) (take i t.caveats) → Accepts key t x

@@ -89,6 +89,11 @@ reply_of (arrival.Payload payload) key = asked_reply (request_of payload) key
 abbrev pub Replies : {E : Type 0} → Result Reply E → Reply → Type 0
 Replies result wanted = IfOk result (λ given. (given ≡ wanted) × IsReply given)
 
+-- only a payload is read and answered with memory
+abbrev pub TakesMemory : Arrival → Type 0
+TakesMemory arrival.Oversize = ⊥
+TakesMemory (arrival.Payload payload) = Unit {0}
+
 -- the key, if there is one, grants the token that the bytes spell
 pub record IsGranted (key : Option (List ℕ)) (bytes : List ℕ) (x : Context) : Type 0 where
   pub named : List ℕ

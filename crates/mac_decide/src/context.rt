@@ -35,8 +35,8 @@ fn is_fact(caveat: &[u8], facts: &[Vec<u8>]) -> bool
     facts.iter().any(|fact| caveat == fact.as_slice())
 }
 
-/// Whether the caveat is satisfied: it is one of the facts, or a time limit that the moment is below.
-/// It costs the facts times the first byte in which one differs, and takes no memory.
+/// Whether the caveat is satisfied: it is one of the facts, or a time limit that the moment is
+/// below. It costs the facts times the first byte in which one differs, and takes no memory.
 pub fn satisfied(caveat: &[u8], context: &Context) -> bool
     ensures { IsTrue result ↔ Satisfied caveat.now context.now }
 {

@@ -1,7 +1,8 @@
-//! The decision: which caveats are satisfied, which tokens a key grants, and the answer to each arrival.
+//! The decision: which caveats are satisfied, which tokens a key grants, and the answer to each
+//! arrival.
 //!
-//! [`job_of`] takes an arrival with the key that it names, and [`answer`] gives its reply, by [`mint`],
-//! [`attenuate`] and [`verify`].
+//! [`job_of`] takes an arrival with the key that it names, and [`answer`] gives its reply, by
+//! [`mint`], [`attenuate`] and [`verify`].
 #![tactic(auto)]
 
 mod context;

@@ -12,8 +12,8 @@ use mac_hmac::{RootKey, Sig, extend, start};
 use mac_token::{Token, TokenFault};
 use std::alloc::Global;
 
-/// The token of these parts, signed under the key: `Limit` where a limit is passed. It costs the bytes
-/// that it is handed, each hashed and copied once.
+/// The token of these parts, signed under the key: `Limit` where a limit is passed. It costs the
+/// bytes that it is handed, each hashed and copied once.
 pub fn mint(
     alloc: Global,
     key: &RootKey,
@@ -48,8 +48,8 @@ fn bare(
     Ok(Token::new(location, identifier, Vec::new(alloc), signature.bytes())?)
 }
 
-/// The token with these caveats behind its own, which anyone who holds it can make. `Limit` where a limit
-/// is passed; a refusal hands the token back as it was.
+/// The token with these caveats behind its own, which anyone who holds it can make. `Limit` where a
+/// limit is passed; a refusal hands the token back as it was.
 pub fn attenuate(
     alloc: Global,
     token: Token,

@@ -1,6 +1,6 @@
 //! The answer to a job.
 
-ghost use Rattle.std.specs.Prelude.{◌≡◌, ◌↔◌, IfOk, List, ℕ};
+ghost use Rattle.std.specs.Prelude.{◌≡◌, ◌↔◌, IfOk, OnErr, List, ℕ};
 ghost use Rattle.mac_token.specs.RawToken.{byte_lists};
 ghost use Rattle.mac_token.specs.Read.{read_of};
 ghost use Rattle.mac_wire.specs.Reading.{request_of};
@@ -25,6 +25,7 @@ use std::alloc::{AllocError, Global};
 pub fn answer(alloc: Global, job: &Job) -> Result<Reply, NoMemory>
     ensures reply { IfOk result (λ r. r ≡ answers.reply_of job.now.arrival job.now.key) }
     ensures sendable { IfOk result IsReply }
+    ensures memory { OnErr result (answers.TakesMemory job.now.arrival) }
 
     // The headline: a verify is granted exactly where its key is there and accepts its token.
     ensures granted { (payload name token : List ℕ) (moment : ℕ) (facts : List (List ℕ))
@@ -37,7 +38,8 @@ pub fn answer(alloc: Global, job: &Job) -> Result<Reply, NoMemory>
 
 #[tactic(auto, unfolding(crate::specs::Answer::reply_of))]
 fn arrival_reply(alloc: Global, arrival: &Arrival, key: Option<RootKey>) -> Result<Reply, NoMemory>
-    ensures { answers.Replies result (answers.reply_of arrival.now key) }
+    ensures reply { answers.Replies result (answers.reply_of arrival.now key) }
+    ensures memory { OnErr result (answers.TakesMemory arrival.now) }
 {
     match arrival {
         Arrival::Payload(payload) => payload_reply(alloc, payload.as_slice(), key),
@@ -140,7 +142,8 @@ fn narrowed_reply(
     token: Token,
     caveats: &[Vec<u8>],
 ) -> Result<Reply, NoMemory>
-    ensures { answers.Replies result (answers.token_reply form (add token (byte_lists caveats.now))) }
+    ensures { answers.Replies result
+        (answers.token_reply form (add token (byte_lists caveats.now))) }
 {
     match attenuate(alloc, token, caveats) {
         Ok(token) => written_reply(alloc, form, &token),

@@ -7,8 +7,9 @@ ghost use Rattle.mac_decide.specs.Time.{two_digits, four_digits, date_text, cloc
 
 use jiff::civil::Date;
 
-/// The second at which the caveat ceases to hold, from 1970-01-01T00:00:00Z, where it is a time limit:
-/// `time < YYYY-MM-DDTHH:MM`, then `:SS` or nothing, then `Z` or nothing, in UTC. It is negative before 1970.
+/// The second at which the caveat ceases to hold, from 1970-01-01T00:00:00Z, where it is a time
+/// limit: `time < YYYY-MM-DDTHH:MM`, then `:SS` or nothing, then `Z` or nothing, in UTC. It is
+/// negative before 1970.
 pub fn time_limit(caveat: &[u8]) -> Option<i64>
     ensures { (v : ℤ) → (result ≡ Some v) ↔ IsTimeLimit caveat.now v }
 {
@@ -66,7 +67,8 @@ fn marked(mark: u8, text: &[u8]) -> Option<(u8, &[u8])>
 fn day_number(text: &[u8]) -> Option<(i32, &[u8])>
     ensures { MatchOption result
         ((d : PlainDate) → (rest : List ℕ) → pos 0 ≤ℤ d.year → ¬ (text.now ≡ date_text d ++ rest))
-        (λ p. (d : PlainDate) × (pos 0 ≤ℤ d.year) × (p.0 ≡ epoch_day d) × (text.now ≡ date_text d ++ p.1.now)) }
+        (λ p. (d : PlainDate) × (pos 0 ≤ℤ d.year) × (p.0 ≡ epoch_day d)
+        × (text.now ≡ date_text d ++ p.1.now)) }
 {
     let (year, text) = year(text)?;
     let (month, text) = marked(b'-', text)?;
@@ -92,7 +94,8 @@ fn calendar_day(year: u16, month: u8, day: u8) -> Option<i32>
 /// The seconds from midnight to the time of day at the front, to the minute, and what follows it.
 fn minute_start(text: &[u8]) -> Option<(u32, &[u8])>
     ensures { MatchOption result
-        ((h : ℕ) → (m : ℕ) → (rest : List ℕ) → h < 24 → m < 60 → ¬ (text.now ≡ codes "T" ++ clock_text h m ++ rest))
+        ((h : ℕ) → (m : ℕ) → (rest : List ℕ) → h < 24 → m < 60
+        → ¬ (text.now ≡ codes "T" ++ clock_text h m ++ rest))
         (λ p. (h : ℕ) × (m : ℕ) × (h < 24) × (m < 60) × (p.0 ≡ 3_600 * h + 60 * m)
         × (text.now ≡ codes "T" ++ clock_text h m ++ p.1.now)) }
 {

@@ -18,17 +18,20 @@ pub enum Verdict {
     Unsatisfied(u16),
 }
 
-/// The verdict on a token under a key in a context, by one walk over the token. For an identifier and n
-/// caveats of at most 55 bytes each it hashes 4n + 4 blocks; it takes no memory.
+/// The verdict on a token under a key in a context, by one walk over the token. For an identifier
+/// and n caveats of at most 55 bytes each it hashes 4n + 4 blocks; it takes no memory.
 pub fn verify(key: &RootKey, token: &Token, context: &Context) -> Verdict
     ensures { IsVerdict key.now token.now context.now result }
 {
     let mut signature = start(key, token.identifier());
     let mut unsatisfied = None;
-    for i in 0..token.caveats() {
-        let caveat = token.caveat(i).unwrap();
+    let mut index = 0;
+    let caveats = token.caveat_list();
+    for caveat in caveats {
+        let caveat = caveat.as_slice();
         signature = extend(signature, caveat);
-        unsatisfied = first_unsatisfied(unsatisfied, i as u16, caveat, context);
+        unsatisfied = first_unsatisfied(unsatisfied, index, caveat, context);
+        index += 1;
     }
     if !same(&signature, &Sig::from_bytes(token.sig())) {
         return Verdict::BadSignature;
@@ -39,7 +42,8 @@ pub fn verify(key: &RootKey, token: &Token, context: &Context) -> Verdict
     }
 }
 
-/// The index of the first caveat that isn't satisfied, where `found` is that of the caveats before this one.
+/// The index of the first caveat that isn't satisfied, where `found` is that of the caveats before
+/// this one.
 fn first_unsatisfied(
     found: Option<u16>,
     index: u16,

@@ -62,8 +62,10 @@ impl HmacState {
     // The state under a key that fits a block.
     fn of_fitted(key: &[u8]) -> HmacState
         requires { length key.now ≤ 64 }
-        ensures inner { Holds256 result.inner (xor_pad (key.now ++ replicate (64 - length key.now) 0) 0x36) }
-        ensures outer { Holds256 result.outer (xor_pad (key.now ++ replicate (64 - length key.now) 0) 0x5c) }
+        ensures inner { Holds256 result.inner
+            (xor_pad (key.now ++ replicate (64 - length key.now) 0) 0x36) }
+        ensures outer { Holds256 result.outer
+            (xor_pad (key.now ++ replicate (64 - length key.now) 0) 0x5c) }
     {
         HmacState {
             inner: hasher(key, INNER_PAD),
@@ -73,7 +75,8 @@ impl HmacState {
 
     /// Appends a piece to the text.
     pub fn update(&mut self, piece: &[u8])
-        ensures { (key text : List ℕ) → Holds self.old key text → Holds self.new key (text ++ piece.now) }
+        ensures { (key text : List ℕ)
+            → Holds self.old key text → Holds self.new key (text ++ piece.now) }
     {
         self.inner.update(piece);
     }

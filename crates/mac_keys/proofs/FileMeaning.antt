@@ -2,7 +2,6 @@
 use Rattle.std.proofs.Common.{◌≡◌, ◌≢◌, ℕ, ◌+◌, List, [], ◌∷◌, Option, Some, None, Ok, Err, option_map, refl, sym, ap, ◌∙◌, zero-add}
 use Rattle.mac_keys.specs.declared.fault.LineFault.{LineFault}
 use Rattle.mac_keys.specs.declared.fault.KeyFault.TheVariants as faults
-use Rattle.mac_keys.specs.Fault.{code_of}
 use Rattle.mac_keys.specs.Table.{Keys, keys_of, keys_or_first, fault_at, faults_of}
 use Rattle.mac_keys.specs.Meaning.{fault_in_place, AreFaultless, IsFirstFault}
 use Rattle.mac_keys.proofs.Numbered.{each_None, results-none, first_of, results-first}
@@ -49,42 +48,39 @@ made_of_faultless lines keys (faultless, made) = ap (keys_or_first (keys_of line
 
 -- ---- the first fault
 
-of_first : (made : Keys) (found : List (ℕ × LineFault)) (number code : ℕ) → keys_or_first made found ≡ Err (faults.Line number code)
-    → (fault : LineFault) × (others : List (ℕ × LineFault)) × (found ≡ (number, fault) ∷ others) × (code ≡ code_of fault)
-of_first made [] number code e = cc
-of_first made (first ∷ others) number code e =
+of_first : (made : Keys) (found : List (ℕ × LineFault)) (number : ℕ) (fault : LineFault) → keys_or_first made found ≡ Err (faults.Line number fault)
+    → (others : List (ℕ × LineFault)) × (found ≡ (number, fault) ∷ others)
+of_first made [] number fault e = cc
+of_first made (first ∷ others) number fault e =
     let same : first.0 ≡ number = cc in
-    let coded : code ≡ code_of first.1 = cc in
-    (first.1, others, ap (λ n. (n, first.1) ∷ others) same, coded)
+    let kind : first.1 ≡ fault = cc in
+    (others, ap (λ n. (n, first.1) ∷ others) same ∙ ap (λ k. (number, k) ∷ others) kind)
 
-pub first_told : (lines : List (List ℕ)) (number code : ℕ) → keys_or_first (keys_of lines) (faults_of lines) ≡ Err (faults.Line number code) → IsFirstFault lines number code
-first_told lines number code e =
-    let (fault, others, found, coded) = of_first (keys_of lines) (faults_of lines) number code e in
+pub first_told : (lines : List (List ℕ)) (number : ℕ) (fault : LineFault) → keys_or_first (keys_of lines) (faults_of lines) ≡ Err (faults.Line number fault) → IsFirstFault lines number fault
+first_told lines number fault e =
+    let (others, found) = of_first (keys_of lines) (faults_of lines) number fault e in
     let (place, line, first) = first_of (fault_at lines) 0 lines (number, fault) others found in
     let (told, is, same) = Some-from_map _ (fault_in_place lines place line) (number, fault) (sym (fault_at-zero_add lines place line) ∙ first.gives) in
     let same_fault : fault ≡ told = ap (λ p. p.1) same in
     record {
       place = place;
       line = line;
-      fault = fault;
       there = first.there;
       found = is ∙ ap Some (sym same_fault);
       above = λ higher other less there. None-from_map _ _ (sym (fault_at-zero_add lines higher other) ∙ first.before higher other less there);
       numbered = ap (λ p. p.0) same;
-      coded = coded;
     }
 
-pub told_first : (lines : List (List ℕ)) (number code : ℕ) → IsFirstFault lines number code → keys_or_first (keys_of lines) (faults_of lines) ≡ Err (faults.Line number code)
-told_first lines number code first =
+pub told_first : (lines : List (List ℕ)) (number : ℕ) (fault : LineFault) → IsFirstFault lines number fault → keys_or_first (keys_of lines) (faults_of lines) ≡ Err (faults.Line number fault)
+told_first lines number fault first =
     let at : ℕ → Option LineFault → Option (ℕ × LineFault) = λ place. option_map {U = ℕ × LineFault} (λ fault. (place + 1, fault)) in
-    let (others, is) = results-first (fault_at lines) 0 lines (first.place + 1, first.fault) first.place first.line (record {
+    let (others, is) = results-first (fault_at lines) 0 lines (first.place + 1, fault) first.place first.line (record {
       there = first.there;
       gives = fault_at-zero_add lines first.place first.line ∙ ap (at first.place) first.found;
       before = λ higher other less there. fault_at-zero_add lines higher other ∙ ap (at higher) (first.above higher other less there);
     }) in
     ap (keys_or_first (keys_of lines)) is
-    ∙ ap (λ n. Err (faults.Line n (code_of first.fault))) (sym first.numbered)
-    ∙ ap (λ c. Err (faults.Line number c)) (sym first.coded)
+    ∙ ap (λ n. Err (faults.Line n fault)) (sym first.numbered)
 
 not_memory : (made : Keys) (found : List (ℕ × LineFault)) → keys_or_first made found ≢ Err faults.Memory
 not_memory made [] e = cc

@@ -13,7 +13,6 @@ use Rattle.mac_keys.specs.declared.fault.LineFault.TheVariants.{Twice, TooMany}
 use Rattle.mac_keys.specs.declared.fault.KeyFault.{KeyFault}
 use Rattle.mac_keys.specs.declared.fault.KeyFault.TheVariants as faults
 use Rattle.mac_keys.specs.declared.table.TheConstants.{NAMES_MAX}
-use Rattle.mac_keys.specs.Fault.{code_of}
 use Rattle.mac_keys.specs.Line.{Given, line_of}
 use Rattle.mac_keys.specs.Table.{Keys, entry_said, keys_of, keys_or_first, fault_of_name, fault_below, fault_at, faults_of}
 use Rattle.mac_keys.specs.declared.line.Refusal.{Refusal}
@@ -96,7 +95,7 @@ SoFar-push lines n m index line keys after t so_far next taken =
 
 -- the first line with a fault gives the first fault
 first_fault : (lines : List (List ℕ)) (n index : ℕ) (line : List ℕ) (keys : Keys) (fault : LineFault) → Turn lines n index line → SoFar lines n keys
-    → fault_below keys (line_of line) ≡ Some fault → keys_or_first (keys_of lines) (faults_of lines) ≡ Err (faults.Line (n + 1) (code_of fault))
+    → fault_below keys (line_of line) ≡ Some fault → keys_or_first (keys_of lines) (faults_of lines) ≡ Err (faults.Line (n + 1) fault)
 first_fault lines n index line keys fault t so_far e =
     let later = drop (n + 1) (enumerate_from 0 lines) in
     ap (λ numbered. keys_or_first (keys_of lines) (filter_map (fault_at lines) numbered)) t.whole
@@ -110,7 +109,7 @@ pub SoFar-refused : (lines : List (List ℕ)) (n index : ℕ) (line : List ℕ) 
     → IsFor (fault_below keys (line_of line)) refusal → told ≡ fault_of_line index refusal
     → (told ≡ faults.Memory) ⊎ (keys_or_first (keys_of lines) (faults_of lines) ≡ Err told)
 SoFar-refused lines n index line keys (Line fault) told t so_far e named =
-    inr (first_fault lines n index line keys fault t so_far e ∙ ap (λ i. Err (faults.Line (i + 1) (code_of fault))) (sym t.place) ∙ ap Err (sym named))
+    inr (first_fault lines n index line keys fault t so_far e ∙ ap (λ i. Err (faults.Line (i + 1) fault)) (sym t.place) ∙ ap Err (sym named))
 SoFar-refused lines n index line keys Memory told t so_far e named = inl named
 
 -- at the end of the lines there is no fault

@@ -4,7 +4,6 @@ use Rattle.std.specs.List.{slice_get}
 use Rattle.hex.specs.Hex.{decode_of}
 use Rattle.mac_hmac.specs.Chain.{root_of}
 use Rattle.mac_keys.specs.declared.fault.LineFault.{LineFault}
-use Rattle.mac_keys.specs.Fault.{code_of}
 use Rattle.mac_keys.specs.Line.{Given, is_name, line_of}
 use Rattle.mac_keys.specs.Table.{keys_of, fault_below}
 
@@ -30,13 +29,11 @@ fault_in_place lines place line = fault_below (keys_of (take place lines)) (line
 abbrev pub AreFaultless : List (List ℕ) → Type 0
 AreFaultless lines = (place : ℕ) (line : List ℕ) → slice_get lines place ≡ Some line → fault_in_place lines place line ≡ None
 
--- the line of this number, counted from 1, has a fault of this code, and none above it has any
-pub record IsFirstFault (lines : List (List ℕ)) (number code : ℕ) : Type 0 where
+-- the line of this number, counted from 1, has this fault, and none above it has any
+pub record IsFirstFault (lines : List (List ℕ)) (number : ℕ) (fault : LineFault) : Type 0 where
   pub place : ℕ
   pub line : List ℕ
-  pub fault : LineFault
   pub there : slice_get lines place ≡ Some line
   pub found : fault_in_place lines place line ≡ Some fault
   pub above : (higher : ℕ) (other : List ℕ) → higher < place → slice_get lines higher ≡ Some other → fault_in_place lines higher other ≡ None
   pub numbered : number ≡ place + 1
-  pub coded : code ≡ code_of fault

@@ -8,7 +8,6 @@ use Rattle.mac_keys.specs.declared.fault.LineFault.{LineFault}
 use Rattle.mac_keys.specs.declared.fault.LineFault.TheVariants.{Twice, TooMany}
 use Rattle.mac_keys.specs.declared.fault.KeyFault.{KeyFault}
 use Rattle.mac_keys.specs.declared.fault.KeyFault.TheVariants as faults
-use Rattle.mac_keys.specs.Fault.{code_of}
 use Rattle.mac_keys.specs.Line.{Given, line_of}
 pub use Rattle.mac_keys.specs.Keys.{Keys}
 
@@ -56,7 +55,7 @@ faults_of lines = filter_map (fault_at lines) (enumerate_from 0 lines)
 -- the keys where no line has a fault, and else the first fault
 abbrev pub keys_or_first : Keys → List (ℕ × LineFault) → Result Keys KeyFault
 keys_or_first keys [] = Ok keys
-keys_or_first keys (first ∷ others) = Err (faults.Line first.0 (code_of first.1))
+keys_or_first keys (first ∷ others) = Err (faults.Line first.0 first.1)
 
 -- what a key file says
 abbrev pub table_of : List ℕ → Result Keys KeyFault

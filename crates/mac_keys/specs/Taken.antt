@@ -7,7 +7,6 @@ use Rattle.mac_keys.specs.declared.fault.KeyFault.{KeyFault}
 use Rattle.mac_keys.specs.declared.fault.KeyFault.TheVariants as faults
 use Rattle.mac_keys.specs.declared.line.Refusal.{Refusal}
 use Rattle.mac_keys.specs.declared.line.Refusal.TheVariants.{Line, Memory}
-use Rattle.mac_keys.specs.Fault.{code_of}
 use Rattle.mac_keys.specs.Line.{Given}
 use Rattle.mac_keys.specs.Table.{Keys}
 
@@ -24,5 +23,5 @@ IsFor found Memory = Unit {0}
 
 -- the fault of a refused line at a place, counted from 0
 abbrev pub fault_of_line : ℕ → Refusal → KeyFault
-fault_of_line index (Line fault) = faults.Line (index + 1) (code_of fault)
+fault_of_line index (Line fault) = faults.Line (index + 1) fault
 fault_of_line index Memory = faults.Memory

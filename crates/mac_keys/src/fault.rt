@@ -1,11 +1,9 @@
 //! Why a key file can't be read.
-ghost use Rattle.std.specs.Prelude.{◌≡◌, ◌≢◌, MatchOption};
-ghost use Rattle.mac_keys.specs.declared.fault.LineFault.{LineFault};
+ghost use Rattle.std.specs.Prelude.{◌≡◌};
 ghost use Rattle.mac_keys.specs.Fault.{code_of};
 
 use crate::line::NAME_MAX;
 use crate::table::NAMES_MAX;
-use std::fmt;
 use thiserror::Error;
 
 /// What is wrong with a line of a key file.
@@ -45,48 +43,20 @@ impl LineFault {
             LineFault::BadLine => 6,
         }
     }
-
-    /// The kind of fault that has this number.
-    pub fn from_code(code: u8) -> Option<LineFault>
-        ensures { MatchOption result ((fault : LineFault) → code_of fault ≢ code) (λ fault. code_of fault ≡ code) }
-    {
-        match code {
-            1 => Some(LineFault::BadName),
-            2 => Some(LineFault::BadHex),
-            3 => Some(LineFault::EmptySecret),
-            4 => Some(LineFault::Twice),
-            5 => Some(LineFault::TooMany),
-            6 => Some(LineFault::BadLine),
-            _ => None,
-        }
-    }
 }
 
 /// Why [`KeyTable::read`](crate::KeyTable::read) gave no table.
 #[derive(Clone, Copy, Debug, PartialEq, Eq, Error)]
 pub enum KeyFault {
     /// A line has a fault, and no earlier line has any.
-    #[error("line {line}: {}", KindText(.kind))]
+    #[error("line {line}: {kind}")]
     Line {
         /// The line, counted from 1.
         line: u64,
-        /// The number of its fault: see [`LineFault::from_code`].
-        kind: u8,
+        /// What is wrong with it.
+        kind: LineFault,
     },
     /// Memory ran out.
     #[error("there is no memory for the key table")]
     Memory,
-}
-
-/// A kind of fault by its number, to be printed.
-#[derive(Clone, Copy)]
-struct KindText<'a>(&'a u8);
-
-impl fmt::Display for KindText<'_> {
-    fn fmt<W: fmt::Write>(&self, f: &mut fmt::Formatter<W>) -> fmt::Result {
-        match LineFault::from_code(*self.0) {
-            Some(fault) => write!(f, "{fault}"),
-            None => write!(f, "a fault of no known kind"),
-        }
-    }
 }

@@ -4,31 +4,37 @@ ghost use Rattle.std.specs.List.{Any};
 ghost use Rattle.std.specs.FinMap as map;
 ghost use Rattle.mac_keys.specs.declared.table.TheConstants.{NAMES_MAX};
 ghost use Rattle.mac_keys.specs.declared.fault.KeyFault.TheVariants.{Line, Memory};
+ghost use Rattle.mac_keys.specs.declared.fault.LineFault.{LineFault};
+ghost use Rattle.mac_keys.specs.declared.line.TheConstants.{NAME_MAX};
 ghost use Rattle.mac_keys.specs.Line.{Given, line_of};
 ghost use Rattle.mac_keys.specs.Table.{Keys, lines_of, keys_of, table_of};
 ghost use Rattle.mac_keys.specs.Meaning.{Spells, GivesKey, AreFaultless, IsFirstFault};
 
 /// A line gives a name a secret exactly where it spells them.
 pub fn line_gives_what_it_spells()
-    ensures { (line : List ℕ) (given : Given) → (line_of line ≡ Ok (Some given)) ↔ Spells line given }
+    ensures { (line : List ℕ) (given : Given)
+        → (line_of line ≡ Ok (Some given)) ↔ Spells line given }
 {}
 
-/// A table has, at each name, the root key of the secret that a line gives the name, and nothing else.
+/// A table has, at each name, the root key of the secret that a line gives the name, and nothing
+/// else.
 pub fn table_has_the_keys_of_its_lines()
     ensures { (text : List ℕ) (keys : Keys) → table_of text ≡ Ok keys →
-        (name key : List ℕ) → (map.get keys name ≡ Some key) ↔ Any (GivesKey name key) (lines_of text) }
+        (name key : List ℕ) →
+        (map.get keys name ≡ Some key) ↔ Any (GivesKey name key) (lines_of text) }
 {}
 
 /// A text makes a table exactly where none of its lines has a fault.
 pub fn table_is_made_of_faultless_lines()
     ensures { (text : List ℕ) (keys : Keys) →
-        (table_of text ≡ Ok keys) ↔ (AreFaultless (lines_of text) × (keys ≡ keys_of (lines_of text))) }
+        (table_of text ≡ Ok keys)
+        ↔ (AreFaultless (lines_of text) × (keys ≡ keys_of (lines_of text))) }
 {}
 
 /// The fault that is told is that of the first line that has one.
 pub fn first_fault_is_told()
-    ensures { (text : List ℕ) (number code : ℕ) →
-        (table_of text ≡ Err (Line number code)) ↔ IsFirstFault (lines_of text) number code }
+    ensures { (text : List ℕ) (number : ℕ) (fault : LineFault) →
+        (table_of text ≡ Err (Line number fault)) ↔ IsFirstFault (lines_of text) number fault }
 {}
 
 /// No text has want of memory for its fault.
@@ -39,4 +45,10 @@ pub fn no_text_lacks_memory()
 /// A table has no more names than it may.
 pub fn table_has_at_most_names_max()
     ensures { (text : List ℕ) (keys : Keys) → table_of text ≡ Ok keys → map.len keys ≤ NAMES_MAX }
+{}
+
+/// A name has at most 64 bytes, and a table at most 1,000 names.
+pub fn limits_are_these()
+    ensures name { NAME_MAX ≡ 64 }
+    ensures names { NAMES_MAX ≡ 1000 }
 {}

@@ -27,7 +27,7 @@ pub(crate) struct KeyLine<'a> {
 }
 
 /// Why a line isn't taken.
-#[derive(Debug, Drop)]
+#[derive(Drop)]
 pub(crate) enum Refusal {
     Line(LineFault),
     Memory,
@@ -42,7 +42,7 @@ impl Refusal {
         match self {
             Refusal::Line(fault) => KeyFault::Line {
                 line: index as u64 + 1,
-                kind: fault.code(),
+                kind: fault,
             },
             Refusal::Memory => KeyFault::Memory,
         }

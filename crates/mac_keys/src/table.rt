@@ -38,7 +38,8 @@ impl Model for KeyTable {
 impl KeyTable {
     /// The table of a key file, or the first line that has a fault.
     ///
-    /// Takes time in line with the length of the text, and memory for the table and for one secret at a time.
+    /// Takes time in line with the length of the text, and memory for the table and for one secret
+    /// at a time.
     pub fn read(alloc: Global, text: &[u8]) -> Result<KeyTable, KeyFault>
         ensures table { IfOk result (λ table. table_of text.now ≡ Ok table) }
         ensures fault { IfErr result (λ fault. (fault ≡ Memory) ⊎ (table_of text.now ≡ Err fault)) }
@@ -70,7 +71,8 @@ impl KeyTable {
 
     /// Takes the next line of a file into the table.
     fn take_line(&mut self, alloc: Global, line: &[u8]) -> Result<(), Refusal>
-        ensures ok { OnOk result ((fault_below self.old (line_of line.now) ≡ None) × (self.new ≡ keys_with self.old (line_of line.now))) }
+        ensures ok { OnOk result ((fault_below self.old (line_of line.now) ≡ None)
+            × (self.new ≡ keys_with self.old (line_of line.now))) }
         ensures fault { IfErr result (IsFor (fault_below self.old (line_of line.now))) }
     {
         match read_line(alloc, line)? {
@@ -81,7 +83,8 @@ impl KeyTable {
 
     /// Gives a name the root key of a secret.
     fn put(&mut self, alloc: Global, name: &[u8], secret: &[u8]) -> Result<(), Refusal>
-        ensures ok { OnOk result ((fault_of_name self.old name.now ≡ None) × (self.new ≡ map.insert self.old name.now (root_of secret.now))) }
+        ensures ok { OnOk result ((fault_of_name self.old name.now ≡ None)
+            × (self.new ≡ map.insert self.old name.now (root_of secret.now))) }
         ensures fault { IfErr result (IsFor (fault_of_name self.old name.now)) }
     {
         if self.keys.contains_key(name) {

@@ -4,6 +4,7 @@ use Rattle.std.proofs.lemmas.List.{append_cancel_left, append-nil}
 use Rattle.std.specs.Prelude.{Bool, IsTrue, Result, Ok, Err, IsErrAnd}
 use Rattle.mac_keys.specs.Table.{Keys, table_of}
 use Rattle.mac_keys.specs.declared.fault.KeyFault.{KeyFault}
+use Rattle.mac_keys.specs.declared.fault.LineFault.{LineFault}
 use Rattle.mac_keys.specs.declared.fault.KeyFault.TheVariants as key
 use Rattle.mac_wire.specs.declared.arrival.Arrival.{Arrival}
 use Rattle.mac_wire.specs.declared.reply.Reply.{Reply}
@@ -89,12 +90,12 @@ output-told answer fault.Device (Err g) input out e tells = absurd tells
 output-told answer fault.TooLong (Err g) input out e tells = absurd tells
 
 -- the empty text has no key line, and so no fault
-pub table_of-none : (line kind : ℕ) → table_of (key_text []) ≡ Err (key.Line line kind) → ⊥
+pub table_of-none : (line : ℕ) (kind : LineFault) → table_of (key_text []) ≡ Err (key.Line line kind) → ⊥
 unfolding lines
 table_of-none line kind e = cc
 
 -- a run whose input wasn't read to its end tells no fault of the key lines
-pub keys-unread : (f : PipeFault) (r : Result (Unit {0}) PipeFault) (old new input : List ℕ) (line kind : ℕ) →
+pub keys-unread : (f : PipeFault) (r : Result (Unit {0}) PipeFault) (old new input : List ℕ) (line : ℕ) (kind : LineFault) →
     IsErrAnd r (λ e. e ≡ f) → Takes (Err f) old new → (f ≡ fault.Device → new ≡ old) → new ≡ old ++ input → length input ≤ INPUT_MAX →
     table_of (key_text input) ≡ Err (key.Line line kind) →
     (r ≡ Err (fault.Keys line kind)) ⊎ (r ≡ Err fault.Memory)
@@ -110,7 +111,7 @@ keys-unread fault.TooLong (Err g) old new input line kind e takes failed more bo
 keys-unread (fault.Keys l k) (Err g) old new input line kind e takes failed more bound table = absurd takes
 
 -- a run whose key lines couldn't be read tells their fault
-pub keys-told : (f : PipeFault) (r : Result (Unit {0}) PipeFault) (table : Result Keys KeyFault) (line kind : ℕ) →
+pub keys-told : (f : PipeFault) (r : Result (Unit {0}) PipeFault) (table : Result Keys KeyFault) (line : ℕ) (kind : LineFault) →
     IsErrAnd r (λ e. e ≡ f) → Tells table f → table ≡ Err (key.Line line kind) →
     (r ≡ Err (fault.Keys line kind)) ⊎ (r ≡ Err fault.Memory)
 keys-told f (Ok x) table line kind e tells is_fault = absurd e

@@ -3,6 +3,7 @@ ghost use Rattle.std.specs.Prelude.{◌≡◌};
 ghost use Rattle.macaroond.specs.Status.{pipe_status};
 ghost use Rattle.macaroond.specs.declared.fault.PipeFault.TheVariants.{Device, Memory};
 
+use mac_keys::LineFault;
 use mac_wire::DeviceFault;
 use std::alloc::{AllocError, AllocFailed};
 use thiserror::Error;
@@ -11,8 +12,8 @@ use thiserror::Error;
 #[derive(Clone, Copy, Debug, Error)]
 pub enum PipeFault {
     /// The first key line with a fault, counted from 1, and the fault's number.
-    #[error("keys: line {line} kind {kind}")]
-    Keys { line: u64, kind: u8 },
+    #[error("keys: line {line} kind {}", .kind.code())]
+    Keys { line: u64, kind: LineFault },
     /// A device failed.
     #[error("fault 3")]
     Device,

@@ -2,6 +2,7 @@
 ghost use Rattle.std.specs.Prelude.{◌≡◌, ◌⊎◌, ◌+◌, ◌<◌, ◌≤◌, ◌++◌, ◌∷◌, List, ℕ, length, map, IsTrue, IfOk, IfErr, OnOk};
 ghost use Rattle.mac_keys.specs.Table.{table_of};
 ghost use Rattle.mac_keys.specs.declared.fault.KeyFault.TheVariants as key;
+ghost use Rattle.mac_keys.specs.declared.fault.LineFault.{LineFault};
 ghost use Rattle.mac_wire.specs.declared.arrival.Arrival.{Arrival};
 ghost use Rattle.mac_wire.specs.declared.reply.Reply.{Reply};
 ghost use Rattle.macaroond.specs.declared.fault.PipeFault.TheVariants.{Keys, Memory};
@@ -46,7 +47,7 @@ pub fn pipe<R: Source, W: Sink>(
     ensures keys { IsTrue R.tells → (input : List ℕ)
         → R.taken source.new ≡ R.taken source.old ++ input
         → IsTrue (R.ended source.new) → length input ≤ INPUT_MAX
-        → (line kind : ℕ) → table_of (key_text input) ≡ Err (key.Line line kind)
+        → (line : ℕ) (kind : LineFault) → table_of (key_text input) ≡ Err (key.Line line kind)
         → (result ≡ Err (Keys line kind)) ⊎ (result ≡ Err Memory) }
     ensures faults { CountsDevice result
         (R.faults source.old + W.faults sink.old) (R.faults source.new + W.faults sink.new) }

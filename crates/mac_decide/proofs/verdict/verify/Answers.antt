@@ -1,22 +1,33 @@
-use Rattle.std.proofs.Common.{◌≡◌, [], ◌∷◌, sym, ap, ◌∙◌, Some, option_map, arith, Bor, List, ℕ}
+use Rattle.std.proofs.Common.{◌≡◌, [], ◌∷◌, ◌+◌, sym, ap, ◌∙◌, Some, arith}
 use Rattle.std.specs.List.{slice_get}
 use Rattle.mac_hmac.specs.Chain.{extended}
-use Rattle.mac_decide.proofs.WalkLemmas.{chain-next, found-next, accepted-at_end}
+use Rattle.mac_decide.proofs.WalkLemmas.{lent, length-lent, chain-next, found-next, accepted-at_end}
 use Rattle.mac_decide.proofs.verdict.verify.Goals as goal
 
-pub loop-i-preserved : goal.loop-i-preserved
-loop-i-preserved c =
-    let caveat = c.unwrap-caveat.result.now in
-    let here : slice_get c.args.token.now.caveats c.loop-i.i ≡ Some caveat = sym c.caveat.ensures ∙ ap (option_map {T = Bor (List ℕ)} {U = List ℕ} (λ b. b.now)) c.unwrap-caveat.ensures in
+pub loop-caveat-preserved : goal.loop-caveat-preserved
+loop-caveat-preserved c =
+    let caveats = c.args.token.now.caveats in
+    let i = c.loop-caveat.caveat-index in
+    let caveat = c.as_slice-caveat.result.now in
+    let here : slice_get caveats i ≡ Some caveat =
+    lent c.caveat_list-caveats.result.now caveats i c.caveat-item.result c.caveat_list-caveats.ensures.value c.loop-caveat-test.true c.caveat-item.is
+    ∙ ap Some (sym c.as_slice-caveat.ensures.value) in
     record {
       signature = c.extend-signature.ensures
-          ∙ ap (λ s. extended s (caveat ∷ [])) c.loop-i.invariant.signature
-          ∙ sym (chain-next c.args.key.now c.args.token.now.identifier c.args.token.now.caveats c.loop-i.i caveat here);
-      found = found-next _ _ _ _ _ _ here c.loop-i.invariant.found c.first_unsatisfied-unsatisfied.ensures;
+          ∙ ap (λ s. extended s (caveat ∷ [])) c.loop-caveat.invariant.signature
+          ∙ sym (chain-next c.args.key.now c.args.token.now.identifier caveats i caveat here);
+      found = found-next _ caveats i c.loop-caveat.index caveat _ _ here c.loop-caveat.invariant.index c.loop-caveat.invariant.found c.first_unsatisfied-unsatisfied.ensures;
+      index = ap (λ n. n + 1) c.loop-caveat.invariant.index;
     }
+
+pub overflow_add-index : goal.overflow_add-index
+overflow_add-index c =
+    omega (arith, c.loop-caveat.invariant.index, c.loop-caveat-test.true, length-lent c.caveat_list-caveats.result.now c.args.token.now.caveats c.caveat_list-caveats.ensures.value, c.caveat_list-caveats.ensures.within.count)
 
 pub returns-in-None : goal.returns-in-None
 returns-in-None c =
     let same = c.same.ensures.0 c.if-not-same.false ∙ c.from_bytes.ensures ∙ c.sig.ensures in
-    accepted-at_end _ _ _ c.loop-i.i c.loop-i.signature (omega arith) c.loop-i.invariant.signature same
-    (rw c.in-None.is at c.loop-i.invariant.found)
+    accepted-at_end _ _ _ c.loop-caveat.caveat-index c.loop-caveat.signature
+    (omega (arith, c.loop-caveat-test.false, length-lent c.caveat_list-caveats.result.now c.args.token.now.caveats c.caveat_list-caveats.ensures.value))
+    c.loop-caveat.invariant.signature same
+    (rw c.in-None.is at c.loop-caveat.invariant.found)
