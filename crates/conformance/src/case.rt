@@ -149,3 +149,23 @@ pub(crate) fn digits(alloc: Global, bytes: &[u8]) -> Result<String, CaseFault> {
     append_digits(alloc, bytes, &mut text)?;
     Ok(text)
 }
+
+/// Appends bytes in hexadecimal, or how many they are where they are more than 64.
+pub(crate) fn append_shown(
+    alloc: Global,
+    bytes: &[u8],
+    text: &mut String,
+) -> Result<(), AllocError> {
+    if bytes.len() > 64 {
+        let count = format!(in alloc; "{} bytes", bytes.len())?;
+        return text.push_str(count.as_str());
+    }
+    append_digits(alloc, bytes, text)
+}
+
+/// Bytes in hexadecimal, or how many they are where they are more than 64.
+pub(crate) fn shown(alloc: Global, bytes: &[u8]) -> Result<String, CaseFault> {
+    let mut text = String::new(alloc);
+    append_shown(alloc, bytes, &mut text)?;
+    Ok(text)
+}

@@ -1,7 +1,7 @@
 //! The kinds of cases, and what answers each. Each crate's cases stand in a file of its name.
 
 use crate::case::{CaseFault, Words};
-use crate::{decide, hmac, keys, lane, token, wire, world};
+use crate::{asked, decide, devices, hmac, keys, lane, token, wire, world};
 use std::alloc::{AllocError, Global};
 
 /// What a line's case comes to, or that it is none.
@@ -26,7 +26,18 @@ pub(crate) fn outcome(alloc: Global, line: &str) -> Result<String, AllocError> {
 /// same SIGNATURE SIGNATURE                                 `same` or `another`
 /// keys FILE                                                the number of names, or the fault
 /// key FILE NAME                                            the root key of the name
-/// frames STREAM                                            the arrivals and the ending
+/// frames STREAM                                            the arrivals and the ending, however it is cut in two
+/// feeds PIECE,..                                           what each piece gives, and the ending
+/// replies REPLY,..                                         the frames of replies
+/// whole BYTES                                              the number of whole frames in front
+/// faults                                                   the number and the text of each fault of the wire
+/// request PAYLOAD                                          what it asks, or the refusal
+/// name PAYLOAD                                             the key name in its front, or `none`
+/// fronts PAYLOAD                                           how many of its front parts ask something
+/// reads PIECE FAILS BYTES                                  eight reads of a source over memory
+/// reader BYTES                                             eight reads of a source over a reader
+/// sends ROOM PIECE FAILS BYTES                             what a sink over memory is sent
+/// writes ROOM BYTES,..                                     what a sink over a writer takes
 /// read TOKEN                                               its parts, or the refusal
 /// raw TOKEN                                                its parts as they are spelled, or the refusal
 /// code TOKEN                                               `taken`, or the refusal
@@ -58,6 +69,17 @@ fn case_outcome(alloc: Global, line: &str) -> Result<String, CaseFault> {
         b"keys" => keys::table(alloc, &mut words),
         b"key" => keys::found(alloc, &mut words),
         b"frames" => wire::frames(alloc, &mut words),
+        b"feeds" => wire::feeds(alloc, &mut words),
+        b"replies" => wire::replies(alloc, &mut words),
+        b"whole" => wire::whole(alloc, &mut words),
+        b"faults" => wire::fault_texts(alloc),
+        b"request" => asked::request(alloc, &mut words),
+        b"name" => asked::name(alloc, &mut words),
+        b"fronts" => asked::fronts(alloc, &mut words),
+        b"reads" => devices::memory_reads(alloc, &mut words),
+        b"reader" => devices::reader_reads(alloc, &mut words),
+        b"sends" => devices::memory_sends(alloc, &mut words),
+        b"writes" => devices::writer_writes(alloc, &mut words),
         b"read" => token::read_parts(alloc, &mut words),
         b"raw" => token::raw_parts(alloc, &mut words),
         b"code" => token::code(alloc, &mut words),

@@ -2,8 +2,10 @@
 //! `kinds.rt` lists the kinds of cases.
 #![tactic(auto)]
 
+mod asked;
 mod case;
 mod decide;
+mod devices;
 mod hmac;
 mod keys;
 mod kinds;

@@ -64,8 +64,12 @@ fn payload_reply(alloc: Global, payload: &[u8], key: Option<RootKey>) -> Result<
     }
 }
 
-fn request_reply(alloc: Global, request: Request, key: Option<RootKey>) -> Result<Reply, NoMemory>
-    ensures { answers.Replies result (answers.request_reply (asked_of request) key) }
+fn request_reply(
+    alloc: Global,
+    request: Request<'_>,
+    key: Option<RootKey>,
+) -> Result<Reply, NoMemory>
+    ensures { answers.Replies result (answers.request_reply (asked_of request.entry) key) }
 {
     match request {
         Request::Mint {
@@ -75,28 +79,21 @@ fn request_reply(alloc: Global, request: Request, key: Option<RootKey>) -> Resul
             caveats,
             ..
         } => match key {
-            Some(key) => mint_reply(
-                alloc,
-                form,
-                &key,
-                &location,
-                identifier.as_slice(),
-                caveats.as_slice(),
-            ),
+            Some(key) => mint_reply(alloc, form, &key, location, identifier, caveats.as_slice()),
             None => Ok(refused(Refusal::UnknownKey)),
         },
         Request::Attenuate {
             form,
             token,
             caveats,
-        } => attenuate_reply(alloc, form, token.as_slice(), caveats.as_slice()),
+        } => attenuate_reply(alloc, form, token, caveats.as_slice()),
         Request::Verify {
             token,
             moment,
             facts,
             ..
         } => match key {
-            Some(key) => verify_reply(alloc, &key, token.as_slice(), &Context { moment, facts }),
+            Some(key) => verify_reply(alloc, &key, token, &Context { moment, facts }),
             None => Ok(refused(Refusal::UnknownKey)),
         },
     }

@@ -7,8 +7,8 @@ use Rattle.std.proofs.lemmas.Nat.{from_be_bytes-to_be_bytes_4}
 use Rattle.mac_wire.specs.declared.arrival.Arrival.TheVariants as arrival
 use Rattle.mac_wire.specs.declared.arrival.Ending.TheVariants as ending
 use Rattle.mac_wire.specs.declared.arrival.TheConstants.{FRAME_MAX}
-use Rattle.mac_wire.specs.Frame.{Arrivals, frame, told_length, followed_by, arrivals_within, arrivals_of}
-use Rattle.mac_wire.specs.Partial.{IsUnfinished, IsWhole, IsTooLong}
+use Rattle.mac_wire.specs.Frame.{Arrivals, frame, told_length, followed_by, arrivals_within, arrivals_of, IsUnfinished}
+use Rattle.mac_wire.specs.Partial.{IsWhole, IsTooLong}
 
 -- the arrivals of a stream of that length, whose first frame tells a length and would have a payload, and of the rest
 abbrev step : (len told : ℕ) → List ℕ → Arrivals → Arrivals

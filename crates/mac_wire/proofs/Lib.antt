@@ -10,3 +10,4 @@ pub mod Asking
 pub mod Replies
 pub mod ReplyText
 pub mod Wholes
+pub mod Names

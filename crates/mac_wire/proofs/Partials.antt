@@ -5,8 +5,8 @@ use Rattle.std.proofs.lemmas.Bool.{cases_eq}
 use Rattle.std.proofs.lemmas.List.{take_all, take_at, length-append, length-take}
 use Rattle.mac_wire.specs.declared.arrival.TheConstants.{FRAME_MAX}
 use Rattle.mac_wire.specs.declared.arrival.Ending.TheVariants as ending
-use Rattle.mac_wire.specs.Frame.{told_length, arrivals_of}
-use Rattle.mac_wire.specs.Partial.{IsUnfinished, IsPartial}
+use Rattle.mac_wire.specs.Frame.{told_length, arrivals_of, IsUnfinished}
+use Rattle.mac_wire.specs.Partial.{IsPartial}
 use Rattle.mac_wire.proofs.Arrivals.{arrivals_of-nothing, arrivals_of-unfinished}
 
 -- the length that a list tells is that of its first four bytes

@@ -1,5 +1,5 @@
 -- Frames, and the arrivals of a stream of them. The format is this project's own.
-use Rattle.std.specs.Prelude.{ℕ, zero, suc, ◌+◌, List, [], ◌∷◌, ◌++◌, length, take, drop, nat_lt, ◌==◌, if◌then◌else◌}
+use Rattle.std.specs.Prelude.{ℕ, zero, suc, ◌+◌, ◌<◌, ◌≤◌, List, [], ◌∷◌, ◌++◌, length, take, drop, nat_lt, ◌==◌, if◌then◌else◌}
 use Rattle.std.specs.Int.{w32, to_be_bytes, from_be_bytes}
 use Rattle.mac_wire.specs.declared.arrival.Arrival.{Arrival}
 use Rattle.mac_wire.specs.declared.arrival.Arrival.TheVariants as arrival
@@ -19,6 +19,10 @@ pub record Arrivals : Type 0 where
 -- the payload's length that a stream's first four bytes tell
 abbrev pub told_length : List ℕ → ℕ
 told_length stream = from_be_bytes w32 (take 4 stream)
+
+-- less than a whole frame: once its length has come, that is allowed, and a part of the payload is missing
+abbrev pub IsUnfinished : List ℕ → Type 0
+IsUnfinished bytes = 4 ≤ length bytes → (told_length bytes ≤ FRAME_MAX) × (length bytes < 4 + told_length bytes)
 
 -- some arrivals, and then those of the rest of the stream
 abbrev pub followed_by : List Arrival → Arrivals → Arrivals

@@ -5,13 +5,14 @@ use Rattle.mac_wire.specs.declared.arrival.Ending.TheVariants as ending
 use Rattle.mac_wire.specs.declared.frame.FrameReader.{FrameReader}
 use Rattle.mac_wire.specs.declared.frame.Stage.{Stage}
 use Rattle.mac_wire.specs.declared.frame.Stage.TheVariants as stage
-use Rattle.mac_wire.specs.Frame.{arrivals_of, followed_by}
+use Rattle.mac_wire.specs.Frame.{arrivals_of, followed_by, IsUnfinished}
 
--- At this stage a reader was fed the stream and handed out the arrivals: however the stream goes on, its arrivals
--- are these, and then those of the bytes that are held and of what comes. After an Oversize nothing comes.
+-- At this stage a reader was fed the stream and handed out the arrivals: less than a frame is held, and however the
+-- stream goes on, its arrivals are these, and then those of the bytes that are held and of what comes. After an
+-- Oversize nothing comes.
 abbrev pub HasReadTo : Stage → List ℕ → List Arrival → Type 0
 HasReadTo (stage.Open held) stream handed =
-    (more : List ℕ) → arrivals_of (stream ++ more) ≡ followed_by handed (arrivals_of (held ++ more))
+    IsUnfinished held × ((more : List ℕ) → arrivals_of (stream ++ more) ≡ followed_by handed (arrivals_of (held ++ more)))
 HasReadTo stage.Oversize stream handed =
     (more : List ℕ) → arrivals_of (stream ++ more) ≡ record { arrived = handed; ending = ending.Oversize }
 HasReadTo stage.Broken stream handed = ⊥
@@ -32,7 +33,3 @@ HasEnded reader = HasEndedAt reader.stage
 -- a feed answered want of memory
 abbrev pub IsBroken : FrameReader → Type 0
 IsBroken reader = reader.stage ≡ stage.Broken
-
--- cutting a piece, behind the bytes that were held, gave these arrivals and left this stage
-abbrev pub Cuts : List ℕ → List ℕ → List Arrival → Stage → Type 0
-Cuts held piece arrivals stage = HasReadTo stage (held ++ piece) arrivals

@@ -1,13 +1,16 @@
-pub mod Device
-pub mod Memory
+-- what the contracts mean
 pub mod Frame
-pub mod Partial
-pub mod Steps
 pub mod FrameReader
 pub mod FeedFault
 pub mod Request
-pub mod Reading
-pub mod Parsing
-pub mod Streams
+pub mod KeyName
 pub mod Reply
 pub mod Whole
+pub mod Device
+pub mod Memory
+-- functions that a law ties to these, and what serves proofs
+pub mod Reading
+pub mod Parsing
+pub mod Partial
+pub mod Steps
+pub mod Streams

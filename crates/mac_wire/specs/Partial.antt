@@ -1,12 +1,8 @@
--- The bytes that have come of a frame.
+-- The bytes that have come of a frame, for the proofs of their reader.
 use Rattle.std.specs.Prelude.{◌≡◌, ℕ, ◌+◌, ◌<◌, ◌≤◌, List, [], length, drop}
 use Rattle.std.specs.Int.{w32, from_be_bytes}
 use Rattle.mac_wire.specs.declared.arrival.TheConstants.{FRAME_MAX}
 use Rattle.mac_wire.specs.Frame.{told_length}
-
--- less than a whole frame: once its length has come, that is allowed, and a part of the payload is missing
-abbrev pub IsUnfinished : List ℕ → Type 0
-IsUnfinished bytes = 4 ≤ length bytes → (told_length bytes ≤ FRAME_MAX) × (length bytes < 4 + told_length bytes)
 
 -- a whole frame, and its payload
 pub record IsWhole (bytes payload : List ℕ) : Type 0 where

@@ -1,5 +1,5 @@
 -- Requests, and the one payload that each is asked by. The format is this project's own.
-use Rattle.std.specs.Prelude.{◌≡◌, ℕ, ◌<◌, ◌≤◌, ◌^◌, List, ◌∷◌, ◌++◌, length, slice_index, All, string_bytes, Option, Some, None}
+use Rattle.std.specs.Prelude.{◌≡◌, ℕ, ◌<◌, ◌≤◌, ◌^◌, List, ◌∷◌, ◌++◌, length, slice_index, All, Option, Some, None}
 use Rattle.std.specs.Int.{w16, w64, to_be_bytes}
 use Rattle.std.specs.List.{flat_map}
 use Rattle.std.specs.Str.{IsUtf8}
@@ -17,9 +17,9 @@ pub data Asked : Type 0 where
 
 -- what a value of the program asks
 abbrev pub asked : Request → Asked
-asked (request.Mint form key location identifier caveats) = mint form key (string_bytes location) identifier caveats
-asked (request.Attenuate form token caveats) = attenuate form token caveats
-asked (request.Verify key token moment facts) = verify key token moment facts
+asked (request.Mint form key location identifier caveats) = mint form key.now location.now identifier.now caveats
+asked (request.Attenuate form token caveats) = attenuate form token.now caveats
+asked (request.Verify key token moment facts) = verify key.now token.now moment facts
 
 -- the name of the key that a request is about; an attenuate names none
 abbrev pub key_of : Asked → Option (List ℕ)

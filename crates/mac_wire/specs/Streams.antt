@@ -1,4 +1,4 @@
--- What devices over readers and writers are made of.
+-- What devices over readers and writers are made of, for clauses that cannot name their fields.
 use Rattle.mac_wire.specs.declared.reader_source.ReaderSource.{ReaderSource}
 use Rattle.mac_wire.specs.declared.writer_sink.WriterSink.{WriterSink}
 

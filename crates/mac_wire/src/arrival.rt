@@ -1,6 +1,6 @@
 //! What comes out of a stream of frames.
 
-ghost use Rattle.std.specs.Prelude.{◌≡◌, IfOk};
+ghost use Rattle.std.specs.Prelude.{◌≡◌, ◌≢◌, IfOk, OnErr};
 
 use crate::NoMemory;
 use crate::bytes::Bytes;
@@ -10,7 +10,7 @@ use std::alloc::Global;
 pub const FRAME_MAX: usize = 65_536;
 
 /// One arrival of a stream.
-#[derive(Debug, PartialEq, Eq, Drop)]
+#[derive(PartialEq, Eq, Drop)]
 pub enum Arrival {
     /// The payload of a whole frame.
     Payload(Bytes),
@@ -21,7 +21,8 @@ pub enum Arrival {
 impl Arrival {
     /// A copy of the arrival, at the cost of its bytes.
     pub fn copy(&self, alloc: Global) -> Result<Arrival, NoMemory>
-        ensures { IfOk result (λ arrival. arrival ≡ self.now) }
+        ensures same { IfOk result (λ arrival. arrival ≡ self.now) }
+        ensures memory { OnErr result (self.now ≢ Arrival.Oversize) }
     {
         match self {
             Arrival::Payload(payload) => Ok(Arrival::Payload(payload.copy(alloc)?)),
@@ -31,7 +32,7 @@ impl Arrival {
 }
 
 /// How a stream ended.
-#[derive(Clone, Copy, Debug, PartialEq, Eq)]
+#[derive(Clone, Copy, PartialEq, Eq)]
 pub enum Ending {
     /// Between two frames.
     Clean,
@@ -42,6 +43,3 @@ pub enum Ending {
     /// The stream could not be read to its end.
     Broken,
 }
-
-#[cfg(test)]
-mod tests;

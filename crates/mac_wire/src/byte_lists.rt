@@ -7,7 +7,7 @@ ghost use Rattle.std.specs.Cmp.Lexicographic.{pointwise, lists_equiv, nat_list_e
 use std::marker::Model;
 
 /// A list of lists of bytes. Making one from vectors and taking them back cost nothing.
-#[derive(Debug, Drop)]
+#[derive(Drop)]
 pub struct ByteLists {
     held: Vec<Vec<u8>>,
 }

@@ -9,7 +9,7 @@ use std::alloc::Global;
 use std::marker::Model;
 
 /// A list of bytes. Making one from a vector and taking the vector back cost nothing.
-#[derive(Debug, Drop)]
+#[derive(Drop)]
 pub struct Bytes {
     held: Vec<u8>,
 }

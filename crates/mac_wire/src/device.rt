@@ -6,13 +6,14 @@ ghost use Rattle.mac_wire.specs.Device.{CountsFault, PassesFront};
 use thiserror::Error;
 
 /// A device failed. What failed, only the device knows.
-#[derive(Clone, Copy, Debug, PartialEq, Eq, Error)]
+#[derive(Clone, Copy, Debug, Error)]
 #[error("the device failed")]
 pub struct DeviceFault;
 
 /// What bytes are read from. It can be lent to another thread.
 pub trait Source: Send {
-    /// Whether `taken` is what the device gave. It claims nothing of a device that doesn't tell its bytes.
+    /// Whether `taken` is what the device gave. It claims nothing of a device that doesn't tell its
+    /// bytes.
     ghost tells: { Bool };
 
     /// The bytes that reads have given so far.
@@ -24,12 +25,13 @@ pub trait Source: Send {
     /// How often the device has failed.
     ghost faults: { Self → ℕ };
 
-    /// Reads some bytes into the front of the buffer, and says how many. None into a buffer with room is
-    /// the end.
+    /// Reads some bytes into the front of the buffer, and says how many. None into a buffer with
+    /// room is the end.
     fn read(&mut self, buf: &mut [u8]) -> Result<usize, DeviceFault>
         requires { faults self.old < u64.MAX }
         ensures bound { IfOk result (λ n. n ≤ length buf.new) }
-        ensures taken { IsTrue tells → PassesFront result buf.new (taken self.old) (taken self.new) }
+        ensures taken { IsTrue tells
+            → PassesFront result buf.new (taken self.old) (taken self.new) }
         ensures faults { CountsFault result (faults self.old) (faults self.new) }
 
         // Nothing read, though there was room, is the end.
@@ -48,7 +50,8 @@ pub trait Source: Send {
 
 /// What bytes are written to. It can be lent to another thread.
 pub trait Sink: Send {
-    /// Whether `written` is what the device took. It claims nothing of a device that doesn't tell its bytes.
+    /// Whether `written` is what the device took. It claims nothing of a device that doesn't tell
+    /// its bytes.
     ghost tells: { Bool };
 
     /// The bytes that writes have taken so far.
@@ -57,18 +60,17 @@ pub trait Sink: Send {
     /// How often the device has failed.
     ghost faults: { Self → ℕ };
 
-    /// Writes some bytes of the buffer's front, and says how many: of a buffer that isn't empty at least one.
+    /// Writes some bytes of the buffer's front, and says how many: of a buffer that isn't empty at
+    /// least one.
     fn write(&mut self, buf: &[u8]) -> Result<usize, DeviceFault>
         requires { faults self.old < u64.MAX }
         ensures bound { IfOk result (λ n. n ≤ length buf.now) }
         ensures some { IfOk result (λ n. 0 < length buf.now → 0 < n) }
-        ensures written { IsTrue tells → PassesFront result buf.now (written self.old) (written self.new) }
+        ensures written { IsTrue tells
+            → PassesFront result buf.now (written self.old) (written self.new) }
         ensures faults { CountsFault result (faults self.old) (faults self.new) };
 
     /// How often the device has failed.
     fn faults(&self) -> u64
         ensures { result ≡ faults self.now };
 }
-
-#[cfg(test)]
-mod tests;

@@ -1,6 +1,6 @@
 //! The fields of a payload: each reader takes one from the front and gives the rest.
 
-ghost use Rattle.std.specs.Prelude.{◌≡◌, map, string_bytes};
+ghost use Rattle.std.specs.Prelude.{◌≡◌, map};
 ghost use Rattle.std.specs.Int.{w16, w64};
 ghost use Rattle.std.specs.Option.{option_map};
 ghost use Rattle.mac_wire.specs.Reading.{byte_at, bytes_at, number_at, short_field_at, long_field_at, text_field_at, fields_at, counted_fields_at, form_of, form_at};
@@ -90,30 +90,31 @@ pub fn form(bytes: &[u8]) -> Option<(TokenForm, &[u8])>
     Some((form, rest))
 }
 
-/// A field behind a length of two bytes, copied.
+// A field behind a length of two bytes, copied.
 #[tactic(auto, unfolding(crate::specs::Reading::long_field_at))]
-pub fn bytes_field(alloc: Global, bytes: &[u8]) -> Result<(Bytes, &[u8]), RequestFault>
+fn bytes_field(alloc: Global, bytes: &[u8]) -> Result<(Bytes, &[u8]), RequestFault>
     ensures { Gives (λ x. (x.0, x.1.now)) result (long_field_at bytes.now) }
 {
     let (field, rest) = long_field(bytes).ok_or(RequestFault::BadRequest)?;
     Ok((Bytes::new(Vec::from_slice(alloc, field)?), rest))
 }
 
-/// A field of UTF-8 behind a length of two bytes, copied.
+/// A field of UTF-8 behind a length of two bytes.
 #[tactic(auto, using(crate::proofs::Text::is_text, crate::proofs::Text::is_no_text), unfolding(crate::specs::Reading::text_field_at))]
-pub fn text_field(alloc: Global, bytes: &[u8]) -> Result<(String, &[u8]), RequestFault>
-    ensures { Gives (λ x. (string_bytes x.0, x.1.now)) result (text_field_at bytes.now) }
+pub fn text_field(bytes: &[u8]) -> Option<(&str, &[u8])>
+    ensures { option_map (λ x. (x.0.now, x.1.now)) result ≡ text_field_at bytes.now }
 {
-    let (field, rest) = long_field(bytes).ok_or(RequestFault::BadRequest)?;
+    let (field, rest) = long_field(bytes)?;
     match str::from_utf8(field) {
-        Ok(text) => Ok((String::from_str(alloc, text)?, rest)),
-        Err(_) => Err(RequestFault::BadRequest),
+        Ok(text) => Some((text, rest)),
+        Err(_) => None,
     }
 }
 
 // That many fields behind a length of two bytes, copied.
 fn fields(alloc: Global, count: u8, bytes: &[u8]) -> Result<(Vec<Vec<u8>>, &[u8]), RequestFault>
-    ensures { Gives (λ x. (map (λ v. v.items) x.0.items, x.1.now)) result (fields_at count bytes.now) }
+    ensures { Gives (λ x. (map (λ v. v.items) x.0.items, x.1.now)) result
+        (fields_at count bytes.now) }
 {
     let mut fields = Vec::with_capacity(alloc, count as usize)?;
     let mut rest = bytes;

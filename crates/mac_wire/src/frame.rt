@@ -1,9 +1,9 @@
 //! Frames out of a stream that comes in pieces.
 
-ghost use Rattle.std.specs.Prelude.{◌≡◌, ◌↔◌, ℕ, List, [], ◌++◌, IfOk, IsErrOf};
+ghost use Rattle.std.specs.Prelude.{◌≡◌, ◌↔◌, ◌<◌, ℕ, List, [], ◌++◌, length, IfOk, OnErr, IsErrOf};
 ghost use Rattle.mac_wire.specs.FeedFault.{feed_fault_code};
 ghost use Rattle.mac_wire.specs.Frame.{arrivals_of};
-ghost use Rattle.mac_wire.specs.FrameReader.{Cuts};
+ghost use Rattle.mac_wire.specs.Steps.{Cuts};
 ghost use Rattle.mac_wire.specs.declared.arrival.Arrival.{Arrival};
 ghost use Rattle.mac_wire.specs.declared.frame.FeedFault.TheVariants.{NoMemory};
 
@@ -16,7 +16,7 @@ use std::mem;
 use thiserror::Error;
 
 /// Why a piece was not read.
-#[derive(Clone, Copy, Debug, PartialEq, Eq, Error)]
+#[derive(Clone, Copy, Debug, Error)]
 pub enum FeedFault {
     /// Memory was refused. The arrivals of the piece are lost.
     #[error("memory ran out")]
@@ -55,7 +55,7 @@ impl<T: Drop> From<AllocFailed<T>> for FeedFault {
 }
 
 /// How far a reader has come.
-#[derive(Debug, Drop)]
+#[derive(Drop)]
 enum Stage {
     /// It reads on, and holds what has come of an unfinished frame.
     Open(Partial),
@@ -66,7 +66,7 @@ enum Stage {
 }
 
 /// Cuts a stream into frames, however the pieces come.
-#[derive(Debug, Drop)]
+#[derive(Drop)]
 pub struct FrameReader {
     alloc: Global,
     stage: Stage,
@@ -85,15 +85,17 @@ impl FrameReader {
         }
     }
 
-    /// Feeds the next piece of the stream, and gives the arrivals that are whole with it. A piece costs the time
-    /// of its bytes, and the memory of its payloads and of one unfinished frame. After `NoMemory` and after an
-    /// Oversize each later feed answers `Ended` and changes nothing.
+    /// Feeds the next piece of the stream, and gives the arrivals that are whole with it. A piece
+    /// costs the time of its bytes, and the memory of its payloads and of one unfinished frame.
+    /// After `NoMemory` and after an Oversize each later feed answers `Ended` and changes nothing.
     pub fn feed(&mut self, piece: &[u8]) -> Result<Vec<Arrival>, FeedFault>
-        ensures arrivals { (stream : List ℕ) (handed : List Arrival) → HasRead self.old stream handed
+        ensures arrivals { (stream : List ℕ) (handed : List Arrival)
+            → HasRead self.old stream handed
             → IfOk result (λ more. HasRead self.new (stream ++ piece.now) (handed ++ more.items)) }
         ensures ended { IsErrOf result FeedFault.Ended ↔ HasEnded self.old }
         ensures unchanged { HasEnded self.old → self.new ≡ self.old }
         ensures broken { IsErrOf result FeedFault.NoMemory → IsBroken self.new }
+        ensures memory { IsErrOf result FeedFault.NoMemory → 0 < length piece.now }
     {
         match mem::replace(&mut self.stage, Stage::Broken) {
             Stage::Open(partial) => {
@@ -124,7 +126,8 @@ impl FrameReader {
 
 // The arrivals that a piece makes whole, and the stage that it leaves.
 fn cut(alloc: Global, held: Partial, piece: &[u8]) -> Result<(Vec<Arrival>, Stage), NoMemory>
-    ensures { IfOk result (λ x. Cuts held piece.now x.0.items x.1) }
+    ensures cuts { IfOk result (λ x. Cuts held piece.now x.0.items x.1) }
+    ensures memory { OnErr result (0 < length piece.now) }
 {
     let mut arrivals = Vec::new(alloc);
     let mut partial = held;
@@ -146,6 +149,3 @@ fn cut(alloc: Global, held: Partial, piece: &[u8]) -> Result<(Vec<Arrival>, Stag
     }
     Ok((arrivals, Stage::Open(partial)))
 }
-
-#[cfg(test)]
-mod tests;

@@ -1,15 +1,28 @@
-//! What follows from the definitions alone. Each law is the contract of a function that does nothing.
+//! What follows from the definitions alone. Each law is the contract of a function that does
+//! nothing.
 
-ghost use Rattle.std.specs.Prelude.{◌≡◌, ◌≤◌, ◌<◌, ◌^◌, ℕ, List, [], ◌∷◌, ◌++◌, length, take, Some, true, All};
+ghost use Rattle.std.specs.Prelude.{◌≡◌, ◌↔◌, ◌≤◌, ◌<◌, ◌^◌, ℕ, List, [], ◌∷◌, ◌++◌, length, take, Some, true, All};
 ghost use Rattle.std.specs.Int.{w32, to_be_bytes};
 ghost use Rattle.mac_wire.specs.declared.arrival.Arrival.{Arrival};
 ghost use Rattle.mac_wire.specs.declared.reply.Reply.{Reply};
+ghost use Rattle.mac_wire.specs.declared.frame.FrameReader.{FrameReader};
 ghost use Rattle.mac_wire.specs.Frame.{frame, arrivals_of, followed_by};
+ghost use Rattle.mac_wire.specs.FrameReader.{HasRead, HasEnded};
+ghost use Rattle.mac_wire.specs.KeyName.{HasName};
 ghost use Rattle.mac_wire.specs.Request.{Asked, IsBytes, Asks, key_of};
 ghost use Rattle.mac_wire.specs.Reading.{request_of, key_name_of};
 ghost use Rattle.mac_wire.specs.Reply.{IsReply, reply_payload, reply_text, reply_arrivals};
 
 use crate::arrival::{Arrival, Ending, FRAME_MAX};
+use crate::reply::REPLY_TOKEN_MAX;
+use crate::request::FACTS_MAX;
+
+/// The limits as numbers.
+pub fn limits_are_these()
+    ensures frame { FRAME_MAX ≡ 65536 }
+    ensures reply_token { REPLY_TOKEN_MAX ≡ 32768 }
+    ensures facts { FACTS_MAX ≡ 128 }
+{}
 
 /// What is read as a request is asked by the payload.
 pub fn what_is_read_is_asked()
@@ -19,7 +32,8 @@ pub fn what_is_read_is_asked()
 
 /// What a payload asks is read.
 pub fn what_is_asked_is_read()
-    ensures { (payload : List ℕ) (request : Asked) → Asks payload request → request_of payload ≡ Some request }
+    ensures { (payload : List ℕ) (request : Asked)
+        → Asks payload request → request_of payload ≡ Some request }
 {}
 
 /// A payload asks one request at most.
@@ -29,7 +43,13 @@ pub fn one_request()
 
 /// The name in the front of a payload that asks a request is that of the request's key.
 pub fn key_name_is_the_key()
-    ensures { (payload : List ℕ) (request : Asked) → Asks payload request → key_name_of payload ≡ key_of request }
+    ensures { (payload : List ℕ) (request : Asked)
+        → Asks payload request → key_name_of payload ≡ key_of request }
+{}
+
+/// The name in the front of any payload, whether it asks a request or not.
+pub fn key_name_stands_in_front()
+    ensures { (payload name : List ℕ) → (key_name_of payload ≡ Some name) ↔ HasName payload name }
 {}
 
 /// A payload is that of one reply at most.
@@ -37,10 +57,11 @@ pub fn one_reply()
     ensures { (a b : Reply) → IsReply a → IsReply b → reply_payload a ≡ reply_payload b → a ≡ b }
 {}
 
-/// The frames of replies are read again: each payload is an arrival, in order, and the end is Clean.
+/// The frames of replies are read again: each payload is an arrival, in order, and the end is
+/// Clean.
 pub fn replies_arrive()
-    ensures { (replies : List Reply) → All IsReply replies
-        → arrivals_of (reply_text replies) ≡ record { arrived = reply_arrivals replies; ending = Ending.Clean } }
+    ensures { (replies : List Reply) → All IsReply replies → arrivals_of (reply_text replies)
+        ≡ record { arrived = reply_arrivals replies; ending = Ending.Clean } }
 {}
 
 /// A stream of nothing is Clean.
@@ -51,19 +72,42 @@ pub fn nothing_is_clean()
 /// A whole frame is the arrival of its payload, before the arrivals of what follows it.
 pub fn frame_arrives()
     ensures { (payload rest : List ℕ) → length payload ≤ FRAME_MAX
-        → arrivals_of (frame payload ++ rest) ≡ followed_by (Arrival.Payload payload ∷ []) (arrivals_of rest) }
+        → arrivals_of (frame payload ++ rest)
+        ≡ followed_by (Arrival.Payload payload ∷ []) (arrivals_of rest) }
 {}
 
 /// A part of a frame is Torn, and takes no place.
 pub fn cut_frame_is_torn()
-    ensures { (payload : List ℕ) (n : ℕ) → length payload ≤ FRAME_MAX → 0 < n → n < length (frame payload)
+    ensures { (payload : List ℕ) (n : ℕ) → length payload ≤ FRAME_MAX
+        → 0 < n → n < length (frame payload)
         → arrivals_of (take n (frame payload)) ≡ record { arrived = []; ending = Ending.Torn } }
+{}
+
+/// A length that is cut is Torn, whatever its bytes.
+pub fn cut_length_is_torn()
+    ensures { (stream : List ℕ) → 0 < length stream → length stream < 4
+        → arrivals_of stream ≡ record { arrived = []; ending = Ending.Torn } }
 {}
 
 /// A length above the greatest is one Oversize, whatever follows.
 pub fn long_frame_is_oversize()
-    ensures { (n : ℕ) (rest : List ℕ) → FRAME_MAX < n → n < 2 ^ 32 → arrivals_of (to_be_bytes w32 n ++ rest)
+    ensures { (n : ℕ) (rest : List ℕ) → FRAME_MAX < n → n < 2 ^ 32
+        → arrivals_of (to_be_bytes w32 n ++ rest)
         ≡ record { arrived = Arrival.Oversize ∷ []; ending = Ending.Oversize } }
+{}
+
+/// A reader withholds nothing that is whole: what it has handed out is what has arrived of the
+/// stream so far.
+pub fn all_that_arrived_is_handed_out()
+    ensures { (reader : FrameReader) (stream : List ℕ) (handed : List Arrival)
+        → HasRead reader stream handed → (arrivals_of stream).arrived ≡ handed }
+{}
+
+/// After an Oversize each feed answers Ended.
+pub fn oversize_ends()
+    ensures { (reader : FrameReader) (stream : List ℕ) (handed : List Arrival)
+        → HasRead reader stream handed
+        → (arrivals_of stream).ending ≡ Ending.Oversize → HasEnded reader }
 {}
 
 /// Arrivals that compare as equal are equal.

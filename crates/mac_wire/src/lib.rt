@@ -1,7 +1,9 @@
-//! The wire of the macaroon service: frames, requests, replies, and the devices that bytes come from and go to.
+//! The wire of the macaroon service: frames, requests, replies, and the devices that bytes come
+//! from and go to.
 //!
-//! [`FrameReader`] cuts a stream into arrivals, [`parse_request`] reads an arrival's payload, [`append_reply`]
-//! writes a reply's frame, and [`send_all`] sends it. No call does more work than its bytes ask for.
+//! [`FrameReader`] cuts a stream into arrivals, [`parse_request`] reads an arrival's payload,
+//! [`append_reply`] writes a reply's frame, and [`send_all`] sends it. No call does more work than
+//! its bytes ask for.
 #![tactic(auto)]
 
 mod arrival;

@@ -1,6 +1,6 @@
 //! A sink over memory.
 
-ghost use Rattle.std.specs.Prelude.{◌≡◌, ◌<◌, ◌≤◌, [], length, IfOk, true};
+ghost use Rattle.std.specs.Prelude.{◌≡◌, ◌<◌, ◌≤◌, [], length, IfOk, OnErr, true};
 ghost use Rattle.mac_wire.specs.Memory.{SinkState, write_result, after_write};
 
 use crate::NoMemory;
@@ -9,7 +9,7 @@ use std::alloc::Global;
 use std::marker::Model;
 
 /// A sink that takes bytes into memory, in pieces, and fails at a call that is chosen.
-#[derive(Debug, Drop)]
+#[derive(Drop)]
 pub struct MemSink {
     bytes: Vec<u8>,
     room: usize,
@@ -36,17 +36,18 @@ impl Model for MemSink {
 }
 
 impl MemSink {
-    /// A sink with room for that many bytes, all of it made here. A call takes at most `piece` of them; call
-    /// number `fails` fails, none at 0, and so does each call once no room is left.
+    /// A sink with room for that many bytes, all of it made here. A call takes at most `piece` of
+    /// them; call number `fails` fails, none at 0, and so does each call once no room is left.
     pub fn new(alloc: Global, room: usize, piece: usize, fails: u64) -> Result<MemSink, NoMemory>
         requires { 1 ≤ piece }
-        ensures { IfOk result (λ s. s ≡ record {
+        ensures sink { IfOk result (λ s. s ≡ record {
           kept = [];
           room = room;
           piece = piece;
           fails = fails;
           fault_count = 0;
         }) }
+        ensures memory { OnErr result (0 < room) }
     {
         Ok(MemSink {
             bytes: Vec::with_capacity(alloc, room)?,

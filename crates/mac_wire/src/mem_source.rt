@@ -1,13 +1,13 @@
 //! A source over memory.
 
-ghost use Rattle.std.specs.Prelude.{◌≡◌, ◌<◌, ◌≤◌, [], length, take, IfOk, true, false};
+ghost use Rattle.std.specs.Prelude.{◌≡◌, ◌<◌, ◌≤◌, [], length, take, drop, IfOk, OnErr, true, false};
 ghost use Rattle.mac_wire.specs.Memory.{SourceState, read_result, after_read};
 
 use crate::device::{DeviceFault, Source};
 use std::marker::Model;
 
 /// A source that gives bytes out of memory, in pieces, and fails at a call that is chosen.
-#[derive(Debug, Drop)]
+#[derive(Drop)]
 pub struct MemSource {
     bytes: Vec<u8>,
     at: usize,
@@ -37,7 +37,8 @@ impl Model for MemSource {
 }
 
 impl MemSource {
-    /// A source of these bytes. A call gives at most `piece` of them; call number `fails` fails, none at 0.
+    /// A source of these bytes. A call gives at most `piece` of them; call number `fails` fails,
+    /// none at 0.
     pub fn new(bytes: Vec<u8>, piece: usize, fails: u64) -> MemSource
         requires { 1 ≤ piece }
         ensures { result ≡ record {
@@ -63,7 +64,8 @@ impl MemSource {
 // Copies bytes to the front of others.
 fn copy_front(to: &mut [u8], from: &[u8])
     requires { length from.now ≤ length to.old }
-    ensures { take (length from.now) to.new ≡ from.now }
+    ensures front { take (length from.now) to.new ≡ from.now }
+    ensures rest { drop (length from.now) to.new ≡ drop (length from.now) to.old }
 {
     to[..from.len()].copy_from_slice(from);
 }
@@ -81,6 +83,8 @@ impl Source for MemSource {
         requires { self.old.fault_count < u64.MAX }
         ensures answer { result ≡ read_result self.old (length buf.new) }
         ensures bytes { IfOk result (λ n. take n buf.new ≡ take n self.old.left) }
+        ensures rest { IfOk result (λ n. drop n buf.new ≡ drop n buf.old) }
+        ensures untouched { OnErr result (buf.new ≡ buf.old) }
         ensures after { self.new ≡ after_read self.old (length buf.new) }
         // Once the end was answered, nothing is left.
         ensures end_is_last { self.old.has_ended ≡ true → self.old.left ≡ [] }

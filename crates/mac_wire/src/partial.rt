@@ -9,9 +9,9 @@ use crate::arrival::{Ending, FRAME_MAX};
 use std::alloc::Global;
 use std::marker::Model;
 
-/// What has come of a frame: at first of its length, then of its payload. No memory is taken for bytes that
-/// have not come.
-#[derive(Debug, Drop)]
+/// What has come of a frame: at first of its length, then of its payload. No memory is taken for
+/// bytes that have not come.
+#[derive(Drop)]
 pub struct Partial {
     length: [u8; 4],
     have: usize,

@@ -1,6 +1,6 @@
 //! A source over any reader.
 
-ghost use Rattle.std.specs.Prelude.{◌≡◌, ◌<◌, ◌≤◌, ◌⊎◌, [], length, IfOk, IsTrue, false};
+ghost use Rattle.std.specs.Prelude.{◌≡◌, ◌<◌, ◌≤◌, ◌⊎◌, [], length, IfOk, IsTrue, true, false};
 ghost use Rattle.std.specs.Io.KnownBytes.{ReadConsumes};
 ghost use Rattle.mac_wire.specs.Device.{CountsFault, PassesFront};
 ghost use Rattle.mac_wire.specs.Streams.{reader_of};
@@ -8,8 +8,8 @@ ghost use Rattle.mac_wire.specs.Streams.{reader_of};
 use crate::device::{DeviceFault, Source};
 use std::io::Read;
 
-/// A source over a reader, whose first read of nothing into a buffer with room is the end. What the bytes
-/// were, it doesn't tell.
+/// A source over a reader, whose first read of nothing into a buffer with room is the end. What the
+/// bytes were, it doesn't tell.
 #[derive(Drop)]
 pub struct ReaderSource<R> {
     reader: R,
@@ -44,8 +44,13 @@ impl<R: Read + Send> Source for ReaderSource<R> {
     fn read(&mut self, buf: &mut [u8]) -> Result<usize, DeviceFault>
         requires { self.old.faults < u64.MAX }
         // Until the end, the bytes are the reader's.
-        ensures reader { self.old.has_ended ≡ false → ReadConsumes (R.remaining (reader_of self.old))
-            (R.remaining (reader_of self.new)) result buf.new }
+        ensures reader { self.old.has_ended ≡ false
+            → ReadConsumes (R.remaining (reader_of self.old)) (R.remaining (reader_of self.new))
+            result buf.new }
+
+        // After it, the reader and the buffer are left as they were.
+        ensures ended { self.old.has_ended ≡ true
+            → (result ≡ Ok 0) × (self.new ≡ self.old) × (buf.new ≡ buf.old) }
 
         ensures bound { IfOk result (λ n. n ≤ length buf.new) }
         ensures faults { CountsFault result self.old.faults self.new.faults }

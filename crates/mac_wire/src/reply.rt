@@ -11,7 +11,7 @@ use std::alloc::Global;
 pub const REPLY_TOKEN_MAX: usize = 32_768;
 
 /// Why a request is refused.
-#[derive(Clone, Copy, Debug, PartialEq, Eq)]
+#[derive(Clone, Copy, PartialEq, Eq)]
 pub enum Refusal {
     /// The payload is no request.
     BadRequest,
@@ -53,7 +53,7 @@ impl Refusal {
 }
 
 /// A reply.
-#[derive(Debug, PartialEq, Eq, Drop)]
+#[derive(PartialEq, Eq, Drop)]
 pub enum Reply {
     /// The token is granted.
     Granted,
@@ -65,8 +65,8 @@ pub enum Reply {
     Unsatisfied(u16),
 }
 
-/// The whole frame of a reply: the payload's length in four bytes, and the payload. It takes the memory of the
-/// frame at once.
+/// The whole frame of a reply: the payload's length in four bytes, and the payload. It takes the
+/// memory of the frame at once.
 pub fn reply_bytes(alloc: Global, reply: &Reply) -> Result<Vec<u8>, NoMemory>
     requires { IsReply reply.now }
     ensures { IfOk result (λ v. v.items ≡ reply_frame reply.now) }
@@ -76,12 +76,14 @@ pub fn reply_bytes(alloc: Global, reply: &Reply) -> Result<Vec<u8>, NoMemory>
     Ok(frame)
 }
 
-/// Appends the whole frame of a reply. The memory that is missing is taken at once, before anything is written.
+/// Appends the whole frame of a reply. The memory that is missing is taken at once, before anything
+/// is written.
 pub fn append_reply(frames: &mut Vec<u8>, reply: &Reply) -> Result<(), NoMemory>
     requires { IsReply reply.now }
     ensures appended { OnOk result (frames.new.items ≡ frames.old.items ++ reply_frame reply.now) }
     ensures unchanged { OnErr result (frames.new.items ≡ frames.old.items) }
-    ensures full { OnErr result (vec_capacity frames.old < vec_len frames.old + length (reply_frame reply.now)) }
+    ensures full { OnErr result
+        (vec_capacity frames.old < vec_len frames.old + length (reply_frame reply.now)) }
 {
     let length = payload_length(reply);
     frames.reserve(4 + length as usize)?;
@@ -129,6 +131,3 @@ fn append_within(frames: &mut Vec<u8>, bytes: &[u8])
 {
     frames.extend_from_slice(bytes).unwrap();
 }
-
-#[cfg(test)]
-mod tests;

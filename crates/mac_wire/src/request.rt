@@ -6,7 +6,6 @@ ghost use Rattle.mac_wire.specs.Parsing.{fault_code};
 ghost use Rattle.mac_wire.specs.declared.request.RequestFault.TheVariants.{Memory};
 
 use crate::byte_lists::ByteLists;
-use crate::bytes::Bytes;
 use crate::reply::Refusal;
 use std::alloc::{AllocError, AllocFailed};
 use thiserror::Error;
@@ -15,7 +14,7 @@ use thiserror::Error;
 pub const FACTS_MAX: u8 = 128;
 
 /// The form that a token is asked for in.
-#[derive(Clone, Copy, Debug, PartialEq, Eq)]
+#[derive(Clone, Copy, PartialEq, Eq)]
 pub enum TokenForm {
     /// Base64 text of version 1 packets.
     V1Text,
@@ -41,34 +40,35 @@ impl TokenForm {
     }
 }
 
-/// A request.
-#[derive(Debug, PartialEq, Eq, Drop)]
-pub enum Request {
+/// A request. All but its lists is lent from the payload that asks it.
+#[derive(PartialEq, Eq, Drop)]
+pub enum Request<'a> {
     /// A new token under the key of that name.
     Mint {
         form: TokenForm,
-        key: Bytes,
-        location: String,
-        identifier: Bytes,
+        key: &'a [u8],
+        location: &'a str,
+        identifier: &'a [u8],
         caveats: ByteLists,
     },
     /// A token with further caveats.
     Attenuate {
         form: TokenForm,
-        token: Bytes,
+        token: &'a [u8],
         caveats: ByteLists,
     },
-    /// Whether the key of that name grants the token at the moment, in seconds since 1970, with these facts.
+    /// Whether the key of that name grants the token at the moment, in seconds since 1970, with
+    /// these facts.
     Verify {
-        key: Bytes,
-        token: Bytes,
+        key: &'a [u8],
+        token: &'a [u8],
         moment: u64,
         facts: ByteLists,
     },
 }
 
 /// Why a payload was not read as a request.
-#[derive(Clone, Copy, Debug, PartialEq, Eq, Error)]
+#[derive(Clone, Copy, Debug, Error)]
 pub enum RequestFault {
     /// No request is asked by the whole payload.
     #[error("the payload is no request")]

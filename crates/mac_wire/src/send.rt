@@ -5,11 +5,12 @@ ghost use Rattle.mac_wire.specs.Device.{CountsFault};
 
 use crate::device::{DeviceFault, Sink};
 
-/// Sends all of the bytes, in as many writes as it takes. A fault tells n: the first n bytes went out, and
-/// no more.
+/// Sends all of the bytes, in as many writes as it takes. A fault tells n: the first n bytes went
+/// out, and no more.
 pub fn send_all<W: Sink>(sink: &mut W, bytes: &[u8]) -> Result<(), (DeviceFault, usize)>
     requires { W.faults sink.old < u64.MAX }
-    ensures ok { IsTrue W.tells → OnOk result (W.written sink.new ≡ W.written sink.old ++ bytes.now) }
+    ensures ok { IsTrue W.tells
+        → OnOk result (W.written sink.new ≡ W.written sink.old ++ bytes.now) }
     ensures sent { IsTrue W.tells
         → IfErr result (λ e. W.written sink.new ≡ W.written sink.old ++ take e.1 bytes.now) }
     ensures bound { IfErr result (λ e. e.1 < length bytes.now) }
@@ -24,6 +25,3 @@ pub fn send_all<W: Sink>(sink: &mut W, bytes: &[u8]) -> Result<(), (DeviceFault,
     }
     Ok(())
 }
-
-#[cfg(test)]
-mod tests;

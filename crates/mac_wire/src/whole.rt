@@ -6,8 +6,8 @@ ghost use Rattle.mac_wire.specs.Reply.{IsReply, reply_text};
 ghost use Rattle.mac_wire.specs.Whole.{HasWhole};
 ghost use Rattle.mac_wire.specs.declared.reply.Reply.{Reply};
 
-/// How many whole frames stand in the front of some bytes. After a write that stopped in the middle of the
-/// frames of replies it tells how many replies went out. It costs a step a frame.
+/// How many whole frames stand in the front of some bytes. After a write that stopped in the middle
+/// of the frames of replies it tells how many replies went out. It costs a step a frame.
 pub fn whole_frames(bytes: &[u8]) -> u64
     ensures { (replies : List Reply) → All IsReply replies
         → bytes.now ≡ take (length bytes.now) (reply_text replies)

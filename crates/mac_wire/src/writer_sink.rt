@@ -8,8 +8,8 @@ ghost use Rattle.mac_wire.specs.Streams.{writer_of};
 use crate::device::{DeviceFault, Sink};
 use std::io::Write;
 
-/// A sink over a writer. A writer that takes none of some bytes has failed. What the bytes were, it doesn't
-/// tell.
+/// A sink over a writer. A writer that takes none of some bytes has failed. What the bytes were, it
+/// doesn't tell.
 #[derive(Drop)]
 pub struct WriterSink<W> {
     writer: W,
@@ -36,15 +36,21 @@ impl<W: Write + Send> Sink for WriterSink<W> {
     fn write(&mut self, buf: &[u8]) -> Result<usize, DeviceFault>
         requires { self.old.faults < u64.MAX }
         // The bytes go to the writer.
-        ensures writer { WriteAppends (W.contents (writer_of self.old)) (W.contents (writer_of self.new))
-            result buf.now }
+        ensures writer { WriteAppends (W.contents (writer_of self.old))
+            (W.contents (writer_of self.new)) result buf.now }
+
+        // Nothing is taken of nothing, and the writer isn't asked.
+        ensures nothing { buf.now ≡ [] → (result ≡ Ok 0) × (self.new ≡ self.old) }
 
         ensures bound { IfOk result (λ n. n ≤ length buf.now) }
         ensures some { IfOk result (λ n. 0 < length buf.now → 0 < n) }
         ensures faults { CountsFault result self.old.faults self.new.faults }
     {
+        if buf.is_empty() {
+            return Ok(0);
+        }
         match self.writer.write(buf) {
-            Ok(count) if count > 0 || buf.is_empty() => Ok(count),
+            Ok(count) if count > 0 => Ok(count),
             Ok(_) | Err(_) => {
                 self.faults += 1;
                 Err(DeviceFault)
