@@ -3,3 +3,4 @@ pub mod Balance
 pub mod Passes
 pub mod Claims
 pub mod Parcels
+pub mod Slots

@@ -6,3 +6,4 @@ pub mod Balance
 pub mod Claim
 pub mod Tally
 pub mod Parcel
+pub mod Pool

@@ -104,7 +104,9 @@ impl<S: Service> Desk<S> {
 }
 
 /// A mailbox, with its taker.
-fn mailbox<S: Service>(alloc: Global) -> Result<(Arc<Mailbox<S>, Global>, Taker<S>), NoMemory>
+pub(crate) fn mailbox<S: Service>(
+    alloc: Global,
+) -> Result<(Arc<Mailbox<S>, Global>, Taker<S>), NoMemory>
     ensures { IfOk result (λ m. m.1 ≡ []) }
 {
     let (mail, pass) = Mailbox::new(alloc)?;

@@ -1,0 +1,47 @@
+use Rattle.std.proofs.Common.{◌≡◌, ℕ, ◌+◌, ◌≤◌, ◌++◌, List, Option, Some, slice_get, length, All, arith, rules, ap, sym, refl, ◌∙◌, subst}
+use Rattle.std.specs.Arc.{arc_value}
+use Rattle.atomic_table.specs.Seated.{TableId}
+use Rattle.mac_pool.specs.Pass.{Pass}
+use Rattle.mac_pool.specs.Pool.{Slots, at_home, AreWorkers, IsWorkers, IsStopped}
+use Rattle.mac_pool.specs.Tally.{IsTally}
+use Rattle.mac_pool.proofs.Slots.{all_of_line, at_home_short}
+use Rattle.mac_pool.proofs.pool.Pool.stop.Goals as goal
+
+pub overflow_add-home_count : goal.overflow_add-home_count
+overflow_add-home_count g c =
+    let fit = c.self.invariant.slots_fit in
+    let short = at_home_short c.self.inside.passes.items in
+    let count = c.home_count.ensures in
+    let type_inv = c.len.type_inv in
+    let threads = c.self.inside.workers.small in
+    let room = c.self.inside.workers.ok in
+    let len = c.len.ensures in
+    omega arith
+
+pub bring_back-requires-clause-given : goal.bring_back-requires-clause-given
+bring_back-requires-clause-given g c = rw c.deref-2.ensures c.self.invariant.given_are
+
+pub tally-requires-clause-line : goal.tally-requires-clause-line
+tally-requires-clause-line g c =
+    let brought = c.bring_back.ensures.brought in
+    let none = c.self.invariant.all_empty in
+    let all : c.bring_home.new.all.items ≡ brought.brought ++ at_home c.self.inside.passes.items =
+        c.bring_home.ensures ∙ ap (λ (l : List (Pass g.row.S-Job.Denot)). l ++ at_home c.self.inside.passes.items) (brought.after_is ∙ ap (λ (l : List (Pass g.row.S-Job.Denot)). l ++ brought.brought) none) in
+    let same : c.deref-2.result.now ≡ c.deref-3.result.now = c.deref-2.ensures ∙ sym c.deref-3.ensures in
+    let idle : AreWorkers c.deref-3.result.now brought.brought = subst (λ (z : TableId). AreWorkers z brought.brought) same brought.idle in
+    rw all (all_of_line c.deref-3.result.now brought.brought c.self.inside.passes.items idle (rw c.deref-3.ensures c.self.invariant.homes))
+
+pub returns-clause-tally : goal.returns-clause-tally
+returns-clause-tally g c =
+    let brought = c.bring_back.ensures.brought in
+    let none = c.self.invariant.all_empty in
+    let all : c.bring_home.new.all.items ≡ brought.brought ++ at_home c.self.inside.passes.items =
+        c.bring_home.ensures ∙ ap (λ (l : List (Pass g.row.S-Job.Denot)). l ++ at_home c.self.inside.passes.items) (brought.after_is ∙ ap (λ (l : List (Pass g.row.S-Job.Denot)). l ++ brought.brought) none) in
+    let tally : IsTally (brought.brought ++ at_home c.self.inside.passes.items) c.tally.result = subst (λ (l : List (Pass g.row.S-Job.Denot)). IsTally l c.tally.result) all c.tally.ensures in
+    subst (λ (p : Slots g.row.S-Job.Denot). IsStopped p c.tally.result) c.self.view_is
+    record {
+      brought = brought.brought;
+      count = brought.count_is;
+      idle = subst (λ (z : TableId). AreWorkers z brought.brought) c.deref-2.ensures brought.idle;
+      tally_is = tally;
+    }

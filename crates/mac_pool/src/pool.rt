@@ -1,0 +1,325 @@
+//! A pool: a line with workers in threads of their own, and desks for connections.
+
+ghost use Rattle.std.specs.Prelude.{◌≡◌, ◌≢◌, ◌+◌, ◌≤◌, ◌<◌, ◌⊎◌, ◌↔◌, ◌++◌, ℕ, [], List, Option, Some, None, Ok, Err, All, IsSome, IfOk, IfErr, IsErr, MatchOption, MatchResult, OnOk, OnErr, IfSome, map, take, drop, length, slice_get, slice_set};
+ghost use Rattle.mac_pool.specs.Pool.{IsStarted, IsStopped, IsGiven, IsHome, IsBrought, AreOut, AreWorkers, at_home, with_home};
+ghost use Rattle.std.specs.Arc.{arc_value};
+ghost use Rattle.std.specs.Vec.{vec_capacity};
+ghost use Rattle.mac_pool.specs.Pass.{HasClaimed};
+
+use crate::desk::{Desk, Putter, mailbox};
+use crate::fault::{DeskFault, PoolFault};
+use crate::gate::{Gate, NoGate};
+use crate::line::{Line, LinePass, PASSES, Tally};
+use crate::work::{Worked, worker};
+use mac_lane::{NoMemory, Service};
+use std::alloc::Global;
+use std::marker::{Model, PhantomData};
+use std::snapshot::Snapshot;
+use std::sync::{Arc, Wait};
+use std::thread;
+use std::thread::{Promise, PromisedHandle, Threads};
+
+/// The most workers of a pool, and the passes that are kept for workers and hands.
+pub const WORKERS_MAX: usize = 16;
+
+// What a worker's thread leaves behind comes from the pass that it was given.
+#[derive(Drop)]
+pub struct FromPass<S: Service>(Snapshot<LinePass<S>>);
+
+impl<S: Service> Promise<Worked<S>> for FromPass<S> {
+    ghost use Rattle.mac_pool.specs.Pass.{HasClaimed};
+
+    ghost kept_by = { λ p worked. HasClaimed p.0.value worked.claimed worked.pass };
+}
+
+type Thread<S> = PromisedHandle<Worked<S>, FromPass<S>>;
+
+type Slots<S> = Vec<Option<LinePass<S>>>;
+
+/// A line with its workers and its 80 passes, each at home or out with a worker, a desk or a hand.
+/// A pool that is dropped leaves its workers asleep: stop it instead.
+#[derive(Drop)]
+pub struct Pool<S: Service, G: Gate> {
+    line: Arc<Line<S>, Global>,
+    workers: Vec<Thread<S>>,
+    passes: Slots<S>,
+    // The room for what `stop` hands to the line's tally.
+    all: Vec<LinePass<S>>,
+    gate: PhantomData<G>,
+}
+
+impl<S: Service, G: Gate> Model for Pool<S, G> {
+    ghost use Rattle.mac_pool.specs.Pool.{Slots, slots_code};
+
+    ghost Value = { Slots S.Job };
+
+    ghost coded = { slots_code S.Job.code };
+
+    ghost use Rattle.std.specs.Prelude.{length, map};
+    ghost use Rattle.std.specs.Arc.{arc_value};
+    ghost use Rattle.std.specs.Vec.{vec_capacity};
+    ghost use Rattle.mac_pool.specs.Pool.{IsKept};
+
+    ghost view = { λ p. record { line = arc_value p.line; workers = length p.workers.items; passes = p.passes.items } };
+
+    ghost invariant = { λ p. IsKept (arc_value p.line) (map (λ w. w.promise.0.value) p.workers.items) (vec_capacity p.workers) p.passes.items p.all.items (vec_capacity p.all) };
+}
+
+impl<S: Service, G: Gate> Pool<S, G> {
+    /// Starts so many workers, each in a thread of its own. Takes the room for all that the pool keeps
+    /// later; where a thread or memory is refused, those that were started are ended.
+    pub fn start<R>(
+        rt: &R,
+        alloc: Global,
+        workers: usize,
+        gate: Arc<G, Global>,
+    ) -> Result<Pool<S, G>, PoolFault>
+    where
+        R: Threads + Wait + Copy + Send + 'static,
+        S: 'static,
+        S::Job: 'static,
+        S::Reply: 'static,
+        G: 'static,
+        ensures count { (result ≡ Err PoolFault.Count) ↔ ((workers ≡ 0) ⊎ (WORKERS_MAX < workers)) }
+        ensures started { IfOk result (λ pool. IsStarted workers pool) }
+    {
+        if workers == 0 || workers > WORKERS_MAX {
+            return Err(PoolFault::Count);
+        }
+        let Ok(mut pool) = Pool::idle(alloc) else {
+            return Err(PoolFault::NoMemory);
+        };
+        for _ in 0..workers {
+            if let Err(fault) = pool.hire(rt, alloc, &gate) {
+                pool.dismiss(rt);
+                return Err(fault);
+            }
+        }
+        Ok(pool)
+    }
+
+    /// A pool with all passes at home.
+    fn idle(alloc: Global) -> Result<Pool<S, G>, NoMemory>
+        ensures { IfOk result (λ pool. IsStarted 0 pool) }
+    {
+        let (row, fresh) = Line::new(alloc)?;
+        let passes = slots_of(alloc, fresh)?;
+        let line = Arc::new(alloc, row)?;
+        let workers = Vec::with_capacity(alloc, WORKERS_MAX)?;
+        let all = Vec::with_capacity(alloc, PASSES)?;
+        Ok(Pool {
+            line,
+            workers,
+            passes,
+            all,
+            gate: PhantomData,
+        })
+    }
+
+    /// Starts one worker more.
+    fn hire<R>(&mut self, rt: &R, alloc: Global, gate: &Arc<G, Global>) -> Result<(), PoolFault>
+    where
+        R: Threads + Wait + Copy + Send + 'static,
+        S: 'static,
+        S::Job: 'static,
+        S::Reply: 'static,
+        G: 'static,
+        requires started { IsStarted self.old.workers self.old }
+        requires room { self.old.workers < WORKERS_MAX }
+        ensures hired { OnOk result (IsStarted (self.old.workers + 1) self.new × (self.new.workers ≡ self.old.workers + 1)) }
+        ensures fault { result ≢ Err PoolFault.Count }
+    {
+        let Ok(line) = Arc::try_clone(&self.line) else {
+            return Err(PoolFault::NoMemory);
+        };
+        let Ok(gate) = Arc::try_clone(gate) else {
+            return Err(PoolFault::NoMemory);
+        };
+        let pass = take_out(&mut self.passes, self.workers.len());
+        match started(*rt, alloc, line, pass, gate) {
+            Some(thread) => {
+                self.workers.push_reserved(thread);
+                Ok(())
+            }
+            None => Err(PoolFault::NoThread),
+        }
+    }
+
+    /// A desk, with a fresh mailbox. Takes all the memory that the desk ever takes.
+    pub fn desk(&mut self, alloc: Global) -> Result<Desk<S>, DeskFault>
+        ensures desk { IfOk result (λ desk. IsGiven self.old desk.putter self.new × (WORKERS_MAX ≤ desk.putter.number) × (desk.taker ≡ [])) }
+        ensures same { OnErr result (self.new ≡ self.old) }
+        ensures out { (result ≡ Err DeskFault.AllOut) ↔ AreOut WORKERS_MAX PASSES self.old.passes }
+    {
+        let Some(number) = first_home(&self.passes, WORKERS_MAX, PASSES) else {
+            return Err(DeskFault::AllOut);
+        };
+        let Ok((mail, taker)) = mailbox(alloc) else {
+            return Err(DeskFault::NoMemory);
+        };
+        let Ok(line) = Arc::try_clone(&self.line) else {
+            return Err(DeskFault::NoMemory);
+        };
+        let pass = take_out(&mut self.passes, number);
+        let putter = Putter { line, pass, mail };
+        Ok(Desk { putter, taker })
+    }
+
+    /// Takes a desk back.
+    pub fn home(&mut self, desk: Desk<S>)
+        requires { desk.putter.line ≡ self.old.line }
+        ensures { self.new ≡ with_home self.old desk.putter }
+    {
+        let Desk { putter, taker: _ } = desk;
+        let Putter {
+            line: _,
+            pass,
+            mail: _,
+        } = putter;
+        let number = pass.number();
+        self.passes[number] = Some(pass);
+    }
+
+    /// Ends the workers, and tells the books of the line. While a desk or a hand is out, the pool comes
+    /// back as it was.
+    pub fn stop<R: Threads + Wait>(self, rt: &R) -> Result<Tally, Pool<S, G>>
+        ensures out { IsErr result ↔ (length (at_home self.passes) + self.workers ≢ PASSES) }
+        ensures same { IfErr result (λ pool. pool ≡ self) }
+        ensures tally { IfOk result (λ tally. IsStopped self tally) }
+    {
+        if home_count(&self.passes) + self.workers.len() != PASSES {
+            return Err(self);
+        }
+        let Pool {
+            line,
+            workers,
+            passes,
+            mut all,
+            gate: _,
+        } = self;
+        line.close();
+        bring_back(rt, &line, workers, &mut all);
+        bring_home(passes, &mut all);
+        Ok(line.tally(rt, all))
+    }
+
+    /// Ends the workers.
+    fn dismiss<R: Threads>(self, rt: &R) {
+        let Pool {
+            line,
+            workers,
+            passes: _,
+            all: _,
+            gate: _,
+        } = self;
+        line.close();
+        for thread in workers {
+            thread.join(rt);
+        }
+    }
+}
+
+/// A thread in which a worker works, if the system gives one.
+fn started<S, G, R>(
+    rt: R,
+    alloc: Global,
+    line: Arc<Line<S>, Global>,
+    pass: LinePass<S>,
+    gate: Arc<G, Global>,
+) -> Option<Thread<S>>
+where
+    S: Service + 'static,
+    S::Job: 'static,
+    S::Reply: 'static,
+    G: Gate + 'static,
+    R: Threads + Wait + Copy + Send + 'static,
+    requires { pass.line ≡ arc_value line }
+    ensures { IfSome result (λ thread. thread.promise.0.value ≡ pass) }
+{
+    let promise = FromPass(Snapshot::of(&pass));
+    let work = move || -> Worked<S>
+        requires { pass.line ≡ arc_value line }
+        ensures { HasClaimed pass result.claimed result.pass }
+    { worker(&rt, alloc, &line, pass, &*gate) };
+    thread::spawn_with(&rt, promise, work).ok()
+}
+
+/// The first pass at home from one number up to another.
+fn first_home<S: Service>(slots: &Slots<S>, from: usize, to: usize) -> Option<usize>
+    requires { (from ≤ to) × (to ≤ length slots.now.items) }
+    ensures { MatchOption result (AreOut from to slots.now.items) (λ number. (from ≤ number) × (number < to) × IsHome number slots.now.items) }
+{
+    for number in from..to {
+        match &slots[number] {
+            Some(_) => return Some(number),
+            None => {}
+        }
+    }
+    None
+}
+
+/// Takes the pass of this number out.
+fn take_out<S: Service>(slots: &mut Slots<S>, number: usize) -> LinePass<S>
+    requires { IsHome number slots.old.items }
+    ensures was { slice_get slots.old.items number ≡ Some (Some result) }
+    ensures out { slots.new.items ≡ slice_set slots.old.items number None }
+{
+    match slots[number].take() {
+        Some(pass) => pass,
+        None => unreachable!(),
+    }
+}
+
+/// How many passes are at home.
+fn home_count<S: Service>(slots: &Slots<S>) -> usize
+    ensures { result ≡ length (at_home slots.now.items) }
+{
+    let mut count = 0;
+    for slot in slots {
+        match slot {
+            Some(_) => count += 1,
+            None => {}
+        }
+    }
+    count
+}
+
+/// Waits for the workers, and keeps their passes.
+fn bring_back<S: Service, R: Threads>(
+    rt: &R,
+    line: &Line<S>,
+    workers: Vec<Thread<S>>,
+    all: &mut Vec<LinePass<S>>,
+)
+    requires room { length all.old.items + length workers.items ≤ vec_capacity all.old }
+    requires given { AreWorkers line.now (map (λ worker. worker.promise.0.value) workers.items) }
+    ensures capacity { vec_capacity all.new ≡ vec_capacity all.old }
+    ensures brought { IsBrought line.now (length workers.items) all.old.items all.new.items }
+{
+    for thread in workers {
+        all.push_reserved(thread.join(rt).pass);
+    }
+}
+
+/// Keeps the passes that are at home.
+fn bring_home<S: Service>(slots: Slots<S>, all: &mut Vec<LinePass<S>>)
+    requires room { length all.old.items + length (at_home slots.items) ≤ vec_capacity all.old }
+    ensures { all.new.items ≡ all.old.items ++ at_home slots.items }
+{
+    for slot in slots {
+        if let Some(pass) = slot {
+            all.push_reserved(pass);
+        }
+    }
+}
+
+/// Each pass in a slot of its own.
+fn slots_of<S: Service>(alloc: Global, passes: Vec<LinePass<S>>) -> Result<Slots<S>, NoMemory>
+    ensures { IfOk result (λ slots. slots.items ≡ map Some passes.items) }
+{
+    let mut slots = Vec::with_capacity(alloc, PASSES)?;
+    for pass in passes {
+        slots.push(Some(pass))?;
+    }
+    Ok(slots)
+}
