@@ -4,3 +4,4 @@ pub mod Passes
 pub mod Claims
 pub mod Parcels
 pub mod Slots
+pub mod Moves

@@ -260,7 +260,7 @@ fn first_home<S: Service>(slots: &Slots<S>, from: usize, to: usize) -> Option<us
 
 /// Takes the pass of this number out.
 fn take_out<S: Service>(slots: &mut Slots<S>, number: usize) -> LinePass<S>
-    requires { IsHome number slots.old.items }
+    requires home { IsHome number slots.old.items }
     ensures was { slice_get slots.old.items number ≡ Some (Some result) }
     ensures out { slots.new.items ≡ slice_set slots.old.items number None }
 {

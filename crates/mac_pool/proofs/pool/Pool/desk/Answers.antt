@@ -3,6 +3,7 @@ use Rattle.std.specs.Arc.{arc_value}
 use Rattle.mac_pool.specs.Pass.{Pass}
 use Rattle.mac_pool.specs.Pool.{Slots, IsGiven}
 use Rattle.mac_pool.proofs.Slots.{unset_homes}
+use Rattle.mac_pool.proofs.Moves.{slots, given_is}
 use Rattle.mac_pool.proofs.pool.Pool.desk.Goals as goal
 
 pub invariant_of-putter : goal.invariant_of-putter
@@ -41,12 +42,7 @@ returns-clause-desk g c =
     let pass = c.take_out-pass.result in
     let mine = c.self.invariant.homes c.in-Some.number pass c.take_out-pass.ensures.was in
     let number : pass.number ≡ c.in-Some.number = mine.1 in (
-      subst (λ (p : Slots g.row.S-Job.Denot). IsGiven p pass _) c.self.view_is
-      record {
-        line_is = mine.0;
-        was_home = rw number c.take_out-pass.ensures.was;
-        after_is = ?;
-      },
+      subst (λ (p : Slots g.row.S-Job.Denot). IsGiven p pass (slots (arc_value c.self.inside.line) (length c.self.inside.workers.items) c.take_out-pass.new.slots.items)) c.self.view_is (given_is _ _ c.in-Some.number c.self.inside.passes.items _ pass mine.0 number c.take_out-pass.ensures.was c.take_out-pass.ensures.out),
       omega arith,
       search rules,
     )

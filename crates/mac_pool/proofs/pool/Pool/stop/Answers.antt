@@ -4,7 +4,8 @@ use Rattle.atomic_table.specs.Seated.{TableId}
 use Rattle.mac_pool.specs.Pass.{Pass}
 use Rattle.mac_pool.specs.Pool.{Slots, at_home, AreWorkers, IsWorkers, IsStopped}
 use Rattle.mac_pool.specs.Tally.{IsTally}
-use Rattle.mac_pool.proofs.Slots.{all_of_line, at_home_short}
+use Rattle.mac_pool.proofs.Slots.{at_home_short}
+use Rattle.mac_pool.proofs.Moves.{all_of_lines, workers_at}
 use Rattle.mac_pool.proofs.pool.Pool.stop.Goals as goal
 
 pub overflow_add-home_count : goal.overflow_add-home_count
@@ -19,7 +20,7 @@ overflow_add-home_count g c =
     omega arith
 
 pub bring_back-requires-clause-given : goal.bring_back-requires-clause-given
-bring_back-requires-clause-given g c = rw c.deref-2.ensures c.self.invariant.given_are
+bring_back-requires-clause-given g c = λ _. workers_at c.deref-2.result.now _ _ c.deref-2.ensures c.self.invariant.given_are
 
 pub tally-requires-clause-line : goal.tally-requires-clause-line
 tally-requires-clause-line g c =
@@ -27,9 +28,7 @@ tally-requires-clause-line g c =
     let none = c.self.invariant.all_empty in
     let all : c.bring_home.new.all.items ≡ brought.brought ++ at_home c.self.inside.passes.items =
         c.bring_home.ensures ∙ ap (λ (l : List (Pass g.row.S-Job.Denot)). l ++ at_home c.self.inside.passes.items) (brought.after_is ∙ ap (λ (l : List (Pass g.row.S-Job.Denot)). l ++ brought.brought) none) in
-    let same : c.deref-2.result.now ≡ c.deref-3.result.now = c.deref-2.ensures ∙ sym c.deref-3.ensures in
-    let idle : AreWorkers c.deref-3.result.now brought.brought = subst (λ (z : TableId). AreWorkers z brought.brought) same brought.idle in
-    rw all (all_of_line c.deref-3.result.now brought.brought c.self.inside.passes.items idle (rw c.deref-3.ensures c.self.invariant.homes))
+    λ _. all_of_lines _ c.deref-2.result.now c.deref-3.result.now brought.brought _ c.self.inside.passes.items c.deref-2.ensures c.deref-3.ensures all brought.idle c.self.invariant.homes
 
 pub returns-clause-tally : goal.returns-clause-tally
 returns-clause-tally g c =

@@ -1,0 +1,64 @@
+-- What a pool is once a pass goes out, a worker starts or the workers came back.
+use Rattle.std.proofs.Common.{◌≡◌, ℕ, ◌+◌, ◌≤◌, ◌<◌, List, ◌∷◌, ◌++◌, [], length, length-set, map, set, Option, None, Some, slice_get, sym, ◌∙◌, ap, refl, subst, arith, All}
+use Rattle.atomic_table.specs.Seated.{TableId}
+use Rattle.mac_pool.specs.Pass.{Pass, IsFresh}
+use Rattle.mac_pool.specs.Pool.{Slots, at_home, AreOut, IsGiven, IsStarted, AreWorkers}
+use Rattle.mac_pool.specs.declared.line.TheConstants.{PASSES}
+use Rattle.mac_pool.proofs.Slots.{get_set_other, out_more, all_of_line, map_push}
+
+module _ {Job : Type 0} where
+  abbrev pub slots : TableId → ℕ → List (Option (Pass Job)) → Slots Job
+  slots line workers passes = record { line = line; workers = workers; passes = passes }
+
+  abbrev pub AreKept : TableId → List (Option (Pass Job)) → Type 0
+  AreKept line passes = (n : ℕ) (pass : Pass Job) → slice_get passes n ≡ Some (Some pass) → (pass.line ≡ line) × (pass.number ≡ n)
+
+  pub given_is : (line : TableId) (workers n : ℕ) (before after : List (Option (Pass Job))) (pass : Pass Job) → pass.line ≡ line → pass.number ≡ n → slice_get before n ≡ Some (Some pass) → after ≡ set before n None
+      → IsGiven (slots line workers before) pass (slots line workers after)
+  given_is line workers n before after pass mine number was is = record {
+    line_is = mine;
+    was_home = subst (λ (m : ℕ). slice_get before m ≡ Some (Some pass)) (sym number) was;
+    after_is = ap (λ (l : List (Option (Pass Job))). slots line workers l) (is ∙ ap (λ (m : ℕ). set before m None) (sym number));
+  }
+
+  -- workers' passes under another name of their line
+  pub workers_at : (one other : TableId) (passes : List (Pass Job)) → one ≡ other → AreWorkers other passes → AreWorkers one passes
+  workers_at one other passes same were = subst (λ (z : TableId). AreWorkers z passes) (sym same) were
+
+  -- all that is brought back and all that is at home is of the line, under each of its names
+  pub all_of_lines : (line one other : TableId) (brought all : List (Pass Job)) (passes : List (Option (Pass Job))) → one ≡ line → other ≡ line → all ≡ brought ++ at_home passes → AreWorkers one brought → AreKept line passes
+      → All (λ (pass : Pass Job). pass.line ≡ other) all
+  all_of_lines line one other brought all passes one_is other_is all_is idle kept =
+      subst (λ (l : List (Pass Job)). All (λ (pass : Pass Job). pass.line ≡ other) l) (sym all_is)
+      (subst (λ (z : TableId). All (λ (pass : Pass Job). pass.line ≡ z) (brought ++ at_home passes)) (sym other_is)
+      (all_of_line line brought passes (workers_at line one brought (sym one_is) idle) kept))
+
+  started_next : (line : TableId) (n : ℕ) (passes : List (Option (Pass Job))) → n < PASSES → IsStarted n (slots line n passes) → IsStarted (n + 1) (slots line (n + 1) (set passes n None))
+  started_next line n passes below was =
+      let fit : length passes ≡ PASSES = was.slots_fit in
+      record {
+        count = refl;
+        slots_fit = length-set passes n None ∙ fit;
+        out = out_more passes n (omega arith) was.out;
+        homes = λ number from under.
+            let home = was.homes number (omega arith) under in
+            (home.0, get_set_other passes n number None (λ e. absurd (omega arith)) ∙ home.1, home.2);
+      }
+
+  -- one worker more
+  pub started_more : (line : TableId) (workers n m : ℕ) (before after : List (Option (Pass Job))) → n < PASSES → IsStarted workers (slots line n before) → m ≡ n + 1 → after ≡ set before n None → IsStarted (workers + 1) (slots line m after)
+  started_more line workers n m before after below was m_is after_is =
+      let next = started_next line n before below (subst (λ (w : ℕ). IsStarted w (slots line n before)) (sym was.count) was) in
+      let named : IsStarted (workers + 1) (slots line (n + 1) (set before n None)) = subst (λ (w : ℕ). IsStarted (w + 1) (slots line (n + 1) (set before n None))) was.count next in
+      subst (λ (k : ℕ). IsStarted (workers + 1) (slots line k after)) (sym m_is)
+      (subst (λ (l : List (Option (Pass Job))). IsStarted (workers + 1) (slots line (n + 1) l)) (sym after_is) named)
+
+  -- who is at home where the next worker's pass is has done nothing
+  pub next_idle : (pool : Slots Job) (workers number : ℕ) (pass : Pass Job) → IsStarted workers pool → workers ≤ number → number < PASSES → slice_get pool.passes number ≡ Some (Some pass) → pass.put ≡ []
+  next_idle pool workers number pass started from below at =
+      let home = started.homes number from below in
+      let same : home.0 ≡ pass = cc (home.1, at) in
+      sym (ap (λ (p : Pass Job). p.put) same) ∙ home.2.put_is
+
+pub map_grown : {A B : Type 0} (f : A → B) (old new : List A) (y : A) (z : B) → new ≡ old ++ y ∷ [] → f y ≡ z → map f new ≡ map f old ++ z ∷ []
+map_grown f old new y z is image = ap (λ l. map f l) is ∙ map_push f old y ∙ ap (λ b. map f old ++ b ∷ []) image
