@@ -233,7 +233,7 @@ where
     S::Reply: 'static,
     G: Gate + 'static,
     R: Threads + Wait + Copy + Send + 'static,
-    requires { pass.line ≡ arc_value line }
+    requires line { pass.line ≡ arc_value line }
     ensures { IfSome result (λ thread. thread.promise.0.value ≡ pass) }
 {
     let promise = FromPass(Snapshot::of(&pass));

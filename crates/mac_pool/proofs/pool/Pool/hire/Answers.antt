@@ -17,12 +17,12 @@ take_out-pass-requires-clause-home g c =
     let len = c.len.ensures in
     let room = c.requires.room in
     let home = started.homes c.len.result (omega arith) (omega arith) in
-    λ _. (home.0, home.1)
+    λ _ _. (home.0, home.1)
 
-pub started-requires : goal.started-requires
-started-requires g c =
+pub started-requires-clause-line : goal.started-requires-clause-line
+started-requires-clause-line g c =
     let mine = c.self.invariant.homes c.len.result c.take_out-pass.result c.take_out-pass.ensures.was in
-    mine.0 ∙ sym c.in-Ok.ensures
+    λ _ _. mine.0 ∙ sym c.in-Ok.ensures
 
 pub invariant_of-self : goal.invariant_of-self
 invariant_of-self g c =

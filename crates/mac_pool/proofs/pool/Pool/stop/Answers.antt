@@ -20,7 +20,7 @@ overflow_add-home_count g c =
     omega arith
 
 pub bring_back-requires-clause-given : goal.bring_back-requires-clause-given
-bring_back-requires-clause-given g c = λ _. workers_at c.deref-2.result.now _ _ c.deref-2.ensures c.self.invariant.given_are
+bring_back-requires-clause-given g c = λ _ _. workers_at c.deref-2.result.now _ _ c.deref-2.ensures c.self.invariant.given_are
 
 pub tally-requires-clause-line : goal.tally-requires-clause-line
 tally-requires-clause-line g c =
@@ -28,7 +28,7 @@ tally-requires-clause-line g c =
     let none = c.self.invariant.all_empty in
     let all : c.bring_home.new.all.items ≡ brought.brought ++ at_home c.self.inside.passes.items =
         c.bring_home.ensures ∙ ap (λ (l : List (Pass g.row.S-Job.Denot)). l ++ at_home c.self.inside.passes.items) (brought.after_is ∙ ap (λ (l : List (Pass g.row.S-Job.Denot)). l ++ brought.brought) none) in
-    λ _. all_of_lines _ c.deref-2.result.now c.deref-3.result.now brought.brought _ c.self.inside.passes.items c.deref-2.ensures c.deref-3.ensures all brought.idle c.self.invariant.homes
+    λ _ _. all_of_lines _ c.deref-2.result.now c.deref-3.result.now brought.brought _ c.self.inside.passes.items c.deref-2.ensures c.deref-3.ensures all brought.idle c.self.invariant.homes
 
 pub returns-clause-tally : goal.returns-clause-tally
 returns-clause-tally g c =
