@@ -23,3 +23,6 @@ pub use pool::{Pool, WORKERS_MAX};
 pub use post::Post;
 pub use ticket::Ticket;
 pub use work::{Worked, worker};
+
+#[cfg(test)]
+mod tests;
