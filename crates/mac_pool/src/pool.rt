@@ -7,8 +7,9 @@ ghost use Rattle.std.specs.Vec.{vec_capacity};
 ghost use Rattle.mac_pool.specs.Pass.{HasClaimed};
 
 use crate::desk::{Desk, Putter, mailbox};
-use crate::fault::{DeskFault, PoolFault};
+use crate::fault::{DeskFault, HandFault, PoolFault};
 use crate::gate::{Gate, NoGate};
+use crate::hand::Hand;
 use crate::line::{Line, LinePass, PASSES, Tally};
 use crate::work::{Worked, worker};
 use mac_lane::{NoMemory, Service};
@@ -180,6 +181,32 @@ impl<S: Service, G: Gate> Pool<S, G> {
         self.passes[number] = Some(pass);
     }
 
+    /// A hand, at a pass that is kept for workers. Its claims are told in the tally.
+    pub fn hand(&mut self, _alloc: Global) -> Result<Hand<S>, HandFault>
+        ensures hand { IfOk result (λ hand. IsGiven self.old hand self.new × (hand.number < WORKERS_MAX)) }
+        ensures same { OnErr result (self.new ≡ self.old) }
+        ensures out { (result ≡ Err HandFault.AllOut) ↔ AreOut 0 WORKERS_MAX self.old.passes }
+    {
+        let Some(number) = first_home(&self.passes, 0, WORKERS_MAX) else {
+            return Err(HandFault::AllOut);
+        };
+        let Ok(line) = Arc::try_clone(&self.line) else {
+            return Err(HandFault::NoMemory);
+        };
+        let pass = take_out(&mut self.passes, number);
+        Ok(Hand { line, pass })
+    }
+
+    /// Takes a hand back.
+    pub fn hand_back(&mut self, hand: Hand<S>)
+        requires { hand.line ≡ self.old.line }
+        ensures { self.new ≡ with_home self.old hand }
+    {
+        let Hand { line: _, pass } = hand;
+        let number = pass.number();
+        self.passes[number] = Some(pass);
+    }
+
     /// Ends the workers, and tells the books of the line. While a desk or a hand is out, the pool comes
     /// back as it was.
     pub fn stop<R: Threads + Wait>(self, rt: &R) -> Result<Tally, Pool<S, G>>
@@ -215,6 +242,19 @@ impl<S: Service, G: Gate> Pool<S, G> {
         line.close();
         for thread in workers {
             thread.join(rt);
+        }
+    }
+}
+
+impl<S: Service> Pool<S, NoGate> {
+    /// A pool without workers: its tickets are claimed by hands.
+    pub fn by_hand(alloc: Global) -> Result<Pool<S, NoGate>, PoolFault>
+        ensures started { IfOk result (λ pool. IsStarted 0 pool) }
+        ensures fault { IfErr result (λ fault. fault ≡ PoolFault.NoMemory) }
+    {
+        match Pool::idle(alloc) {
+            Ok(pool) => Ok(pool),
+            Err(_) => Err(PoolFault::NoMemory),
         }
     }
 }

@@ -1,0 +1,40 @@
+//! A hand: a place at a pool from which tickets are claimed by hand, as a worker claims them.
+
+ghost use Rattle.std.specs.Prelude.{◌≡◌};
+ghost use Rattle.mac_pool.specs.Claim.{after_claim};
+
+use crate::line::{Claim, Line, LinePass};
+use mac_lane::Service;
+use std::alloc::Global;
+use std::marker::Model;
+use std::sync::{Arc, Wait};
+
+/// Claims tickets in a worker's stead. Contracts see its pass.
+#[derive(Drop)]
+pub struct Hand<S: Service> {
+    pub(crate) line: Arc<Line<S>, Global>,
+    pub(crate) pass: LinePass<S>,
+}
+
+impl<S: Service> Model for Hand<S> {
+    ghost use Rattle.std.specs.Prelude.{◌≡◌};
+    ghost use Rattle.std.specs.Arc.{arc_value};
+    ghost use Rattle.mac_pool.specs.Pass.{Pass, pass_code};
+
+    ghost Value = { Pass S.Job };
+
+    ghost coded = { pass_code S.Job.code };
+
+    ghost view = { λ h. h.pass };
+
+    ghost invariant = { λ h. h.pass.line ≡ arc_value h.line };
+}
+
+impl<S: Service> Hand<S> {
+    /// Claims the oldest ticket.
+    pub fn claim<R: Wait>(&mut self, rt: &R) -> Claim<S>
+        ensures { self.new ≡ after_claim self.old result }
+    {
+        self.line.claim(rt, &mut self.pass)
+    }
+}
