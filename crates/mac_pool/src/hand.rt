@@ -37,4 +37,12 @@ impl<S: Service> Hand<S> {
     {
         self.line.claim(rt, &mut self.pass)
     }
+
+    /// The pass of the hand, which ends with it.
+    pub(crate) fn into_pass(self) -> LinePass<S>
+        ensures { result ≡ self }
+    {
+        let Hand { line: _, pass } = self;
+        pass
+    }
 }

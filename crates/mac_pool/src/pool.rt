@@ -171,14 +171,7 @@ impl<S: Service, G: Gate> Pool<S, G> {
         requires { desk.putter.line ≡ self.old.line }
         ensures { self.new ≡ with_home self.old desk.putter }
     {
-        let Desk { putter, taker: _ } = desk;
-        let Putter {
-            line: _,
-            pass,
-            mail: _,
-        } = putter;
-        let number = pass.number();
-        self.passes[number] = Some(pass);
+        self.take_home(desk.into_pass());
     }
 
     /// A hand, at a pass that is kept for workers. Its claims are told in the tally.
@@ -202,7 +195,13 @@ impl<S: Service, G: Gate> Pool<S, G> {
         requires { hand.line ≡ self.old.line }
         ensures { self.new ≡ with_home self.old hand }
     {
-        let Hand { line: _, pass } = hand;
+        self.take_home(hand.into_pass());
+    }
+
+    fn take_home(&mut self, pass: LinePass<S>)
+        requires { pass.line ≡ self.old.line }
+        ensures { self.new ≡ with_home self.old pass }
+    {
         let number = pass.number();
         self.passes[number] = Some(pass);
     }

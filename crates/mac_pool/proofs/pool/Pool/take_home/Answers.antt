@@ -1,17 +1,17 @@
 use Rattle.std.proofs.Common.{◌≡◌, ◌≢◌, ℕ, List, Option, Some, slice_get, length, set, arith, rules, ap, sym, ◌∙◌, subst, ⊎_elim}
 use Rattle.mac_pool.specs.Pass.{Pass}
 use Rattle.mac_pool.proofs.Slots.{set_homes}
-use Rattle.mac_pool.proofs.pool.Pool.hand_back.Goals as goal
+use Rattle.mac_pool.proofs.pool.Pool.take_home.Goals as goal
 
 pub invariant_of-self : goal.invariant_of-self
 invariant_of-self g c =
     let was = c.self.invariant in
-    let number : c.number-number.result ≡ c.hand.inside.pass.number = c.number-number.ensures.number in
+    let number : c.number-number.result ≡ c.args.pass.number = c.number-number.ensures.number in
     let fit = was.slots_fit in
     let below = c.number-number.ensures.below in
     record {
       slots_fit = search rules;
-      homes = set_homes _ c.self.inside.passes.items c.number-number.result c.hand.inside.pass (ap (λ (p : Pass g.row.S-Job.Denot). p.line) c.hand.view_is ∙ c.requires ∙ sym (ap (λ z. z.line) c.self.view_is)) (sym number) was.homes;
+      homes = set_homes _ c.self.inside.passes.items c.number-number.result c.args.pass (c.requires ∙ sym (ap (λ z. z.line) c.self.view_is)) (sym number) was.homes;
       given_fit = was.given_fit;
       given_room = was.given_room;
       given_are = was.given_are;
