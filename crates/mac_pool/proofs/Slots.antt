@@ -142,8 +142,8 @@ module _ {Job : Type 0} where
       → (n : ℕ) (pass : Pass Job) → slice_get (set slots k (Some new)) n ≡ Some (Some pass) → (pass.line ≡ line) × (pass.number ≡ n)
   set_homes line slots k new mine number all n pass at = ⊎_elim
       (λ (here : (n ≡ k) × (Some new ≡ Some pass)).
-          let same : new ≡ pass = cc (here.1) in
-          (sym (ap (λ (p : Pass Job). p.line) same) ∙ mine, sym (ap (λ (p : Pass Job). p.number) same) ∙ number ∙ sym here.0))
+      let same : new ≡ pass = cc (here.1) in
+      (sym (ap (λ (p : Pass Job). p.line) same) ∙ mine, sym (ap (λ (p : Pass Job). p.number) same) ∙ number ∙ sym here.0))
       (λ (there : slice_get slots n ≡ Some (Some pass)). all n pass there)
       (get_set slots k n (Some new) (Some pass) at)
 
@@ -165,8 +165,8 @@ module _ {Job : Type 0} where
       let pass = get_or all k d in
       ⊎_elim (λ (here : slice_get brought k ≡ Some pass). (idle k pass here).0)
       (λ (there : (m : ℕ) × (slice_get (at_home slots) m ≡ Some pass)).
-          let slot = home_slot slots there.0 pass there.1 in
-          (homes slot.0 pass slot.1).0)
+      let slot = home_slot slots there.0 pass there.1 in
+      (homes slot.0 pass slot.1).0)
       (get_both brought (at_home slots) k pass (slice_get-get_or all k d below))
 
   -- one worker more

@@ -2,7 +2,7 @@ ghost use Rattle.std.specs.Prelude.{◌≡◌};
 ghost use Rattle.std.specs.Int.{to_be_bytes, w64};
 ghost use Rattle.std.proofs.Common.{rules};
 
-use crate::{Desk, NoGate, Pool, Post, PutFault, Putter, Taker, Tally};
+use crate::{Claim, Desk, NoGate, Pool, Post, PutFault, Putter, Taker, Tally};
 use mac_lane::{NoMemory, Service};
 use std::alloc::Global;
 use std::process::Abort;
@@ -91,7 +91,10 @@ fn burst<R: Abort + Wait>(rt: &R, desk: &mut Desk<Digits>, from: u64, to: u64)
         let place = next_place(rt, &mut desk.taker).unwrap_or(0);
         total = total.wrapping_add(place);
     }
-    assert_eq!(rt; total, (from..to).fold(0, |sum: u64, place| sum.wrapping_add(place)));
+    assert_eq!(rt;
+        total,
+        (from..to).fold(0, |sum: u64, place| sum.wrapping_add(place))
+    );
 }
 
 #[test]
@@ -113,6 +116,37 @@ fn two_workers_answer_a_desk(rt: HostRuntime) -> Result<(), Fail> {
         put: 2500,
         claimed: 2500,
         left: 0,
+    };
+    assert_eq!(rt; tally, want);
+    Ok(())
+}
+
+#[test]
+fn a_hand_claims_what_a_desk_put(rt: HostRuntime) -> Result<(), Fail> {
+    let Ok(mut pool) = Pool::<Digits, NoGate>::by_hand(rt.alloc()) else {
+        panic!(rt; "no pool");
+    };
+    let Ok(mut desk) = pool.desk(rt.alloc()) else {
+        panic!(rt; "no desk");
+    };
+    let Ok(mut hand) = pool.hand(rt.alloc()) else {
+        panic!(rt; "no hand");
+    };
+    put_waiting(&rt, &mut desk.putter, 1);
+    put_waiting(&rt, &mut desk.putter, 2);
+    match hand.claim(&rt) {
+        Claim::Got(ticket) => assert_eq!(rt; ticket.place, 1),
+        _ => panic!(rt; "no ticket"),
+    }
+    pool.hand_back(hand);
+    pool.home(desk);
+    let Ok(tally) = pool.stop(&rt) else {
+        panic!(rt; "a pass is out");
+    };
+    let want = Tally {
+        put: 2,
+        claimed: 1,
+        left: 1,
     };
     assert_eq!(rt; tally, want);
     Ok(())

@@ -23,7 +23,7 @@ loop-pass-preserved g c =
       ends = search rules;
       done = rw c.in_ok-push.ensures.items
           (append_assoc c.loop-pass.slots.items (Some pass ∷ []) (map Some rest)
-            ∙ sym (ap (λ (l : List (Pass g.row.S-Job.Denot)). c.loop-pass.slots.items ++ map Some l) split) ∙ c.loop-pass.invariant.done);
+          ∙ sym (ap (λ (l : List (Pass g.row.S-Job.Denot)). c.loop-pass.slots.items ++ map Some l) split) ∙ c.loop-pass.invariant.done);
     }
 
 pub returns : goal.returns

@@ -43,6 +43,6 @@ returns-clause-hand g c =
     let mine = c.self.invariant.homes c.in-Some.number pass c.take_out-pass.ensures.was in
     let number : pass.number ≡ c.in-Some.number = mine.1 in (
       subst (λ (p : Slots g.row.S-Job.Denot). IsGiven p pass (slots (arc_value c.self.inside.line) (length c.self.inside.workers.items) c.take_out-pass.new.slots.items)) c.self.view_is
-      (given_is _ _ c.in-Some.number c.self.inside.passes.items _ pass mine.0 number c.take_out-pass.ensures.was c.take_out-pass.ensures.out),
+          (given_is _ _ c.in-Some.number c.self.inside.passes.items _ pass mine.0 number c.take_out-pass.ensures.was c.take_out-pass.ensures.out),
       omega arith,
     )

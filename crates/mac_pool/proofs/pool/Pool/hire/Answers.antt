@@ -73,8 +73,7 @@ returns-in-Some-clause-hired g c =
     let room = c.requires.room in
     let len = c.len.ensures in
     let same : c.len.result ≡ length old = omega arith in
-    let grown : length new ≡ length old + 1 = ap length c.push_reserved.ensures.items ∙ length-append old (c.in-Some.thread ∷ []) in
-    (
+    let grown : length new ≡ length old + 1 = ap length c.push_reserved.ensures.items ∙ length-append old (c.in-Some.thread ∷ []) in (
       started_more (arc_value c.self.inside.line) c.args.self.now.workers (length old) (length new) slots c.take_out-pass.new.slots.items (omega arith) started grown (c.take_out-pass.ensures.out ∙ ap (λ (m : ℕ). set slots m None) same),
       omega arith,
     )

@@ -27,7 +27,7 @@ tally-requires-clause-line g c =
     let brought = c.bring_back.ensures.brought in
     let none = c.self.invariant.all_empty in
     let all : c.bring_home.new.all.items ≡ brought.brought ++ at_home c.self.inside.passes.items =
-        c.bring_home.ensures ∙ ap (λ (l : List (Pass g.row.S-Job.Denot)). l ++ at_home c.self.inside.passes.items) (brought.after_is ∙ ap (λ (l : List (Pass g.row.S-Job.Denot)). l ++ brought.brought) none) in
+    c.bring_home.ensures ∙ ap (λ (l : List (Pass g.row.S-Job.Denot)). l ++ at_home c.self.inside.passes.items) (brought.after_is ∙ ap (λ (l : List (Pass g.row.S-Job.Denot)). l ++ brought.brought) none) in
     λ _ _. all_of_lines _ c.deref-2.result.now c.deref-3.result.now brought.brought _ c.self.inside.passes.items c.deref-2.ensures c.deref-3.ensures all brought.idle c.self.invariant.homes
 
 pub returns-clause-tally : goal.returns-clause-tally
@@ -35,7 +35,7 @@ returns-clause-tally g c =
     let brought = c.bring_back.ensures.brought in
     let none = c.self.invariant.all_empty in
     let all : c.bring_home.new.all.items ≡ brought.brought ++ at_home c.self.inside.passes.items =
-        c.bring_home.ensures ∙ ap (λ (l : List (Pass g.row.S-Job.Denot)). l ++ at_home c.self.inside.passes.items) (brought.after_is ∙ ap (λ (l : List (Pass g.row.S-Job.Denot)). l ++ brought.brought) none) in
+    c.bring_home.ensures ∙ ap (λ (l : List (Pass g.row.S-Job.Denot)). l ++ at_home c.self.inside.passes.items) (brought.after_is ∙ ap (λ (l : List (Pass g.row.S-Job.Denot)). l ++ brought.brought) none) in
     let tally : IsTally (brought.brought ++ at_home c.self.inside.passes.items) c.tally.result = subst (λ (l : List (Pass g.row.S-Job.Denot)). IsTally l c.tally.result) all c.tally.ensures in
     subst (λ (p : Slots g.row.S-Job.Denot). IsStopped p c.tally.result) c.self.view_is
     record {
