@@ -1,0 +1,4 @@
+pub mod Gathered
+pub mod Answered
+pub mod Comes
+pub mod SendingLemmas
