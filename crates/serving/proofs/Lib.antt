@@ -1,4 +1,0 @@
-pub mod Gathered
-pub mod Answered
-pub mod Comes
-pub mod SendingLemmas
