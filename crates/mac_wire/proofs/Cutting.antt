@@ -1,5 +1,5 @@
 -- Cutting a piece: what was handed out, and what is held.
-use Rattle.std.proofs.Common.{◌≡◌, ◌≢◌, ℕ, List, [], ◌∷◌, ◌++◌, sym, ap, subst, ◌∙◌, append_assoc, arith}
+use Rattle.std.proofs.Common.{◌≡◌, ◌≢◌, ◌⊎◌, inl, inr, ℕ, List, [], ◌∷◌, ◌++◌, sym, ap, subst, ◌∙◌, append_assoc, arith}
 use Rattle.std.proofs.lemmas.List.{append-nil}
 use Rattle.mac_wire.specs.declared.arrival.Arrival.{Arrival}
 use Rattle.mac_wire.specs.declared.arrival.Arrival.TheVariants as arrival
@@ -86,6 +86,18 @@ ended stream held handed ending so_far rest =
 
 pub ended_oversize : (stream : List ℕ) (handed : List Arrival) → HasReadTo stage.Oversize stream handed → arrivals_of stream ≡ record { arrived = handed; ending = ending.Oversize }
 ended_oversize stream handed so_far = ap arrivals_of (sym (append-nil stream)) ∙ so_far []
+
+-- an ending of a stream that may go on
+abbrev pub IsOngoing : Ending → Type 0
+IsOngoing e = (e ≡ ending.Clean) ⊎ (e ≡ ending.Torn)
+
+pub is_not_broken : (e : Ending) → IsOngoing e → e ≢ ending.Broken
+is_not_broken e (inl clean) broken = cc
+is_not_broken e (inr torn) broken = cc
+
+pub is_not_oversize : (e : Ending) → IsOngoing e → e ≢ ending.Oversize
+is_not_oversize e (inl clean) oversize = cc
+is_not_oversize e (inr torn) oversize = cc
 
 -- ---- what has arrived so far
 

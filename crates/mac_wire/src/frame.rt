@@ -1,6 +1,6 @@
 //! Frames out of a stream that comes in pieces.
 
-ghost use Rattle.std.specs.Prelude.{◌≡◌, ◌↔◌, ◌<◌, ℕ, List, [], ◌++◌, length, IfOk, OnErr, IsErrOf};
+ghost use Rattle.std.specs.Prelude.{◌≡◌, ◌↔◌, ◌⊎◌, ◌<◌, ℕ, List, [], ◌++◌, length, IsTrue, IfOk, OnErr, IsErrOf};
 ghost use Rattle.mac_wire.specs.FeedFault.{feed_fault_code};
 ghost use Rattle.mac_wire.specs.Frame.{arrivals_of};
 ghost use Rattle.mac_wire.specs.Steps.{Cuts};
@@ -110,11 +110,23 @@ impl FrameReader {
         }
     }
 
+    /// Whether each further feed answers `Ended`: after an Oversize, and after `NoMemory`.
+    pub fn has_ended(&self) -> bool
+        ensures { IsTrue result ↔ HasEnded self.now }
+    {
+        match &self.stage {
+            Stage::Open(_) => false,
+            Stage::Oversize | Stage::Broken => true,
+        }
+    }
+
     /// How the stream ended.
     pub fn finish(self) -> Ending
         ensures ending { (stream : List ℕ) (handed : List Arrival) → HasRead self stream handed
             → arrivals_of stream ≡ record { arrived = handed; ending = result } }
         ensures broken { (result ≡ Ending.Broken) ↔ IsBroken self }
+        ensures ongoing { ((result ≡ Ending.Clean) ⊎ (result ≡ Ending.Torn)) → ¬ HasEnded self }
+        ensures ended { result ≡ Ending.Oversize → HasEnded self }
     {
         match &self.stage {
             Stage::Open(partial) => partial.ending(),
