@@ -17,13 +17,13 @@ use Rattle.mac_keys.specs.Meaning.{GivesKey, AreFaultless}
 use Rattle.mac_keys.proofs.Names.{order, order-IsAntisymmetric}
 use Rattle.mac_keys.proofs.Lines.{new_name}
 
-abbrev entries : List (List ℕ) → List (List ℕ × List ℕ)
+abbrev pub entries : List (List ℕ) → List (List ℕ × List ℕ)
 entries lines = filter_map (λ line. entry_said (line_of line)) lines
 
-any_here : {X : Type 0} (P : X → Type 0) (x : X) (xs : List X) → P x → Any P (x ∷ xs)
+pub any_here : {X : Type 0} (P : X → Type 0) (x : X) (xs : List X) → P x → Any P (x ∷ xs)
 any_here P x xs here = (0, x, omega arith, refl, here)
 
-any_later : {X : Type 0} (P : X → Type 0) (x : X) (xs : List X) → Any P xs → Any P (x ∷ xs)
+pub any_later : {X : Type 0} (P : X → Type 0) (x : X) (xs : List X) → Any P xs → Any P (x ∷ xs)
 any_later P x xs (k, y, within, is, later) = (suc k, y, omega arith, is, later)
 
 -- ---- a key comes from a line
@@ -48,7 +48,7 @@ any_from_said name key line lines below (Ok (Some g)) is found =
     ] refl found
 any_from_said name key line lines below (Err fault) is found = any_later _ line lines (below found)
 
-any_from_find : (name key : List ℕ) (lines : List (List ℕ)) → find order name (entries lines) ≡ Some key → Any (GivesKey name key) lines
+pub any_from_find : (name key : List ℕ) (lines : List (List ℕ)) → find order name (entries lines) ≡ Some key → Any (GivesKey name key) lines
 any_from_find name key [] found = cc
 any_from_find name key (line ∷ lines) found = any_from_said name key line lines (any_from_find name key lines) (line_of line) refl found
 
@@ -62,7 +62,7 @@ find_past name (e ∷ front) back none =
       | false ↦ λ rest. find_past name front back rest
     ] none
 
-found_here : (name key : List ℕ) (rest : List (List ℕ × List ℕ)) → find order name ((name, key) ∷ rest) ≡ Some key
+pub found_here : (name key : List ℕ) (rest : List (List ℕ × List ℕ)) → find order name ((name, key) ∷ rest) ≡ Some key
 found_here name key rest = ap (λ o. cond (is_eq o) (Some key) (find order name rest)) (tied_itself nat_list_cmp_total name)
 
 find_from_any : (name key : List ℕ) (lines : List (List ℕ)) → AreFaultless lines → Any (GivesKey name key) lines → find order name (entries lines) ≡ Some key

@@ -1,3 +1,4 @@
+pub mod Above
 pub mod Bounded
 pub mod FaultLemmas
 pub mod FileMeaning
@@ -5,4 +6,6 @@ pub mod KeyMeaning
 pub mod Lines
 pub mod Names
 pub mod Numbered
+pub mod Pairs
+pub mod Refused
 pub mod Spelling

@@ -1,10 +1,13 @@
 -- The lines of a key file, read one after another.
-use Rattle.std.proofs.Common.{◌≡◌, ◌⊎◌, inl, inr, ℕ, ◌+◌, ◌<◌, cond, nat_le, List, [], ◌∷◌, ◌++◌, length, take, drop, get_or, Option, Some, None, Result, Ok, Err, option_map, refl, sym, ap, ◌∙◌, arith, zero-add}
+use Rattle.std.proofs.Common.{◌≡◌, ◌⊎◌, inl, inr, ℕ, ◌+◌, ◌<◌, cond, nat_le, true, false, List, [], ◌∷◌, ◌++◌, length, take, drop, get_or, Option, Some, None, Result, Ok, Err, option_map, refl, sym, ap, subst, ◌∙◌, arith, zero-add}
 use Rattle.std.proofs.lemmas.List.{append-nil, take_more, drop_more, take_all, take-append-drop}
 use Rattle.std.proofs.lemmas.List.Elements.{filter_map-append}
+use Rattle.std.proofs.lemmas.Option.{slice_get-get_or}
+use Rattle.std.proofs.lemmas.Bool.Decides.{nat_tests}
 use Rattle.std.proofs.lemmas.List.FromFn.{length-enumerate_from, get_or-enumerate_from}
 use Rattle.std.specs.Option.{is_some}
-use Rattle.std.specs.List.{filter_map, cons_option, enumerate_from}
+use Rattle.std.specs.Prelude.{nat_lt, IsErrOf}
+use Rattle.std.specs.List.{filter_map, cons_option, enumerate_from, slice_get}
 use Rattle.std.specs.Cmp.Lexicographic.{nat_list_cmp_total}
 use Rattle.std.specs.FinMap as map
 use Rattle.mac_hmac.specs.Chain.{root_of}
@@ -18,6 +21,7 @@ use Rattle.mac_keys.specs.Table.{Keys, entry_said, keys_of, keys_or_first, fault
 use Rattle.mac_keys.specs.declared.line.Refusal.{Refusal}
 use Rattle.mac_keys.specs.declared.line.Refusal.TheVariants.{Line, Memory}
 use Rattle.mac_keys.specs.Taken.{keys_with, IsFor, fault_of_line}
+use Rattle.mac_keys.specs.Meaning.{fault_in_place, AreFaultlessAbove, HasPairs, TakeMemory}
 use Rattle.mac_keys.proofs.Names.{order, order-IsAntisymmetric}
 
 -- a name that has no fault has no key
@@ -45,6 +49,7 @@ keys_of-push above line none =
 -- what is known of the line that a reader has come to
 pub record Turn (lines : List (List ℕ)) (n : ℕ) (index : ℕ) (line : List ℕ) : Type 0 where
   pub place : index ≡ n
+  pub there : slice_get lines n ≡ Some line
   pub before : take (n + 1) lines ≡ take n lines ++ line ∷ []
   pub so_far : take (n + 1) (enumerate_from 0 lines) ≡ take n (enumerate_from 0 lines) ++ (n, line) ∷ []
   pub whole : enumerate_from 0 lines ≡ take n (enumerate_from 0 lines) ++ (n, line) ∷ drop (n + 1) (enumerate_from 0 lines)
@@ -59,6 +64,7 @@ turn lines n index line t =
     let there : get_or numbered n (index, line) ≡ (n, line) = sym t.1 ∙ item ∙ ap (λ l. (n, l)) here in
     record {
       place = ap (λ p. p.0) item;
+      there = slice_get-get_or lines n line within ∙ ap Some here;
       before = take_more lines n line within ∙ ap (λ l. take n lines ++ l ∷ []) here;
       so_far = take_more numbered n (index, line) t.0 ∙ ap (λ p. take n numbered ++ p ∷ []) there;
       whole = sym (take-append-drop n numbered) ∙ ap (λ rest. take n numbered ++ rest) (drop_more numbered n (index, line) t.0 ∙ ap (λ p. p ∷ drop (n + 1) numbered) there);
@@ -68,6 +74,26 @@ turn lines n index line t =
 pub record SoFar (lines : List (List ℕ)) (n : ℕ) (keys : Keys) : Type 0 where
   pub given : keys ≡ keys_of (take n lines)
   pub faultless : filter_map (fault_at lines) (take n (enumerate_from 0 lines)) ≡ []
+  pub above : AreFaultlessAbove lines n
+
+pub SoFar-none : (lines : List (List ℕ)) (keys : Keys) → keys ≡ keys_of (take 0 lines) → SoFar lines 0 keys
+SoFar-none lines keys given = record {
+  given = given;
+  faultless = refl;
+  above = λ higher other less there. absurd (omega arith);
+}
+
+-- one more line without a fault
+further : (lines : List (List ℕ)) (n : ℕ) (line : List ℕ) → AreFaultlessAbove lines n → slice_get lines n ≡ Some line → fault_in_place lines n line ≡ None
+    → AreFaultlessAbove lines (n + 1)
+further lines n line above here none higher other less there =
+    elim (nat_lt higher n) as (λ b. nat_lt higher n ≡ b → fault_in_place lines higher other ≡ None) [
+      | true ↦ λ before. above higher other (grind (arith, nat_tests)) there
+      | false ↦ λ at.
+          let last : higher ≡ n = grind (arith, nat_tests) in
+          let same : Some other ≡ Some line = sym there ∙ ap (slice_get lines) last ∙ here in
+          ap (λ k. fault_in_place lines k other) last ∙ ap (fault_in_place lines n) (let e : other ≡ line = cc in e) ∙ none
+    ] refl
 
 -- what is wrong with the line, among the lines and below the keys so far
 same_fault : (lines : List (List ℕ)) (n : ℕ) (line : List ℕ) (keys : Keys) (found : Option LineFault) → SoFar lines n keys → fault_below keys (line_of line) ≡ found → fault_below (keys_of (take n lines)) (line_of line) ≡ found
@@ -91,6 +117,9 @@ SoFar-push lines n m index line keys after t so_far next taken =
           ∙ filter_map-append (fault_at lines) (take n (enumerate_from 0 lines)) ((n, line) ∷ [])
           ∙ ap (λ found. found ++ filter_map (fault_at lines) ((n, line) ∷ [])) so_far.faultless
           ∙ ap (λ found. cons_option (option_map {U = ℕ × LineFault} (λ fault. (n + 1, fault)) found) []) none;
+      above =
+          subst (λ (k : ℕ). AreFaultlessAbove lines k) (sym next)
+          (further lines n line so_far.above t.there none);
     }
 
 -- the first line with a fault gives the first fault
@@ -111,6 +140,18 @@ pub SoFar-refused : (lines : List (List ℕ)) (n index : ℕ) (line : List ℕ) 
 SoFar-refused lines n index line keys (Line fault) told t so_far e named =
     inr (first_fault lines n index line keys fault t so_far e ∙ ap (λ i. Err (faults.Line (i + 1) fault)) (sym t.place) ∙ ap Err (sym named))
 SoFar-refused lines n index line keys Memory told t so_far e named = inl named
+
+-- a line that is refused for want of memory takes some
+pub TakeMemory-refused : (lines : List (List ℕ)) (n index : ℕ) (line : List ℕ) (keys : Keys) (refusal : Refusal) (told : KeyFault) → Turn lines n index line → SoFar lines n keys
+    → (IsErrOf {T = Unit {0}} (Err refusal) Memory → HasPairs line) → told ≡ fault_of_line index refusal → IsErrOf {T = Keys} (Err told) faults.Memory → TakeMemory lines
+TakeMemory-refused lines n index line keys (Line fault) told t so_far memory is e = let no : told ≡ faults.Memory = cc in cc
+TakeMemory-refused lines n index line keys Memory told t so_far memory is e = record {
+  place = n;
+  line = line;
+  there = t.there;
+  has = memory refl;
+  above = so_far.above;
+}
 
 -- at the end of the lines there is no fault
 pub SoFar-all : (lines : List (List ℕ)) (n : ℕ) (keys : Keys) → SoFar lines n keys → n ≡ length (enumerate_from 0 lines) → keys_or_first (keys_of lines) (faults_of lines) ≡ Ok keys

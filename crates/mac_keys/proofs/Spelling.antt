@@ -1,5 +1,5 @@
 -- A line that gives a name a secret spells both, and the other way round.
-use Rattle.std.proofs.Common.{◌≡◌, ℕ, ◌+◌, ◌<◌, ◌==◌, true, false, not, ◌&&◌, cond, List, [], ◌∷◌, ◌++◌, length, take, drop, codes, Option, Some, None, Result, Ok, Err, option_map, refl, sym, ap, ◌∙◌, arith, length-append}
+use Rattle.std.proofs.Common.{◌≡◌, ℕ, zero, suc, ◌+◌, ◌<◌, ◌==◌, true, false, not, ◌&&◌, cond, List, [], ◌∷◌, ◌++◌, length, take, drop, codes, Option, Some, None, Result, Ok, Err, option_map, refl, sym, ap, ◌∙◌, arith, length-append}
 use Rattle.std.proofs.lemmas.List.{drop_more, take-append-drop}
 use Rattle.std.proofs.lemmas.List.Quantifiers.{position-Some}
 use Rattle.std.proofs.lemmas.Slice.Eq.{starts_is}
@@ -7,7 +7,7 @@ use Rattle.std.proofs.lemmas.Bool.{eqb-true}
 use Rattle.std.proofs.lemmas.Bool.Decides.{Decides-eqb, nat_tests}
 use Rattle.std.proofs.Math.Seq.{take-append_seam, drop-append-add}
 use Rattle.std.specs.Prelude.{position, nat_eq, nat_lt, nat_le}
-use Rattle.std.specs.List.{list_all, starts_with, position_or_len}
+use Rattle.std.specs.List.{list_all, starts_with, position_or_len, Contains}
 use Rattle.hex.specs.Hex.{decode_of}
 use Rattle.hex.specs.declared.error.FromHexError.{FromHexError}
 use Rattle.mac_keys.specs.declared.line.TheConstants.{NAME_MAX}
@@ -28,7 +28,7 @@ parted_spells rest (Some at) fields is e =
     ∙ ap (λ back. take at rest ++ back) (drop_more rest at 0 within ∙ ap (λ b. b ∷ drop (at + 1) rest) (eqb-true _ _ here))
     ∙ ap (λ p. p.0 ++ 32 ∷ p.1) parts
 
-fields_spell : (line : List ℕ) (fields : List ℕ × List ℕ) → fields_of line ≡ Some fields → line ≡ codes "key " ++ fields.0 ++ 32 ∷ fields.1
+pub fields_spell : (line : List ℕ) (fields : List ℕ × List ℕ) → fields_of line ≡ Some fields → line ≡ codes "key " ++ fields.0 ++ 32 ∷ fields.1
 fields_spell line fields e =
     elim (starts_with nat_eq line (codes "key ")) as (λ b. starts_with nat_eq line (codes "key ") ≡ b → cond b (parted (drop 4 line)) None ≡ Some fields → line ≡ codes "key " ++ fields.0 ++ 32 ∷ fields.1) [
       | true ↦ λ starts found.
@@ -80,13 +80,6 @@ Spells-from_line line g e =
 
 -- ---- what is spelled so, a line gives
 
-no_space : (b : ℕ) → is_name_byte b ≡ true → (b == 32) ≡ false
-no_space b named =
-    elim (b == 32) as (λ t. (b == 32) ≡ t → t ≡ false) [
-      | true ↦ λ space. let no : is_name_byte 32 ≡ true = ap is_name_byte (sym (eqb-true b 32 space)) ∙ named in cc
-      | false ↦ λ other. refl
-    ] refl
-
 all_named : (b : ℕ) (name : List ℕ) → list_all is_name_byte (b ∷ name) ≡ true → (is_name_byte b ≡ true) × (list_all is_name_byte name ≡ true)
 all_named b name named =
     elim (is_name_byte b) as (λ t. (t && list_all is_name_byte name) ≡ true → (t ≡ true) × (list_all is_name_byte name ≡ true)) [
@@ -94,29 +87,39 @@ all_named b name named =
       | false ↦ λ no. cc
     ] named
 
--- the first space is the one behind the name
-first_space : (name digits : List ℕ) → list_all is_name_byte name ≡ true → position_or_len (λ b. b == 32) (name ++ 32 ∷ digits) ≡ length name
-first_space [] digits named = refl
-first_space (b ∷ name) digits named =
-    let (here, others) = all_named b name named in
-    ap (λ t. cond (not t) (1 + position_or_len (λ x. x == 32) (name ++ 32 ∷ digits)) 0) (no_space b here)
-    ∙ omega (arith, first_space name digits others)
+-- no byte of a name is a space
+named-spaceless : (name : List ℕ) → list_all is_name_byte name ≡ true → ¬ Contains name 32
+named-spaceless [] named (k, within, is) = absurd (omega arith)
+named-spaceless (b ∷ name) named (zero, within, is) = let no : is_name_byte 32 ≡ true = ap is_name_byte (sym is) ∙ (all_named b name named).0 in cc
+named-spaceless (b ∷ name) named (suc k, within, is) = named-spaceless name (all_named b name named).1 (k, omega arith, is)
 
-parted-space : (name digits : List ℕ) → list_all is_name_byte name ≡ true → parted (name ++ 32 ∷ digits) ≡ Some (name, digits)
-parted-space name digits named =
-    let text = name ++ 32 ∷ digits in
+rest-spaceless : (b : ℕ) (front : List ℕ) → ¬ Contains (b ∷ front) 32 → ¬ Contains front 32
+rest-spaceless b front none (k, within, is) = none (suc k, omega arith, is)
+
+-- the first space is the one behind bytes that are none
+first_space : (front back : List ℕ) → ¬ Contains front 32 → position_or_len (λ b. b == 32) (front ++ 32 ∷ back) ≡ length front
+first_space [] back none = refl
+first_space (b ∷ front) back none =
+    elim (b == 32) as (λ t. (b == 32) ≡ t → cond (not t) (1 + position_or_len (λ x. x == 32) (front ++ 32 ∷ back)) 0 ≡ suc (length front)) [
+      | true ↦ λ space. absurd (none (0, omega arith, eqb-true b 32 space))
+      | false ↦ λ other. omega (arith, first_space front back (rest-spaceless b front none))
+    ] refl
+
+pub parted-space : (front back : List ℕ) → ¬ Contains front 32 → parted (front ++ 32 ∷ back) ≡ Some (front, back)
+parted-space front back none =
+    let text = front ++ 32 ∷ back in
     let at : Option ℕ → Option (List ℕ × List ℕ) = λ found. option_map {U = List ℕ × List ℕ} (λ space. (take space text, drop (space + 1) text)) found in
     let some : List ℕ × List ℕ → Option (List ℕ × List ℕ) = λ parts. Some parts in
-    let within : nat_lt (length name) (length text) ≡ true = let longer : length name < length text = omega (arith, length-append name (32 ∷ digits)) in grind (arith, nat_tests) in
-    ap (λ n. at (cond (nat_lt n (length text)) (Some n) None)) (first_space name digits named)
-    ∙ ap (λ b. at (cond b (Some (length name)) None)) within
-    ∙ ap (λ n. some (n, drop (length name + 1) text)) (take-append_seam name (32 ∷ digits))
-    ∙ ap (λ d. some (name, d)) (drop-append-add name (32 ∷ digits) 1)
+    let within : nat_lt (length front) (length text) ≡ true = let longer : length front < length text = omega (arith, length-append front (32 ∷ back)) in grind (arith, nat_tests) in
+    ap (λ n. at (cond (nat_lt n (length text)) (Some n) None)) (first_space front back none)
+    ∙ ap (λ b. at (cond b (Some (length front)) None)) within
+    ∙ ap (λ n. some (n, drop (length front + 1) text)) (take-append_seam front (32 ∷ back))
+    ∙ ap (λ d. some (front, d)) (drop-append-add front (32 ∷ back) 1)
 
-named_bytes : (name : List ℕ) → is_name name ≡ true → list_all is_name_byte name ≡ true
-named_bytes name named =
-    elim (nat_le 1 (length name) && nat_le (length name) NAME_MAX) as (λ t. (t && list_all is_name_byte name) ≡ true → list_all is_name_byte name ≡ true) [
-      | true ↦ λ rest. rest
+pub name-spaceless : (name : List ℕ) → is_name name ≡ true → ¬ Contains name 32
+name-spaceless name named =
+    elim (nat_le 1 (length name) && nat_le (length name) NAME_MAX) as (λ t. (t && list_all is_name_byte name) ≡ true → ¬ Contains name 32) [
+      | true ↦ λ bytes. named-spaceless name bytes
       | false ↦ λ no. cc
     ] named
 
@@ -128,6 +131,6 @@ secret_from_digits digits secret some bytes =
 pub line_of-spelled : (line : List ℕ) (g : Given) → Spells line g → line_of line ≡ Ok (Some g)
 line_of-spelled line g s =
     ap line_of s.form
-    ∙ ap said_by (parted-space g.name s.digits (named_bytes g.name s.name))
+    ∙ ap said_by (parted-space g.name s.digits (name-spaceless g.name s.name))
     ∙ ap (λ b. cond b (given g.name (secret_of s.digits)) (Err BadName)) s.name
     ∙ ap (given g.name) (secret_from_digits s.digits g.secret s.some s.secret)

@@ -1,7 +1,7 @@
+pub mod Answers
 pub mod Fault
 pub mod Keys
 pub mod Line
 pub mod Meaning
-pub mod Refusal
 pub mod Table
 pub mod Taken

@@ -1,4 +1,4 @@
--- A line of a key file by itself, as a list of bytes without its line feed (the project's own format).
+-- A line of a key file by itself, a list of bytes without its line feed (the project's own format).
 use Rattle.std.specs.Prelude.{ℕ, ◌+◌, ◌==◌, ◌&&◌, ◌||◌, nat_le, nat_eq, Bool, true, if◌then◌else◌, List, [], ◌∷◌, length, take, drop, codes, position, Option, Some, None, option_map, Result, Ok, Err}
 use Rattle.std.specs.List.{list_all, starts_with}
 use Rattle.std.specs.Char.{is_ascii_alphanumeric}
@@ -26,13 +26,15 @@ is_space b = b == 32
 
 -- what stands before the first space, and what stands behind it
 abbrev pub parted : List ℕ → Option (List ℕ × List ℕ)
-parted rest = option_map (λ space. (take space rest, drop (space + 1) rest)) (position is_space rest)
+parted rest =
+    option_map (λ space. (take space rest, drop (space + 1) rest)) (position is_space rest)
 
 -- the name and the digits of a line `key NAME HEX`, if it has this form
 abbrev pub fields_of : List ℕ → Option (List ℕ × List ℕ)
 fields_of line = if starts_with nat_eq line (codes "key ") then parted (drop 4 line) else None
 
--- the bytes of digits, or the fault that they are not hexadecimal, of either case, two a byte (RFC 4648, section 8)
+-- the bytes of digits, or the fault that they are not hexadecimal, of either case, two a byte
+-- (RFC 4648, section 8)
 abbrev pub bytes_or_fault : Result (List ℕ) FromHexError → Result (List ℕ) LineFault
 bytes_or_fault (Ok bytes) = Ok bytes
 bytes_or_fault (Err why) = Err BadHex
@@ -54,7 +56,8 @@ given name (Err fault) = Err fault
 -- what a line with these fields says: the form is tested first, then the name, then the secret
 abbrev pub said_by : Option (List ℕ × List ℕ) → Result (Option Given) LineFault
 said_by None = Err BadLine
-said_by (Some fields) = if is_name fields.0 then given fields.0 (secret_of fields.1) else Err BadName
+said_by (Some fields) =
+    if is_name fields.0 then given fields.0 (secret_of fields.1) else Err BadName
 
 -- what a line says by itself: nothing, or a name's secret; else its first fault
 abbrev pub line_of : List ℕ → Result (Option Given) LineFault

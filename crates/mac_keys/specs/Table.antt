@@ -1,4 +1,5 @@
--- A key file as a whole: the table that its lines make, or the first of them that has a fault (the project's own format).
+-- A key file as a whole: the table that its lines make, or the first of them that has a fault
+-- (the project's own format).
 use Rattle.std.specs.Prelude.{ℕ, ◌+◌, ◌==◌, nat_le, Bool, if◌then◌else◌, List, [], ◌∷◌, take, Option, Some, None, option_map, Result, Ok, Err}
 use Rattle.std.specs.List.{filter_map, enumerate_from, slice_split}
 use Rattle.std.specs.FinMap.{from_entries, contains_key, len}
@@ -14,7 +15,7 @@ pub use Rattle.mac_keys.specs.Keys.{Keys}
 abbrev pub is_line_feed : ℕ → Bool
 is_line_feed b = b == 10
 
--- the lines: what stands between the line feeds. Behind a last line feed stands an empty line, which says nothing
+-- the lines: what stands between the line feeds; behind a last one stands an empty line
 abbrev pub lines_of : List ℕ → List (List ℕ)
 lines_of text = slice_split is_line_feed text
 
@@ -44,9 +45,11 @@ fault_below keys (Err fault) = Some fault
 fault_below keys (Ok None) = None
 fault_below keys (Ok (Some g)) = fault_of_name keys g.name
 
--- what is wrong with the line at a place, counted from 0, among lines; with its number, counted from 1
+-- what is wrong with the line at a place, counted from 0; with its number, counted from 1
 abbrev pub fault_at : List (List ℕ) → ℕ × List ℕ → Option (ℕ × LineFault)
-fault_at lines line = option_map (λ fault. (line.0 + 1, fault)) (fault_below (keys_of (take line.0 lines)) (line_of line.1))
+fault_at lines line =
+    option_map (λ fault. (line.0 + 1, fault))
+    (fault_below (keys_of (take line.0 lines)) (line_of line.1))
 
 -- the faults of all lines, in the order of the lines
 abbrev pub faults_of : List (List ℕ) → List (ℕ × LineFault)

@@ -1,14 +1,19 @@
 //! Laws of the definitions, as functions whose contracts state them.
-ghost use Rattle.std.specs.Prelude.{◌≡◌, ◌≢◌, ◌≤◌, ◌↔◌, List, ℕ, Some, Ok, Err};
+ghost use Rattle.std.specs.Prelude.{◌≡◌, ◌≢◌, ◌≤◌, ◌↔◌, List, ℕ, take, Some, Ok, Err};
 ghost use Rattle.std.specs.List.{Any};
 ghost use Rattle.std.specs.FinMap as map;
 ghost use Rattle.mac_keys.specs.declared.table.TheConstants.{NAMES_MAX};
 ghost use Rattle.mac_keys.specs.declared.fault.KeyFault.TheVariants.{Line, Memory};
 ghost use Rattle.mac_keys.specs.declared.fault.LineFault.{LineFault};
+ghost use Rattle.mac_keys.specs.declared.fault.LineFault.TheVariants.{BadName, BadHex, EmptySecret};
+ghost use Rattle.mac_keys.specs.declared.fault.LineFault.TheVariants.{Twice, TooMany, BadLine};
 ghost use Rattle.mac_keys.specs.declared.line.TheConstants.{NAME_MAX};
 ghost use Rattle.mac_keys.specs.Line.{Given, line_of};
 ghost use Rattle.mac_keys.specs.Table.{Keys, lines_of, keys_of, table_of};
 ghost use Rattle.mac_keys.specs.Meaning.{Spells, GivesKey, AreFaultless, IsFirstFault};
+ghost use Rattle.mac_keys.specs.Meaning.{fault_in_place, AreFaultlessAbove};
+ghost use Rattle.mac_keys.specs.Meaning.{IsBadLine, HasBadName, HasEmptySecret, HasBadHex};
+ghost use Rattle.mac_keys.specs.Meaning.{IsTwice, IsTooMany};
 
 /// A line gives a name a secret exactly where it spells them.
 pub fn line_gives_what_it_spells()
@@ -35,6 +40,23 @@ pub fn table_is_made_of_faultless_lines()
 pub fn first_fault_is_told()
     ensures { (text : List ℕ) (number : ℕ) (fault : LineFault) →
         (table_of text ≡ Err (Line number fault)) ↔ IsFirstFault (lines_of text) number fault }
+{}
+
+/// What each fault of a line says, in plain words; for TooMany, where no line above has a fault.
+pub fn faults_in_plain_words()
+    ensures bad_line { (lines : List (List ℕ)) (place : ℕ) (line : List ℕ) →
+        (fault_in_place lines place line ≡ Some BadLine) ↔ IsBadLine line }
+    ensures bad_name { (lines : List (List ℕ)) (place : ℕ) (line : List ℕ) →
+        (fault_in_place lines place line ≡ Some BadName) ↔ HasBadName line }
+    ensures empty_secret { (lines : List (List ℕ)) (place : ℕ) (line : List ℕ) →
+        (fault_in_place lines place line ≡ Some EmptySecret) ↔ HasEmptySecret line }
+    ensures bad_hex { (lines : List (List ℕ)) (place : ℕ) (line : List ℕ) →
+        (fault_in_place lines place line ≡ Some BadHex) ↔ HasBadHex line }
+    ensures twice { (lines : List (List ℕ)) (place : ℕ) (line : List ℕ) →
+        (fault_in_place lines place line ≡ Some Twice) ↔ IsTwice (take place lines) line }
+    ensures too_many { (lines : List (List ℕ)) (place : ℕ) (line : List ℕ) →
+        AreFaultlessAbove lines place →
+        (fault_in_place lines place line ≡ Some TooMany) ↔ IsTooMany (take place lines) line }
 {}
 
 /// No text has want of memory for its fault.

@@ -5,10 +5,11 @@
 //! name   = 1*64 (letter / digit / "." / "_" / "-")
 //! secret = 1* (digit digit), hexadecimal digits of either case
 //! ```
-ghost use Rattle.std.specs.Prelude.{◌≡◌, ◌+◌, ◌^◌, ◌<◌, length, position, option_map, IfSome};
+ghost use Rattle.std.specs.Prelude.{◌≡◌, ◌+◌, ◌^◌, ◌<◌, length, position, option_map, IfSome, IsErrOf};
 ghost use Rattle.std.specs.List.{list_all};
 ghost use Rattle.mac_keys.specs.Line.{is_ignored, is_name_byte, is_name, is_space, parted, fields_of, secret_of, line_of};
-ghost use Rattle.mac_keys.specs.Refusal.{Says, seen};
+ghost use Rattle.mac_keys.specs.Meaning.{ArePairs, HasPairs};
+ghost use Rattle.mac_keys.specs.Answers.{Answers, seen};
 ghost use Rattle.mac_keys.specs.Taken.{fault_of_line};
 ghost use Rattle.mac_keys.specs.declared.line.Refusal.TheVariants.{Memory};
 
@@ -67,7 +68,8 @@ impl<T: Drop> From<AllocFailed<T>> for Refusal {
 
 /// What a line says by itself: nothing, or a name's secret.
 pub(crate) fn read_line<'a>(alloc: Global, line: &'a [u8]) -> Result<Option<KeyLine<'a>>, Refusal>
-    ensures { Says (option_map seen) result (line_of line.now) }
+    ensures said { Answers (option_map seen) result (line_of line.now) }
+    ensures memory { IsErrOf result Refusal.Memory → HasPairs line.now }
 {
     if is_ignored(line) {
         return Ok(None);
@@ -133,7 +135,8 @@ fn is_name_byte(byte: u8) -> bool
 
 /// The bytes of a secret.
 fn secret(alloc: Global, digits: &[u8]) -> Result<Vec<u8>, Refusal>
-    ensures { Says (λ secret. secret.items) result (secret_of digits.now) }
+    ensures said { Answers (λ secret. secret.items) result (secret_of digits.now) }
+    ensures memory { IsErrOf result Refusal.Memory → ArePairs digits.now }
 {
     if digits.is_empty() {
         return Err(Refusal::Line(LineFault::EmptySecret));

@@ -1,9 +1,10 @@
 //! The table of a key file.
-ghost use Rattle.std.specs.Prelude.{◌≡◌, ◌⊎◌, IfOk, IfErr, OnOk, OnErr, option_copied};
+ghost use Rattle.std.specs.Prelude.{◌≡◌, ◌⊎◌, IfOk, IfErr, OnOk, OnErr, IsErrOf, option_copied};
 ghost use Rattle.std.specs.FinMap as map;
 ghost use Rattle.mac_keys.specs.Line.{line_of};
 ghost use Rattle.mac_hmac.specs.Chain.{root_of};
-ghost use Rattle.mac_keys.specs.Table.{table_of, fault_below, fault_of_name};
+ghost use Rattle.mac_keys.specs.Table.{lines_of, table_of, fault_below, fault_of_name};
+ghost use Rattle.mac_keys.specs.Meaning.{HasPairs, TakeMemory};
 ghost use Rattle.mac_keys.specs.Taken.{keys_with, IsFor};
 ghost use Rattle.mac_keys.specs.declared.fault.KeyFault.TheVariants.{Memory};
 
@@ -43,6 +44,7 @@ impl KeyTable {
     pub fn read(alloc: Global, text: &[u8]) -> Result<KeyTable, KeyFault>
         ensures table { IfOk result (λ table. table_of text.now ≡ Ok table) }
         ensures fault { IfErr result (λ fault. (fault ≡ Memory) ⊎ (table_of text.now ≡ Err fault)) }
+        ensures memory { IsErrOf result Memory → TakeMemory (lines_of text.now) }
     {
         let mut table = KeyTable {
             keys: BTreeMap::new(alloc),
@@ -74,6 +76,7 @@ impl KeyTable {
         ensures ok { OnOk result ((fault_below self.old (line_of line.now) ≡ None)
             × (self.new ≡ keys_with self.old (line_of line.now))) }
         ensures fault { IfErr result (IsFor (fault_below self.old (line_of line.now))) }
+        ensures memory { IsErrOf result Refusal.Memory → HasPairs line.now }
     {
         match read_line(alloc, line)? {
             Some(given) => self.put(alloc, given.name, &given.secret),
@@ -86,6 +89,7 @@ impl KeyTable {
         ensures ok { OnOk result ((fault_of_name self.old name.now ≡ None)
             × (self.new ≡ map.insert self.old name.now (root_of secret.now))) }
         ensures fault { IfErr result (IsFor (fault_of_name self.old name.now)) }
+        ensures memory { IsErrOf result Refusal.Memory → fault_of_name self.old name.now ≡ None }
     {
         if self.keys.contains_key(name) {
             return Err(Refusal::Line(LineFault::Twice));

@@ -15,6 +15,16 @@ returns-then-len-ge-NAMES_MAX-clause-fault c =
     (contains_key-by_name c.self.inside.keys.entries _ _ _ c.self.view_is c.if-contains_key.ensures)
     (omega arith)
 
+pub returns-in_err-name-clause-memory : goal.returns-in_err-name-clause-memory
+returns-in_err-name-clause-memory c memory =
+    let counted : map.len c.args.self.now ≡ c.len.result = len-seen c.self.inside.keys.entries _ _ c.self.view_is c.len.ensures.ordered c.len.ensures.len in
+    fault_of_name-none _ _ (contains_key-by_name c.self.inside.keys.entries c.args.self.now c.args.name.now false c.self.view_is c.if-contains_key.ensures) (omega arith)
+
+pub returns-in_err-insert-clause-memory : goal.returns-in_err-insert-clause-memory
+returns-in_err-insert-clause-memory c memory =
+    let counted : map.len c.args.self.now ≡ c.len.result = len-seen c.self.inside.keys.entries _ _ c.self.view_is c.len.ensures.ordered c.len.ensures.len in
+    fault_of_name-none _ _ (contains_key-by_name c.self.inside.keys.entries c.args.self.now c.args.name.now false c.self.view_is c.if-contains_key.ensures) (omega arith)
+
 pub returns-clause-ok : goal.returns-clause-ok
 returns-clause-ok c =
     let counted : map.len c.args.self.now ≡ c.len.result = len-seen c.self.inside.keys.entries _ _ c.self.view_is c.len.ensures.ordered c.len.ensures.len in

@@ -12,9 +12,9 @@ Refuses (Line fault) said = said ≡ Err fault
 Refuses Memory said = Unit {0}
 
 -- the answer, seen by view, is what the definition gives, unless memory runs out
-abbrev pub Says : {X Y : Type 0} → (X → Y) → Result X Refusal → Result Y LineFault → Type 0
-Says view (Ok x) said = said ≡ Ok (view x)
-Says view (Err refusal) said = Refuses refusal said
+abbrev pub Answers : {X Y : Type 0} → (X → Y) → Result X Refusal → Result Y LineFault → Type 0
+Answers view (Ok x) said = said ≡ Ok (view x)
+Answers view (Err refusal) said = Refuses refusal said
 
 -- what a line gives, apart from where its bytes lie
 abbrev pub seen : KeyLine → Given
