@@ -1,5 +1,5 @@
 -- What is answered with bytes is read again as the token that was asked for.
-use Rattle.std.proofs.Common.{◌≡◌, ◌↔◌, ℕ, zero, suc, ◌≤◌, List, [], ◌∷◌, ◌++◌, length, slice_index, Option, Some, None, Result, Ok, Err, Bool, true, false, if◌then◌else◌, refl, sym, ap, ◌∙◌, subst, arith}
+use Rattle.std.proofs.Common.{◌≡◌, ◌↔◌, ℕ, zero, suc, ◌≤◌, List, [], ◌∷◌, ◌++◌, length, Option, Some, None, Result, Ok, Err, Bool, true, false, if◌then◌else◌, refl, sym, ap, ◌∙◌, subst, arith}
 use Rattle.std.specs.Prelude.{nat_lt, option_and_then}
 use Rattle.std.specs.Int.{w16, to_be_bytes}
 use Rattle.std.specs.List.{All, flat_map}
@@ -8,20 +8,20 @@ use Rattle.std.specs.FinMap as map
 use Rattle.std.proofs.lemmas.Bool.{ltb-false}
 use Rattle.std.proofs.lemmas.List.Elements.{All-nil, All-cons, All-append}
 use Rattle.mac_hmac.specs.Hmac.{hmac}
-use Rattle.mac_hmac.specs.Chain.{chain, extended}
+use Rattle.mac_hmac.specs.Chain.{extended}
 use Rattle.mac_hmac.proofs.DigestLemmas.{hmac-length, hmac-bytes}
 use Rattle.mac_keys.specs.Table.{Keys}
-use Rattle.mac_token.specs.Limits.{is_within, within}
+use Rattle.mac_token.specs.Limits.{is_within, token_or_limit}
 use Rattle.mac_token.specs.RawToken.{TokenParts, IsToken}
 use Rattle.mac_token.specs.Read.{read_of}
-use Rattle.mac_token.specs.Written.{written, write_of}
+use Rattle.mac_token.specs.Written.{token_bytes, write_of}
 use Rattle.mac_token.specs.declared.fault.TokenRefusal.{TokenRefusal}
 use Rattle.mac_token.specs.declared.fault.TokenRefusal.TheVariants.{Limit}
 use Rattle.mac_token.specs.declared.form.Form.{Form}
 use Rattle.mac_token.specs.declared.limits.TheConstants.{TOKEN_MAX}
 use Rattle.mac_token.proofs.Within.{is_within-Decides}
 use Rattle.mac_token.proofs.WrittenLaws.{written_read}
-use Rattle.mac_wire.specs.Request.{Asked, mint, attenuate, verify, Asks, IsBytes, key_of, payload_of, form_code, short_field, long_field, counted_fields}
+use Rattle.mac_wire.specs.Request.{Asked, mint, attenuate, verify, Asks, IsBytes, key_of, payload_of, short_field, long_field, counted_fields}
 use Rattle.mac_wire.specs.declared.arrival.Arrival.TheVariants.{Payload}
 use Rattle.mac_wire.specs.declared.reply.Reply.{Reply}
 use Rattle.mac_wire.specs.declared.reply.Reply.TheVariants as reply
@@ -49,9 +49,9 @@ short_by_test : (out bytes : List ℕ) (long : Bool) → nat_lt TOKEN_MAX (lengt
 short_by_test out bytes true test e = absurd (cc)
 short_by_test out bytes false test e = (ltb-false TOKEN_MAX (length out) test, cc)
 
-write_of-bytes : (t : TokenParts) (form : Form) (bytes : List ℕ) → write_of t form ≡ Ok bytes → (length (written t form) ≤ TOKEN_MAX) × (written t form ≡ bytes)
+write_of-bytes : (t : TokenParts) (form : Form) (bytes : List ℕ) → write_of t form ≡ Ok bytes → (length (token_bytes t form) ≤ TOKEN_MAX) × (token_bytes t form ≡ bytes)
 unfolding write_of
-write_of-bytes t form bytes e = short_by_test (written t form) bytes (nat_lt TOKEN_MAX (length (written t form))) refl e
+write_of-bytes t form bytes e = short_by_test (token_bytes t form) bytes (nat_lt TOKEN_MAX (length (token_bytes t form))) refl e
 
 same-bytes : (a b : List ℕ) → reply.Token a ≡ reply.Token b → a ≡ b
 same-bytes a b e = cc
@@ -59,12 +59,12 @@ same-bytes a b e = cc
 -- the bytes of a token that was made are read as it
 pub token_reply-read : (form : TokenForm) (t : TokenParts) (bytes : List ℕ) → IsToken t → token_reply form t ≡ reply.Token bytes → read_of bytes ≡ Ok t
 token_reply-read form t bytes is e =
-    let (u, fits, told) = told-bytes (within t) (written_reply form) bytes e in
+    let (u, fits, told) = told-bytes (token_or_limit t) (written_reply form) bytes e in
     let (test, same) = fits_by_test t u (is_within t) refl fits in
     let (out, wrote, given) = told-bytes (write_of u (form_of form)) reply.Token bytes told in
     let (short, is_out) = write_of-bytes u (form_of form) out wrote in
-    let whole : written t (form_of form) ≡ bytes = ap (λ v. written v (form_of form)) same ∙ is_out ∙ same-bytes out bytes given in
-    let small : length (written t (form_of form)) ≤ TOKEN_MAX = subst (λ v. length (written v (form_of form)) ≤ TOKEN_MAX) (sym same) short in
+    let whole : token_bytes t (form_of form) ≡ bytes = ap (λ v. token_bytes v (form_of form)) same ∙ is_out ∙ same-bytes out bytes given in
+    let small : length (token_bytes t (form_of form)) ≤ TOKEN_MAX = subst (λ v. length (token_bytes v (form_of form)) ≤ TOKEN_MAX) (sym same) short in
     subst (λ b. read_of b ≡ Ok t) whole (written_read t (form_of form) is ((is_within-Decides t).0 test) small)
 
 -- ---- the bytes of a payload

@@ -1,11 +1,11 @@
 -- A token is made bare, and then its caveats are added.
-use Rattle.std.proofs.Common.{◌≡◌, ℕ, ◌+◌, ◌<◌, nat_le, List, [], ◌∷◌, ◌++◌, take, length, get_or, Vec, Global, Bool, true, false, ◌&&◌, if◌then◌else◌, inl, inr, Ok, Err, refl, sym, ap, ◌∙◌}
+use Rattle.std.proofs.Common.{◌≡◌, ℕ, ◌+◌, ◌<◌, nat_le, List, [], ◌∷◌, ◌++◌, take, length, get_or, Vec, Global, Bool, true, false, ◌&&◌, if◌then◌else◌, Ok, Err, refl, sym, ap, ◌∙◌}
 use Rattle.std.specs.List.{list_all}
 use Rattle.std.proofs.lemmas.List.{take_more, map-append}
 use Rattle.mac_hmac.specs.Chain.{extended}
 use Rattle.mac_hmac.proofs.ChainLemmas.{extended-append}
 use Rattle.mac_token.specs.Answers.{IsFault}
-use Rattle.mac_token.specs.Limits.{is_within, within}
+use Rattle.mac_token.specs.Limits.{is_within, token_or_limit}
 use Rattle.mac_token.specs.RawToken.{TokenParts, byte_lists}
 use Rattle.mac_token.specs.declared.limits.TheConstants.{LOCATION_MAX, IDENTIFIER_MAX, CAVEAT_MAX, CAVEATS_MAX}
 use Rattle.mac_token.specs.declared.fault.TokenFault.{TokenFault}
@@ -36,7 +36,7 @@ is_within-bare key location identifier caveats h =
     (nat_le (length caveats) CAVEATS_MAX) (list_all (λ caveat. nat_le (length caveat) CAVEAT_MAX) caveats) refl refl h
 
 -- a limit of the bare token is one of the token with its caveats
-limit-by_test : (key location identifier : List ℕ) (caveats : List (List ℕ)) (b : Bool) → is_within (minted key location identifier []) ≡ b → (if b then Ok (minted key location identifier []) else Err Limit) ≡ Err Limit → within (minted key location identifier caveats) ≡ Err Limit
+limit-by_test : (key location identifier : List ℕ) (caveats : List (List ℕ)) (b : Bool) → is_within (minted key location identifier []) ≡ b → (if b then Ok (minted key location identifier []) else Err Limit) ≡ Err Limit → token_or_limit (minted key location identifier caveats) ≡ Err Limit
 limit-by_test key location identifier caveats true test e = absurd (cc)
 limit-by_test key location identifier caveats false test e = rw (is_within-bare key location identifier caveats test)
 
@@ -46,7 +46,7 @@ only_limit t true refusal e = absurd (cc)
 only_limit t false refusal e = cc
 
 -- what refuses the bare token refuses the token with its caveats
-pub refused-whole : (key location identifier : List ℕ) (caveats : List (List ℕ)) (fault : TokenFault) → IsFault fault (within (minted key location identifier [])) → IsFault fault (within (minted key location identifier caveats))
+pub refused-whole : (key location identifier : List ℕ) (caveats : List (List ℕ)) (fault : TokenFault) → IsFault fault (token_or_limit (minted key location identifier [])) → IsFault fault (token_or_limit (minted key location identifier caveats))
 refused-whole key location identifier caveats Memory e = tt
 refused-whole key location identifier caveats (Refused refusal) e =
     let bare = minted key location identifier [] in

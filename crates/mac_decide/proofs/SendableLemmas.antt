@@ -4,10 +4,10 @@ use Rattle.std.specs.Prelude.{nat_lt, nat_le}
 use Rattle.std.specs.List.{list_all, slice_get}
 use Rattle.std.proofs.lemmas.Bool.{ltb-false, leb-true}
 use Rattle.std.proofs.lemmas.Option.{slice_get_within}
-use Rattle.mac_token.specs.Limits.{is_within, within}
+use Rattle.mac_token.specs.Limits.{is_within, token_or_limit}
 use Rattle.mac_token.specs.RawToken.{RawParts, TokenParts}
 use Rattle.mac_token.specs.Read.{parts_of, raw_read_of, token_of, token_of_read, read_of}
-use Rattle.mac_token.specs.Written.{written, write_of}
+use Rattle.mac_token.specs.Written.{token_bytes, write_of}
 use Rattle.mac_token.specs.declared.fault.TokenRefusal.{TokenRefusal}
 use Rattle.mac_token.specs.declared.fault.TokenRefusal.TheVariants.{ThirdParty, CaveatLocation, Limit}
 use Rattle.mac_token.specs.declared.form.Form.{Form}
@@ -50,20 +50,20 @@ short_if false out bytes test e =
 
 pub written-short : (t : TokenParts) (form : Form) (bytes : List ℕ) → write_of t form ≡ Ok bytes → length bytes ≤ TOKEN_MAX
 unfolding write_of
-written-short t form bytes e = short_if (nat_lt TOKEN_MAX (length (written t form))) (written t form) bytes refl e
+written-short t form bytes e = short_if (nat_lt TOKEN_MAX (length (token_bytes t form))) (token_bytes t form) bytes refl e
 
 pub written-sent : (form : TokenForm) (t : TokenParts) → IsReply (written_reply form t)
 written-sent form t = told-sent (write_of t (form_of form)) reply.Token (λ bytes e. written-short t (form_of form) bytes e)
 
 pub token-sent : (form : TokenForm) (t : TokenParts) → IsReply (token_reply form t)
-token-sent form t = told-sent (within t) (written_reply form) (λ u e. written-sent form u)
+token-sent form t = told-sent (token_or_limit t) (written_reply form) (λ u e. written-sent form u)
 
 -- a token that is read has few caveats
 few_if : (t u : TokenParts) (fits : Bool) → is_within t ≡ fits → (if fits then Ok t else Err Limit) ≡ Ok u → is_within u ≡ true
 few_if t u true test e = let same : t ≡ u = cc in rw same at test
 few_if t u false test e = absurd (cc)
 
-token_of-within : (any_vid any_location : Bool) (t u : TokenParts) → (if any_vid then Err ThirdParty else if any_location then Err CaveatLocation else within t) ≡ Ok u → is_within u ≡ true
+token_of-within : (any_vid any_location : Bool) (t u : TokenParts) → (if any_vid then Err ThirdParty else if any_location then Err CaveatLocation else token_or_limit t) ≡ Ok u → is_within u ≡ true
 token_of-within true any_location t u e = absurd (cc)
 token_of-within false true t u e = absurd (cc)
 token_of-within false false t u e = few_if t u (is_within t) refl e

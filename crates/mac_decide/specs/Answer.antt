@@ -3,7 +3,7 @@ use Rattle.std.specs.Prelude.{◌≡◌, ℕ, List, Option, Some, None, option_a
 use Rattle.std.specs.FinMap as map
 use Rattle.mac_keys.specs.Table.{Keys}
 use Rattle.mac_token.specs.RawToken.{TokenParts}
-use Rattle.mac_token.specs.Limits.{within}
+use Rattle.mac_token.specs.Limits.{token_or_limit}
 use Rattle.mac_token.specs.Read.{read_of}
 use Rattle.mac_token.specs.Written.{write_of}
 use Rattle.mac_token.specs.declared.form.Form.{Form}
@@ -58,7 +58,7 @@ written_reply form t = told (write_of t (form_of form)) reply.Token
 
 -- the reply with a token that was made: Limit where a limit of its parts is passed
 abbrev pub token_reply : TokenForm → TokenParts → Reply
-token_reply form t = told (within t) (written_reply form)
+token_reply form t = told (token_or_limit t) (written_reply form)
 
 -- the reply of a verdict
 abbrev pub verdict_reply : Verdict → Reply
@@ -69,11 +69,14 @@ verdict_reply (verdict.Unsatisfied index) = reply.Unsatisfied index
 -- the reply to a request, under the key that its name has
 abbrev pub request_reply : Asked → Option (List ℕ) → Reply
 request_reply (mint form name location identifier caveats) None = refused refusal.UnknownKey
-request_reply (mint form name location identifier caveats) (Some key) = token_reply form (minted key location identifier caveats)
-request_reply (attenuate form token caveats) key = told (read_of token) (λ t. token_reply form (add t caveats))
+request_reply (mint form name location identifier caveats) (Some key) =
+    token_reply form (minted key location identifier caveats)
+request_reply (attenuate form token caveats) key =
+    told (read_of token) (λ t. token_reply form (add t caveats))
 request_reply (verify name token moment facts) None = refused refusal.UnknownKey
 request_reply (verify name token moment facts) (Some key) =
-    told (read_of token) (λ t. verdict_reply (verdict_of key t (record { moment = moment; facts = facts })))
+    let context : Context = record { moment = moment; facts = facts } in
+    told (read_of token) (λ t. verdict_reply (verdict_of key t context))
 
 -- the reply to what a payload asks, if it asks something
 abbrev pub asked_reply : Option Asked → Option (List ℕ) → Reply
@@ -86,8 +89,8 @@ reply_of arrival.Oversize key = refused refusal.FrameTooLong
 reply_of (arrival.Payload payload) key = asked_reply (request_of payload) key
 
 -- this reply was given, and it can be sent, unless memory ran out
-abbrev pub Replies : {E : Type 0} → Result Reply E → Reply → Type 0
-Replies result wanted = IfOk result (λ given. (given ≡ wanted) × IsReply given)
+abbrev pub Answers : {E : Type 0} → Result Reply E → Reply → Type 0
+Answers result wanted = IfOk result (λ given. (given ≡ wanted) × IsReply given)
 
 -- only a payload is read and answered with memory
 abbrev pub TakesMemory : Arrival → Type 0
@@ -105,7 +108,8 @@ pub record IsGranted (key : Option (List ℕ)) (bytes : List ℕ) (x : Context) 
 -- the key that a table has for the name in an arrival's front
 abbrev pub key_for : Keys → Arrival → Option (List ℕ)
 key_for table arrival.Oversize = None
-key_for table (arrival.Payload payload) = option_and_then (λ name. map.get table name) (key_name_of payload)
+key_for table (arrival.Payload payload) =
+    option_and_then (λ name. map.get table name) (key_name_of payload)
 
 -- the answer to an arrival under a table
 unfoldable pub answer_of : Keys → Arrival → Reply

@@ -10,8 +10,9 @@ Minted key t = t.sig ≡ chain key t.identifier t.caveats
 
 -- the token of these parts under the key
 abbrev pub minted : List ℕ → List ℕ → List ℕ → List (List ℕ) → TokenParts
-minted key location identifier caveats = token_parts location identifier caveats (chain key identifier caveats)
+minted key location identifier caveats =
+    token_parts location identifier caveats (chain key identifier caveats)
 
--- the token with these caveats added: each is folded onto the token's own signature, so no key is asked for
+-- the token with these caveats added, each folded onto its own signature: no key is asked for
 abbrev pub add : TokenParts → List (List ℕ) → TokenParts
 add t caveats = with_caveats t caveats (extended t.sig caveats)

@@ -6,14 +6,22 @@ use Rattle.jiff.specs.Types.{Date}
 use Rattle.mac_hmac.specs.Chain.{chain}
 use Rattle.mac_token.specs.RawToken.{TokenParts}
 use Rattle.mac_decide.specs.Calendar.{is_date, year_in, month_in, day_in}
-use Rattle.mac_decide.specs.Time.{Stamp, unix_second, two_digits, date_text, clock_text}
+use Rattle.mac_decide.specs.Time.{Stamp, unix_second, two_digits, limit_text}
 use Rattle.mac_decide.specs.declared.context.Context.{Context}
 use Rattle.mac_decide.specs.declared.verdict.Verdict.{Verdict}
 use Rattle.mac_decide.specs.declared.verdict.Verdict.TheVariants.{Granted, BadSignature, Unsatisfied}
 
 -- the date of a year, a month and a day, where the calendar has it
 abbrev pub date_if : (y m d : ℕ) (b : Bool) → is_date y m d ≡ b → Option Date
-date_if y m d true h = Some (record { year = pos y; month = m; day = d; year_in = year_in y m d h; month_in = month_in y m d h; day_in = day_in y m d h })
+date_if y m d true h =
+    Some (record {
+      year = pos y;
+      month = m;
+      day = d;
+      year_in = year_in y m d h;
+      month_in = month_in y m d h;
+      day_in = day_in y m d h;
+    })
 date_if y m d false h = None
 
 abbrev pub date_of : ℕ → ℕ → ℕ → Option Date
@@ -23,9 +31,11 @@ date_of y m d = date_if y m d (is_date y m d) refl
 abbrev pub two_at : List ℕ → ℕ → ℕ
 two_at text i = 10 * (slice_index text i - 48) + (slice_index text (i + 1) - 48)
 
--- the time of day at the places that a time limit has for it: nothing at the place of the second reads as 0
+-- the time of day at the places that a time limit has for it; where none stands for the second, it
+-- reads as 0
 abbrev pub stamp_at : List ℕ → Date → Stamp
-stamp_at text d = record { date = d; hour = two_at text 18; minute = two_at text 21; second = two_at text 24 }
+stamp_at text d =
+    record { date = d; hour = two_at text 18; minute = two_at text 21; second = two_at text 24 }
 
 -- the endings that leave out a second of 0
 abbrev pub short_endings : ℕ → List (List ℕ)
@@ -39,16 +49,19 @@ endings n = (codes ":" ++ two_digits n) ∷ (codes ":" ++ two_digits n ++ codes 
 -- whether the text is a time limit at that stamp
 abbrev pub is_limit_at : List ℕ → Stamp → Bool
 is_limit_at text t = nat_lt t.hour 24 && nat_lt t.minute 60 && nat_lt t.second 60
-    && list_any (λ ending. bytes_eq text (codes "time < " ++ date_text t.date ++ codes "T" ++ clock_text t.hour t.minute ++ ending)) (endings t.second)
+    && list_any (λ ending. bytes_eq text (limit_text t ending)) (endings t.second)
 
 -- the second of the time limit, at the date that was read
 abbrev pub limit_on : List ℕ → Option Date → Option ℤ
 limit_on text None = None
-limit_on text (Some d) = if is_limit_at text (stamp_at text d) then Some (unix_second (stamp_at text d)) else None
+limit_on text (Some d) =
+    if is_limit_at text (stamp_at text d) then Some (unix_second (stamp_at text d)) else None
 
--- the second of a time limit: its numbers stand at their places, and the whole text is what they spell
+-- the second of a time limit: its numbers stand at their places, and the text is what they spell
 unfoldable pub limit_of : List ℕ → Option ℤ
-limit_of text = limit_on text (date_of (100 * two_at text 7 + two_at text 9) (two_at text 12) (two_at text 15))
+limit_of text =
+    let year = 100 * two_at text 7 + two_at text 9 in
+    limit_on text (date_of year (two_at text 12) (two_at text 15))
 
 -- whether the moment is below the limit, where there is one
 abbrev pub is_below : ℕ → Option ℤ → Bool
@@ -62,8 +75,11 @@ is_satisfied caveat x = list_any (bytes_eq caveat) x.facts || is_below x.moment 
 -- the verdict on the caveats from an index on
 unfoldable pub caveats_verdict : Context → ℕ → List (List ℕ) → Verdict
 caveats_verdict x index [] = Granted
-caveats_verdict x index (caveat ∷ caveats) = if is_satisfied caveat x then caveats_verdict x (index + 1) caveats else Unsatisfied index
+caveats_verdict x index (caveat ∷ caveats) =
+    if is_satisfied caveat x then caveats_verdict x (index + 1) caveats else Unsatisfied index
 
 -- the verdict on a token
 unfoldable pub verdict_of : List ℕ → TokenParts → Context → Verdict
-verdict_of key t x = if bytes_eq t.sig (chain key t.identifier t.caveats) then caveats_verdict x 0 t.caveats else BadSignature
+verdict_of key t x =
+    if bytes_eq t.sig (chain key t.identifier t.caveats) then caveats_verdict x 0 t.caveats
+    else BadSignature

@@ -33,11 +33,17 @@ four_digits n = two_digits (n / 100) ++ two_digits (n % 100)
 -- YYYY-MM-DD, as in ISO 8601
 abbrev pub date_text : Date → List ℕ
 date_text d =
-    four_digits (unsigned_abs d.year) ++ codes "-" ++ two_digits d.month ++ codes "-" ++ two_digits d.day
+    four_digits (unsigned_abs d.year) ++ codes "-" ++ two_digits d.month
+    ++ codes "-" ++ two_digits d.day
 
 -- HH:MM
 abbrev pub clock_text : ℕ → ℕ → List ℕ
 clock_text hour minute = two_digits hour ++ codes ":" ++ two_digits minute
+
+-- the text of a time limit at a stamp, with what follows the minute
+abbrev pub limit_text : Stamp → List ℕ → List ℕ
+limit_text t ending =
+    codes "time < " ++ date_text t.date ++ codes "T" ++ clock_text t.hour t.minute ++ ending
 
 -- :SS, or nothing where the second is 0
 abbrev pub SpellsSecond : ℕ → List ℕ → Type 0
@@ -50,14 +56,15 @@ MarksUtc text = (text ≡ codes "Z") ⊎ (text ≡ [])
 -- what may follow the minute
 abbrev pub IsEnding : ℕ → List ℕ → Type 0
 IsEnding n text =
-    (second : List ℕ) × (zone : List ℕ) × SpellsSecond n second × MarksUtc zone × (text ≡ second ++ zone)
+    (second : List ℕ) × (zone : List ℕ) × SpellsSecond n second × MarksUtc zone
+    × (text ≡ second ++ zone)
 
 -- the text is a time limit at that stamp
 pub record IsLimitAt (text : List ℕ) (t : Stamp) : Type 0 where
   pub writable : IsWritable t
   pub ending : List ℕ
   pub is_ending : IsEnding t.second ending
-  pub is_text : text ≡ codes "time < " ++ date_text t.date ++ codes "T" ++ clock_text t.hour t.minute ++ ending
+  pub is_text : text ≡ limit_text t ending
 
 -- the text is a time limit, and v is its second
 abbrev pub IsTimeLimit : List ℕ → ℤ → Type 0

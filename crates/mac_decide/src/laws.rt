@@ -1,8 +1,8 @@
 //! Laws of the definitions, as functions whose contracts state them.
 
-ghost use Rattle.std.specs.Prelude.{◌≡◌, ◌↔◌, ℕ, ℤ, List, ◌++◌, Option, All, Contains, slice_get, map as map_list};
+ghost use Rattle.std.specs.Prelude.{◌≡◌, ◌↔◌, ℕ, ℤ, List, ◌++◌, Option, All, Contains, map as map_list};
 ghost use Rattle.mac_lane.specs.declared.event.Event as event;
-ghost use Rattle.mac_lane.specs.History.{IsBeginningOf, reached};
+ghost use Rattle.mac_lane.specs.History.{IsBeginningOf, Reaches};
 ghost use Rattle.mac_lane.specs.State.{Connection};
 ghost use Rattle.mac_token.specs.RawToken.{TokenParts, IsToken};
 ghost use Rattle.mac_token.specs.Read.{read_of};
@@ -122,8 +122,7 @@ pub fn world_sends_answers()
     ensures { (table : Keys) (connections workers number : ℕ)
         (events : List (event.Event Macaroons PlainJob PlainReply))
         (link : Connection PlainJob PlainReply) (arrivals : List PlainArrival)
-        → slice_get (reached ⟦<Macaroons as Service>⟧.reply_to connections workers events).connections
-        number ≡ Some link
+        → Reaches ⟦<Macaroons as Service>⟧.reply_to connections workers events number link
         → link.arrived ≡ map_list (job_under table) arrivals
         → IsBeginningOf link.sent (map_list (answer_of table) arrivals) }
 {}

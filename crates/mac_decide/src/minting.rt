@@ -1,19 +1,19 @@
 //! Tokens made under a key, and narrowed without it.
 
-ghost use Rattle.std.specs.Prelude.{◌≡◌, []};
+ghost use Rattle.std.specs.Prelude.{◌≡◌, [], IsErrOf};
 ghost use Rattle.mac_hmac.specs.Chain.{extended};
 ghost use Rattle.mac_token.specs.Answers.{Answers};
-ghost use Rattle.mac_token.specs.Limits.{within};
+ghost use Rattle.mac_token.specs.Limits.{PartsFit, token_or_limit};
 ghost use Rattle.mac_token.specs.Push.{Pushes};
 ghost use Rattle.mac_token.specs.RawToken.{byte_lists};
 ghost use Rattle.mac_decide.specs.Minted.{minted, add};
 
 use mac_hmac::{RootKey, Sig, extend, start};
-use mac_token::{Token, TokenFault};
+use mac_token::{Token, TokenFault, TokenRefusal, is_within};
 use std::alloc::Global;
 
-/// The token of these parts, signed under the key: `Limit` where a limit is passed. It costs the
-/// bytes that it is handed, each hashed and copied once.
+/// The token of these parts, signed under the key. `Limit` where a limit is passed, tested before
+/// anything is hashed or copied; then it costs the bytes that it is handed, each of both once.
 pub fn mint(
     alloc: Global,
     key: &RootKey,
@@ -21,9 +21,14 @@ pub fn mint(
     identifier: &[u8],
     caveats: &[Vec<u8>],
 ) -> Result<Token, TokenFault>
-    ensures { Answers (λ t. t) result
-        (within (minted key.now location.now identifier.now (byte_lists caveats.now))) }
+    ensures answer { Answers (λ t. t) result
+        (token_or_limit (minted key.now location.now identifier.now (byte_lists caveats.now))) }
+    ensures memory { IsErrOf result TokenFault.Memory
+        → PartsFit location.now identifier.now (byte_lists caveats.now) }
 {
+    if !is_within(location, identifier, caveats) {
+        return Err(TokenFault::Refused(TokenRefusal::Limit));
+    }
     match bare(alloc, key, location, identifier) {
         Ok(token) => match attenuate(alloc, token, caveats) {
             Ok(token) => Ok(token),
@@ -40,7 +45,8 @@ fn bare(
     location: &str,
     identifier: &[u8],
 ) -> Result<Token, TokenFault>
-    ensures { Answers (λ t. t) result (within (minted key.now location.now identifier.now [])) }
+    ensures { Answers (λ t. t) result
+        (token_or_limit (minted key.now location.now identifier.now [])) }
 {
     let signature = start(key, identifier);
     let location = String::from_str(alloc, location)?;

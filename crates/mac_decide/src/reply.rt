@@ -8,6 +8,7 @@ ghost use Rattle.mac_wire.specs.Reply.{IsReply};
 ghost use Rattle.mac_wire.specs.Request.{Asks, verify, asked as asked_of};
 ghost use Rattle.mac_decide.specs.Minted.{minted, add};
 ghost use Rattle.mac_decide.specs.Reading.{verdict_of};
+ghost use Rattle.mac_decide.specs.Answer.{Answers};
 ghost use Rattle.mac_decide.specs.Answer as answers;
 
 use crate::context::Context;
@@ -38,7 +39,7 @@ pub fn answer(alloc: Global, job: &Job) -> Result<Reply, NoMemory>
 
 #[tactic(auto, unfolding(crate::specs::Answer::reply_of))]
 fn arrival_reply(alloc: Global, arrival: &Arrival, key: Option<RootKey>) -> Result<Reply, NoMemory>
-    ensures reply { answers.Replies result (answers.reply_of arrival.now key) }
+    ensures reply { Answers result (answers.reply_of arrival.now key) }
     ensures memory { OnErr result (answers.TakesMemory arrival.now) }
 {
     match arrival {
@@ -55,7 +56,7 @@ fn refused(reason: Refusal) -> Reply
 }
 
 fn payload_reply(alloc: Global, payload: &[u8], key: Option<RootKey>) -> Result<Reply, NoMemory>
-    ensures { answers.Replies result (answers.asked_reply (request_of payload.now) key) }
+    ensures { Answers result (answers.asked_reply (request_of payload.now) key) }
 {
     match parse_request(alloc, payload) {
         Ok(request) => request_reply(alloc, request, key),
@@ -69,7 +70,7 @@ fn request_reply(
     request: Request<'_>,
     key: Option<RootKey>,
 ) -> Result<Reply, NoMemory>
-    ensures { answers.Replies result (answers.request_reply (asked_of request.entry) key) }
+    ensures { Answers result (answers.request_reply (asked_of request.entry) key) }
 {
     match request {
         Request::Mint {
@@ -107,7 +108,7 @@ fn mint_reply(
     identifier: &[u8],
     caveats: &[Vec<u8>],
 ) -> Result<Reply, NoMemory>
-    ensures { answers.Replies result (answers.token_reply form
+    ensures { Answers result (answers.token_reply form
         (minted key.now location.now identifier.now (byte_lists caveats.now))) }
 {
     match mint(alloc, key, location, identifier, caveats) {
@@ -123,7 +124,7 @@ fn attenuate_reply(
     token: &[u8],
     caveats: &[Vec<u8>],
 ) -> Result<Reply, NoMemory>
-    ensures { answers.Replies result (answers.told (read_of token.now)
+    ensures { Answers result (answers.told (read_of token.now)
         (λ t. answers.token_reply form (add t (byte_lists caveats.now)))) }
 {
     match read(alloc, token) {
@@ -139,7 +140,7 @@ fn narrowed_reply(
     token: Token,
     caveats: &[Vec<u8>],
 ) -> Result<Reply, NoMemory>
-    ensures { answers.Replies result
+    ensures { Answers result
         (answers.token_reply form (add token (byte_lists caveats.now))) }
 {
     match attenuate(alloc, token, caveats) {
@@ -155,7 +156,7 @@ fn verify_reply(
     token: &[u8],
     context: &Context,
 ) -> Result<Reply, NoMemory>
-    ensures { answers.Replies result (answers.told (read_of token.now)
+    ensures { Answers result (answers.told (read_of token.now)
         (λ t. answers.verdict_reply (verdict_of key.now t context.now))) }
 {
     match read(alloc, token) {
@@ -177,7 +178,7 @@ fn verdict_reply(verdict: Verdict) -> Reply
 }
 
 fn written_reply(alloc: Global, form: TokenForm, token: &Token) -> Result<Reply, NoMemory>
-    ensures { answers.Replies result (answers.written_reply form token.now) }
+    ensures { Answers result (answers.written_reply form token.now) }
 {
     match write(alloc, token, form_of(form)) {
         Ok(bytes) => Ok(Reply::Token(Bytes::new(bytes))),

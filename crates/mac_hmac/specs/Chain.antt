@@ -1,6 +1,6 @@
--- Keys and signatures of macaroons: the chain of HMACs of Birgisson et al., "Macaroons: Cookies with
--- Contextual Caveats for Decentralized Authorization in the Cloud" (NDSS 2014), under the key that
--- libmacaroons derives from a secret.
+-- Keys and signatures of macaroons: the chain of HMACs of Birgisson et al., "Macaroons: Cookies
+-- with Contextual Caveats for Decentralized Authorization in the Cloud" (NDSS 2014), under the key
+-- that libmacaroons derives from a secret.
 use Rattle.std.specs.Prelude.{ℕ, List, [], ◌∷◌, ◌++◌, replicate, codes}
 use Rattle.mac_hmac.specs.Hmac.{hmac}
 

@@ -27,7 +27,7 @@ pub mod V2Caveats
 pub mod V2Laws
 pub mod V2Writing
 pub mod V2Whole
-pub mod Gives
+pub mod ReadAnswers
 pub mod WritesLemmas
 pub mod ReadLemmas
 pub mod ReadLaws

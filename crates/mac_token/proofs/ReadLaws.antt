@@ -11,12 +11,12 @@ use Rattle.mac_token.specs.declared.fault.TokenRefusal.{TokenRefusal}
 use Rattle.mac_token.specs.declared.fault.TokenRefusal.TheVariants.{Transport, Malformed, ThirdParty, Limit, CaveatLocation}
 use Rattle.mac_token.specs.declared.limits.TheConstants.{TOKEN_MAX}
 use Rattle.mac_token.specs.Answers.{IsFault, Answers, Ends}
-use Rattle.mac_token.specs.Limits.{IsWithinLimits, is_within, within}
+use Rattle.mac_token.specs.Limits.{IsWithinLimits, is_within, token_or_limit}
 use Rattle.mac_token.specs.RawToken.{CaveatParts, RawParts, TokenParts, first_party, raw_of}
 use Rattle.mac_token.specs.Spells.{Carries, Spells}
-use Rattle.mac_token.specs.Read.{parts_of, Read, ReadRaw, carried, bare_of, or_malformed, or_transport, raw_read_of, token_of, token_of_read, read_of}
-use Rattle.mac_token.proofs.ReadLemmas.{carried_takes, carried_again, carried_bytes, carries_one, bare_takes, bare_again}
-use Rattle.mac_token.proofs.Within.{is_within-Decides, within-Ok, within-Err}
+use Rattle.mac_token.specs.Read.{parts_of, Read, ReadRaw, bare_bytes, bare_of, or_malformed, or_transport, raw_read_of, token_of, token_of_read, read_of}
+use Rattle.mac_token.proofs.ReadLemmas.{bare_bytes_takes, bare_bytes_again, bare_bytes_bytes, carries_one, bare_takes, bare_again}
+use Rattle.mac_token.proofs.Within.{is_within-Decides, token_or_limit-Ok, token_or_limit-Err}
 
 -- the answer of a call is an end, where the function's answer is
 pub ends_from_answers : {X Y : Type 0} (view : X → Y) (IsEnd : Result Y TokenRefusal → Type 0) (answer : Result Y TokenRefusal) (result : Result X TokenFault) → IsEnd answer → Answers view result answer → Ends view result IsEnd
@@ -43,15 +43,15 @@ bare_read bytes bare None short fits carries e = (
 )
 bare_read bytes bare (Some r) short fits carries e = (short, (bare, carries, bare_takes bare r fits e))
 
-carried_read : (bytes : List ℕ) (reading : Option (List ℕ)) → length bytes ≤ TOKEN_MAX → IsBytes bytes → carried bytes ≡ reading → ReadRaw bytes (or_transport reading)
-carried_read bytes None short fits e = (short, λ (bare, carries). let read = carried_again bytes bare carries in cc)
-carried_read bytes (Some bare) short fits e =
-    let carries = carried_takes bytes bare e in
-    bare_read bytes bare (bare_of bare) short (carried_bytes bytes bare fits carries) carries refl
+bare_bytes_read : (bytes : List ℕ) (reading : Option (List ℕ)) → length bytes ≤ TOKEN_MAX → IsBytes bytes → bare_bytes bytes ≡ reading → ReadRaw bytes (or_transport reading)
+bare_bytes_read bytes None short fits e = (short, λ (bare, carries). let read = bare_bytes_again bytes bare carries in cc)
+bare_bytes_read bytes (Some bare) short fits e =
+    let carries = bare_bytes_takes bytes bare e in
+    bare_read bytes bare (bare_of bare) short (bare_bytes_bytes bytes bare fits carries) carries refl
 
-raw_read_by : (long : Bool) (bytes : List ℕ) → nat_lt TOKEN_MAX (length bytes) ≡ long → IsBytes bytes → ReadRaw bytes (cond long (Err Limit) (or_transport (carried bytes)))
+raw_read_by : (long : Bool) (bytes : List ℕ) → nat_lt TOKEN_MAX (length bytes) ≡ long → IsBytes bytes → ReadRaw bytes (cond long (Err Limit) (or_transport (bare_bytes bytes)))
 raw_read_by true bytes e fits = ltb-true TOKEN_MAX (length bytes) e
-raw_read_by false bytes e fits = carried_read bytes (carried bytes) (ltb-false TOKEN_MAX (length bytes) e) fits refl
+raw_read_by false bytes e fits = bare_bytes_read bytes (bare_bytes bytes) (ltb-false TOKEN_MAX (length bytes) e) fits refl
 
 -- what is read up to the grammar
 pub raw_read_means : (bytes : List ℕ) → IsBytes bytes → ReadRaw bytes (raw_read_of bytes)
@@ -145,18 +145,18 @@ read_means bytes fits = read_from bytes (raw_read_of bytes) (raw_read_means byte
 
 -- ---- one meaning
 
-pub short_read : (bytes : List ℕ) → length bytes ≤ TOKEN_MAX → raw_read_of bytes ≡ or_transport (carried bytes)
+pub short_read : (bytes : List ℕ) → length bytes ≤ TOKEN_MAX → raw_read_of bytes ≡ or_transport (bare_bytes bytes)
 unfolding raw_read_of
 short_read bytes short = rw (le-ltb TOKEN_MAX (length bytes) short) refl
 
 -- what is spelled within the greatest length is read
 pub spelled_read : (bytes : List ℕ) (r : RawParts) → length bytes ≤ TOKEN_MAX → Spells bytes r → raw_read_of bytes ≡ Ok r
 spelled_read bytes r short (bare, carries, is) =
-    short_read bytes short ∙ ap or_transport (carried_again bytes bare carries) ∙ ap or_malformed (bare_again bare r is)
+    short_read bytes short ∙ ap or_transport (bare_bytes_again bytes bare carries) ∙ ap or_malformed (bare_again bare r is)
 
-nothing_carried : (bytes : List ℕ) (reading : Option (List ℕ)) → carried bytes ≡ reading → (¬ ((bare : List ℕ) × Carries bytes bare)) → reading ≡ None
-nothing_carried bytes None e never = refl
-nothing_carried bytes (Some bare) e never = absurd (never (bare, carried_takes bytes bare e))
+nothing_bare : (bytes : List ℕ) (reading : Option (List ℕ)) → bare_bytes bytes ≡ reading → (¬ ((bare : List ℕ) × Carries bytes bare)) → reading ≡ None
+nothing_bare bytes None e never = refl
+nothing_bare bytes (Some bare) e never = absurd (never (bare, bare_bytes_takes bytes bare e))
 
 nothing_spelled : (bytes bare : List ℕ) (reading : Option RawParts) → IsBytes bare → Carries bytes bare → bare_of bare ≡ reading → (¬ ((r : RawParts) × Spells bytes r)) → reading ≡ None
 nothing_spelled bytes bare None fits carries e never = refl
@@ -167,12 +167,12 @@ pub raw_read_once : (bytes : List ℕ) (x : Result RawParts TokenRefusal) → Is
 unfolding raw_read_of
 raw_read_once bytes (Ok r) fits raw = spelled_read bytes r raw.0 raw.1
 raw_read_once bytes (Err Limit) fits raw = rw (lt-ltb TOKEN_MAX (length bytes) raw) refl
-raw_read_once bytes (Err Transport) fits raw = short_read bytes raw.0 ∙ ap or_transport (nothing_carried bytes (carried bytes) refl raw.1)
+raw_read_once bytes (Err Transport) fits raw = short_read bytes raw.0 ∙ ap or_transport (nothing_bare bytes (bare_bytes bytes) refl raw.1)
 raw_read_once bytes (Err Malformed) fits raw =
     let bare = raw.1.0 in
     let carries = raw.1.1 in
-    short_read bytes raw.0 ∙ ap or_transport (carried_again bytes bare carries)
-    ∙ ap or_malformed (nothing_spelled bytes bare (bare_of bare) (carried_bytes bytes bare fits carries) carries refl raw.2)
+    short_read bytes raw.0 ∙ ap or_transport (bare_bytes_again bytes bare carries)
+    ∙ ap or_malformed (nothing_spelled bytes bare (bare_of bare) (bare_bytes_bytes bytes bare fits carries) carries refl raw.2)
 raw_read_once bytes (Err ThirdParty) fits raw = absurd raw
 raw_read_once bytes (Err CaveatLocation) fits raw = absurd raw
 
@@ -210,7 +210,7 @@ pub token_of-raw_of : (t : TokenParts) → IsWithinLimits t → token_of (raw_of
 unfolding token_of
 token_of-raw_of t fits =
     let parts : parts_of (raw_of t) ≡ t = ap (λ (cs : List (List ℕ)). some_token t.location t.identifier cs t.sig) (first_party_ids t.caveats) in
-    rw (first_party_vids t.caveats, first_party_locations t.caveats) (ap within parts ∙ within-Ok t fits)
+    rw (first_party_vids t.caveats, first_party_locations t.caveats) (ap token_or_limit parts ∙ token_or_limit-Ok t fits)
 
 -- reading ends in one way
 pub read_once : (bytes : List ℕ) (x : Result TokenParts TokenRefusal) → IsBytes bytes → Read bytes x → read_of bytes ≡ x
@@ -218,7 +218,7 @@ unfolding read_of token_of
 read_once bytes (Ok t) fits read = ap token_of_read (spelled_read bytes (raw_of t) read.0.0 read.0.1) ∙ token_of-raw_of t read.1
 read_once bytes (Err Limit) fits (inl long) = ap token_of_read (raw_read_once bytes (Err Limit) fits long)
 read_once bytes (Err Limit) fits (inr (r, (short, spells), no_vid, no_location, passes)) =
-    ap token_of_read (spelled_read bytes r short spells) ∙ rw (no_vid_is r.caveats no_vid, no_location_is r.caveats no_location) (within-Err (parts_of r) passes)
+    ap token_of_read (spelled_read bytes r short spells) ∙ rw (no_vid_is r.caveats no_vid, no_location_is r.caveats no_location) (token_or_limit-Err (parts_of r) passes)
 read_once bytes (Err Transport) fits read = ap token_of_read (raw_read_once bytes (Err Transport) fits read)
 read_once bytes (Err Malformed) fits read = ap token_of_read (raw_read_once bytes (Err Malformed) fits read)
 read_once bytes (Err ThirdParty) fits (r, (short, spells), vids) =

@@ -17,7 +17,7 @@ use Rattle.mac_token.specs.V1Reading.{v1_of}
 use Rattle.mac_token.specs.V2Whole.{v2_of}
 use Rattle.mac_token.specs.JsonReading.{json_text_of}
 use Rattle.mac_token.specs.Spells.{BeginsWith, CallsForBare, IsBare, Carries, Spells}
-use Rattle.mac_token.specs.Read.{calls_for_bare, carried, bare_of, or_malformed}
+use Rattle.mac_token.specs.Read.{calls_for_bare, bare_bytes, bare_of, or_malformed}
 use Rattle.mac_token.proofs.Base64Read.{base64_takes, base64_again}
 use Rattle.mac_token.proofs.V1Laws.{v1_takes, v1_again}
 use Rattle.mac_token.proofs.V2Whole.{v2_takes, v2_again}
@@ -82,40 +82,40 @@ bare_again (b ∷ bytes) r (inr (inr (first, spelled))) =
 
 -- ---- what is carried
 
-abbrev carried_by : Bool → List ℕ → Option (List ℕ)
-carried_by direct bytes = cond direct (Some bytes) (base64_bytes bytes)
+abbrev bare_bytes_by : Bool → List ℕ → Option (List ℕ)
+bare_bytes_by direct bytes = cond direct (Some bytes) (base64_bytes bytes)
 
-carried_takes_by : (direct : Bool) (bytes bare : List ℕ) → Decides direct (CallsForBare bytes) → bytes ≢ [] → carried_by direct bytes ≡ Some bare → Carries bytes bare
-carried_takes_by true bytes bare decides some e = inl (decides.0 refl, sym (same_Some bytes bare e))
-carried_takes_by false bytes bare decides some e = inr ((λ call. both_ways false refl (decides.1 call)), some, base64_takes bytes bare e)
+bare_bytes_takes_by : (direct : Bool) (bytes bare : List ℕ) → Decides direct (CallsForBare bytes) → bytes ≢ [] → bare_bytes_by direct bytes ≡ Some bare → Carries bytes bare
+bare_bytes_takes_by true bytes bare decides some e = inl (decides.0 refl, sym (same_Some bytes bare e))
+bare_bytes_takes_by false bytes bare decides some e = inr ((λ call. both_ways false refl (decides.1 call)), some, base64_takes bytes bare e)
 
-pub carried_takes : (bytes bare : List ℕ) → carried bytes ≡ Some bare → Carries bytes bare
-unfolding carried
-carried_takes [] bare e = absurd cc
-carried_takes (b ∷ bytes) bare e = carried_takes_by (calls_for_bare b) (b ∷ bytes) bare (calls b bytes) (λ none. cc) e
+pub bare_bytes_takes : (bytes bare : List ℕ) → bare_bytes bytes ≡ Some bare → Carries bytes bare
+unfolding bare_bytes
+bare_bytes_takes [] bare e = absurd cc
+bare_bytes_takes (b ∷ bytes) bare e = bare_bytes_takes_by (calls_for_bare b) (b ∷ bytes) bare (calls b bytes) (λ none. cc) e
 
-carried_again_by : (direct : Bool) (bytes bare : List ℕ) → Decides direct (CallsForBare bytes) → Carries bytes bare → carried_by direct bytes ≡ Some bare
-carried_again_by true bytes bare decides (inl (call, same)) = ap (λ (x : List ℕ). Some x) (sym same)
-carried_again_by true bytes bare decides (inr (no_call, some, spelled)) = absurd (no_call (decides.0 refl))
-carried_again_by false bytes bare decides (inl (call, same)) = absurd (both_ways false refl (decides.1 call))
-carried_again_by false bytes bare decides (inr (no_call, some, spelled)) = base64_again bytes bare spelled
+bare_bytes_again_by : (direct : Bool) (bytes bare : List ℕ) → Decides direct (CallsForBare bytes) → Carries bytes bare → bare_bytes_by direct bytes ≡ Some bare
+bare_bytes_again_by true bytes bare decides (inl (call, same)) = ap (λ (x : List ℕ). Some x) (sym same)
+bare_bytes_again_by true bytes bare decides (inr (no_call, some, spelled)) = absurd (no_call (decides.0 refl))
+bare_bytes_again_by false bytes bare decides (inl (call, same)) = absurd (both_ways false refl (decides.1 call))
+bare_bytes_again_by false bytes bare decides (inr (no_call, some, spelled)) = base64_again bytes bare spelled
 
-pub carried_again : (bytes bare : List ℕ) → Carries bytes bare → carried bytes ≡ Some bare
-unfolding carried
-carried_again [] bare (inl (call, same)) = absurd (nothing_calls call)
-carried_again [] bare (inr (no_call, some, spelled)) = absurd (some refl)
-carried_again (b ∷ bytes) bare carries = carried_again_by (calls_for_bare b) (b ∷ bytes) bare (calls b bytes) carries
+pub bare_bytes_again : (bytes bare : List ℕ) → Carries bytes bare → bare_bytes bytes ≡ Some bare
+unfolding bare_bytes
+bare_bytes_again [] bare (inl (call, same)) = absurd (nothing_calls call)
+bare_bytes_again [] bare (inr (no_call, some, spelled)) = absurd (some refl)
+bare_bytes_again (b ∷ bytes) bare carries = bare_bytes_again_by (calls_for_bare b) (b ∷ bytes) bare (calls b bytes) carries
 
 -- what is carried is bytes
-pub carried_bytes : (bytes bare : List ℕ) → IsBytes bytes → Carries bytes bare → IsBytes bare
-carried_bytes bytes bare fits (inl (call, same)) = subst IsBytes (sym same) fits
-carried_bytes bytes bare fits (inr (no_call, some, spelled)) = spelled.0
+pub bare_bytes_bytes : (bytes bare : List ℕ) → IsBytes bytes → Carries bytes bare → IsBytes bare
+bare_bytes_bytes bytes bare fits (inl (call, same)) = subst IsBytes (sym same) fits
+bare_bytes_bytes bytes bare fits (inr (no_call, some, spelled)) = spelled.0
 
 -- ---- both
 
 -- bytes carry one list of bytes at most
 pub carries_one : (bytes a b : List ℕ) → Carries bytes a → Carries bytes b → a ≡ b
-carries_one bytes a b at_a at_b = same_Some a b (sym (carried_again bytes a at_a) ∙ carried_again bytes b at_b)
+carries_one bytes a b at_a at_b = same_Some a b (sym (bare_bytes_again bytes a at_a) ∙ bare_bytes_again bytes b at_b)
 
 -- bytes spell one raw token at most
 pub spells_one : (bytes : List ℕ) (r s : RawParts) → Spells bytes r → Spells bytes s → r ≡ s

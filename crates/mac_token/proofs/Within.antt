@@ -10,7 +10,7 @@ use Rattle.std.proofs.lemmas.List.Elements.{All-append}
 use Rattle.mac_token.specs.declared.limits.TheConstants.{LOCATION_MAX, IDENTIFIER_MAX, CAVEAT_MAX, CAVEATS_MAX}
 use Rattle.mac_token.specs.declared.fault.TokenRefusal.TheVariants.{Limit}
 use Rattle.mac_token.specs.RawToken.{TokenParts}
-use Rattle.mac_token.specs.Limits.{IsWithinLimits, PartsFit, AreShort, is_within, within}
+use Rattle.mac_token.specs.Limits.{IsWithinLimits, PartsFit, AreShort, is_within, token_or_limit}
 
 at_most : (a b : ℕ) → Decides (nat_le a b) (a ≤ b)
 at_most a b = (leb-true a b, le-leb a b)
@@ -36,11 +36,11 @@ is_within-Decides t =
     (λ (w : IsWithinLimits t). (((w.location, w.identifier), w.count), w.each)) all
 
 -- within the limits a token is taken, else refused
-pub within-Ok : (t : TokenParts) → IsWithinLimits t → within t ≡ Ok t
-within-Ok t w = rw ((is_within-Decides t).1 w) refl
+pub token_or_limit-Ok : (t : TokenParts) → IsWithinLimits t → token_or_limit t ≡ Ok t
+token_or_limit-Ok t w = rw ((is_within-Decides t).1 w) refl
 
-pub within-Err : (t : TokenParts) → ¬ (IsWithinLimits t) → within t ≡ Err Limit
-within-Err t passes = refused (is_within t) (is_within-Decides t).0
+pub token_or_limit-Err : (t : TokenParts) → ¬ (IsWithinLimits t) → token_or_limit t ≡ Err Limit
+token_or_limit-Err t passes = refused (is_within t) (is_within-Decides t).0
   where
     refused : (test : Bool) → (test ≡ true → IsWithinLimits t) → cond test (Ok t) (Err Limit) ≡ Err Limit
     refused true holds = absurd (passes (holds refl))

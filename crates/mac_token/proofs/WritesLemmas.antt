@@ -14,14 +14,14 @@ use Rattle.mac_token.specs.Answers.{Answers}
 use Rattle.mac_token.specs.Base64Text.{base64_of}
 use Rattle.mac_token.specs.RawToken.{TokenParts}
 use Rattle.mac_token.specs.Writes.{Writes}
-use Rattle.mac_token.specs.Written.{written, write_of}
+use Rattle.mac_token.specs.Written.{token_bytes, write_of}
 use Rattle.mac_token.proofs.Base64Spelling.{length-base64_of}
 
 -- a writer's answer is the function's
-pub write_answers : (t : TokenParts) (form : Form) (result : Result (Vec ℕ Global) TokenFault) → Writes (written t form) result → Answers (λ text. text.items) result (write_of t form)
+pub write_answers : (t : TokenParts) (form : Form) (result : Result (Vec ℕ Global) TokenFault) → Writes (token_bytes t form) result → Answers (λ text. text.items) result (write_of t form)
 unfolding write_of
-write_answers t form (Ok text) w = rw (le-ltb TOKEN_MAX (length (written t form)) w.1) (ap (λ (bytes : List ℕ). Ok bytes) (sym w.0))
-write_answers t form (Err (Refused Limit)) w = rw (lt-ltb TOKEN_MAX (length (written t form)) w) refl
+write_answers t form (Ok text) w = rw (le-ltb TOKEN_MAX (length (token_bytes t form)) w.1) (ap (λ (bytes : List ℕ). Ok bytes) (sym w.0))
+write_answers t form (Err (Refused Limit)) w = rw (lt-ltb TOKEN_MAX (length (token_bytes t form)) w) refl
 write_answers t form (Err (Refused Transport)) w = absurd w
 write_answers t form (Err (Refused Malformed)) w = absurd w
 write_answers t form (Err (Refused ThirdParty)) w = absurd w

@@ -13,7 +13,7 @@ use Rattle.mac_token.specs.V1.{hex_digit, packet, packet_length, v1_bytes}
 use Rattle.mac_token.specs.V2.{v2_bytes}
 use Rattle.mac_token.specs.Json.{json_bytes}
 use Rattle.mac_token.specs.Spells.{BeginsWith, CallsForBare, IsBare, Carries, Spells}
-use Rattle.mac_token.specs.Written.{written}
+use Rattle.mac_token.specs.Written.{token_bytes}
 use Rattle.mac_token.specs.Read.{read_of, token_of_read}
 use Rattle.mac_token.proofs.AreBytes.{v1_bytes_are_bytes, v2_bytes_are_bytes}
 use Rattle.mac_token.proofs.Base64Alphabets.{url_safe_letters}
@@ -85,15 +85,15 @@ written_json t token =
     (json_bytes t, carries_itself (json_bytes t) (inr (inr first)), inr (inr (first, JsonText-json_bytes t token)))
 
 -- in each form
-pub written_spells : (t : TokenParts) (form : Form) → IsToken t → IsWithinLimits t → Spells (written t form) (raw_of t)
-unfolding written
+pub written_spells : (t : TokenParts) (form : Form) → IsToken t → IsWithinLimits t → Spells (token_bytes t form) (raw_of t)
+unfolding token_bytes
 written_spells t V1Text token within = written_v1 t token within
 written_spells t V2Binary token within = written_v2 t token
 written_spells t V2Json token within = written_json t token
 written_spells t V2Text token within = written_v2_text t token
 
 -- and so it is read again
-pub written_read : (t : TokenParts) (form : Form) → IsToken t → IsWithinLimits t → length (written t form) ≤ TOKEN_MAX → read_of (written t form) ≡ Ok t
+pub written_read : (t : TokenParts) (form : Form) → IsToken t → IsWithinLimits t → length (token_bytes t form) ≤ TOKEN_MAX → read_of (token_bytes t form) ≡ Ok t
 unfolding read_of
 written_read t form token within short =
-    ap token_of_read (spelled_read (written t form) (raw_of t) short (written_spells t form token within)) ∙ token_of-raw_of t within
+    ap token_of_read (spelled_read (token_bytes t form) (raw_of t) short (written_spells t form token within)) ∙ token_of-raw_of t within

@@ -28,5 +28,5 @@ is_within t = nat_le (length t.location) LOCATION_MAX && nat_le (length t.identi
     && list_all (λ caveat. nat_le (length caveat) CAVEAT_MAX) t.caveats
 
 -- the token, or Limit where a part passes its limit
-abbrev pub within : TokenParts → Result TokenParts TokenRefusal
-within t = if is_within t then Ok t else Err Limit
+abbrev pub token_or_limit : TokenParts → Result TokenParts TokenRefusal
+token_or_limit t = if is_within t then Ok t else Err Limit

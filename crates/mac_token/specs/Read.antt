@@ -5,7 +5,7 @@ use Rattle.mac_token.specs.declared.fault.TokenRefusal.{TokenRefusal}
 use Rattle.mac_token.specs.declared.fault.TokenRefusal.TheVariants.{Transport, Malformed, ThirdParty, Limit, CaveatLocation}
 use Rattle.mac_token.specs.declared.limits.TheConstants.{TOKEN_MAX}
 use Rattle.mac_token.specs.RawToken.{RawParts, TokenParts, token_parts, raw_of}
-use Rattle.mac_token.specs.Limits.{IsWithinLimits, within}
+use Rattle.mac_token.specs.Limits.{IsWithinLimits, token_or_limit}
 use Rattle.mac_token.specs.Spells.{Carries, Spells}
 use Rattle.mac_token.specs.Base64Reading.{base64_bytes}
 use Rattle.mac_token.specs.V1Reading.{v1_of}
@@ -58,9 +58,9 @@ abbrev pub calls_for_bare : ℕ → Bool
 calls_for_bare b = b == 48 || (b == 2 || b == 123)
 
 -- the bytes that are to be a bare form
-unfoldable pub carried : List ℕ → Option (List ℕ)
-carried [] = None
-carried (b ∷ bytes) = if calls_for_bare b then Some (b ∷ bytes) else base64_bytes (b ∷ bytes)
+unfoldable pub bare_bytes : List ℕ → Option (List ℕ)
+bare_bytes [] = None
+bare_bytes (b ∷ bytes) = if calls_for_bare b then Some (b ∷ bytes) else base64_bytes (b ∷ bytes)
 
 -- the raw token that a bare form spells
 unfoldable pub bare_of : List ℕ → Option RawParts
@@ -81,13 +81,13 @@ or_transport (Some bare) = or_malformed (bare_of bare)
 -- what `read_raw` answers
 unfoldable pub raw_read_of : List ℕ → Result RawParts TokenRefusal
 raw_read_of bytes =
-    if nat_lt TOKEN_MAX (length bytes) then Err Limit else or_transport (carried bytes)
+    if nat_lt TOKEN_MAX (length bytes) then Err Limit else or_transport (bare_bytes bytes)
 
 -- a raw token as a token, or why it is none
 unfoldable pub token_of : RawParts → Result TokenParts TokenRefusal
 token_of r = if list_any (λ c. is_some c.vid) r.caveats then Err ThirdParty
     else if list_any (λ c. is_some c.location) r.caveats then Err CaveatLocation
-    else within (parts_of r)
+    else token_or_limit (parts_of r)
 
 -- a token, or the refusal of what was read before
 abbrev pub token_of_read : Result RawParts TokenRefusal → Result TokenParts TokenRefusal

@@ -19,6 +19,6 @@ Fails Malformed reading = reading ≡ None
 Fails Memory reading = Unit {0}
 
 -- what is read, seen by view, is what a reading of lists gives
-abbrev pub Gives : {X Y : Type 0} → (X → Y) → Result X ReadFault → Option Y → Type 0
-Gives view (Ok x) reading = reading ≡ Some (view x)
-Gives view (Err fault) reading = Fails fault reading
+abbrev pub Answers : {X Y : Type 0} → (X → Y) → Result X ReadFault → Option Y → Type 0
+Answers view (Ok x) reading = reading ≡ Some (view x)
+Answers view (Err fault) reading = Fails fault reading

@@ -9,16 +9,16 @@ use Rattle.mac_token.specs.declared.v2.FieldType.{FieldType}
 use Rattle.mac_token.specs.declared.v2.FieldType.TheVariants.{Location, Identifier, Vid, Signature}
 
 -- a number whose low part was read before: the rest counts unit times, and is 0 only at unit 1
-unfoldable pub raised : ℕ → ℕ → Option (ℕ × List ℕ) → Option (ℕ × List ℕ)
-raised low unit None = None
-raised low unit (Some (zero, rest)) = if nat_lt 1 unit then None else Some (low, rest)
-raised low unit (Some (suc n, rest)) = Some (low + unit * suc n, rest)
+unfoldable pub varint_with : ℕ → ℕ → Option (ℕ × List ℕ) → Option (ℕ × List ℕ)
+varint_with low unit None = None
+varint_with low unit (Some (zero, rest)) = if nat_lt 1 unit then None else Some (low, rest)
+varint_with low unit (Some (suc n, rest)) = Some (low + unit * suc n, rest)
 
 -- a number in its shortest form
 unfoldable pub varint_at : List ℕ → Option (ℕ × List ℕ)
 varint_at [] = None
 varint_at (b ∷ bytes) =
-    if nat_lt b 128 then Some (b, bytes) else raised (b % 128) 128 (varint_at bytes)
+    if nat_lt b 128 then Some (b, bytes) else varint_with (b % 128) 128 (varint_at bytes)
 
 -- a length, and that many bytes
 unfoldable pub counted_at : List ℕ → Option (List ℕ × List ℕ)

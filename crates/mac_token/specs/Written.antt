@@ -12,13 +12,13 @@ use Rattle.mac_token.specs.V2.{v2_bytes}
 use Rattle.mac_token.specs.Json.{json_bytes}
 
 -- the one list of bytes for a token in a form: base64 text is URL-safe and unpadded
-unfoldable pub written : TokenParts → Form → List ℕ
-written t V1Text = base64_of (v1_bytes t)
-written t V2Binary = v2_bytes t
-written t V2Json = json_bytes t
-written t V2Text = base64_of (v2_bytes t)
+unfoldable pub token_bytes : TokenParts → Form → List ℕ
+token_bytes t V1Text = base64_of (v1_bytes t)
+token_bytes t V2Binary = v2_bytes t
+token_bytes t V2Json = json_bytes t
+token_bytes t V2Text = base64_of (v2_bytes t)
 
 -- what writing answers: Limit exactly where the bytes would pass a token's greatest length
 unfoldable pub write_of : TokenParts → Form → Result (List ℕ) TokenRefusal
 write_of t form =
-    if nat_lt TOKEN_MAX (length (written t form)) then Err Limit else Ok (written t form)
+    if nat_lt TOKEN_MAX (length (token_bytes t form)) then Err Limit else Ok (token_bytes t form)

@@ -20,7 +20,7 @@ ghost use Rattle.mac_token.specs.V1Reading.{v1_of};
 ghost use Rattle.mac_token.specs.V2.{V2, v2_bytes};
 ghost use Rattle.mac_token.specs.V2Whole.{v2_of};
 ghost use Rattle.mac_token.specs.Varint.{varint, IsVarint, IsLeb128, number_of};
-ghost use Rattle.mac_token.specs.Written.{written};
+ghost use Rattle.mac_token.specs.Written.{token_bytes};
 
 use crate::form::Form as TokenForm;
 use crate::token::Token;
@@ -33,20 +33,20 @@ pub fn spells_one()
 /// What is written for a token spells it, in each form.
 pub fn written_spells()
     ensures { (t : TokenParts) (form : Form) → IsToken t → IsWithinLimits t
-        → Spells (written t form) (raw_of t) }
+        → Spells (token_bytes t form) (raw_of t) }
 {}
 
 /// What was written is read again as the same token, unless it is longer than a token may be.
 pub fn written_is_read_again()
     ensures { (t : TokenParts) (form : Form) → IsToken t → IsWithinLimits t
-        → length (written t form) ≤ TOKEN_MAX → read_of (written t form) ≡ Ok t }
+        → length (token_bytes t form) ≤ TOKEN_MAX → read_of (token_bytes t form) ≡ Ok t }
 {}
 
 /// What is written for a `Token` is read again as it: its parts are what [`written_is_read_again`]
 /// asks for.
 pub fn each_token_is_read_again(token: &Token, form: TokenForm)
-    ensures { length (written token.now form) ≤ TOKEN_MAX
-        → read_of (written token.now form) ≡ Ok token.now }
+    ensures { length (token_bytes token.now form) ≤ TOKEN_MAX
+        → read_of (token_bytes token.now form) ≡ Ok token.now }
 {
     parts_of_a_token(token);
 }

@@ -22,5 +22,5 @@ pub use form::Form;
 pub use limits::{CAVEAT_MAX, CAVEATS_MAX, IDENTIFIER_MAX, LOCATION_MAX, TOKEN_MAX};
 pub use raw::{RawCaveat, RawToken};
 pub use reading::{read, read_raw};
-pub use token::Token;
+pub use token::{Token, is_within};
 pub use writing::write;

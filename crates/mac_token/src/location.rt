@@ -3,14 +3,14 @@
 ghost use Rattle.std.specs.Prelude.{◌≡◌, string_bytes};
 ghost use Rattle.mac_token.specs.Location.{text_at, location_at};
 ghost use Rattle.mac_token.specs.RawToken.{text_of};
-ghost use Rattle.mac_token.specs.Reads.{Gives};
+ghost use Rattle.mac_token.specs.Reads.{Answers};
 
 use crate::fault::ReadFault;
 use std::alloc::Global;
 
 /// The text of these bytes; `Malformed` where they are not UTF-8.
 pub(crate) fn copied_text(alloc: Global, bytes: &[u8]) -> Result<String, ReadFault>
-    ensures { Gives (λ text. string_bytes text) result (text_at bytes.now) }
+    ensures { Answers (λ text. string_bytes text) result (text_at bytes.now) }
 {
     match str::from_utf8(bytes) {
         Ok(text) => Ok(String::from_str(alloc, text)?),
@@ -20,7 +20,7 @@ pub(crate) fn copied_text(alloc: Global, bytes: &[u8]) -> Result<String, ReadFau
 
 /// The location of these bytes, none where there are none.
 pub(crate) fn copied_location(alloc: Global, bytes: &[u8]) -> Result<Option<String>, ReadFault>
-    ensures { Gives text_of result (location_at bytes.now) }
+    ensures { Answers text_of result (location_at bytes.now) }
 {
     if bytes.is_empty() {
         return Ok(None);

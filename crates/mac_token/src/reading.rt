@@ -16,7 +16,7 @@ ghost use Rattle.std.specs.List.{list_any};
 ghost use Rattle.mac_token.specs.Answers.{Answers, Ends};
 ghost use Rattle.mac_token.specs.Base64Reading.{base64_bytes};
 ghost use Rattle.mac_token.specs.Read.{IsInBound, Read, ReadRaw, calls_for_bare, bare_of, or_transport, raw_read_of, token_of, read_of};
-ghost use Rattle.mac_token.specs.Reads.{Gives};
+ghost use Rattle.mac_token.specs.Reads as reads;
 
 use crate::fault::{NoMemory, ReadFault, TokenFault, TokenRefusal};
 use crate::limits::TOKEN_MAX;
@@ -33,7 +33,7 @@ fn calls_for_bare(first: u8) -> bool
 
 #[tactic(auto, unfolding(crate::specs::Read::bare_of))]
 fn bare(alloc: Global, bytes: &[u8]) -> Result<RawToken, ReadFault>
-    ensures { Gives (λ raw. raw) result (bare_of bytes.now) }
+    ensures { reads.Answers (λ raw. raw) result (bare_of bytes.now) }
 {
     match bytes {
         [b'0', ..] => v1::read(alloc, bytes),
@@ -55,7 +55,7 @@ fn decoded(alloc: Global, text: &[u8]) -> Result<RawToken, TokenFault>
 /// What the bytes spell, a token or not. Time and memory are linear in the bytes. The first refusal
 /// that applies: `Limit` where the bytes are longer than a token may be, `Transport` where they
 /// carry no bare form, `Malformed` where they spell nothing; `Memory` in place of any but `Limit`.
-#[tactic(auto, unfolding(crate::specs::Read::carried, crate::specs::Read::raw_read_of))]
+#[tactic(auto, unfolding(crate::specs::Read::bare_bytes, crate::specs::Read::raw_read_of))]
 pub fn read_raw(alloc: Global, bytes: &[u8]) -> Result<RawToken, TokenFault>
     ensures answer { Answers (λ raw. raw) result (raw_read_of bytes.now) }
     ensures meaning { Ends (λ raw. raw) result (ReadRaw bytes.now) }

@@ -3,7 +3,7 @@
 ghost use Rattle.std.specs.Prelude.{◌≡◌, IfOk};
 ghost use Rattle.std.specs.Option.{option_copied};
 ghost use Rattle.mac_token.specs.RawToken.{bytes_of};
-ghost use Rattle.mac_token.specs.Reads.{Gives};
+ghost use Rattle.mac_token.specs.Reads.{Answers};
 ghost use Rattle.mac_token.specs.Section.{caveat_said, location_bytes};
 
 use crate::fault::{NoMemory, ReadFault};
@@ -46,7 +46,7 @@ impl Section<'_> {
 
     /// The caveat that the fields are; `Malformed` where the location is not UTF-8.
     pub(crate) fn caveat(&self, alloc: Global) -> Result<RawCaveat, ReadFault>
-        ensures { Gives (λ c. c) result (caveat_said self.now) }
+        ensures { Answers (λ c. c) result (caveat_said self.now) }
     {
         let location = copied_location(alloc, self.location_or_empty())?;
         let vid = copied_vid(alloc, self.vid)?;

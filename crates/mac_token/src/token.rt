@@ -2,7 +2,7 @@
 
 ghost use Rattle.std.specs.Prelude.{◌≡◌, ◌<◌, ◌≤◌, ◌↔◌, ◌++◌, ◌∷◌, [], length, IsTrue, IfErr, OkIff, OnOk, OnErr, slice_get, string_bytes, option_map};
 ghost use Rattle.mac_token.specs.RawToken.{token_parts, byte_lists};
-ghost use Rattle.mac_token.specs.Limits.{IsWithinLimits, PartsFit, AreShort, within};
+ghost use Rattle.mac_token.specs.Limits.{IsWithinLimits, PartsFit, AreShort, token_or_limit};
 ghost use Rattle.mac_token.specs.Push.{Pushes, with_caveats};
 
 use crate::fault::{NoMemory, TokenFault, TokenRefusal};
@@ -40,7 +40,8 @@ fn are_short(caveats: &[Vec<u8>]) -> bool
     caveats.iter().all(|caveat| caveat.len() <= CAVEAT_MAX)
 }
 
-fn is_within(location: &str, identifier: &[u8], caveats: &[Vec<u8>]) -> bool
+/// Whether these parts of a token are within its limits. Its signature has none.
+pub fn is_within(location: &str, identifier: &[u8], caveats: &[Vec<u8>]) -> bool
     ensures { IsTrue result ↔ PartsFit location.now identifier.now (byte_lists caveats.now) }
 {
     location.len() <= LOCATION_MAX
@@ -86,7 +87,7 @@ impl Token {
     ) -> Result<Token, TokenRefusal>
         ensures made { let parts = token_parts (string_bytes location) identifier.items
             (byte_lists caveats.items) sig in OkIff result (IsWithinLimits parts) parts }
-        ensures answer { result ≡ within (token_parts (string_bytes location) identifier.items
+        ensures answer { result ≡ token_or_limit (token_parts (string_bytes location) identifier.items
             (byte_lists caveats.items) sig) }
     {
         if !is_within(&location, &identifier, &caveats) {

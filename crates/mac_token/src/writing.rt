@@ -7,7 +7,7 @@ ghost use Rattle.mac_token.specs.Base64Text.{base64_of};
 ghost use Rattle.mac_token.specs.Json.{json_bytes};
 ghost use Rattle.mac_token.specs.V1.{v1_bytes};
 ghost use Rattle.mac_token.specs.V2.{v2_bytes};
-ghost use Rattle.mac_token.specs.Written.{written, write_of};
+ghost use Rattle.mac_token.specs.Written.{token_bytes, write_of};
 ghost use Rattle.mac_token.specs.Writes.{Writes};
 
 use crate::fault::{TokenFault, TokenRefusal};
@@ -72,11 +72,11 @@ fn as_v2_json(alloc: Global, token: &Token) -> Result<Vec<u8>, TokenFault>
     Ok(bytes)
 }
 
-#[tactic(auto, unfolding(crate::specs::Written::written))]
+#[tactic(auto, unfolding(crate::specs::Written::token_bytes))]
 fn write_form(alloc: Global, token: &Token, form: Form) -> Result<Vec<u8>, TokenFault>
-    ensures written { Writes (written token.now form) result }
+    ensures written { Writes (token_bytes token.now form) result }
     ensures memory { result ≡ Err TokenFault.Memory → form ≢ Form.V2Json
-        → length (written token.now form) ≤ TOKEN_MAX }
+        → length (token_bytes token.now form) ≤ TOKEN_MAX }
 {
     match form {
         Form::V1Text => as_v1_text(alloc, token),
@@ -89,10 +89,10 @@ fn write_form(alloc: Global, token: &Token, form: Form) -> Result<Vec<u8>, Token
 /// The token in this form, in time linear in what is written. `Limit` where it would be longer than
 /// a token may be; forms 1, 2 and 4 take no memory then.
 pub fn write(alloc: Global, token: &Token, form: Form) -> Result<Vec<u8>, TokenFault>
-    ensures written { Writes (written token.now form) result }
+    ensures written { Writes (token_bytes token.now form) result }
     ensures answer { Answers (λ text. text.items) result (write_of token.now form) }
     ensures memory { result ≡ Err TokenFault.Memory → form ≢ Form.V2Json
-        → length (written token.now form) ≤ TOKEN_MAX }
+        → length (token_bytes token.now form) ≤ TOKEN_MAX }
 {
     write_form(alloc, token, form)
 }

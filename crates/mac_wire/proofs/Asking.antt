@@ -11,7 +11,7 @@ use Rattle.mac_wire.specs.declared.request.RequestFault.{RequestFault}
 use Rattle.mac_wire.specs.declared.request.TheConstants.{FACTS_MAX}
 use Rattle.mac_wire.specs.Request.{Asked, mint, attenuate, verify, IsBytes, form_code, short_field, long_field, counted_fields, payload_of, IsRequest, Asks, asked, key_of}
 use Rattle.mac_wire.specs.Reading.{number_at, short_field_at, long_field_at, text_field_at, counted_fields_at, form_at, mint_of, attenuate_of, verify_of, request_of, name_at, mint_name_at, key_name_of}
-use Rattle.mac_wire.specs.Parsing.{Gives}
+use Rattle.mac_wire.specs.Parsing.{Answers}
 use Rattle.mac_wire.proofs.Spelling.{bind_some, chosen, Takes, Takes-then, wide64, number_takes, number_again, short_takes, short_again, long_takes, long_again, text_takes, text_again, counted_take, counted_again, form_takes, form_again, ended}
 
 -- what was taken is all, behind the number of the kind
@@ -144,9 +144,9 @@ pub request_of-asks : (payload : List ℕ) (q : Asked) → Asks payload q → re
 request_of-asks payload q h = ap request_of h.is_payload ∙ again q h.is_request
 
 -- what a parser gives is asked
-pub Gives-asks : (payload : List ℕ) (r : Result Request RequestFault) → IsBytes payload → Gives asked r (request_of payload) → IfOk r (λ x. Asks payload (asked x))
-Gives-asks payload (Ok x) fits given = asks-request_of payload (asked x) fits given
-Gives-asks payload (Err e) fits given = tt
+pub Answers-asks : (payload : List ℕ) (r : Result Request RequestFault) → IsBytes payload → Answers asked r (request_of payload) → IfOk r (λ x. Asks payload (asked x))
+Answers-asks payload (Ok x) fits given = asks-request_of payload (asked x) fits given
+Answers-asks payload (Err e) fits given = tt
 
 front_name : (q : Asked) → key_name_of (payload_of q) ≡ key_of q
 unfolding key_name_of mint_name_at name_at

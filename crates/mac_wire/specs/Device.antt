@@ -7,7 +7,8 @@ abbrev pub CountsFault : {T E : Type 0} → Result T E → ℕ → ℕ → Type 
 CountsFault (Ok x) old new = new ≡ old
 CountsFault (Err e) old new = new ≡ old + 1
 
--- the bytes passed so far grow by the first n of the buffer where the call passed n, and not at all where it failed
+-- the bytes passed so far grow by the first n of the buffer where the call passed n, and not at all
+-- where it failed
 abbrev pub PassesFront : {E : Type 0} → Result ℕ E → List ℕ → List ℕ → List ℕ → Type 0
 PassesFront (Ok n) buffer old new = new ≡ old ++ take n buffer
 PassesFront (Err e) buffer old new = new ≡ old

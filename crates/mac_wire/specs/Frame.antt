@@ -20,24 +20,29 @@ pub record Arrivals : Type 0 where
 abbrev pub told_length : List ℕ → ℕ
 told_length stream = from_be_bytes w32 (take 4 stream)
 
--- less than a whole frame: once its length has come, that is allowed, and a part of the payload is missing
+-- less than a whole frame: once its length has come, that is allowed, and a part of the payload is
+-- missing
 abbrev pub IsUnfinished : List ℕ → Type 0
-IsUnfinished bytes = 4 ≤ length bytes → (told_length bytes ≤ FRAME_MAX) × (length bytes < 4 + told_length bytes)
+IsUnfinished bytes =
+    4 ≤ length bytes → (told_length bytes ≤ FRAME_MAX) × (length bytes < 4 + told_length bytes)
 
 -- some arrivals, and then those of the rest of the stream
 abbrev pub followed_by : List Arrival → Arrivals → Arrivals
 followed_by front rest = record { arrived = front ++ rest.arrived; ending = rest.ending }
 
--- The arrivals of a stream of at most that many frames: none and Clean where nothing is left; none and Torn where
--- a length is cut; one Oversize, whatever follows, where a length passes the greatest; none and Torn where a
--- payload is cut; else the payload, and then the arrivals of what follows it.
+-- The arrivals of a stream of at most that many frames: none and Clean where nothing is left; none
+-- and Torn where a length is cut; one Oversize, whatever follows, where a length passes the
+-- greatest; none and Torn where a payload is cut; else the payload, and then the arrivals of what
+-- follows it.
 unfoldable pub arrivals_within : ℕ → List ℕ → Arrivals
 arrivals_within zero stream = record { arrived = []; ending = ending.Clean }
 arrivals_within (suc frames) stream =
     if length stream == 0 then record { arrived = []; ending = ending.Clean }
     else if nat_lt (length stream) 4 then record { arrived = []; ending = ending.Torn }
-    else if nat_lt FRAME_MAX (told_length stream) then record { arrived = arrival.Oversize ∷ []; ending = ending.Oversize }
-    else if nat_lt (length stream) (4 + told_length stream) then record { arrived = []; ending = ending.Torn }
+    else if nat_lt FRAME_MAX (told_length stream)
+    then record { arrived = arrival.Oversize ∷ []; ending = ending.Oversize }
+    else if nat_lt (length stream) (4 + told_length stream)
+    then record { arrived = []; ending = ending.Torn }
     else followed_by (arrival.Payload (take (told_length stream) (drop 4 stream)) ∷ [])
     (arrivals_within frames (drop (4 + told_length stream) stream))
 

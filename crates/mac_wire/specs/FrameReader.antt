@@ -7,14 +7,17 @@ use Rattle.mac_wire.specs.declared.frame.Stage.{Stage}
 use Rattle.mac_wire.specs.declared.frame.Stage.TheVariants as stage
 use Rattle.mac_wire.specs.Frame.{arrivals_of, followed_by, IsUnfinished}
 
--- At this stage a reader was fed the stream and handed out the arrivals: less than a frame is held, and however the
--- stream goes on, its arrivals are these, and then those of the bytes that are held and of what comes. After an
--- Oversize nothing comes.
+-- At this stage a reader was fed the stream and handed out the arrivals: less than a frame is held,
+-- and however the stream goes on, its arrivals are these, and then those of the bytes that are held
+-- and of what comes. After an Oversize nothing comes.
 abbrev pub HasReadTo : Stage → List ℕ → List Arrival → Type 0
 HasReadTo (stage.Open held) stream handed =
-    IsUnfinished held × ((more : List ℕ) → arrivals_of (stream ++ more) ≡ followed_by handed (arrivals_of (held ++ more)))
+    IsUnfinished held
+    × ((more : List ℕ)
+    → arrivals_of (stream ++ more) ≡ followed_by handed (arrivals_of (held ++ more)))
 HasReadTo stage.Oversize stream handed =
-    (more : List ℕ) → arrivals_of (stream ++ more) ≡ record { arrived = handed; ending = ending.Oversize }
+    (more : List ℕ)
+    → arrivals_of (stream ++ more) ≡ record { arrived = handed; ending = ending.Oversize }
 HasReadTo stage.Broken stream handed = ⊥
 
 -- the reader was fed this stream and handed out these arrivals, and no feed failed

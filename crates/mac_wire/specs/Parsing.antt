@@ -19,6 +19,6 @@ Fails fault.BadRequest read = read ≡ None
 Fails fault.Memory read = Unit {0}
 
 -- what a parser gives, seen by view, is what reading gives, unless memory ran out
-abbrev pub Gives : {X Y : Type 0} → (X → Y) → Result X RequestFault → Option Y → Type 0
-Gives view (Ok x) read = read ≡ Some (view x)
-Gives view (Err e) read = Fails e read
+abbrev pub Answers : {X Y : Type 0} → (X → Y) → Result X RequestFault → Option Y → Type 0
+Answers view (Ok x) read = read ≡ Some (view x)
+Answers view (Err e) read = Fails e read

@@ -16,8 +16,8 @@ pub record IsTooLong (bytes : List ℕ) : Type 0 where
   pub long : 4 ≤ length bytes
   pub passed : FRAME_MAX < told_length bytes
 
--- The parts of an unfinished frame: as many bytes of the length as have come, and the payload's bytes, of which
--- there are none before the length is whole, and fewer than it tells.
+-- The parts of an unfinished frame: as many bytes of the length as have come, and the payload's
+-- bytes, of which there are none before the length is whole, and fewer than it tells.
 pub record IsPartial (told : List ℕ) (have : ℕ) (payload : List ℕ) : Type 0 where
   pub four : length told ≡ 4
   pub have_fits : have ≤ 4

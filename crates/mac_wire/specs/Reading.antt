@@ -1,5 +1,5 @@
--- Reading a payload from left to right, as functions; the laws of this crate say that `request_of` gives what `Asks`
--- relates payloads to, and `key_name_of` what `HasName` does.
+-- Reading a payload from left to right, as functions; the laws of this crate say that `request_of`
+-- gives what `Asks` relates payloads to, and `key_name_of` what `HasName` does.
 use Rattle.std.specs.Prelude.{ℕ, zero, suc, List, [], ◌∷◌, length, take, drop, Option, Some, None, nat_lt, nat_le, ◌==◌, if◌then◌else◌}
 use Rattle.std.specs.Int.{Width, w16, w64, byte_len, from_be_bytes}
 use Rattle.std.specs.Str.{is_utf8}

@@ -17,7 +17,8 @@ pub data Asked : Type 0 where
 
 -- what a value of the program asks
 abbrev pub asked : Request → Asked
-asked (request.Mint form key location identifier caveats) = mint form key.now location.now identifier.now caveats
+asked (request.Mint form key location identifier caveats) =
+    mint form key.now location.now identifier.now caveats
 asked (request.Attenuate form token caveats) = attenuate form token.now caveats
 asked (request.Verify key token moment facts) = verify key.now token.now moment facts
 
@@ -49,7 +50,8 @@ counted_fields fields = length fields ∷ flat_map long_field fields
 -- the payload of a request: the number of its kind, and its fields in order
 abbrev pub payload_of : Asked → List ℕ
 payload_of (mint form key location identifier caveats) =
-    1 ∷ form_code form ∷ (short_field key ++ (long_field location ++ (long_field identifier ++ counted_fields caveats)))
+    1 ∷ form_code form ∷ (short_field key
+    ++ (long_field location ++ (long_field identifier ++ counted_fields caveats)))
 payload_of (attenuate form token caveats) =
     2 ∷ form_code form ∷ (long_field token ++ counted_fields caveats)
 payload_of (verify key token moment facts) =
@@ -59,15 +61,17 @@ payload_of (verify key token moment facts) =
 abbrev pub AreFields : List (List ℕ) → Type 0
 AreFields fields = All (λ field. length field < 2 ^ 16) fields
 
--- what has a payload: each length fits its bytes, a location is UTF-8, and a verify has no more facts than allowed
+-- what has a payload: each length fits its bytes, a location is UTF-8, and a verify has no more
+-- facts than allowed
 abbrev pub IsRequest : Asked → Type 0
 IsRequest (mint form key location identifier caveats) =
-    (length key < 2 ^ 8) × (length location < 2 ^ 16) × IsUtf8 location × (length identifier < 2 ^ 16)
-    × (length caveats < 2 ^ 8) × AreFields caveats
+    (length key < 2 ^ 8) × (length location < 2 ^ 16) × IsUtf8 location
+    × (length identifier < 2 ^ 16) × (length caveats < 2 ^ 8) × AreFields caveats
 IsRequest (attenuate form token caveats) =
     (length token < 2 ^ 16) × (length caveats < 2 ^ 8) × AreFields caveats
 IsRequest (verify key token moment facts) =
-    (length key < 2 ^ 8) × (length token < 2 ^ 16) × (moment < 2 ^ 64) × (length facts ≤ FACTS_MAX) × AreFields facts
+    (length key < 2 ^ 8) × (length token < 2 ^ 16) × (moment < 2 ^ 64)
+    × (length facts ≤ FACTS_MAX) × AreFields facts
 
 -- each number of the list is a byte
 abbrev pub IsBytes : List ℕ → Type 0

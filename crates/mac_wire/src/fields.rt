@@ -4,7 +4,7 @@ ghost use Rattle.std.specs.Prelude.{◌≡◌, map};
 ghost use Rattle.std.specs.Int.{w16, w64};
 ghost use Rattle.std.specs.Option.{option_map};
 ghost use Rattle.mac_wire.specs.Reading.{byte_at, bytes_at, number_at, short_field_at, long_field_at, text_field_at, fields_at, counted_fields_at, form_of, form_at};
-ghost use Rattle.mac_wire.specs.Parsing.{Gives};
+ghost use Rattle.mac_wire.specs.Parsing.{Answers};
 
 use crate::byte_lists::ByteLists;
 use crate::bytes::Bytes;
@@ -93,7 +93,7 @@ pub fn form(bytes: &[u8]) -> Option<(TokenForm, &[u8])>
 // A field behind a length of two bytes, copied.
 #[tactic(auto, unfolding(crate::specs::Reading::long_field_at))]
 fn bytes_field(alloc: Global, bytes: &[u8]) -> Result<(Bytes, &[u8]), RequestFault>
-    ensures { Gives (λ x. (x.0, x.1.now)) result (long_field_at bytes.now) }
+    ensures { Answers (λ x. (x.0, x.1.now)) result (long_field_at bytes.now) }
 {
     let (field, rest) = long_field(bytes).ok_or(RequestFault::BadRequest)?;
     Ok((Bytes::new(Vec::from_slice(alloc, field)?), rest))
@@ -113,7 +113,7 @@ pub fn text_field(bytes: &[u8]) -> Option<(&str, &[u8])>
 
 // That many fields behind a length of two bytes, copied.
 fn fields(alloc: Global, count: u8, bytes: &[u8]) -> Result<(Vec<Vec<u8>>, &[u8]), RequestFault>
-    ensures { Gives (λ x. (map (λ v. v.items) x.0.items, x.1.now)) result
+    ensures { Answers (λ x. (map (λ v. v.items) x.0.items, x.1.now)) result
         (fields_at count bytes.now) }
 {
     let mut fields = Vec::with_capacity(alloc, count as usize)?;
@@ -133,7 +133,7 @@ pub fn counted_fields(
     most: u8,
     bytes: &[u8],
 ) -> Result<(ByteLists, &[u8]), RequestFault>
-    ensures { Gives (λ x. (x.0, x.1.now)) result (counted_fields_at most bytes.now) }
+    ensures { Answers (λ x. (x.0, x.1.now)) result (counted_fields_at most bytes.now) }
 {
     let (count, rest) = byte(bytes).ok_or(RequestFault::BadRequest)?;
     if count > most {

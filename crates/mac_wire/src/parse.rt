@@ -4,7 +4,7 @@ ghost use Rattle.std.specs.Prelude.{◌≡◌, Some, IfOk, IsErrOf};
 ghost use Rattle.std.specs.Option.{option_copied};
 ghost use Rattle.mac_wire.specs.Request.{Asked, asked, Asks};
 ghost use Rattle.mac_wire.specs.Reading.{key_name_of, name_at, request_of, mint_of, attenuate_of, verify_of};
-ghost use Rattle.mac_wire.specs.Parsing.{Gives, HasLists};
+ghost use Rattle.mac_wire.specs.Parsing.{Answers, HasLists};
 
 use crate::fields::{byte, counted_fields, form, long_field, number_64, short_field, text_field};
 use crate::request::{FACTS_MAX, Request, RequestFault};
@@ -50,9 +50,9 @@ pub fn parse_request(alloc: Global, payload: &[u8]) -> Result<Request<'_>, Reque
     // What is parsed is asked.
     ensures found { IfOk result (λ r. Asks payload.now (asked r)) }
     // What is asked is parsed, unless memory runs out.
-    ensures only { (q : Asked) → Asks payload.now q → Gives asked result (Some q) }
+    ensures only { (q : Asked) → Asks payload.now q → Answers asked result (Some q) }
     // Nothing else is, unless memory runs out.
-    ensures exact { Gives asked result (request_of payload.now) }
+    ensures exact { Answers asked result (request_of payload.now) }
     // Only what has lists takes memory.
     ensures memory { IsErrOf result RequestFault.Memory → HasLists payload.now }
 {
@@ -62,7 +62,7 @@ pub fn parse_request(alloc: Global, payload: &[u8]) -> Result<Request<'_>, Reque
 // the number of the kind, and its fields
 #[tactic(auto, unfolding(crate::specs::Reading::request_of))]
 fn request(alloc: Global, payload: &[u8]) -> Result<Request<'_>, RequestFault>
-    ensures exact { Gives asked result (request_of payload.now) }
+    ensures exact { Answers asked result (request_of payload.now) }
     ensures memory { IsErrOf result RequestFault.Memory → HasLists payload.now }
 {
     let (kind, rest) = byte(payload).ok_or(RequestFault::BadRequest)?;
@@ -77,7 +77,7 @@ fn request(alloc: Global, payload: &[u8]) -> Result<Request<'_>, RequestFault>
 // form, key name, location, identifier, caveats
 #[tactic(auto, unfolding(crate::specs::Reading::mint_of))]
 fn mint(alloc: Global, bytes: &[u8]) -> Result<Request<'_>, RequestFault>
-    ensures { Gives asked result (mint_of bytes.now) }
+    ensures { Answers asked result (mint_of bytes.now) }
 {
     let (form, rest) = form(bytes).ok_or(RequestFault::BadRequest)?;
     let (key, rest) = short_field(rest).ok_or(RequestFault::BadRequest)?;
@@ -99,7 +99,7 @@ fn mint(alloc: Global, bytes: &[u8]) -> Result<Request<'_>, RequestFault>
 // form, token, caveats
 #[tactic(auto, unfolding(crate::specs::Reading::attenuate_of))]
 fn attenuate(alloc: Global, bytes: &[u8]) -> Result<Request<'_>, RequestFault>
-    ensures { Gives asked result (attenuate_of bytes.now) }
+    ensures { Answers asked result (attenuate_of bytes.now) }
 {
     let (form, rest) = form(bytes).ok_or(RequestFault::BadRequest)?;
     let (token, rest) = long_field(rest).ok_or(RequestFault::BadRequest)?;
@@ -117,7 +117,7 @@ fn attenuate(alloc: Global, bytes: &[u8]) -> Result<Request<'_>, RequestFault>
 // key name, token, moment, facts
 #[tactic(auto, unfolding(crate::specs::Reading::verify_of))]
 fn verify(alloc: Global, bytes: &[u8]) -> Result<Request<'_>, RequestFault>
-    ensures { Gives asked result (verify_of bytes.now) }
+    ensures { Answers asked result (verify_of bytes.now) }
 {
     let (key, rest) = short_field(bytes).ok_or(RequestFault::BadRequest)?;
     let (token, rest) = long_field(rest).ok_or(RequestFault::BadRequest)?;

@@ -2,7 +2,7 @@
 
 ghost use Rattle.std.specs.Prelude.{◌≡◌, ◌<◌, suc, length, option_map, IfSome};
 ghost use Rattle.std.specs.Option.{option_copied};
-ghost use Rattle.mac_token.specs.Reads.{Gives, Reads};
+ghost use Rattle.mac_token.specs.Reads.{Answers, Reads};
 ghost use Rattle.mac_token.specs.V1.{V1};
 ghost use Rattle.mac_token.specs.V1Reading.{hex_value, hex_number, line_at, field_at, has_key, optional_at, section_at, caveat_at, caveats_at, signature_at, v1_of};
 
@@ -109,7 +109,7 @@ fn section(bytes: &[u8]) -> Option<(Section<'_>, &[u8])>
 
 #[tactic(auto, unfolding(crate::specs::V1Reading::caveat_at))]
 fn caveat(alloc: Global, bytes: &[u8]) -> Result<(RawCaveat, &[u8]), ReadFault>
-    ensures { Gives (λ x. (x.0, x.1.now)) result (caveat_at bytes.now) }
+    ensures { Answers (λ x. (x.0, x.1.now)) result (caveat_at bytes.now) }
 {
     let Some((section, rest)) = section(bytes) else {
         return Err(ReadFault::Malformed);
@@ -119,7 +119,7 @@ fn caveat(alloc: Global, bytes: &[u8]) -> Result<(RawCaveat, &[u8]), ReadFault>
 
 /// The caveats at the front, as many as there are.
 fn caveats(alloc: Global, bytes: &[u8]) -> Result<(Vec<RawCaveat>, &[u8]), ReadFault>
-    ensures { Gives (λ x. (x.0.items, x.1.now)) result
+    ensures { Answers (λ x. (x.0.items, x.1.now)) result
         (caveats_at (suc (length bytes.now)) bytes.now) }
 {
     let mut caveats = Vec::new(alloc);
@@ -149,7 +149,7 @@ fn signature(bytes: &[u8]) -> Option<[u8; 32]>
 
 #[tactic(auto, unfolding(crate::specs::V1Reading::v1_of))]
 fn packets(alloc: Global, bytes: &[u8]) -> Result<RawToken, ReadFault>
-    ensures { Gives (λ x. x) result (v1_of bytes.now) }
+    ensures { Answers (λ x. x) result (v1_of bytes.now) }
 {
     let Some((location, rest)) = field(Key::Location, bytes) else {
         return Err(ReadFault::Malformed);
@@ -174,7 +174,7 @@ fn packets(alloc: Global, bytes: &[u8]) -> Result<RawToken, ReadFault>
 /// The raw token that these packets spell, all of the bytes. The work is linear in the bytes, and
 /// so is the memory.
 pub(crate) fn read(alloc: Global, bytes: &[u8]) -> Result<RawToken, ReadFault>
-    ensures exact { Gives (λ raw. raw) result (v1_of bytes.now) }
+    ensures exact { Answers (λ raw. raw) result (v1_of bytes.now) }
     ensures read { Reads (λ raw. raw) (V1 bytes.now) result }
 {
     packets(alloc, bytes)

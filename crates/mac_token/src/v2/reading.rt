@@ -3,7 +3,7 @@
 ghost use Rattle.std.specs.Prelude.{◌≡◌, ℕ, List, option_map};
 ghost use Rattle.std.specs.Option.{option_copied};
 ghost use Rattle.mac_token.specs.RawToken.{CaveatParts};
-ghost use Rattle.mac_token.specs.Reads.{Reads, Gives};
+ghost use Rattle.mac_token.specs.Reads.{Reads, Answers};
 ghost use Rattle.mac_token.specs.V2.{V2};
 ghost use Rattle.mac_token.specs.V2Whole.{v2_of};
 ghost use Rattle.mac_token.specs.V2Reading.{counted_at, field_at, optional_at, end_at, section_at, head_at, signature_at, AreCaveats};
@@ -154,7 +154,7 @@ fn sections(alloc: Global, bytes: &[u8]) -> Result<RawToken, ReadFault>
 /// The raw token that these bytes spell in V2 binary, all of them. The work is linear in the bytes,
 /// and so is the memory.
 pub(crate) fn read(alloc: Global, bytes: &[u8]) -> Result<RawToken, ReadFault>
-    ensures exact { Gives (λ raw. raw) result (v2_of bytes.now) }
+    ensures exact { Answers (λ raw. raw) result (v2_of bytes.now) }
     ensures read { Reads (λ raw. raw) (V2 bytes.now) result }
 {
     sections(alloc, bytes)

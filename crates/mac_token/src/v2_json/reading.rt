@@ -7,7 +7,7 @@ ghost use Rattle.mac_token.specs.Json.{HasBytes, MayHaveBytes, HasText, MayHaveT
 ghost use Rattle.mac_token.specs.JsonReading.{json_text_of};
 ghost use Rattle.mac_token.specs.JsonMembers.{text_member_of};
 ghost use Rattle.mac_token.specs.RawToken.{bytes_of, text_of};
-ghost use Rattle.mac_token.specs.Reads.{Reads, Gives};
+ghost use Rattle.mac_token.specs.Reads.{Reads, Answers};
 
 use crate::base64_text;
 use crate::fault::{Malformed, ReadFault};
@@ -165,7 +165,7 @@ fn read_text(alloc: Global, bytes: &[u8]) -> Result<RawToken, ReadFault>
 /// The token that the bytes are in V2 JSON: one object, with white space as JSON has it, of nesting
 /// at most 127. Of a name that stands twice the last value counts. Time is linear in the bytes.
 pub(crate) fn read(alloc: Global, bytes: &[u8]) -> Result<RawToken, ReadFault>
-    ensures exact { Gives (λ token. token) result (json_text_of bytes.now) }
+    ensures exact { Answers (λ token. token) result (json_text_of bytes.now) }
     ensures read { Reads (λ token. token) (JsonText bytes.now) result }
 {
     read_text(alloc, bytes)

@@ -3,7 +3,7 @@ use Rattle.mac_token.specs.RawToken.{token_parts, byte_lists}
 use Rattle.mac_token.specs.Limits.{PartsFit, AreShort}
 use Rattle.mac_token.specs.declared.limits.TheConstants.{CAVEATS_MAX}
 use Rattle.mac_token.proofs.Lists.{length-byte_lists}
-use Rattle.mac_token.proofs.Within.{within-Ok, within-Err, fit_more, fit_few, fit_short}
+use Rattle.mac_token.proofs.Within.{token_or_limit-Ok, token_or_limit-Err, fit_more, fit_few, fit_short}
 use Rattle.mac_token.proofs.token.Token.push.Goals.{then-caveats-len-via-then-caveats-len, then-caveats-len-via-else-caveats-len+then-not-are_short}
 use Rattle.mac_token.proofs.token.Token.push.Goals as goal
 
@@ -22,7 +22,7 @@ returns-then-caveats-len c =
       | then-caveats-len-via-else-caveats-len+then-not-are_short w ↦ λ fit. let short = fit_short location identifier caveats added fit in search rules
     ] in
     let parts = token_parts location identifier (caveats ++ added) c.args.sig in
-    (rw (← c.self.view_is) (within-Err parts fails), refl)
+    (rw (← c.self.view_is) (token_or_limit-Err parts fails), refl)
 
 pub invariant_of-result : goal.invariant_of-result
 invariant_of-result c =
@@ -41,4 +41,4 @@ returns-in-Ok c =
     let few : length added ≤ CAVEATS_MAX - length caveats = omega (arith, c.if-caveats-len.false, c.len.ensures, inside.caveats.ok.0, length-byte_lists inside.caveats.items, length-byte_lists c.args.caveats.now) in
     let short : AreShort added = search rules in
     let fit = fit_more (string_bytes inside.location) inside.identifier.items caveats added c.self.invariant few short in
-    rw (← c.self.view_is, c.in-Ok.ensures.ok) (within-Ok (token_parts (string_bytes inside.location) inside.identifier.items (caveats ++ added) c.args.sig) fit)
+    rw (← c.self.view_is, c.in-Ok.ensures.ok) (token_or_limit-Ok (token_parts (string_bytes inside.location) inside.identifier.items (caveats ++ added) c.args.sig) fit)

@@ -1,0 +1,24 @@
+-- A reader that answers by the grammar answers what a reading of lists gives.
+use Rattle.std.proofs.Common.{◌≡◌, Option, Some, None, Result, Ok, Err, refl}
+use Rattle.mac_token.specs.declared.fault.ReadFault.{ReadFault}
+use Rattle.mac_token.specs.declared.fault.ReadFault.TheVariants.{Malformed, Memory}
+use Rattle.mac_token.specs.RawToken.{RawParts}
+use Rattle.mac_token.specs.Reads.{Reads, Answers}
+
+-- the reading gives exactly what the grammar spells
+pub answers_from_reads : (Spelled : RawParts → Type 0) (reading : Option RawParts) → ((r : RawParts) → Spelled r → reading ≡ Some r) → ((r : RawParts) → reading ≡ Some r → Spelled r)
+    → (result : Result RawParts ReadFault) → Reads (λ r. r) Spelled result → Answers (λ r. r) result reading
+answers_from_reads Spelled reading again takes (Ok r) reads = again r reads
+answers_from_reads Spelled reading again takes (Err Malformed) reads = none_of reading (λ r e. reads r (takes r e))
+  where
+    none_of : (o : Option RawParts) → ((r : RawParts) → o ≡ Some r → ⊥) → o ≡ None
+    none_of None never = refl
+    none_of (Some r) never = absurd (never r refl)
+answers_from_reads Spelled reading again takes (Err Memory) reads = tt
+
+-- and the other way round
+pub reads_from_answers : (Spelled : RawParts → Type 0) (reading : Option RawParts) → ((r : RawParts) → Spelled r → reading ≡ Some r) → ((r : RawParts) → reading ≡ Some r → Spelled r)
+    → (result : Result RawParts ReadFault) → Answers (λ r. r) result reading → Reads (λ r. r) Spelled result
+reads_from_answers Spelled reading again takes (Ok r) given = takes r given
+reads_from_answers Spelled reading again takes (Err Malformed) given = λ r spelled. let read = again r spelled in cc
+reads_from_answers Spelled reading again takes (Err Memory) given = tt
