@@ -8,6 +8,8 @@ PROGRAM = "Mints, narrows and verifies macaroons\n"
 PIPE = "Answers the requests on standard input, one line each\n"
 INPUT_MAX = 16_777_216
 TWO_BAD = "refused 16\nrefused 16\n"
+SERVE = "Answers the requests of so many connections over a Unix socket\n"
+LISTEN = "Answers requests over a Unix socket until it is stopped\n"
 # The greatest payload that a frame carries, in digits.
 FRAME_DIGITS = 131_072
 
@@ -33,6 +35,16 @@ def named_keys(count):
     return "".join(f"key k{number} 00\n" for number in range(count))
 
 
+def serve_with(**changed):
+    """A line of `serve`, with options changed, or left out for None."""
+    options = {"socket": "s", "keys": "/nowhere/keys", "workers": "1", "accept": "1"} | changed
+    return ["serve"] + [f"--{name}={value}" for name, value in options.items() if value is not None]
+
+
+def listen_with(*words):
+    return ["listen", "--socket", "s", "--keys", "/nowhere/keys", *words]
+
+
 ENDINGS = {
     "nothing": (Case(""), Ending(0, "", "")),
     "no_requests": (Case(KEY), Ending(0, "", "")),
@@ -50,6 +62,25 @@ ENDINGS = {
     "option": (Case("", ["-x"]), bad("unexpected argument '-x' found\n")),
     "other_subcommand": (Case("", ["mint"]), bad("unrecognized subcommand 'mint'\n")),
     "help_subcommand": (Case("", ["help"]), bad("unrecognized subcommand 'help'\n")),
+    "serve_help": (Case("", ["serve", "--help"]), Ending(0, SERVE, "")),
+    "listen_help": (Case("", ["listen", "-h"]), Ending(0, LISTEN, "")),
+    "serve_alone": (Case("", ["serve"]), bad("the following required arguments were not provided:\n")),
+    **{
+        f"serve_{name}_{value}": (Case("", serve_with(**{name: value})), bad(""))
+        for name, value in [
+            *[("workers", value) for value in ["0", "17", "x", "-1", ""]],
+            *[("accept", value) for value in ["0", "1001", "1e2"]],
+            *[(name, None) for name in ["socket", "keys", "workers", "accept"]],
+        ]
+    },
+    "serve_word": (Case("", serve_with() + ["x"]), bad("unexpected argument 'x' found\n")),
+    "serve_twice": (Case("", serve_with() + ["--accept=1"]), bad("")),
+    "listen_mode": (Case("", listen_with("--mode", "777")), bad("the mode of a socket is ")),
+    "listen_workers": (Case("", listen_with("--workers", "17")), bad("")),
+    "listen_idle": (Case("", listen_with("--idle", "86401")), bad("")),
+    "listen_accept": (Case("", listen_with("--accept", "1")), bad("")),
+    "no_key_file": (Case("", serve_with()), Ending(3, "", "fault 3\n")),
+    "no_listen_key_file": (Case("", listen_with("--mode=660")), Ending(3, "", "fault 3\n")),
     "bad_line": (Case("lock a 00\n"), keys_fault(1, 6)),
     "bad_name": (Case("key  00\n\n"), keys_fault(1, 1)),
     "bad_hex": (Case("key a 0\n\n"), keys_fault(1, 2)),

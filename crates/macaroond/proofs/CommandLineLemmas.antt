@@ -6,7 +6,7 @@ use Rattle.std.specs.Str.{bytes_eq, chars}
 use Rattle.std.proofs.lemmas.Slice.Eq.{bytes_eq-Decides}
 use Rattle.clap.specs.Lexer.{long_of, short_of}
 use Rattle.clap.specs.Walk.{Names, finished, settled, Rule, Text, Walk, arg_by_long, idle, long_or_other, nothing_held, plain, bundle_met, short_or_plain, walk_from}
-use Rattle.clap.specs.Simple.{Shape, built, entered, built_leaf, filled_from, help_rule, inherited, marked_built, names_of, version_rule, with_leaf_noted}
+use Rattle.clap.specs.Simple.{Shape, built, entered, filled_from, help_rule, names_of, version_rule}
 use Rattle.clap.specs.Kinds.{HasKind, Kinds, or_else}
 use Rattle.clap.specs.Faults.{built_fault, bundle_fault, bundle_step_fault, check_fault, defaults_fault, entered_fault, fault_of, settle_fault, flag_word_fault, flags_fault, level_fault, long_fault, step_fault, stray_fault, turn_fault, walk_fault}
 use Rattle.clap.specs.Values.{kind_of}
@@ -15,7 +15,8 @@ use Rattle.clap.specs.declared.error.kind.ErrorKind.TheVariants.{InvalidSubcomma
 use Rattle.clap.proofs.OnLiterals.{clap_on_literals}
 use Rattle.clap.proofs.FaultLemmas.{fault_ends, stopped_fault}
 use Rattle.clap.proofs.WalkLemmas.{bundle_ends, walk_stopped}
-use Rattle.macaroond.specs.CommandLine.{LeadsTo, MayEnd, command_line, exit_status, pipe_command}
+use Rattle.macaroond.specs.CommandLine.{LeadsTo, MayEnd, command_line, exit_status, names_a_daemon}
+use Rattle.macaroond.proofs.OptionLemmas.{neither, pipe}
 
 -- ---- statuses of lists of kinds
 
@@ -137,9 +138,6 @@ word_refused v s word None = short_refused v s word (short_of word)
 
 -- ---- the levels
 
-abbrev pub pipe : Shape
-pipe = built_leaf (inherited (with_leaf_noted (marked_built command_line.top)) pipe_command.top)
-
 -- the statuses of the words after `pipe`, and of those after the program's name, by what they look like to `clap`
 abbrev pub after_pipe : List Text → Option ℕ
 after_pipe [] = None
@@ -207,10 +205,11 @@ unfolding clap_on_literals
 dashes_first [] = (refl, tt)
 dashes_first (word ∷ rest) = (refl, (refl, tt))
 
-other_first : (word : Text) (rest : List Text) → bytes_eq (codes "pipe") word ≡ false → bytes_eq word (codes "--") ≡ false → Refuses (flag_status true word (long_of word)) (line_faults (word ∷ rest))
+other_first : (word : Text) (rest : List Text) → bytes_eq (codes "pipe") word ≡ false → bytes_eq (codes "serve") word ≡ false → bytes_eq (codes "listen") word ≡ false
+    → bytes_eq word (codes "--") ≡ false → Refuses (flag_status true word (long_of word)) (line_faults (word ∷ rest))
 unfolding walk_fault
-other_first word rest no_name e =
-    let turn : turn_fault top names (walk_from nothing_held) word ≡ faults_at true top word (long_of word) = rw (no_name, e) refl in
+other_first word rest no_pipe no_serve no_listen e =
+    let turn : turn_fault top names (walk_from nothing_held) word ≡ faults_at true top word (long_of word) = rw (no_pipe, no_serve, no_listen, e) refl in
     let refused = subst (Refuses (flag_status true word (long_of word))) (sym turn) (word_refused true top word (long_of word)) in
     refuses_first _ _ _ (refuses_first _ (turn_fault top names (walk_from nothing_held) word) _ refused)
 
@@ -221,24 +220,26 @@ other_way a b differ = go (bytes_eq b a) refl
     go true e = let same : bytes_eq a b ≡ true = (bytes_eq-Decides a b).1 (sym ((bytes_eq-Decides b a).0 e)) in cc
     go false e = e
 
-unnamed_leads : (word : Text) (rest : List Text) → bytes_eq word (codes "pipe") ≡ false → Refuses (flag_status true word (long_of word)) (line_faults (word ∷ rest))
-unnamed_leads word rest differ = go (bytes_eq word (codes "--")) refl
+unnamed_leads : (word : Text) (rest : List Text) → bytes_eq word (codes "pipe") ≡ false → names_a_daemon (word ∷ rest) ≡ false → Refuses (flag_status true word (long_of word)) (line_faults (word ∷ rest))
+unnamed_leads word rest differ unnamed = go (bytes_eq word (codes "--")) refl
   where
     go : (b : Bool) → bytes_eq word (codes "--") ≡ b → Refuses (flag_status true word (long_of word)) (line_faults (word ∷ rest))
     go true e = subst (λ w. Refuses (flag_status true w (long_of w)) (line_faults (w ∷ rest))) (sym ((bytes_eq-Decides word (codes "--")).0 e)) (dashes_first rest)
-    go false e = other_first word rest (other_way word (codes "pipe") differ) e
+    go false e =
+        let others = neither (bytes_eq word (codes "serve")) _ unnamed in
+        other_first word rest (other_way word (codes "pipe") differ) (other_way word (codes "serve") others.0) (other_way word (codes "listen") others.1) e
 
--- what all words lead to
-pub line_leads : (words : List Text) → LeadsTo (of_arguments words) (line_faults words)
+-- what all words lead to that don't name `serve` or `listen`
+pub line_leads : (words : List Text) → names_a_daemon words ≡ false → LeadsTo (of_arguments words) (line_faults words)
 unfolding clap_on_literals
-line_leads [] = (refl, tt)
-line_leads (word ∷ rest) = go (bytes_eq word (codes "pipe")) refl
+line_leads [] unnamed = (refl, tt)
+line_leads (word ∷ rest) unnamed = go (bytes_eq word (codes "pipe")) refl
   where
     go : (b : Bool) → bytes_eq word (codes "pipe") ≡ b → LeadsTo (of_arguments (word ∷ rest)) (line_faults (word ∷ rest))
     go true e = subst (λ w. LeadsTo (of_arguments (w ∷ rest)) (line_faults (w ∷ rest))) (sym ((bytes_eq-Decides word (codes "pipe")).0 e)) (after_name rest)
     go false e =
         let status : of_arguments (word ∷ rest) ≡ Some (flag_status true word (long_of word)) = rw e refl in
-        subst (λ o. LeadsTo o (line_faults (word ∷ rest))) (sym status) (unnamed_leads word rest e)
+        subst (λ o. LeadsTo o (line_faults (word ∷ rest))) (sym status) (unnamed_leads word rest e unnamed)
 
 -- the exit status of an error of `clap`
 pub status_of_error : (words : List Text) (e : Error) → HasKind (fault_of command_line words) e → (MayEnd words (exit_status (kind_of e))) ⊎ (exit_status (kind_of e) ≡ 4)

@@ -1,6 +1,9 @@
 pub mod CommandLineLemmas
 pub mod KeyText
 pub mod LineLemmas
+pub mod OptionLemmas
+pub mod OptionReads
+pub mod OptionWalk
 pub mod OutputLemmas
 pub mod PipeLemmas
 pub mod PlainWords

@@ -1,15 +1,23 @@
 -- What the program's command line means, by `clap`'s definition of a parse.
-use Rattle.std.specs.Prelude.{◌≡◌, ◌||◌, ◌&&◌, ℕ, Bool, List, [], ◌∷◌, Option, Some, None}
-use Rattle.std.specs.Prelude.{codes, if◌then◌else◌, false, nat_eq, option_map, true}
+use Rattle.std.specs.Prelude.{◌≡◌, ◌+◌, ◌*◌, ◌≤◌, ◌||◌, ◌&&◌, ℕ, Bool, List, [], ◌∷◌, Option}
+use Rattle.std.specs.Prelude.{Some, None}
+use Rattle.std.specs.Prelude.{codes, if◌then◌else◌, false, nat_eq, string_bytes, true}
 use Rattle.std.specs.List.{starts_with}
 use Rattle.std.specs.Str.{bytes_eq}
+use Rattle.std.specs.Str.Parse.{IsNumeral, digits_value, without_leading_plus}
+use Rattle.std.specs.declared.string.String.{String}
+use Rattle.std.specs.declared.alloc.Global.{Global}
 use Rattle.clap.specs.Kinds.{IsAmong, Kinds}
-use Rattle.clap.specs.Words.{App, Row, Text, fault_of, new_app, with_subcommand}
+use Rattle.clap.specs.Words.{App, Row, Rule, Text, fault_of, first_of, new_app, new_rule}
+use Rattle.clap.specs.Words.{subcommand_of, with_rule, with_subcommand}
+use Rattle.clap.specs.declared.builder.value_parser.ValueParser.TheVariants.{Unsigned}
 use Rattle.clap.specs.declared.error.kind.ErrorKind.{ErrorKind}
 use Rattle.clap.specs.declared.error.kind.ErrorKind.TheVariants.{DisplayHelp, DisplayVersion}
 use Rattle.clap.specs.declared.error.kind.ErrorKind.TheVariants.{OutOfMemory}
-use Rattle.macaroond.specs.declared.command_line.Choice.{Choice}
-use Rattle.macaroond.specs.declared.command_line.Choice.TheVariants.{Pipe}
+use Rattle.macaroond.specs.declared.choices.Choice.{Choice}
+use Rattle.macaroond.specs.declared.choices.Choice.TheVariants.{Pipe, Serve, Listen}
+use Rattle.macaroond.specs.declared.choices.Mode.{Mode}
+use Rattle.macaroond.specs.declared.choices.Mode.TheVariants.{Owner, Group, Everyone}
 
 -- ---- what `clap` is told
 
@@ -28,9 +36,39 @@ program = record (new_app (codes "macaroond")) {
   };
 }
 
+-- `--NAME VALUE`
+abbrev pub option : Text → Rule
+option name = record (new_rule name) { long = Some name; value_names = 1 }
+
+-- the same, where it may not be left out
+abbrev pub required : Rule → Rule
+required rule = record rule { required = true }
+
+-- the same, where the value is a number from 1 to `most`
+abbrev pub number : ℕ → Rule → Rule
+number most rule = record rule { parser = Some (Unsigned 1 most) }
+
+-- a subcommand with the options `--socket` and `--keys`
+abbrev pub socket_command : Text → App
+socket_command name = with_rule (with_rule (new_app name) (required (option (codes "socket"))))
+    (required (option (codes "keys")))
+
+-- the subcommand `serve`, which takes four options
+abbrev pub serve_command : App
+serve_command = with_rule (with_rule (socket_command (codes "serve"))
+    (required (number 16 (option (codes "workers")))))
+    (required (number 1000 (option (codes "accept"))))
+
+-- the subcommand `listen`, which takes two options and may take three more
+abbrev pub listen_command : App
+listen_command = with_rule (with_rule (with_rule (socket_command (codes "listen"))
+    (number 16 (option (codes "workers")))) (option (codes "mode")))
+    (number 86400 (option (codes "idle")))
+
 -- the whole command line
 abbrev pub command_line : App
-command_line = with_subcommand program pipe_command.top
+command_line = with_subcommand (with_subcommand (with_subcommand program pipe_command.top)
+    serve_command.top) listen_command.top
 
 -- ---- what `clap` makes of the words
 
@@ -56,9 +94,74 @@ LeadsTo None kinds = kinds ≡ []
 LeadsTo (Some status) [] = ⊥
 LeadsTo (Some status) (kind ∷ rest) = AllLeadTo status (kind ∷ rest)
 
+-- ---- what the choice says of the words
+
+-- the number that a numeral writes, where a plus may stand first
+abbrev pub number_in : Text → ℕ
+number_in text = digits_value 10 (without_leading_plus text)
+
+-- the option was given, with the number n from 1 to `most`
+abbrev pub IsNumber : ℕ → ℕ → Option Text → Type 0
+IsNumber most n given = (text : Text) × (given ≡ Some text)
+    × IsNumeral 10 (without_leading_plus text) × (n ≡ number_in text) × (1 ≤ n) × (n ≤ most)
+
+-- the same, where the option may be left out
+abbrev pub IsNumberOrNone : ℕ → Option ℕ → Option Text → Type 0
+IsNumberOrNone most (Some n) given = IsNumber most n given
+IsNumberOrNone most None given = given ≡ None
+
+-- the mode that three octal digits name
+abbrev pub mode_of : Text → Option Mode
+mode_of digits = if bytes_eq digits (codes "600") then Some Owner
+    else (if bytes_eq digits (codes "660") then Some Group
+    else (if bytes_eq digits (codes "666") then Some Everyone else None))
+
+-- the permissions, in which each octal digit 6 is read and write
+abbrev pub permissions : Mode → ℕ
+permissions Owner = 6 * 64
+permissions Group = 6 * 64 + 6 * 8
+permissions Everyone = 6 * 64 + 6 * 8 + 6
+
+-- the mode of a socket whose option `--mode` was given so, or left out
+abbrev pub mode_given : Option Text → Option Mode
+mode_given None = Some Owner
+mode_given (Some digits) = mode_of digits
+
+abbrev pub IsText : String Global → Option Text → Type 0
+IsText text given = given ≡ Some (string_bytes text)
+
+-- the choice has the values of a subcommand's options
+abbrev pub HasValues : Choice → List Row → Type 0
+HasValues Pipe rows = Unit {0}
+HasValues (Serve socket keys workers accept) rows =
+    IsText socket (first_of (codes "socket") rows) × IsText keys (first_of (codes "keys") rows)
+    × IsNumber 16 workers (first_of (codes "workers") rows)
+    × IsNumber 1000 accept (first_of (codes "accept") rows)
+HasValues (Listen socket keys workers mode idle) rows =
+    IsText socket (first_of (codes "socket") rows) × IsText keys (first_of (codes "keys") rows)
+    × IsNumberOrNone 16 workers (first_of (codes "workers") rows)
+    × (mode_given (first_of (codes "mode") rows) ≡ Some mode)
+    × IsNumberOrNone 86400 idle (first_of (codes "idle") rows)
+
+-- the subcommand that the choice stands for
+abbrev pub choice_name : Choice → Text
+choice_name Pipe = codes "pipe"
+choice_name (Serve socket keys workers accept) = codes "serve"
+choice_name (Listen socket keys workers mode idle) = codes "listen"
+
 -- the choice is the one that a subcommand of this name, with these options, stands for
 abbrev pub IsChoice : Choice → Option (Text × List Row) → Type 0
-IsChoice Pipe met = option_map (λ s. s.0) met ≡ Some (codes "pipe")
+IsChoice choice met =
+    (rows : List Row) × (met ≡ Some (choice_name choice, rows)) × HasValues choice rows
+
+-- `--mode` was given with digits that name none
+abbrev pub HasUnknownMode : Option (Text × List Row) → Type 0
+HasUnknownMode met = (rows : List Row) × (met ≡ Some (codes "listen", rows))
+    × (mode_given (first_of (codes "mode") rows) ≡ None)
+
+-- the same of the words of a command line
+abbrev pub AsksUnknownMode : List Text → Type 0
+AsksUnknownMode words = HasUnknownMode (subcommand_of command_line words)
 
 -- ---- the same in plain words
 
@@ -90,3 +193,8 @@ abbrev pub status_of_arguments : List Text → Option ℕ
 status_of_arguments [] = Some 2
 status_of_arguments (word ∷ rest) = if bytes_eq word (codes "pipe") then status_after_pipe rest
     else Some (status_of_word true word)
+
+-- the first of the words is `serve` or `listen`
+abbrev pub names_a_daemon : List Text → Bool
+names_a_daemon [] = false
+names_a_daemon (word ∷ rest) = bytes_eq word (codes "serve") || bytes_eq word (codes "listen")

@@ -2,6 +2,7 @@ pub mod Arrived
 pub mod CommandLine
 pub mod Inner
 pub mod Lines
+pub mod Options
 pub mod Output
 pub mod Pipe
 pub mod PipeText

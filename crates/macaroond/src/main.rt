@@ -8,15 +8,20 @@ ghost use Rattle.std.specs.Prelude.{◌≡◌, IfErr};
 ghost use Rattle.macaroond.specs.Status.{IsShown, run_status};
 
 mod arrived;
+mod choices;
 mod command_line;
+mod commands;
 mod fault;
 mod input;
 pub mod laws;
 mod lines;
+mod options;
 mod piping;
 mod reply_line;
 
-pub use command_line::{BAD_LINE, Choice, HELP_SHOWN, NO_MEMORY, chosen, words_of};
+pub use choices::{Choice, Mode};
+pub use command_line::{BAD_LINE, HELP_SHOWN, NO_MEMORY, chosen, words_of};
+pub use commands::{ACCEPT_MAX, IDLE_MAX, WORKERS_MAX};
 pub use fault::PipeFault;
 pub use input::INPUT_MAX;
 use mac_wire::{ReaderSource, WriterSink};
@@ -56,6 +61,7 @@ where
 {
     match choice {
         Ok(Choice::Pipe) => run_pipe(rt),
+        Ok(Choice::Serve { .. }) | Ok(Choice::Listen { .. }) => tell_fault(rt, DEVICE_FAULT),
         Err((status, text)) => show(rt, status, text.as_str()),
     }
 }

@@ -1,0 +1,179 @@
+-- What `clap` finds in the words of a command line that it takes: a subcommand, with the options that it asks for.
+use Rattle.std.proofs.Common.{◌≡◌, ◌∙◌, ◌⊎◌, ◌||◌, inl, inr, ℕ, Bool, cond, codes, true, false, refl, sym, ap, subst, List, [], ◌∷◌, not, Option, Some, None, is_some, Result, Ok, Err, IfOk}
+use Rattle.std.specs.Prelude.{find, option_map}
+use Rattle.std.specs.Option.{option_map_or}
+use Rattle.clap.specs.Facts.{parser_of_value}
+use Rattle.clap.specs.Kinds.{FailsBy, Kinds, or_else}
+use Rattle.clap.specs.ValueTests.{accepts}
+use Rattle.clap.specs.Walk.{Row, Rule, Text, answers_to, arg_by_id, first_of, finished, nothing_held, one_of, rows_after, settled, walk}
+use Rattle.clap.specs.Takes.{is_given}
+use Rattle.clap.specs.Simple.{HasMatchesOf, Shape, argument_words, built, built_leaf, entered, inherited, label_of, marked_built, names_of, rows_at, subcommand_of, subcommand_rows_of, with_leaf_noted}
+use Rattle.clap.specs.Faults.{check_fault, defaults_fault, entered_fault, fault_of, level_fault, settle_fault, walk_fault}
+use Rattle.clap.specs.declared.builder.value_parser.ValueParser.{ValueParser}
+use Rattle.clap.specs.declared.error.Error.{Error}
+use Rattle.clap.specs.declared.parser.matches.ArgMatches.{ArgMatches}
+use Rattle.clap.specs.declared.builder.value_parser.ValueParser.TheVariants.{Unsigned}
+use Rattle.clap.proofs.ValueTestLemmas.{accepts-Accepts}
+use Rattle.macaroond.specs.CommandLine.{command_line, listen_command, pipe_command, serve_command}
+use Rattle.macaroond.specs.Options.{HasCommand, HasListenOptions, HasServeOptions, IsGiven, IsGivenNumber, MayBeNumber}
+use Rattle.macaroond.proofs.OptionWalk.{Each, HasValue, IsKnown, first_none, leaf_rows, second_none, value_given, value_or_none}
+
+-- ---- the subcommands, built
+
+abbrev pub pipe : Shape
+pipe = built_leaf (inherited (with_leaf_noted (marked_built command_line.top)) pipe_command.top)
+
+abbrev pub serve : Shape
+serve = built_leaf (inherited (with_leaf_noted (marked_built command_line.top)) serve_command.top)
+
+abbrev pub listen : Shape
+listen = built_leaf (inherited (with_leaf_noted (marked_built command_line.top)) listen_command.top)
+
+known_serve : Each (IsKnown serve.rules) serve.rules
+known_serve = (
+  inl (record { action = refl; range = refl; index = refl; defaults = refl; short = λ x. refl; reading = refl; own = refl }),
+  (
+    inl (record { action = refl; range = refl; index = refl; defaults = refl; short = λ x. refl; reading = refl; own = refl }),
+    (
+      inl (record { action = refl; range = refl; index = refl; defaults = refl; short = λ x. refl; reading = refl; own = refl }),
+      (
+        inl (record { action = refl; range = refl; index = refl; defaults = refl; short = λ x. refl; reading = refl; own = refl }),
+        (
+          inr (record { action = refl; range = refl; index = refl; defaults = refl }),
+          tt,
+        ),
+      ),
+    ),
+  ),
+)
+
+known_listen : Each (IsKnown listen.rules) listen.rules
+known_listen = (
+  inl (record { action = refl; range = refl; index = refl; defaults = refl; short = λ x. refl; reading = refl; own = refl }),
+  (
+    inl (record { action = refl; range = refl; index = refl; defaults = refl; short = λ x. refl; reading = refl; own = refl }),
+    (
+      inl (record { action = refl; range = refl; index = refl; defaults = refl; short = λ x. refl; reading = refl; own = refl }),
+      (
+        inl (record { action = refl; range = refl; index = refl; defaults = refl; short = λ x. refl; reading = refl; own = refl }),
+        (
+          inl (record { action = refl; range = refl; index = refl; defaults = refl; short = λ x. refl; reading = refl; own = refl }),
+          (
+            inr (record { action = refl; range = refl; index = refl; defaults = refl }),
+            tt,
+          ),
+        ),
+      ),
+    ),
+  ),
+)
+
+-- ---- one option
+
+pub neither : (a b : Bool) → (a || b) ≡ false → (a ≡ false) × (b ≡ false)
+neither false b e = (refl, e)
+neither true b e = cc
+
+wanted : (b : Bool) → not b ≡ false → b ≡ true
+wanted true e = refl
+wanted false e = cc
+
+text_of : (c : List Rule) (id : Text) (rows : List Row) → HasValue c id rows → IsGiven id rows
+text_of c id rows v = (v.2, (v.3, v.4))
+
+number_of : (c : List Rule) (id : Text) (rows : List Row) (most : ℕ) (b : Rule) → arg_by_id c id ≡ Some b → b.parser ≡ Some (Unsigned 1 most) → HasValue c id rows → IsGivenNumber most id rows
+number_of c id rows most b own parser (a, found, v, first, one, passes) =
+    let same : a ≡ b = cc in
+    let reads : parser_of_value a.parser ≡ Unsigned 1 most = ap (λ (r : Rule). parser_of_value r.parser) same ∙ ap parser_of_value parser in
+    (v, (first, one), accepts-Accepts a.ignore_case (Unsigned 1 most) v (subst (λ (p : ValueParser). accepts a.ignore_case p v ≡ true) reads passes))
+
+maybe_number : (c : List Rule) (id : Text) (rows : List Row) (most : ℕ) (b : Rule) → arg_by_id c id ≡ Some b → b.parser ≡ Some (Unsigned 1 most)
+    → ((first_of id rows ≡ None) × (one_of id rows ≡ None) × (is_given id rows ≡ false)) ⊎ HasValue c id rows → MayBeNumber most id rows
+maybe_number c id rows most b own parser (inl none) = inl (none.0, none.1)
+maybe_number c id rows most b own parser (inr v) = inr (number_of c id rows most b own parser v)
+
+-- ---- the options of a subcommand
+
+pub serve_options : (words : List Text) → level_fault serve [] nothing_held words false [] ≡ [] → HasServeOptions (rows_after serve.rules [] words)
+serve_options words e =
+    let c = serve.rules in
+    let rows = rows_after c [] words in
+    let found = leaf_rows c serve words known_serve e in
+    let socket = neither (not (is_given (codes "socket") rows)) _ found.1 in
+    let keys = neither (not (is_given (codes "keys") rows)) _ socket.1 in
+    let workers = neither (not (is_given (codes "workers") rows)) _ keys.1 in
+    let accept = neither (not (is_given (codes "accept") rows)) _ workers.1 in (
+      text_of c (codes "socket") rows (value_given c (codes "socket") rows found.0 (wanted _ socket.0)),
+      text_of c (codes "keys") rows (value_given c (codes "keys") rows found.0 (wanted _ keys.0)),
+      number_of c (codes "workers") rows 16 _ refl refl (value_given c (codes "workers") rows found.0 (wanted _ workers.0)),
+      number_of c (codes "accept") rows 1000 _ refl refl (value_given c (codes "accept") rows found.0 (wanted _ accept.0)),
+    )
+
+pub listen_options : (words : List Text) → level_fault listen [] nothing_held words false [] ≡ [] → HasListenOptions (rows_after listen.rules [] words)
+listen_options words e =
+    let c = listen.rules in
+    let rows = rows_after c [] words in
+    let found = leaf_rows c listen words known_listen e in
+    let socket = neither (not (is_given (codes "socket") rows)) _ found.1 in
+    let keys = neither (not (is_given (codes "keys") rows)) _ socket.1 in (
+      text_of c (codes "socket") rows (value_given c (codes "socket") rows found.0 (wanted _ socket.0)),
+      text_of c (codes "keys") rows (value_given c (codes "keys") rows found.0 (wanted _ keys.0)),
+      maybe_number c (codes "workers") rows 16 _ refl refl (value_or_none c (codes "workers") rows found.0),
+      maybe_number c (codes "idle") rows 86400 _ refl refl (value_or_none c (codes "idle") rows found.0),
+    )
+
+-- ---- the whole line
+
+-- the subcommand that a word names
+abbrev IsOne : Option Shape → Type 0
+IsOne o = (o ≡ None) ⊎ ((o ≡ Some pipe) ⊎ ((o ≡ Some serve) ⊎ (o ≡ Some listen)))
+
+one_of_three : (t : Shape → Bool) → IsOne (find t (pipe ∷ serve ∷ listen ∷ []))
+one_of_three t = go (t pipe) (t serve) (t listen)
+  where
+    go : (a b c : Bool) → IsOne (cond a (Some pipe) (cond b (Some serve) (cond c (Some listen) None)))
+    go true b c = inr (inl refl)
+    go false true c = inr (inr (inl refl))
+    go false false true = inr (inr (inr refl))
+    go false false false = inl refl
+
+-- what comes of a level of a subcommand, and of the last check of the level above it
+abbrev Passes : Kinds → Kinds → List Row → List Text → Option Shape → Type 0
+Passes x y rows words o = or_else (option_map_or (λ s. level_fault s [] nothing_held words false []) o [])
+    (or_else x (or_else y (check_fault (built command_line).top rows (is_some (option_map (λ s. rows_at s words) o))))) ≡ []
+
+no_subcommand : (x y : Kinds) (rows : List Row) → or_else x (or_else y (check_fault (built command_line).top rows false)) ≡ [] → ⊥
+no_subcommand x y rows e =
+    let last = second_none y _ (second_none x _ e) in
+    cc
+
+entered_passes : (x y : Kinds) (rows : List Row) (words : List Text) (o : Option Shape) → IsOne o → Passes x y rows words o
+    → HasCommand (option_map (λ s. rows_at s words) o)
+entered_passes x y rows words o (inl none) e = absurd (no_subcommand x y rows (subst (Passes x y rows words) none e))
+entered_passes x y rows words o (inr (inl is)) e = subst (λ p. HasCommand (option_map (λ s. rows_at s words) p)) (sym is) (codes "pipe", rows_after pipe.rules [] words, refl, inl refl)
+entered_passes x y rows words o (inr (inr (inl is))) e =
+    let options = serve_options words (first_none _ _ (subst (Passes x y rows words) is e)) in
+    subst (λ p. HasCommand (option_map (λ s. rows_at s words) p)) (sym is) (codes "serve", rows_after serve.rules [] words, refl, inr (inl (refl, options)))
+entered_passes x y rows words o (inr (inr (inr is))) e =
+    let options = listen_options words (first_none _ _ (subst (Passes x y rows words) is e)) in
+    subst (λ p. HasCommand (option_map (λ s. rows_at s words) p)) (sym is) (codes "listen", rows_after listen.rules [] words, refl, inr (inr (refl, options)))
+
+pub line_passes : (words : List Text) → fault_of command_line words ≡ [] → HasCommand (subcommand_of command_line words)
+line_passes words e =
+    let a = built command_line in
+    let w = walk a.top.rules (names_of a) nothing_held (argument_words command_line words) in
+    go (settle_fault a.top.rules false w.held) (defaults_fault (settled a.top.rules w.held).rows a.top.rules) (finished a.top.rules w.held) w.stopped
+    (second_none (walk_fault a.top (names_of a) _ (argument_words command_line words)) _ e)
+  where
+    go : (x y : Kinds) (rows : List Row) (stop : Option (Text × List Text))
+        → or_else (entered_fault (built command_line) stop) (or_else x (or_else y (check_fault (built command_line).top rows (is_some (entered (built command_line) stop))))) ≡ []
+        → HasCommand (entered (built command_line) stop)
+    go x y rows None none = absurd (no_subcommand x y rows none)
+    go x y rows (Some p) none =
+        entered_passes x y rows p.1 (find (λ s. answers_to p.0 (label_of s)) (built command_line).subs) (one_of_three (λ s. answers_to p.0 (label_of s))) none
+
+-- what a parse found
+pub command_found : (words : List Text) (r : Result ArgMatches Error) → FailsBy (fault_of command_line words) r → IfOk r (HasMatchesOf command_line words)
+    → IfOk r (λ matches. HasCommand (subcommand_rows_of matches))
+command_found words (Ok matches) none has = subst HasCommand (sym (has refl).1) (line_passes words none)
+command_found words (Err error) fault has = tt

@@ -1,0 +1,13 @@
+use Rattle.std.proofs.Common.{map, ap, subst, IfOk, string_bytes}
+use Rattle.clap.specs.Words.{App, FailsBy, HasMatchesOf, fault_of, is_simple_and_free}
+use Rattle.macaroond.proofs.OptionLemmas.{command_found}
+use Rattle.macaroond.proofs.command_line.matches_of.Goals as goal
+
+pub returns-clause-options : goal.returns-clause-options
+returns-clause-options c =
+    let words = map string_bytes c.args.words.now in
+    let r = c.try_get_matches_from.result in
+    let same = c.in_ok-command.ensures in
+    command_found words r
+    (subst (λ (a : App). FailsBy (fault_of a words) r) same (c.try_get_matches_from.ensures.kinds (ap is_simple_and_free same)))
+    (subst (λ (a : App). IfOk r (HasMatchesOf a words)) same c.try_get_matches_from.ensures.matches)

@@ -1,0 +1,71 @@
+-- What the rows of a parse have, before a choice is made of them. Nobody needs this page to read
+-- what `chosen` promises.
+use Rattle.std.specs.Prelude.{◌≡◌, ◌⊎◌, ℕ, List, Option, Some, None, codes, Result, Ok, Err}
+use Rattle.clap.specs.Values.{IsUnsignedIn}
+use Rattle.clap.specs.Words.{App, Row, Text, app_of, first_of, one_of, with_subcommand}
+use Rattle.clap.specs.declared.builder.command.Command.{Command}
+use Rattle.macaroond.specs.declared.choices.Choice.{Choice}
+use Rattle.macaroond.specs.declared.options.OptionFault.{OptionFault}
+use Rattle.macaroond.specs.declared.options.OptionFault.TheVariants as fault
+use Rattle.macaroond.specs.CommandLine.{HasValues, IsNumber, IsNumberOrNone, choice_name}
+use Rattle.macaroond.specs.CommandLine.{mode_given}
+
+-- the option has a value, as text and as it is read
+abbrev pub IsGivenAs : Text → Text → List Row → Type 0
+IsGivenAs text id rows = (first_of id rows ≡ Some text) × (one_of id rows ≡ Some text)
+
+abbrev pub IsGiven : Text → List Row → Type 0
+IsGiven id rows = (text : Text) × IsGivenAs text id rows
+
+-- and it is a number from 1 to `most`
+abbrev pub IsGivenNumber : ℕ → Text → List Row → Type 0
+IsGivenNumber most id rows = (text : Text) × IsGivenAs text id rows × IsUnsignedIn 1 most text
+
+-- or the option was left out
+abbrev pub IsLeftOut : Text → List Row → Type 0
+IsLeftOut id rows = (first_of id rows ≡ None) × (one_of id rows ≡ None)
+
+abbrev pub MayBeNumber : ℕ → Text → List Row → Type 0
+MayBeNumber most id rows = IsLeftOut id rows ⊎ IsGivenNumber most id rows
+
+-- a number was given, within some bound
+abbrev pub HasNumber : Text → List Row → Type 0
+HasNumber id rows = (most : ℕ) × IsGivenNumber most id rows
+
+-- n is the number that was given, within each bound that it is known to be within
+abbrev pub Reads : Text → List Row → ℕ → Type 0
+Reads id rows n =
+    (most : ℕ) → IsGivenNumber most id rows → IsNumber most n (first_of id rows)
+
+abbrev pub MayRead : Text → List Row → Option ℕ → Type 0
+MayRead id rows n = (most : ℕ) → MayBeNumber most id rows
+    → IsNumberOrNone most n (first_of id rows)
+
+abbrev pub HasServeOptions : List Row → Type 0
+HasServeOptions rows = IsGiven (codes "socket") rows × IsGiven (codes "keys") rows
+    × IsGivenNumber 16 (codes "workers") rows × IsGivenNumber 1000 (codes "accept") rows
+
+abbrev pub HasListenOptions : List Row → Type 0
+HasListenOptions rows = IsGiven (codes "socket") rows × IsGiven (codes "keys") rows
+    × MayBeNumber 16 (codes "workers") rows × MayBeNumber 86400 (codes "idle") rows
+
+-- the rows are those of one of the three subcommands
+abbrev pub HasOptions : Text → List Row → Type 0
+HasOptions name rows = (name ≡ codes "pipe") ⊎ (((name ≡ codes "serve") × HasServeOptions rows)
+    ⊎ ((name ≡ codes "listen") × HasListenOptions rows))
+
+-- a subcommand was met, with such rows
+abbrev pub HasCommand : Option (Text × List Row) → Type 0
+HasCommand met =
+    (name : Text) × (rows : List Row) × (met ≡ Some (name, rows)) × HasOptions name rows
+
+-- what is made of them: the choice, or `--mode` names no mode, or memory ran out
+abbrev pub Chooses : Text → List Row → Result Choice OptionFault → Type 0
+Chooses name rows (Ok choice) = (choice_name choice ≡ name) × HasValues choice rows
+Chooses name rows (Err fault.UnknownMode) =
+    (name ≡ codes "listen") × (mode_given (first_of (codes "mode") rows) ≡ None)
+Chooses name rows (Err fault.NoMemory) = Unit {0}
+
+-- the second command is the first with one more subcommand
+abbrev pub AddsCommand : Command → App → Command → Type 0
+AddsCommand program sub whole = app_of whole ≡ with_subcommand (app_of program) sub.top

@@ -1,0 +1,173 @@
+//! The command line as `clap` is told it, and what its options say.
+ghost use Rattle.std.specs.Prelude.{◌≡◌, false, IfOk};
+ghost use Rattle.clap.specs.Words.{app_of, rule_of};
+ghost use Rattle.macaroond.specs.CommandLine.{command_line, listen_command, number, option};
+ghost use Rattle.macaroond.specs.CommandLine.{pipe_command, required, serve_command};
+ghost use Rattle.macaroond.specs.Options.{AddsCommand};
+
+use clap::builder::ValueParser;
+use clap::{Arg, Command};
+use std::alloc::{AllocError, Global};
+
+/// The most threads that answer requests.
+pub const WORKERS_MAX: u64 = 16;
+
+/// The most connections that one run of `serve` takes.
+pub const ACCEPT_MAX: u64 = 1000;
+
+/// The most seconds that `--idle` takes: a day.
+pub const IDLE_MAX: u64 = 86400;
+
+/// The version, as `--version` prints it.
+const VERSION: &str = "0.1.0";
+
+/// What the help of `pipe` says below its options.
+const PIPE_HELP: &str = "\
+Input, of at most 16777216 bytes:
+  Key lines: `key NAME SECRET`, the secret in hexadecimal. A line that begins with # says nothing.
+  An empty line.
+  Requests: a line each, its bytes in hexadecimal. One of more than 65536 bytes is answered and
+  ends the run.
+
+Output, once the whole input is read, a line for each request:
+  granted         the token is good for what was stated of the request
+  token TEXT      the token that was asked for; token hex:DIGITS if it is binary
+  refused 24 N    caveat N, counted from 0, is the first that isn't satisfied
+  refused N       16 no request, 17 too long, 18 no such key, 19 no base64 text, 20 no token,
+                  21 a third-party caveat, 22 past a limit, 23 a wrong signature,
+                  26 a caveat with a location
+
+Exit status:
+  0  every request was answered, be it granted or refused
+  1  a key line has a fault; standard error names it as `keys: line L kind K`: 1 a bad name,
+     2 a secret that isn't hexadecimal, 3 an empty secret, 4 a name that stands on an earlier line,
+     5 more than 1000 names, 6 no key line
+  2  a bad command line
+  3  reading or writing failed, or the input is longer than it may be
+  4  memory ran out";
+
+/// What the help of `serve` says below its options.
+const SERVE_HELP: &str = "\
+Prints `listening` once clients can connect. Prints `served N faults M` once N connections have
+ended, M of them in a fault. PATH must not be there yet, and stays when the run ends. The key file
+has key lines, as `macaroond pipe` reads them, and at most 16777216 bytes.
+
+Example:
+  macaroond serve --socket /tmp/macaroond.sock --keys examples/keys --workers 2 --accept 3
+
+Exit status:
+  0  all connections were served
+  1  a key line has a fault; standard error names it as `keys: line L kind K`
+  2  a bad command line
+  3  a file or the socket failed, or the key file is longer than it may be
+  4  memory ran out";
+
+/// What the help of `listen` says below its options.
+const LISTEN_HELP: &str = "\
+Runs until it is stopped. Prints one line once clients can connect, and one line on standard error
+for each connection that ended in a fault. A socket at PATH on which nobody listens is taken over;
+anything else at PATH is left alone, and the run ends with status 3. The key file has key lines, as
+`macaroond pipe` reads them, and at most 16777216 bytes.
+
+Example:
+  macaroond listen --socket /run/macaroond/socket --keys /etc/macaroond/keys --mode 660 --idle 60
+
+Exit status:
+  1  a key line has a fault; standard error names it as `keys: line L kind K`
+  2  a bad command line
+  3  a file or the socket failed, or the key file is longer than it may be
+  4  memory ran out";
+
+/// What help says of the options that `serve` and `listen` share.
+const SOCKET_HELP: &str = "Where the socket is made";
+
+const KEYS_HELP: &str = "The file of key lines";
+
+/// The whole command line.
+pub fn command<'a>(alloc: Global) -> Result<Command<'a>, AllocError>
+    ensures { IfOk result (λ command. app_of command ≡ command_line) }
+{
+    let program = Command::new(alloc, "macaroond")
+        .about("Mints, narrows and verifies macaroons")
+        .version(VERSION)
+        .subcommand_required(true)
+        .disable_help_subcommand(true);
+    let program = with_pipe(alloc, program)?;
+    let program = with_serve(alloc, program)?;
+    with_listen(alloc, program)
+}
+
+fn with_pipe<'a>(alloc: Global, program: Command<'a>) -> Result<Command<'a>, AllocError>
+    ensures { IfOk result (AddsCommand program.entry pipe_command) }
+{
+    let pipe = Command::new(alloc, "pipe")
+        .about("Answers the requests on standard input, one line each")
+        .after_help(PIPE_HELP);
+    program.subcommand(pipe)
+}
+
+fn with_serve<'a>(alloc: Global, program: Command<'a>) -> Result<Command<'a>, AllocError>
+    ensures { IfOk result (AddsCommand program.entry serve_command) }
+{
+    let workers = count(alloc, "workers", WORKERS_MAX)
+        .required(true)
+        .help("How many threads answer requests, from 1 to 16");
+    let accept = count(alloc, "accept", ACCEPT_MAX)
+        .required(true)
+        .help("How many connections are served, from 1 to 1000");
+    let serve = Command::new(alloc, "serve")
+        .about("Answers the requests of so many connections over a Unix socket")
+        .after_help(SERVE_HELP)
+        .arg(path(alloc, "socket", SOCKET_HELP))?
+        .arg(path(alloc, "keys", KEYS_HELP))?
+        .arg(workers)?
+        .arg(accept)?;
+    program.subcommand(serve)
+}
+
+fn with_listen<'a>(alloc: Global, program: Command<'a>) -> Result<Command<'a>, AllocError>
+    ensures { IfOk result (AddsCommand program.entry listen_command) }
+{
+    let workers = count(alloc, "workers", WORKERS_MAX).help(
+        "How many threads answer requests, from 1 to 16 [default: one a processor]",
+    );
+    let mode = valued(alloc, "mode", "DIGITS").help(
+        "Who may connect: 600 the owner, 660 the group too, 666 everyone [default: 600]",
+    );
+    let idle = count(alloc, "idle", IDLE_MAX).help(
+        "Ends a connection that makes no progress for so many seconds [default: never]",
+    );
+    let listen = Command::new(alloc, "listen")
+        .about("Answers requests over a Unix socket until it is stopped")
+        .after_help(LISTEN_HELP)
+        .arg(path(alloc, "socket", SOCKET_HELP))?
+        .arg(path(alloc, "keys", KEYS_HELP))?
+        .arg(workers)?
+        .arg(mode)?
+        .arg(idle)?;
+    program.subcommand(listen)
+}
+
+// A required option that takes a path.
+fn path<'a>(alloc: Global, name: &'a str, help: &'a str) -> Arg<'a>
+    ensures rule { rule_of result ≡ required (option name.entry.now) }
+    ensures local { result.global ≡ false }
+{
+    valued(alloc, name, "PATH").required(true).help(help)
+}
+
+// An option that takes a number from 1 to `most`.
+fn count<'a>(alloc: Global, name: &'a str, most: u64) -> Arg<'a>
+    ensures rule { rule_of result ≡ number most (option name.entry.now) }
+    ensures local { result.global ≡ false }
+{
+    valued(alloc, name, "COUNT").value_parser(ValueParser::unsigned(1, most))
+}
+
+// An option that takes a value.
+fn valued<'a>(alloc: Global, name: &'a str, value: &'a str) -> Arg<'a>
+    ensures rule { rule_of result ≡ option name.entry.now }
+    ensures local { result.global ≡ false }
+{
+    Arg::new(alloc, name).long(name).value_name(value)
+}

@@ -1,0 +1,109 @@
+//! What the options of a subcommand say.
+ghost use Rattle.std.specs.Prelude.{◌≡◌, codes, IfOk};
+ghost use Rattle.clap.specs.Words.{first_of, found_of, rows_of};
+ghost use Rattle.macaroond.specs.CommandLine.{IsText, mode_given};
+ghost use Rattle.macaroond.specs.Options.{Chooses, HasListenOptions, HasNumber, HasOptions};
+ghost use Rattle.macaroond.specs.Options.{HasServeOptions, IsGiven, MayRead, Reads};
+ghost use Rattle.macaroond.specs.declared.options.OptionFault.TheVariants.{NoMemory};
+
+use crate::choices::{Choice, Mode};
+use clap::ArgMatches;
+use std::alloc::{AllocError, Global};
+
+/// Why options that `clap` takes give no choice.
+#[derive(Clone, Copy)]
+pub enum OptionFault {
+    /// `--mode` has digits that name no mode.
+    UnknownMode,
+    /// Memory ran out.
+    NoMemory,
+}
+
+impl From<AllocError> for OptionFault {
+    ghost from_gives = { λ _ fault. fault ≡ NoMemory };
+
+    fn from(_refused: AllocError) -> OptionFault {
+        OptionFault::NoMemory
+    }
+}
+
+/// The choice that a subcommand with these options stands for.
+pub fn choice_of(alloc: Global, name: &str, options: &ArgMatches<'_>) -> Result<Choice, OptionFault>
+    requires { HasOptions name.now (rows_of (found_of options.now)) }
+    ensures { Chooses name.now (rows_of (found_of options.now)) result }
+{
+    match name {
+        "pipe" => Ok(Choice::Pipe),
+        "serve" => serve_of(alloc, options),
+        "listen" => listen_of(alloc, options),
+        _ => unreachable!("the subcommand is one of those above"),
+    }
+}
+
+fn serve_of(alloc: Global, options: &ArgMatches<'_>) -> Result<Choice, OptionFault>
+    requires { HasServeOptions (rows_of (found_of options.now)) }
+    ensures { Chooses (codes "serve") (rows_of (found_of options.now)) result }
+{
+    Ok(Choice::Serve {
+        socket: text_of(alloc, options, "socket")?,
+        keys: text_of(alloc, options, "keys")?,
+        workers: number_of(options, "workers"),
+        accept: number_of(options, "accept"),
+    })
+}
+
+fn listen_of(alloc: Global, options: &ArgMatches<'_>) -> Result<Choice, OptionFault>
+    requires { HasListenOptions (rows_of (found_of options.now)) }
+    ensures { Chooses (codes "listen") (rows_of (found_of options.now)) result }
+{
+    let Some(mode) = mode_of(options) else {
+        return Err(OptionFault::UnknownMode);
+    };
+    Ok(Choice::Listen {
+        socket: text_of(alloc, options, "socket")?,
+        keys: text_of(alloc, options, "keys")?,
+        workers: optional_number_of(options, "workers"),
+        mode,
+        idle: optional_number_of(options, "idle"),
+    })
+}
+
+// The value of an option that has to be given.
+fn text_of(alloc: Global, options: &ArgMatches<'_>, name: &str) -> Result<String, AllocError>
+    requires { IsGiven name.now (rows_of (found_of options.now)) }
+    ensures { IfOk result (λ text.
+        IsText text (first_of name.now (rows_of (found_of options.now)))) }
+{
+    match options.get_str(name) {
+        Some(text) => String::from_str(alloc, text),
+        None => unreachable!("`clap` asks for the option"),
+    }
+}
+
+// The number of an option that has to be given.
+fn number_of(options: &ArgMatches<'_>, name: &str) -> u64
+    requires { HasNumber name.now (rows_of (found_of options.now)) }
+    ensures { Reads name.now (rows_of (found_of options.now)) result }
+{
+    match options.get_one::<u64>(name) {
+        Some(number) => number,
+        None => unreachable!("`clap` asks for a number"),
+    }
+}
+
+// The number of an option that may be left out.
+fn optional_number_of(options: &ArgMatches<'_>, name: &str) -> Option<u64>
+    ensures { MayRead name.now (rows_of (found_of options.now)) result }
+{
+    options.get_one::<u64>(name)
+}
+
+// Who may connect to the socket.
+fn mode_of(options: &ArgMatches<'_>) -> Option<Mode>
+    ensures { result ≡ mode_given (first_of (codes "mode") (rows_of (found_of options.now))) }
+{
+    match options.get_str("mode") {
+        Some(digits) => Mode::of(digits),
+        None => Some(Mode::Owner),
+    }
+}
