@@ -1,5 +1,6 @@
 #!/usr/bin/env python3
-"""Times `macaroond pipe`, by its processor time, beside the SHA-256 that its answers need. Asks for bin/macaroond and bin/hash_blocks."""
+"""Times `macaroond pipe`, by its processor time, beside the SHA-256 that its answers need; then the ring and the pool.
+Asks for the programs that `make build` leaves in bin/."""
 import os
 import pathlib
 import resource
@@ -22,8 +23,15 @@ HMAC_BLOCKS = 4
 BLOCKS_TIMED = 5_000_000
 # How many caveats of 245 bytes the tokens have that are read and written.
 SIZES = (8, 32, 127)
-# Each time is the least of so many: what else runs on a machine only adds to it.
-TRIALS = 5
+# Slips through the ring, and the most nanoseconds that each may take.
+SLIPS, SLIP_NANOS_MAX = 5_000_000, 150
+# Tickets through the pool, in runs of 64, and the most that each may take of the processors' time: in microseconds, and with
+# four workers beside one.
+TICKETS, TICKET_RUN, TICKET_MICROS_MAX, MANY_BESIDE_ONE_MAX = 1_000_000, 64, 0.6, 1.5
+# How long 16 workers wait for nothing, and the most of that time that they may take.
+IDLE_MILLIS, IDLE_SHARE_MAX = 1_000, 0.01
+# Each time is the least of so many: what else runs on a machine only adds to it, most of all to what threads do together.
+TRIALS, THREAD_TRIALS = 5, 20
 
 
 def processor_seconds():
@@ -114,8 +122,38 @@ def print_sizes():
         print(f"| {count} | {' | '.join(costs)} |")
 
 
+def run_seconds(run, told):
+    """The processor time of a run of `pool_runs`, which answers as it is told."""
+    trials = [seconds([TOP / "bin" / "pool_runs", run]) for _ in range(THREAD_TRIALS)]
+    if any(printed != told + "\n" for _, printed in trials):
+        sys.exit(f"pool_runs doesn't answer as it should: {run}")
+    return min(taken for taken, _ in trials)
+
+
+def print_ring_and_pool():
+    """What a slip of the ring, a ticket of the pool and an idle pool cost, and whether that is within their bounds."""
+    slip = run_seconds(f"hand_over:{SLIPS}", f"admitted {SLIPS} released {SLIPS}") / SLIPS * 1e9
+    verdicts = [slip <= SLIP_NANOS_MAX]
+    print(f"a slip's way through the ring: {slip:.0f} ns (at most {SLIP_NANOS_MAX})")
+    each = {}
+    for workers in (1, 2, 4):
+        run = f"tickets:{workers}:{TICKETS // TICKET_RUN}"
+        each[workers] = run_seconds(run, f"put {TICKETS} claimed {TICKETS} left 0") / TICKETS * 1e6
+        verdicts.append(each[workers] <= TICKET_MICROS_MAX)
+        print(f"a ticket through {workers} workers and back: {each[workers]:.2f} us (at most {TICKET_MICROS_MAX})")
+    verdicts.append(each[4] <= MANY_BESIDE_ONE_MAX * each[1])
+    print(f"with 4 workers beside 1: {each[4] / each[1]:.2f} (at most {MANY_BESIDE_ONE_MAX})")
+    started = run_seconds("idle:16:0", "put 0 claimed 0 left 0")
+    waited = run_seconds(f"idle:16:{IDLE_MILLIS}", "put 0 claimed 0 left 0")
+    idle = max(0.0, waited - started) * 1000 / IDLE_MILLIS
+    verdicts.append(idle <= IDLE_SHARE_MAX)
+    print(f"16 idle workers: {100 * idle:.2f} % of a processor (at most {100 * IDLE_SHARE_MAX:.0f} %)")
+    if not all(verdicts):
+        sys.exit("something of the ring or the pool is slower than it may be")
+
+
 def stop_unless_built():
-    programs = ["bin/macaroond", "bin/hash_blocks"]
+    programs = ["bin/macaroond", "bin/hash_blocks", "bin/pool_runs"]
     lacking = " and ".join(name for name in programs if not os.access(TOP / name, os.X_OK))
     if lacking:
         sys.exit(f"no {lacking}: run `make build` first, which proves and builds the programs")
@@ -126,3 +164,5 @@ if __name__ == "__main__":
     print_kinds()
     print()
     print_sizes()
+    print()
+    print_ring_and_pool()

@@ -1,5 +1,5 @@
 -- What a worker makes of tickets.
-use Rattle.std.specs.Prelude.{◌≡◌, ◌⊎◌, ℕ, ⊤, List, [], ◌∷◌, None, Some}
+use Rattle.std.specs.Prelude.{◌≡◌, ◌⊎◌, ⊤, List, [], ◌∷◌, None, Some}
 use Rattle.mac_pool.specs.Post.{entry_of}
 use Rattle.mac_pool.specs.declared.ticket.Ticket.{Ticket}
 use Rattle.mac_pool.specs.declared.work.Parcel.{Parcel}

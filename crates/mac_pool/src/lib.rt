@@ -25,6 +25,3 @@ pub use pool::{Pool, WORKERS_MAX};
 pub use post::Post;
 pub use ticket::Ticket;
 pub use work::{Worked, worker};
-
-#[cfg(test)]
-mod tests;

@@ -1,7 +1,7 @@
 //! The line: tickets wait here for workers, and each that was put is claimed once or still there.
 
-ghost use Rattle.std.specs.Prelude.{◌≡◌, ◌+◌, ◌-◌, ◌≤◌, ◌<◌, ◌^◌, List, ℕ, [], ◌∷◌, ◌++◌, length, IfErr, IfOk, IfSome, IfNone, OnOk, OnErr, OnSome};
-ghost use Rattle.mac_pool.specs.Balance.{account, entry_of, IsBalanced};
+ghost use Rattle.std.specs.Prelude.{◌≡◌, ◌+◌, ◌-◌, ◌≤◌, ◌<◌, ◌^◌, [], length, IfErr, IfOk, IfSome, IfNone, OnOk, OnErr, OnSome};
+ghost use Rattle.mac_pool.specs.Balance.{account, entry_of};
 ghost use Rattle.mac_pool.specs.Claim.{after_claim};
 ghost use Rattle.mac_pool.specs.Pass.{with_put, with_claimed, AreFresh};
 ghost use Rattle.crossbeam_queue.specs.Passes.{view as what, IsPassOf};
@@ -81,9 +81,19 @@ impl<S: Service> Model for LinePass<S> {
 
     ghost coded = { pass_code S.Job.code };
 
-    ghost view = { λ p. record { line = p.seat.table_id; seat = p.seat.id; number = p.number; put = (what p.seat).put; claimed = (what p.seat).claimed } };
+    ghost view = { λ p. record {
+      line = p.seat.table_id;
+      seat = p.seat.id;
+      number = p.number;
+      put = (what p.seat).put;
+      claimed = (what p.seat).claimed;
+    } };
 
-    ghost invariant = { λ p. (p.seat.me.1 ≡ []) × ((what p.seat).parts ≡ 1) × (p.puts ≡ length (what p.seat).put) × (p.puts ≤ PUTS_MAX) × (p.number < PASSES) };
+    ghost invariant = { λ p. (p.seat.me.1 ≡ [])
+        × ((what p.seat).parts ≡ 1)
+        × (p.puts ≡ length (what p.seat).put)
+        × (p.puts ≤ PUTS_MAX)
+        × (p.number < PASSES) };
 }
 
 impl<S: Service> LinePass<S> {
@@ -154,7 +164,8 @@ impl<S: Service> Line<S> {
     pub fn claim<R: Wait>(&self, rt: &R, pass: &mut LinePass<S>) -> Claim<S>
         requires { pass.old.line ≡ self.now }
         ensures claimed { pass.new ≡ after_claim pass.old result }
-        ensures few { length pass.old.claimed < length pass.new.claimed → length pass.new.claimed < 2 ^ 62 }
+        ensures few { length pass.old.claimed < length pass.new.claimed →
+            length pass.new.claimed < 2 ^ 62 }
     {
         let is_closed = self.is_closed.load(SeqCst);
         match self.queue.pop_as::<Claims, R>(rt, &mut pass.seat) {
@@ -168,7 +179,8 @@ impl<S: Service> Line<S> {
     /// and empty.
     pub(crate) fn wait<R: Wait>(&self, rt: &R, pass: &mut LinePass<S>) -> Option<Ticket<S>>
         requires { pass.old.line ≡ self.now }
-        ensures claimed { IfSome result (λ ticket. pass.new ≡ with_claimed pass.old (entry_of ticket)) }
+        ensures claimed { IfSome result (λ ticket.
+            pass.new ≡ with_claimed pass.old (entry_of ticket)) }
         ensures few { OnSome result (length pass.new.claimed < 2 ^ 62) }
         ensures same { IfNone result (pass.new ≡ pass.old) }
     {

@@ -1,8 +1,8 @@
 //! A mailbox: posts wait here for the one who takes them.
 
-ghost use Rattle.std.specs.Prelude.{◌≡◌, List, Option, ℕ, [], ◌∷◌, ◌++◌, IfErr, IfOk, IfSome, IfNone};
+ghost use Rattle.std.specs.Prelude.{◌≡◌, Option, [], ◌∷◌, ◌++◌, IfErr, IfOk, IfSome, IfNone};
 ghost use Rattle.mac_pool.specs.Post.{entry_of};
-ghost use Rattle.crossbeam_queue.specs.Passes.{view, IsPassOf, IsSamePass};
+ghost use Rattle.crossbeam_queue.specs.Passes.{view, IsSamePass};
 
 use crate::bell::{Bell, Notice};
 use crate::fault::PutFault;

@@ -1,6 +1,6 @@
 //! A pool: a line with workers in threads of their own, and desks for connections.
 
-ghost use Rattle.std.specs.Prelude.{◌≡◌, ◌≢◌, ◌+◌, ◌≤◌, ◌<◌, ◌⊎◌, ◌↔◌, ◌++◌, ℕ, [], List, Option, Some, None, Ok, Err, All, IsSome, IfOk, IfErr, IsErr, MatchOption, MatchResult, OnOk, OnErr, IfSome, map, take, drop, length, slice_get, slice_set};
+ghost use Rattle.std.specs.Prelude.{◌≡◌, ◌≢◌, ◌+◌, ◌≤◌, ◌<◌, ◌⊎◌, ◌↔◌, ◌++◌, [], Option, Some, None, Ok, Err, IfOk, IfErr, IsErr, MatchOption, OnOk, OnErr, IfSome, map, take, length, slice_get, slice_set};
 ghost use Rattle.mac_pool.specs.Pool.{IsStarted, IsStopped, IsGiven, IsHome, IsBrought, AreOut, AreWorkers, at_home, with_home};
 ghost use Rattle.std.specs.Arc.{arc_value};
 ghost use Rattle.std.specs.Vec.{vec_capacity};
@@ -61,14 +61,20 @@ impl<S: Service, G: Gate> Model for Pool<S, G> {
     ghost use Rattle.std.specs.Vec.{vec_capacity};
     ghost use Rattle.mac_pool.specs.Pool.{IsKept};
 
-    ghost view = { λ p. record { line = arc_value p.line; workers = length p.workers.items; passes = p.passes.items } };
+    ghost view = { λ p. record {
+      line = arc_value p.line;
+      workers = length p.workers.items;
+      passes = p.passes.items;
+    } };
 
-    ghost invariant = { λ p. IsKept (arc_value p.line) (map (λ w. w.promise.0.value) p.workers.items) (vec_capacity p.workers) p.passes.items p.all.items (vec_capacity p.all) };
+    ghost invariant = { λ p.
+        IsKept (arc_value p.line) (map (λ w. w.promise.0.value) p.workers.items)
+        (vec_capacity p.workers) p.passes.items p.all.items (vec_capacity p.all) };
 }
 
 impl<S: Service, G: Gate> Pool<S, G> {
-    /// Starts so many workers, each in a thread of its own. Takes the room for all that the pool keeps
-    /// later; where a thread or memory is refused, those that were started are ended.
+    /// Starts so many workers, each in a thread of its own. Takes the room for all that the pool
+    /// keeps later; where a thread or memory is refused, those that were started are ended.
     pub fn start<R>(
         rt: &R,
         alloc: Global,
@@ -127,7 +133,8 @@ impl<S: Service, G: Gate> Pool<S, G> {
         G: 'static,
         requires started { IsStarted self.old.workers self.old }
         requires room { self.old.workers < WORKERS_MAX }
-        ensures hired { OnOk result (IsStarted (self.old.workers + 1) self.new × (self.new.workers ≡ self.old.workers + 1)) }
+        ensures hired { OnOk result (IsStarted (self.old.workers + 1) self.new
+            × (self.new.workers ≡ self.old.workers + 1)) }
         ensures fault { result ≢ Err PoolFault.Count }
     {
         let Ok(line) = Arc::try_clone(&self.line) else {
@@ -148,7 +155,8 @@ impl<S: Service, G: Gate> Pool<S, G> {
 
     /// A desk, with a fresh mailbox. Takes all the memory that the desk ever takes.
     pub fn desk(&mut self, alloc: Global) -> Result<Desk<S>, DeskFault>
-        ensures desk { IfOk result (λ desk. IsGiven self.old desk.putter self.new × (WORKERS_MAX ≤ desk.putter.number) × (desk.taker ≡ [])) }
+        ensures desk { IfOk result (λ desk. IsGiven self.old desk.putter self.new
+            × (WORKERS_MAX ≤ desk.putter.number) × (desk.taker ≡ [])) }
         ensures same { OnErr result (self.new ≡ self.old) }
         ensures out { (result ≡ Err DeskFault.AllOut) ↔ AreOut WORKERS_MAX PASSES self.old.passes }
     {
@@ -176,7 +184,8 @@ impl<S: Service, G: Gate> Pool<S, G> {
 
     /// A hand, at a pass that is kept for workers. Its claims are told in the tally.
     pub fn hand(&mut self, _alloc: Global) -> Result<Hand<S>, HandFault>
-        ensures hand { IfOk result (λ hand. IsGiven self.old hand self.new × (hand.number < WORKERS_MAX)) }
+        ensures hand { IfOk result (λ hand. IsGiven self.old hand self.new
+            × (hand.number < WORKERS_MAX)) }
         ensures same { OnErr result (self.new ≡ self.old) }
         ensures out { (result ≡ Err HandFault.AllOut) ↔ AreOut 0 WORKERS_MAX self.old.passes }
     {
@@ -206,8 +215,8 @@ impl<S: Service, G: Gate> Pool<S, G> {
         self.passes[number] = Some(pass);
     }
 
-    /// Ends the workers, and tells the books of the line. While a desk or a hand is out, the pool comes
-    /// back as it was.
+    /// Ends the workers, and tells the books of the line. While a desk or a hand is out, the pool
+    /// comes back as it was.
     pub fn stop<R: Threads + Wait>(self, rt: &R) -> Result<Tally, Pool<S, G>>
         ensures out { IsErr result ↔ (length (at_home self.passes) + self.workers ≢ PASSES) }
         ensures same { IfErr result (λ pool. pool ≡ self) }
@@ -286,7 +295,8 @@ where
 /// The first pass at home from one number up to another.
 fn first_home<S: Service>(slots: &Slots<S>, from: usize, to: usize) -> Option<usize>
     requires { (from ≤ to) × (to ≤ length slots.now.items) }
-    ensures { MatchOption result (AreOut from to slots.now.items) (λ number. (from ≤ number) × (number < to) × IsHome number slots.now.items) }
+    ensures { MatchOption result (AreOut from to slots.now.items)
+        (λ number. (from ≤ number) × (number < to) × IsHome number slots.now.items) }
 {
     for number in from..to {
         match &slots[number] {

@@ -1,9 +1,8 @@
 //! A worker: it claims tickets, works on them, and posts the answers.
 
-ghost use Rattle.std.specs.Prelude.{◌≡◌, ◌+◌, ◌≤◌, ◌<◌, ◌^◌, [], length, IfSome, IfNone};
+ghost use Rattle.std.specs.Prelude.{◌≡◌, ◌+◌, ◌≤◌, ◌<◌, []};
 ghost use Rattle.std.specs.VecDeque.{deque_len, deque_capacity};
-ghost use Rattle.mac_pool.specs.Balance.{entry_of};
-ghost use Rattle.mac_pool.specs.Pass.{with_claimed, HasClaimed};
+ghost use Rattle.mac_pool.specs.Pass.{HasClaimed};
 ghost use Rattle.mac_pool.specs.Parcel.{IsAnswerTo, AnswerEach};
 ghost use Rattle.mac_pool.specs.declared.gate.TheConstants.{TURN_MAX};
 
@@ -47,7 +46,9 @@ pub struct Turn<S: Service> {
     parcels: Parcels<S>,
     owed: Mails<S>,
     ghost idle: { (tickets.items ≡ []) × (parcels.items ≡ []) × (owed.items ≡ []) },
-    ghost room: { (TURN_MAX ≤ deque_capacity tickets) × (TURN_MAX ≤ deque_capacity parcels) × (TURN_MAX ≤ deque_capacity owed) },
+    ghost room: { (TURN_MAX ≤ deque_capacity tickets)
+        × (TURN_MAX ≤ deque_capacity parcels)
+        × (TURN_MAX ≤ deque_capacity owed) },
 }
 
 impl<S: Service> Turn<S> {
@@ -198,7 +199,8 @@ fn answer_all<S: Service, G: Gate>(
     ensures answers { AnswerEach tickets.old.items parcels.new.items }
     ensures done { tickets.new.items ≡ [] }
     ensures count { deque_len parcels.new ≡ deque_len tickets.old }
-    ensures capacity { (deque_capacity tickets.new ≡ deque_capacity tickets.old) × (deque_capacity parcels.new ≡ deque_capacity parcels.old) }
+    ensures capacity { (deque_capacity tickets.new ≡ deque_capacity tickets.old)
+        × (deque_capacity parcels.new ≡ deque_capacity parcels.old) }
 {
     while let Some(ticket) = tickets.pop_front() {
         gate.before(ticket.place);
@@ -227,7 +229,8 @@ fn post_all<S: Service, G: Gate, R: Wait>(
 )
     requires { deque_len owed.old + deque_len parcels.old ≤ deque_capacity owed.old }
     ensures done { parcels.new.items ≡ [] }
-    ensures capacity { (deque_capacity parcels.new ≡ deque_capacity parcels.old) × (deque_capacity owed.new ≡ deque_capacity owed.old) }
+    ensures capacity { (deque_capacity parcels.new ≡ deque_capacity parcels.old)
+        × (deque_capacity owed.new ≡ deque_capacity owed.old) }
 {
     while let Some(Parcel { post, mail }) = parcels.pop_front() {
         let place = place_of(&post);

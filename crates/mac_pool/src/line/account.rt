@@ -63,7 +63,9 @@ impl<S: Service> Lesson<Ticket<S>, Account<S::Job>> for Puts {
 pub struct Claims;
 
 impl<S: Service> Outcome<Ticket<S>, Account<S::Job>> for Claims {
-    ghost then = { λ a ticket b. (b ≡ account a.parts a.put (a.claimed ++ entry_of ticket ∷ [])) × (length b.claimed < 2 ^ 62) };
+    ghost then = { λ a ticket b.
+        (b ≡ account a.parts a.put (a.claimed ++ entry_of ticket ∷ []))
+        × (length b.claimed < 2 ^ 62) };
 }
 
 impl<S: Service> Lesson<Ticket<S>, Account<S::Job>> for Claims {

@@ -1,0 +1,316 @@
+//! Single calls of a line, a mailbox and a pool, and whether they answer as they are to.
+
+ghost use Rattle.std.specs.Prelude.{◌≡◌, IfSome};
+ghost use Rattle.mac_pool.specs.Pass.{AreFresh};
+
+use crate::digits::{Digits, REFUSED};
+use crate::drive::{all_home, answered, books_if, desk_of, desks_of, next_post, pool_of, put_run};
+use crate::fault::RunFault;
+use crate::runs::Outcome;
+use mac_pool::{
+    Claim, Desk, DeskFault, Hand, Line, LinePass, Mailbox, Pool, PoolFault, Post, PutFault, Taker,
+};
+use std::alloc::Global;
+use std::sync::atomic::AtomicBool;
+use std::sync::atomic::Ordering::SeqCst;
+use std::sync::{Arc, Wait};
+use std::thread;
+use std::thread::Threads;
+
+/// How many desks a pool has.
+const DESKS: usize = 64;
+
+/// How many tickets a line holds.
+const TICKETS: u64 = 8192;
+
+/// How many posts a mailbox holds.
+const POSTS: u64 = 128;
+
+fn right_if(is_right: bool) -> Result<Outcome, RunFault> {
+    if is_right {
+        Ok(Outcome::Right)
+    } else {
+        Err(RunFault::Wrong)
+    }
+}
+
+/// Puts at a line from which nobody claims, until one is refused.
+pub(crate) fn full<R: Threads + Wait>(rt: &R, alloc: Global) -> Result<Outcome, RunFault> {
+    let Ok(mut pool) = Pool::by_hand(alloc) else {
+        return Err(RunFault::Refused);
+    };
+    let mut desk = desk_of(alloc, &mut pool)?;
+    let is_right = fills(rt, &mut desk);
+    pool.home(desk);
+    books_if(rt, pool, is_right)
+}
+
+/// Whether 8,192 jobs go in and the next is handed back.
+fn fills<R: Wait>(rt: &R, desk: &mut Desk<Digits>) -> bool
+    ensures { desk.new.putter.line ≡ desk.old.putter.line }
+{
+    let is_put = put_run(rt, &mut desk.putter, 0, TICKETS);
+    is_put && desk.putter.put(rt, 7, 8) == Err((PutFault::Full, 8))
+}
+
+/// Puts at a closed line, of a ticket and of a job.
+pub(crate) fn closed<R: Wait>(rt: &R, alloc: Global) -> Result<Outcome, RunFault> {
+    let (line, passes) = Line::<Digits>::new(alloc)?;
+    let Some((first, mut second)) = two_of(&line, passes) else {
+        return Err(RunFault::Wrong);
+    };
+    let line = Arc::new(alloc, line)?;
+    let theirs = Arc::try_clone(&line)?;
+    let Ok(mut desk) = Desk::new(alloc, theirs, first) else {
+        return Err(RunFault::Refused);
+    };
+    let is_put = put_run(rt, &mut desk.putter, 5, 2);
+    let is_refused = refuses_a_ticket(rt, &line, &mut second);
+    let is_late = desk.putter.put(rt, 7, 8) == Err((PutFault::Closed, 8));
+    let is_left = claims(rt, &line, &mut second, 6);
+    right_if(is_put && is_refused && is_late && is_left)
+}
+
+/// The first two passes of a line.
+fn two_of(
+    line: &Line<Digits>,
+    passes: Vec<LinePass<Digits>>,
+) -> Option<(LinePass<Digits>, LinePass<Digits>)>
+    requires { AreFresh line.now passes.items }
+    ensures { IfSome result (λ two. (two.0.line ≡ line.now) × (two.1.line ≡ line.now)) }
+{
+    let _line = line;
+    let mut passes = passes.into_iter();
+    let first = passes.next()?;
+    let second = passes.next()?;
+    Some((first, second))
+}
+
+/// Claims a ticket, closes the line and puts the ticket again. Whether it is handed back.
+fn refuses_a_ticket<R: Wait>(rt: &R, line: &Line<Digits>, pass: &mut LinePass<Digits>) -> bool
+    requires { pass.old.line ≡ line.now }
+    ensures { pass.new.line ≡ pass.old.line }
+{
+    let Claim::Got(ticket) = line.claim(rt, pass) else {
+        return false;
+    };
+    line.close();
+    match line.put(rt, pass, ticket) {
+        Err((PutFault::Closed, back)) => back.place == 5 && back.job == 5,
+        _ => false,
+    }
+}
+
+/// Whether the ticket of this place is claimed, and the closed line is empty then.
+fn claims<R: Wait>(rt: &R, line: &Line<Digits>, pass: &mut LinePass<Digits>, place: u64) -> bool
+    requires { pass.old.line ≡ line.now }
+{
+    let is_got = match line.claim(rt, pass) {
+        Claim::Got(ticket) => ticket.place == place,
+        _ => false,
+    };
+    is_got && matches!(line.claim(rt, pass), Claim::Closed)
+}
+
+/// One worker meets want of memory at the second of three jobs, and goes on.
+pub(crate) fn refused_work<R>(rt: &R, alloc: Global) -> Result<Outcome, RunFault>
+where
+    R: Threads + Wait + Copy + Send + 'static,
+{
+    let Ok(mut pool) = pool_of(rt, alloc, 1) else {
+        return Err(RunFault::Refused);
+    };
+    let mut desk = desk_of(alloc, &mut pool)?;
+    let is_right = fails_once(rt, &mut desk);
+    pool.home(desk);
+    books_if(rt, pool, is_right)
+}
+
+fn fails_once<R: Wait>(rt: &R, desk: &mut Desk<Digits>) -> bool
+    ensures { desk.new.putter.line ≡ desk.old.putter.line }
+{
+    let is_put = desk.putter.put(rt, 0, 5).is_ok()
+        && desk.putter.put(rt, 1, REFUSED).is_ok()
+        && desk.putter.put(rt, 2, 7).is_ok();
+    is_put
+        && answered(&next_post(rt, &mut desk.taker)) == 0
+        && matches!(next_post(rt, &mut desk.taker), Post::Failed(1))
+        && answered(&next_post(rt, &mut desk.taker)) == 2
+}
+
+/// Two desks put two jobs and three, each in a thread of its own; two hands claim three of them.
+pub(crate) fn exchange<R>(rt: &R, alloc: Global) -> Result<Outcome, RunFault>
+where
+    R: Threads + Wait + Copy + Send + Sync + 'static,
+{
+    let Ok(mut pool) = Pool::by_hand(alloc) else {
+        return Err(RunFault::Refused);
+    };
+    let one = desk_of(alloc, &mut pool)?;
+    let other = desk_of(alloc, &mut pool)?;
+    let (one, other) = thread::join(
+        rt,
+        move || -> (bool, Desk<Digits>)
+            ensures { result.1.putter.line ≡ one.putter.line }
+        { put_at(rt, one, 2) },
+        move || -> (bool, Desk<Digits>)
+            ensures { result.1.putter.line ≡ other.putter.line }
+        { put_at(rt, other, 3) },
+    );
+    pool.home(one.1);
+    pool.home(other.1);
+    let is_claimed = has_claimed(rt, alloc, &mut pool, 2) && has_claimed(rt, alloc, &mut pool, 1);
+    books_if(rt, pool, one.0 && other.0 && is_claimed)
+}
+
+/// Puts so many jobs at a desk.
+fn put_at<R: Wait>(rt: &R, mut desk: Desk<Digits>, count: u64) -> (bool, Desk<Digits>)
+    ensures { result.1.putter.line ≡ desk.putter.line }
+{
+    let is_put = put_run(rt, &mut desk.putter, 0, count);
+    (is_put, desk)
+}
+
+/// Whether a hand claims so many tickets.
+fn has_claimed<R: Wait>(
+    rt: &R,
+    alloc: Global,
+    pool: &mut Pool<Digits, mac_pool::NoGate>,
+    count: u64,
+) -> bool {
+    let Ok(mut hand) = pool.hand(alloc) else {
+        return false;
+    };
+    let is_claimed = claims_by(rt, &mut hand, count);
+    pool.hand_back(hand);
+    is_claimed
+}
+
+fn claims_by<R: Wait>(rt: &R, hand: &mut Hand<Digits>, count: u64) -> bool
+    ensures { hand.new.line ≡ hand.old.line }
+{
+    let mut is_claimed = true;
+    for _ in 0..count {
+        is_claimed &= matches!(hand.claim(rt), Claim::Got(_));
+    }
+    is_claimed
+}
+
+/// All desks, what the next one meets, and one once they are home.
+pub(crate) fn desks<R: Threads + Wait>(rt: &R, alloc: Global) -> Result<Outcome, RunFault> {
+    let Ok(mut pool) = Pool::by_hand(alloc) else {
+        return Err(RunFault::Refused);
+    };
+    let desks = desks_of(alloc, &mut pool, DESKS);
+    let are_all = desks.len() == DESKS;
+    let is_out = matches!(pool.desk(alloc), Err(DeskFault::AllOut));
+    all_home(&mut pool, desks);
+    let desk = desk_of(alloc, &mut pool)?;
+    pool.home(desk);
+    books_if(rt, pool, are_all && is_out)
+}
+
+/// A number of workers that no pool has.
+pub(crate) fn start<R>(rt: &R, alloc: Global, workers: usize) -> Result<Outcome, RunFault>
+where
+    R: Threads + Wait + Copy + Send + 'static,
+{
+    right_if(matches!(pool_of(rt, alloc, workers), Err(PoolFault::Count)))
+}
+
+/// An end while a desk is out, and once it is home.
+pub(crate) fn desk_out<R>(rt: &R, alloc: Global) -> Result<Outcome, RunFault>
+where
+    R: Threads + Wait + Copy + Send + 'static,
+{
+    let Ok(mut pool) = pool_of(rt, alloc, 2) else {
+        return Err(RunFault::Refused);
+    };
+    let desk = desk_of(alloc, &mut pool)?;
+    match pool.stop(rt) {
+        Ok(_) => Err(RunFault::Wrong),
+        Err(mut pool) => {
+            pool.home(desk);
+            books_if(rt, pool, true)
+        }
+    }
+}
+
+/// A mailbox is filled, taken from by two sides, closed, and taken from again.
+pub(crate) fn mailbox<R: Wait>(rt: &R, alloc: Global) -> Result<Outcome, RunFault> {
+    let Ok(mut pool) = Pool::by_hand(alloc) else {
+        return Err(RunFault::Refused);
+    };
+    let Ok(mut hand) = pool.hand(alloc) else {
+        return Err(RunFault::Refused);
+    };
+    let Desk {
+        mut putter,
+        mut taker,
+    } = desk_of(alloc, &mut pool)?;
+    let is_put = put_run(rt, &mut putter, 0, 1);
+    let is_right = match hand.claim(rt) {
+        Claim::Got(ticket) => is_filled(rt, &ticket.mail) && is_taken(rt, &ticket.mail, &mut taker),
+        _ => false,
+    };
+    right_if(is_put && is_right)
+}
+
+/// Whether 128 posts go in and the next is handed back.
+fn is_filled<R: Wait>(rt: &R, mail: &Mailbox<Digits>) -> bool {
+    let mut is_in = true;
+    for place in 0..POSTS {
+        is_in &= mail.push(rt, Post::Failed(place)).is_ok();
+    }
+    is_in
+        && matches!(
+            mail.push(rt, Post::Failed(POSTS)),
+            Err((PutFault::Full, Post::Failed(POSTS)))
+        )
+}
+
+/// Whether posts are taken in order, past the taker and by it, and none goes in after a close.
+fn is_taken<R: Wait>(rt: &R, mail: &Mailbox<Digits>, taker: &mut Taker<Digits>) -> bool {
+    let is_past = matches!(mail.take(rt), Some(Post::Failed(0)));
+    let is_by = matches!(taker.take(rt), Some(Post::Failed(1)));
+    taker.close();
+    let is_late = matches!(
+        mail.push(rt, Post::Failed(9)),
+        Err((PutFault::Closed, Post::Failed(9)))
+    );
+    is_past && is_by && is_late && matches!(taker.take(rt), Some(Post::Failed(2)))
+}
+
+/// A taker sleeps, and is rung for a flag and no post.
+pub(crate) fn rung<R>(rt: &R, alloc: Global) -> Result<Outcome, RunFault>
+where
+    R: Threads + Wait + Sync,
+{
+    let Ok(mut pool) = Pool::by_hand(alloc) else {
+        return Err(RunFault::Refused);
+    };
+    let Desk { putter, mut taker } = desk_of(alloc, &mut pool)?;
+    let flag = AtomicBool::new(false);
+    let (has_post, _) = thread::join(
+        rt,
+        || has_post_at(rt, &mut taker, &flag),
+        || {
+            flag.store(true, SeqCst);
+            putter.ring();
+        },
+    );
+    right_if(!has_post)
+}
+
+/// Waits for the flag. Whether a post came in the meantime.
+fn has_post_at<R: Wait>(rt: &R, taker: &mut Taker<Digits>, flag: &AtomicBool) -> bool {
+    for _ in rt.forever() {
+        let notice = taker.announce();
+        if flag.load(SeqCst) {
+            taker.withdraw(notice);
+            return taker.take(rt).is_some();
+        }
+        taker.sleep(rt, notice);
+    }
+    unreachable!()
+}
