@@ -11,8 +11,8 @@ use Rattle.mac_keys.proofs.table.KeyTable.read.Goals as goal
 pub loop-index-init : goal.loop-index-init
 loop-index-init c = SoFar-none _ _ (ap (λ entries. map.from_entries (by_name entries)) c.new.ensures.empty)
 
-pub returns-in-Err-clause-fault : goal.returns-in-Err-clause-fault
-returns-in-Err-clause-fault c =
+pub returns-in-Err : goal.returns-in-Err
+returns-in-Err c =
     let here = YieldsList-turn
     (YieldsList-at c.into_iter-index-iterator.ensures.into_iter_gives
     (YieldsList-from_enumerate (YieldsList-at c.enumerate-index-items.ensures.source
@@ -20,18 +20,11 @@ returns-in-Err-clause-fault c =
     c.enumerate-index-items.ensures.count))
     c.loop-index.yielded _ c.loop-index.yielded_by _ _ (c.in-Some.index, c.in-Some.line) c.in-Some.is c.next.ensures.steps in
     let t = turn (lines_of c.args.text.now) (length c.loop-index.yielded) c.in-Some.index c.in-Some.line.now here in
-    SoFar-refused _ _ _ _ _ c.in-Err.refusal _ t c.loop-index.invariant c.in-Err.ensures.fault c.at_line.ensures
-
-pub returns-in-Err-clause-memory : goal.returns-in-Err-clause-memory
-returns-in-Err-clause-memory c memory =
-    let here = YieldsList-turn
-    (YieldsList-at c.into_iter-index-iterator.ensures.into_iter_gives
-    (YieldsList-from_enumerate (YieldsList-at c.enumerate-index-items.ensures.source
-    (YieldsList-from_slice_split _ (λ b. b == 10) c.args.text.now c.split.ensures.rest c.split.ensures.done c.split.ensures.closure (λ x b q k. search (rules, tests))))
-    c.enumerate-index-items.ensures.count))
-    c.loop-index.yielded _ c.loop-index.yielded_by _ _ (c.in-Some.index, c.in-Some.line) c.in-Some.is c.next.ensures.steps in
-    let t = turn (lines_of c.args.text.now) (length c.loop-index.yielded) c.in-Some.index c.in-Some.line.now here in
-    TakeMemory-refused _ _ _ _ _ c.in-Err.refusal _ t c.loop-index.invariant c.in-Err.ensures.memory c.at_line.ensures memory
+    record {
+      table = search rules;
+      fault = SoFar-refused _ _ _ _ _ c.in-Err.refusal _ t c.loop-index.invariant c.in-Err.ensures.fault c.at_line.ensures;
+      memory = TakeMemory-refused _ _ _ _ _ c.in-Err.refusal _ t c.loop-index.invariant c.in-Err.ensures.memory c.at_line.ensures;
+    }
 
 pub loop-index-preserved : goal.loop-index-preserved
 loop-index-preserved c =
