@@ -1,4 +1,7 @@
+pub mod Answered
+pub mod Comes
 pub mod CommandLineLemmas
+pub mod Gathered
 pub mod KeyText
 pub mod LineLemmas
 pub mod OptionLemmas
@@ -7,3 +10,6 @@ pub mod OptionWalk
 pub mod OutputLemmas
 pub mod PipeLemmas
 pub mod PlainWords
+pub mod ReceivingLemmas
+pub mod SendingLemmas
+pub mod ServingLemmas

@@ -18,6 +18,7 @@ mod lines;
 mod options;
 mod piping;
 mod reply_line;
+mod serving;
 
 pub use choices::{Choice, Mode};
 pub use command_line::{BAD_LINE, HELP_SHOWN, NO_MEMORY, chosen, words_of};
@@ -26,6 +27,7 @@ pub use fault::PipeFault;
 pub use input::INPUT_MAX;
 use mac_wire::{ReaderSource, WriterSink};
 pub use piping::pipe;
+pub use serving::{ServeFault, Served, serve};
 use std::alloc::{Alloc, Global};
 use std::env::Env;
 use std::io;
