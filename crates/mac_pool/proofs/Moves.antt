@@ -1,8 +1,8 @@
 -- What a pool is once a pass goes out, a worker starts or the workers came back.
 use Rattle.std.proofs.Common.{◌≡◌, ℕ, ◌+◌, ◌≤◌, ◌<◌, List, ◌∷◌, ◌++◌, [], length, length-set, map, set, Option, None, Some, slice_get, sym, ◌∙◌, ap, refl, subst, arith, All}
 use Rattle.atomic_table.specs.Seated.{TableId}
-use Rattle.mac_pool.specs.Pass.{Pass, IsFresh}
-use Rattle.mac_pool.specs.Pool.{Slots, at_home, AreOut, IsGiven, IsStarted, AreWorkers}
+use Rattle.mac_pool.specs.Pass.{Pass}
+use Rattle.mac_pool.specs.Pool.{Slots, at_home, IsGiven, IsStarted, AreWorkers}
 use Rattle.mac_pool.specs.declared.line.TheConstants.{PASSES}
 use Rattle.mac_pool.proofs.Slots.{get_set_other, out_more, all_of_line, map_push}
 

@@ -1,8 +1,5 @@
-use Rattle.std.proofs.Common.{◌≡◌, ◌+◌, [], ◌∷◌, ◌++◌, List, length, map, arith, rules, ap, refl, sym, ◌∙◌, append-nil, append_assoc, subst, length-append, suc}
-use Rattle.std.specs.Vec.Iter.{into_iter_items}
+use Rattle.std.proofs.Common.{[], ◌∷◌, ◌++◌, List, length, arith, rules, ap, refl, sym, ◌∙◌, append-nil, append_assoc, length-append, suc}
 use Rattle.mac_pool.specs.Pass.{Pass}
-use Rattle.mac_pool.specs.Pool.{AreWorkers}
-use Rattle.mac_pool.proofs.Balance.{empty_list}
 use Rattle.mac_pool.proofs.Slots.{brought_is, workers_push}
 use Rattle.mac_pool.proofs.pool.bring_back.Goals as goal
 

@@ -1,4 +1,4 @@
-use Rattle.std.proofs.Common.{◌≡◌, [], ◌∷◌, ◌++◌, List, Option, Some, map, arith, rules, ap, sym, ◌∙◌, append-nil, append_assoc, subst}
+use Rattle.std.proofs.Common.{◌≡◌, [], ◌∷◌, ◌++◌, List, Some, map, arith, rules, ap, sym, ◌∙◌, append-nil, append_assoc}
 use Rattle.std.specs.Vec.Iter.{into_iter_items}
 use Rattle.mac_pool.specs.Pass.{Pass}
 use Rattle.mac_pool.proofs.Balance.{empty_list}

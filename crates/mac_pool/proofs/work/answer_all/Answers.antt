@@ -1,7 +1,4 @@
-use Rattle.std.proofs.Common.{◌≡◌, ◌∷◌, ◌++◌, [], List, arith, rules, ap, sym, refl, ◌∙◌, append_assoc, append-nil, length, subst, deque_len}
-use Rattle.mac_pool.specs.Parcel.{AnswerEach}
-use Rattle.mac_pool.specs.declared.work.Parcel.{Parcel}
-use Rattle.mac_pool.proofs.Balance.{empty_list}
+use Rattle.std.proofs.Common.{◌∷◌, ◌++◌, [], arith, rules, ap, sym, refl, ◌∙◌, append_assoc, length}
 use Rattle.mac_pool.proofs.Parcels.{answer_push}
 use Rattle.mac_pool.proofs.work.answer_all.Goals as goal
 

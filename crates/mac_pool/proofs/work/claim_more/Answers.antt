@@ -1,5 +1,4 @@
-use Rattle.std.proofs.Common.{◌≡◌, arith, rules, ap, ◌∙◌}
-use Rattle.mac_pool.specs.Pass.{Pass}
+use Rattle.std.proofs.Common.{arith, rules}
 use Rattle.mac_pool.proofs.Claims.{claimed_none, claimed_one}
 use Rattle.mac_pool.proofs.work.claim_more.Goals as goal
 

@@ -1,5 +1,3 @@
-use Rattle.std.proofs.Common.{◌≡◌, ◌+◌, arith, rules, ap}
-use Rattle.mac_pool.specs.Pass.{Pass, HasClaimed}
 use Rattle.mac_pool.proofs.Claims.{claimed_none, claimed_one, claimed_both}
 use Rattle.mac_pool.proofs.work.work_off.Goals as goal
 

@@ -1,4 +1,3 @@
-use Rattle.std.proofs.Common.{◌≡◌}
 use Rattle.mac_pool.specs.Pass.{HasClaimed}
 use Rattle.mac_pool.proofs.work.work_off.Given as goal
 

@@ -1,4 +1,4 @@
-use Rattle.std.proofs.Common.{◌≡◌, ℕ, List, Option, Some, None, slice_get, set, length, arith, rules, ap, sym, refl, ◌∙◌, subst}
+use Rattle.std.proofs.Common.{◌≡◌, List, Option, slice_get, length, arith, rules, ap, sym, ◌∙◌, subst}
 use Rattle.std.specs.Arc.{arc_value}
 use Rattle.mac_pool.specs.Pass.{Pass}
 use Rattle.mac_pool.specs.Pool.{Slots, IsGiven}

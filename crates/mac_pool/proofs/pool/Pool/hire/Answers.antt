@@ -1,10 +1,9 @@
-use Rattle.std.proofs.Common.{◌≡◌, ℕ, ◌+◌, ◌≤◌, ◌<◌, ◌++◌, ◌∷◌, [], List, Option, Some, None, slice_get, set, length, length-append, map, arith, rules, ap, sym, refl, ◌∙◌, subst}
+use Rattle.std.proofs.Common.{◌≡◌, ℕ, ◌+◌, ◌++◌, ◌∷◌, [], None, set, length, length-append, map, arith, rules, ap, sym, ◌∙◌, subst}
 use Rattle.std.proofs.lemmas.List.{length-map}
 use Rattle.std.specs.Arc.{arc_value}
 use Rattle.std.specs.declared.thread.PromisedHandle.{PromisedHandle}
 use Rattle.mac_pool.specs.declared.work.Worked.{Worked}
 use Rattle.mac_pool.specs.declared.pool.FromPass.{FromPass}
-use Rattle.mac_pool.specs.Pass.{Pass}
 use Rattle.mac_pool.specs.Pool.{Slots, IsStarted}
 use Rattle.mac_pool.proofs.Slots.{unset_homes, workers_more}
 use Rattle.mac_pool.proofs.Moves.{started_more, next_idle, map_grown}

@@ -1,9 +1,8 @@
-use Rattle.std.proofs.Common.{◌≡◌, ℕ, ◌<◌, ◌≤◌, [], List, Option, Some, slice_get, length, map, arith, rules, ap, sym, ◌∙◌, subst}
+use Rattle.std.proofs.Common.{◌≡◌, ◌<◌, List, Option, Some, slice_get, length, map, arith, ap, sym, ◌∙◌, subst}
 use Rattle.std.proofs.lemmas.List.{length-map}
 use Rattle.std.specs.Arc.{arc_value}
 use Rattle.atomic_table.specs.Seated.{TableId}
-use Rattle.mac_pool.specs.Pass.{Pass, IsFresh, AreFresh}
-use Rattle.mac_pool.specs.declared.line.TheConstants.{PASSES}
+use Rattle.mac_pool.specs.Pass.{Pass, IsFresh}
 use Rattle.mac_pool.proofs.Slots.{get_within, get_map, map_get}
 use Rattle.mac_pool.proofs.pool.Pool.idle.Goals as goal
 

@@ -1,5 +1,5 @@
-use Rattle.std.proofs.Common.{◌≡◌, ℕ, ◌+◌, ◌≤◌, ◌<◌, arith, rules, ap, sym, ◌∙◌, subst}
-use Rattle.mac_pool.specs.Pool.{Slots, IsStarted}
+use Rattle.std.proofs.Common.{ℕ, arith, sym, subst}
+use Rattle.mac_pool.specs.Pool.{IsStarted}
 use Rattle.mac_pool.proofs.pool.Pool.start.Goals as goal
 
 pub hire-requires-clause-started : goal.hire-requires-clause-started

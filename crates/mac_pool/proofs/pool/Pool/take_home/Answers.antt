@@ -1,5 +1,4 @@
-use Rattle.std.proofs.Common.{◌≡◌, ◌≢◌, ℕ, List, Option, Some, slice_get, length, set, arith, rules, ap, sym, ◌∙◌, subst, ⊎_elim}
-use Rattle.mac_pool.specs.Pass.{Pass}
+use Rattle.std.proofs.Common.{◌≡◌, rules, ap, sym, ◌∙◌}
 use Rattle.mac_pool.proofs.Slots.{set_homes}
 use Rattle.mac_pool.proofs.pool.Pool.take_home.Goals as goal
 
