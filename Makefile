@@ -1,4 +1,4 @@
-.PHONY: test wrong-bodies demo build bench soak
+.PHONY: test wrong-bodies demo build build-runs bench soak
 
 # Every proof from nothing, the wrong bodies, every test and program; then the pipe beside the README and the work of others.
 test:
@@ -17,19 +17,24 @@ $(notdir $(wildcard crates/*)):
 demo:
 	scripts/demo.sh
 
-# Proves and builds the programs, and leaves them as bin/macaroond, bin/hash_blocks and bin/pool_runs.
+# Proves and builds the programs, and leaves them as bin/macaroond and bin/hash_blocks.
 build:
 	cd crates/macaroond && rt run -- --help > /dev/null
 	cd crates/hash_blocks && rt run -- 0 > /dev/null
-	cd crates/pool_runs && rt run < /dev/null > /dev/null
 	mkdir -p bin
-	cp crates/macaroond/out/macaroond crates/hash_blocks/out/hash_blocks crates/pool_runs/out/pool_runs bin/
+	cp crates/macaroond/out/macaroond crates/hash_blocks/out/hash_blocks bin/
 
-# Requests a second, beside what their hashing costs; what the ring and the pool cost. After make build.
+# The same for bin/pool_runs, which drives the ring and the pool.
+build-runs:
+	cd crates/pool_runs && rt run > /dev/null
+	mkdir -p bin
+	cp crates/pool_runs/out/pool_runs bin/
+
+# Requests a second, beside what their hashing costs; what the ring and the pool cost. After make build build-runs.
 bench:
 	scripts/bench.py
 
 # Four workers, 64 desks of two threads, pauses by chance, on two processors: 19,200 posts, then 1,000,320 of them.
-# A wait that nobody ends shows as a run that doesn't end. After make build.
+# A wait that nobody ends shows as a run that doesn't end. After make build-runs.
 soak:
 	scripts/soak.sh

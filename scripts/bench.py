@@ -1,6 +1,6 @@
 #!/usr/bin/env python3
 """Times `macaroond pipe`, by its processor time, beside the SHA-256 that its answers need; then the ring and the pool.
-Asks for the programs that `make build` leaves in bin/."""
+Asks for the programs that `make build build-runs` leaves in bin/."""
 import os
 import pathlib
 import resource
@@ -156,7 +156,7 @@ def stop_unless_built():
     programs = ["bin/macaroond", "bin/hash_blocks", "bin/pool_runs"]
     lacking = " and ".join(name for name in programs if not os.access(TOP / name, os.X_OK))
     if lacking:
-        sys.exit(f"no {lacking}: run `make build` first, which proves and builds the programs")
+        sys.exit(f"no {lacking}: run `make build build-runs` first, which proves and builds the programs")
 
 
 if __name__ == "__main__":

@@ -21,7 +21,18 @@ class Function:
         """Whether this is the path of the function, or of a closure in it."""
         module = "::".join(self.path.split("::")[: 1 + len(module_of(self.file))])
         closures = f"{module}::fn{self.path.removeprefix(module)}::"
-        return path == self.path or path.startswith((f"{self.path}+", closures))
+        # what an impl gives its type stands behind it: Pool+S+NoGate::by_hand
+        if re.sub(r"\+[^:]*(?=::)", "", path) in self.names():
+            return True
+        return path.startswith((f"{self.path}+", closures))
+
+    def names(self):
+        """Its path, and those that it may have as a method whose type stands in a module above."""
+        crate, *rest = self.path.split("::")
+        modules = module_of(self.file)
+        own = rest[len(modules) :]
+        above = modules if len(own) > 1 else []
+        return {self.path, *("::".join([crate, *modules[:at], *own]) for at in range(len(above)))}
 
 
 def module_of(file):

@@ -3,7 +3,7 @@
 set -eu
 cd "$(dirname "$0")/.."
 if [ ! -x bin/pool_runs ]; then
-    echo "no bin/pool_runs: run make build first, which proves and builds it" >&2
+    echo "no bin/pool_runs: run make build-runs first, which proves and builds it" >&2
     exit 1
 fi
 
