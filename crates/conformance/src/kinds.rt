@@ -18,43 +18,43 @@ pub(crate) fn outcome(alloc: Global, line: &str) -> Result<String, AllocError> {
 /// where it is empty.
 ///
 /// ```text
-/// # ..                                                     the line itself
-/// hmac KEY TEXT                                            HMAC-SHA-256 of the text, however it is cut
-/// root SECRET                                              the root key
-/// start ROOT_KEY IDENTIFIER                                the signature of a token without caveats
-/// chain SECRET IDENTIFIER CAVEAT,..                        the signature of such a token
-/// same SIGNATURE SIGNATURE                                 `same` or `another`
-/// keys FILE                                                the number of names, or the fault
-/// key FILE NAME                                            the root key of the name
-/// frames STREAM                                            the arrivals and the ending, however it is cut in two
-/// feeds PIECE,..                                           what each piece gives, and the ending
-/// replies REPLY,..                                         the frames of replies
-/// whole BYTES                                              the number of whole frames in front
-/// faults                                                   the number and the text of each fault of the wire
-/// request PAYLOAD                                          what it asks, or the refusal
-/// name PAYLOAD                                             the key name in its front, or `none`
-/// fronts PAYLOAD                                           how many of its front parts ask something
-/// reads PIECE FAILS BYTES                                  eight reads of a source over memory
-/// reader BYTES                                             eight reads of a source over a reader
-/// sends ROOM PIECE FAILS BYTES                             what a sink over memory is sent
-/// writes ROOM BYTES,..                                     what a sink over a writer takes
-/// read TOKEN                                               its parts, or the refusal
-/// raw TOKEN                                                its parts as they are spelled, or the refusal
-/// code TOKEN                                               `taken`, or the refusal
-/// rewrite FORM TOKEN                                       the token in another form, or the refusal
-/// push TOKEN CAVEAT,..                                     the token with more caveats, or the refusal and the token
-/// texts                                                    the number and the text of each fault of a token
-/// cuts TOKEN                                               the refusal of each front part, in runs
-/// time CAVEAT                                              the second of a time limit, or `none`
-/// satisfied CAVEAT MOMENT FACT,..                          `satisfied` or `unsatisfied`
-/// add FORM TOKEN CAVEAT,..                                 the token with caveats, or the refusal
-/// token FORM SECRET LOCATION IDENTIFIER CAVEAT,.. TOKEN    how a token agrees with its parts
-/// length FORM LOCATION IDENTIFIER CAVEAT,..                how many bytes a token of these has, or the refusal
-/// answer FILE PAYLOAD                                      the reply's frame
-/// world FILE WORKERS EVENT..                               what each event comes to, and what is sent
-/// lane CONNECTIONS WORKERS EVENT,..                        the same of a world of numbers, and what arrived
-/// buffer CALL,..                                           what calls come to, the next place, the open slips
-/// buffer_texts                                             the number and the text of each fault of a buffer
+/// # ..: the line itself
+/// hmac KEY TEXT: HMAC-SHA-256 of the text, however it is cut
+/// root SECRET: the root key
+/// start ROOT_KEY IDENTIFIER: the signature of a token without caveats
+/// chain SECRET IDENTIFIER CAVEAT,..: the signature of such a token
+/// same SIGNATURE SIGNATURE: `same` or `another`
+/// keys FILE: the number of names, or the fault
+/// key FILE NAME: the root key of the name
+/// frames STREAM: the arrivals and the ending, however it is cut in two
+/// feeds PIECE,..: what each piece gives, and the ending
+/// replies REPLY,..: the frames of replies
+/// whole BYTES: the number of whole frames in front
+/// faults: the number and the text of each fault of the wire
+/// request PAYLOAD: what it asks, or the refusal
+/// name PAYLOAD: the key name in its front, or `none`
+/// fronts PAYLOAD: how many of its front parts ask something
+/// reads PIECE FAILS BYTES: eight reads of a source over memory
+/// reader BYTES: eight reads of a source over a reader
+/// sends ROOM PIECE FAILS BYTES: what a sink over memory is sent
+/// writes ROOM BYTES,..: what a sink over a writer takes
+/// read TOKEN: its parts, or the refusal
+/// raw TOKEN: its parts as they are spelled, or the refusal
+/// code TOKEN: `taken`, or the refusal
+/// rewrite FORM TOKEN: the token in another form, or the refusal
+/// push TOKEN CAVEAT,..: the token with more caveats, or the refusal and the token
+/// texts: the number and the text of each fault of a token
+/// cuts TOKEN: the refusal of each front part, in runs
+/// time CAVEAT: the second of a time limit, or `none`
+/// satisfied CAVEAT MOMENT FACT,..: `satisfied` or `unsatisfied`
+/// add FORM TOKEN CAVEAT,..: the token with caveats, or the refusal
+/// token FORM SECRET LOCATION IDENTIFIER CAVEAT,.. TOKEN: how a token agrees with its parts
+/// length FORM LOCATION IDENTIFIER CAVEAT,..: how many bytes a token of these has, or the refusal
+/// answer FILE PAYLOAD: the reply's frame
+/// world FILE WORKERS EVENT..: what each event comes to, and what is sent
+/// lane CONNECTIONS WORKERS EVENT,..: the same of a world of numbers, and what arrived
+/// buffer CALL,..: what calls come to, the next place, the open slips
+/// buffer_texts: the number and the text of each fault of a buffer
 /// ```
 fn case_outcome(alloc: Global, line: &str) -> Result<String, CaseFault> {
     let (kind, rest) = line.split_once(' ').unwrap_or((line, ""));

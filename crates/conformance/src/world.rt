@@ -10,8 +10,8 @@ use std::alloc::{AllocError, Global};
 /// As many events as a case may have.
 const EVENTS_MAX: u32 = 1000;
 
-/// What comes of the events that the next words spell, under a key file; then the number of jobs that arrived on
-/// connection 0, and the replies that were sent on it.
+/// What comes of the events that the next words spell, under a key file; then the number of jobs
+/// that arrived on connection 0, and the replies that were sent on it.
 pub(crate) fn ran(alloc: Global, words: &mut Words<'_>) -> Result<String, CaseFault> {
     let file = words.bytes(alloc)?;
     let table = match KeyTable::read(alloc, &file) {
