@@ -1,5 +1,5 @@
-//! `hash_blocks COUNT`: the SHA-256 digest of COUNT blocks of zeros, in hexadecimal. What a block costs is seen by
-//! timing a run.
+//! `hash_blocks COUNT`: the SHA-256 digest of COUNT blocks of zeros, in hexadecimal. What a block
+//! costs is seen by timing a run.
 #![tactic(auto)]
 
 ghost use Rattle.std.specs.Prelude.{◌≡◌, ◌*◌, replicate};
