@@ -3,8 +3,10 @@ use Rattle.std.specs.Prelude.{◌≡◌, ℕ, ◌+◌, List, ◌++◌, length}
 use Rattle.mac_wire.specs.declared.reply.Reply.{Reply}
 use Rattle.mac_wire.specs.Reply.{reply_text}
 
--- of these replies the first `sent` went out, in `written` bytes, those up to place `next` are gathered, and the others are not released yet
-pub record Gathered (replies : List Reply) (next sent written : ℕ) (gathered : List ℕ) : Type 0 where
+-- of these replies the first `sent` went out, in `written` bytes, those up to place `next` are
+-- gathered, and the others are not released yet
+pub record Gathered (replies : List Reply) (next sent written : ℕ)
+    (gathered : List ℕ) : Type 0 where
   pub out : List Reply
   pub held : List Reply
   pub others : List Reply

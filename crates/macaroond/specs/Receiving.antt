@@ -21,14 +21,19 @@ use Rattle.macaroond.specs.declared.serving.inbound.Inbound.{Inbound}
 abbrev pub Gave : Bool → List ℕ → List ℕ → List ℕ → Type 0
 Gave tells before after bytes = IsTrue tells → after ≡ before ++ bytes
 
--- The next bytes of a stream were read: the arrivals that are whole with them came, or none where nothing was left;
+-- The next bytes of a stream were read: the arrivals that are whole with them came, or none where
+-- nothing was left;
 -- where the device failed nothing came, and where memory ran out the bytes are lost.
-abbrev pub Reads : Bool → List ℕ → List ℕ → List ℕ → List Arrival → Result (Option (Vec Arrival Global)) InboundFault → FrameReader → Type 0
+abbrev pub Reads : Bool → List ℕ → List ℕ → List ℕ → List Arrival
+    → Result (Option (Vec Arrival Global)) InboundFault → FrameReader → Type 0
 Reads tells before after stream handed (Ok (Some more)) reader =
-    (bytes : List ℕ) × Gave tells before after bytes × HasRead reader (stream ++ bytes) (handed ++ more.items)
-Reads tells before after stream handed (Ok None) reader = Gave tells before after [] × HasRead reader stream handed
+    (bytes : List ℕ) × Gave tells before after bytes
+    × HasRead reader (stream ++ bytes) (handed ++ more.items)
+Reads tells before after stream handed (Ok None) reader =
+    Gave tells before after [] × HasRead reader stream handed
 Reads tells before after stream handed (Err fault.Read) reader = Gave tells before after []
-Reads tells before after stream handed (Err fault.NoMemory) reader = (bytes : List ℕ) × Gave tells before after bytes
+Reads tells before after stream handed (Err fault.NoMemory) reader =
+    (bytes : List ℕ) × Gave tells before after bytes
 Reads tells before after stream handed (Err fault.Lane) reader = ⊥
 Reads tells before after stream handed (Err fault.Stopped) reader = ⊥
 
@@ -52,7 +57,8 @@ placed place (job ∷ jobs) = (place, job) ∷ placed (place + 1) jobs
 -- from the one state to the other these jobs were admitted, and put into the line at their places
 pub record TakesIn (jobs : List Job) (before after : Inbound) : Type 0 where
   pub admitted_is : admitted after.lane ≡ admitted before.lane ++ jobs
-  pub put_is : after.putter ≡ record before.putter { put = before.putter.put ++ placed (length (admitted before.lane)) jobs }
+  pub put_is : after.putter
+      ≡ record before.putter { put = before.putter.put ++ placed (length (admitted before.lane)) jobs }
 
 -- from the one state to the other some of these jobs, the first ones, were admitted
 pub record TakesSome (jobs : List Job) (before after : Inbound) : Type 0 where
@@ -66,30 +72,42 @@ abbrev pub Receives : {T : Type 0} → List Job → Result T InboundFault → In
 Receives jobs (Ok x) before after = TakesIn jobs before after
 Receives jobs (Err why) before after = TakesSome jobs before after
 
--- What a run did with a stream: to its end, or to where the source failed, it took in the jobs of all arrivals, and else of some.
+-- What a run did with a stream: to its end, or to where the source failed, it took in the jobs of
+-- all arrivals, and else of some.
 abbrev pub Ran : Keys → List ℕ → Result Ending InboundFault → Inbound → Inbound → Type 0
 Ran table stream (Ok end) before after =
-    TakesIn (jobs_of table (arrivals_of stream).arrived) before after × ((arrivals_of stream).ending ≡ end) × (end ≢ ending.Broken)
-Ran table stream (Err fault.Read) before after = TakesIn (jobs_of table (arrivals_of stream).arrived) before after
-Ran table stream (Err fault.NoMemory) before after = TakesSome (jobs_of table (arrivals_of stream).arrived) before after
-Ran table stream (Err fault.Lane) before after = TakesSome (jobs_of table (arrivals_of stream).arrived) before after
-Ran table stream (Err fault.Stopped) before after = TakesSome (jobs_of table (arrivals_of stream).arrived) before after
+    TakesIn (jobs_of table (arrivals_of stream).arrived) before after
+    × ((arrivals_of stream).ending ≡ end) × (end ≢ ending.Broken)
+Ran table stream (Err fault.Read) before after =
+    TakesIn (jobs_of table (arrivals_of stream).arrived) before after
+Ran table stream (Err fault.NoMemory) before after =
+    TakesSome (jobs_of table (arrivals_of stream).arrived) before after
+Ran table stream (Err fault.Lane) before after =
+    TakesSome (jobs_of table (arrivals_of stream).arrived) before after
+Ran table stream (Err fault.Stopped) before after =
+    TakesSome (jobs_of table (arrivals_of stream).arrived) before after
 
 -- a run over the bytes that the source gave
-pub record HasRun (tells : Bool) (table : Keys) (given given' : List ℕ) (result : Result Ending InboundFault) (before after : Inbound) : Type 0 where
+pub record HasRun (tells : Bool) (table : Keys) (given given' : List ℕ)
+    (result : Result Ending InboundFault) (before after : Inbound) : Type 0 where
   pub stream : List ℕ
   pub gave : Gave tells given given' stream
   pub ran : Ran table stream result before after
 
 -- a run that goes on: a reader was fed a stream, and the jobs of what it handed out were taken in
-pub record GoesOn (tells : Bool) (table : Keys) (given given' : List ℕ) (reader : FrameReader) (before after : Inbound) : Type 0 where
+pub record GoesOn (tells : Bool) (table : Keys) (given given' : List ℕ) (reader : FrameReader)
+    (before after : Inbound) : Type 0 where
   pub stream : List ℕ
   pub gave : Gave tells given given' stream
   pub handed : List Arrival
   pub read : HasRead reader stream handed
   pub took : TakesIn (jobs_of table handed) before after
 
--- how a step of a run ended: it goes on, whether or not more can come, or only some jobs were taken in
-abbrev pub Continues : Bool → Keys → List ℕ → List ℕ → Result Bool InboundFault → FrameReader → Inbound → Inbound → Type 0
-Continues tells table given given' (Ok more) reader before after = GoesOn tells table given given' reader before after
-Continues tells table given given' (Err why) reader before after = HasRun tells table given given' (Err why) before after
+-- how a step of a run ended: it goes on, whether or not more can come, or only some jobs were taken
+-- in
+abbrev pub Continues : Bool → Keys → List ℕ → List ℕ → Result Bool InboundFault → FrameReader
+    → Inbound → Inbound → Type 0
+Continues tells table given given' (Ok more) reader before after =
+    GoesOn tells table given given' reader before after
+Continues tells table given given' (Err why) reader before after =
+    HasRun tells table given given' (Err why) before after

@@ -31,7 +31,8 @@ next o = o.lane.buffer.next
 abbrev pub out_text : Outbound → List ℕ
 out_text o = take o.written (reply_text (replies o))
 
--- The half holds what it should, where its taker took `before` earlier: replies are released and gathered in order, and each that was released had its post.
+-- The half holds what it should, where its taker took `before` earlier: replies are released and
+-- gathered in order, and each that was released had its post.
 pub record Holds (before : List (ℕ × Option Job)) (o : Outbound) : Type 0 where
   pub gathered : Gathered (replies o) (next o) o.sent o.written o.gathered.items
   pub posts : List (ℕ × Option Job)
@@ -43,9 +44,11 @@ pub record Stands (before : List (ℕ × Option Job)) (o : Outbound) : Type 0 wh
   pub holds : Holds before o
   pub kept : IsKept o.lane
   pub live : o.lane.buffer.closed ≡ false
-  pub waiting : (place : ℕ) (job : Job) → get o.lane.buffer.answers place ≡ Some job → Contains holds.posts (place, Some job)
+  pub waiting : (place : ℕ) (job : Job) → get o.lane.buffer.answers place ≡ Some job
+      → Contains holds.posts (place, Some job)
 
--- It ended by this fault: `sent` replies went out whole, and but for a fault of the sink nothing else; each had its post; a stranger was told only where one came.
+-- It ended by this fault: `sent` replies went out whole, and but for a fault of the sink nothing
+-- else; each had its post; a stranger was told only where one came.
 pub record Fell (before : List (ℕ × Option Job)) (why : OutboundFault) (o : Outbound) : Type 0 where
   pub frames : HasWhole (replies o) o.written o.sent
   pub within : o.written ≤ length (reply_text (replies o))
@@ -68,9 +71,11 @@ CountsWrite (Err fault.Stranger) old new = new ≡ old
 CountsWrite (Err fault.Lane) old new = new ≡ old
 CountsWrite (Ok x) old new = new ≡ old
 
--- what came of asking for the next reply: where an answer was to another job, the buffer is closed, and that answer came by a foreign post, however many replies are out
+-- what came of asking for the next reply: where an answer was to another job, the buffer is closed,
+-- and that answer came by a foreign post, however many replies are out
 abbrev pub Releases : List (ℕ × Option Job) → Due → Outbound → Type 0
 Releases before due.Gathered o = Stands before o
 Releases before due.Waiting o = Stands before o
-Releases before due.Stranger o = (h : Holds before o) × ((sent : ℕ) → TookForeign (received o.lane) sent h.posts)
+Releases before due.Stranger o =
+    (h : Holds before o) × ((sent : ℕ) → TookForeign (received o.lane) sent h.posts)
 Releases before due.NoMemory o = Fell before fault.NoMemory o

@@ -25,38 +25,49 @@ use Rattle.macaroond.specs.declared.serving.incoming.InboundFault.TheVariants as
 abbrev pub answers : Keys → List Arrival → List Reply
 answers table arrivals = map (answer_of table) arrivals
 
--- every arrival was admitted, put into the line at its place, and its reply was sent, and nothing else was written
-pub record SentAll (table : Keys) (arrivals : List Arrival) (pass : Pass Job) (output : List ℕ) (served : Served) : Type 0 where
+-- every arrival was admitted, put into the line at its place, and its reply was sent, and nothing
+-- else was written
+pub record SentAll (table : Keys) (arrivals : List Arrival) (pass : Pass Job) (output : List ℕ)
+    (served : Served) : Type 0 where
   pub output_is : output ≡ reply_text (answers table arrivals)
   pub arrived_is : served.arrived ≡ length arrivals
   pub sent_is : served.sent ≡ length arrivals
-  pub put_is : served.desk.putter ≡ record pass { put = pass.put ++ placed 0 (jobs_of table arrivals) }
+  pub put_is : served.desk.putter
+      ≡ record pass { put = pass.put ++ placed 0 (jobs_of table arrivals) }
 
--- the frames of the replies that were sent were written, and nothing else; the stream was not read to its end, or not all was sent
-pub record SentSome (table : Keys) (arrivals : List Arrival) (output : List ℕ) (served : Served) : Type 0 where
+-- the frames of the replies that were sent were written, and nothing else; the stream was not read
+-- to its end, or not all was sent
+pub record SentSome (table : Keys) (arrivals : List Arrival) (output : List ℕ)
+    (served : Served) : Type 0 where
   pub output_is : output ≡ reply_text (take served.sent (answers table arrivals))
   pub ending_is : served.ending ≡ ending.Broken
 
 -- the sink failed: a beginning of the replies' frames was written
-pub record SentBeginning (table : Keys) (arrivals : List Arrival) (output : List ℕ) (served : Served) : Type 0 where
+pub record SentBeginning (table : Keys) (arrivals : List Arrival) (output : List ℕ)
+    (served : Served) : Type 0 where
   pub output_is : output ≡ take served.written (reply_text (answers table arrivals))
   pub ending_is : served.ending ≡ ending.Broken
 
 -- What was written, and which ending is told, row by row: by the fault that is told, if any.
 abbrev pub Sent : Keys → Arrivals → Pass Job → List ℕ → Option ServeFault → Served → Type 0
 Sent table a pass output None served =
-    SentAll table a.arrived pass output served × (served.ending ≡ a.ending) × ((a.ending ≡ ending.Clean) ⊎ (a.ending ≡ ending.Oversize))
+    SentAll table a.arrived pass output served × (served.ending ≡ a.ending)
+    × ((a.ending ≡ ending.Clean) ⊎ (a.ending ≡ ending.Oversize))
 Sent table a pass output (Some fault.Torn) served =
-    SentAll table a.arrived pass output served × (served.ending ≡ a.ending) × (a.ending ≡ ending.Torn)
-Sent table a pass output (Some fault.Read) served = SentAll table a.arrived pass output served × (served.ending ≡ ending.Broken)
+    SentAll table a.arrived pass output served × (served.ending ≡ a.ending)
+    × (a.ending ≡ ending.Torn)
+Sent table a pass output (Some fault.Read) served =
+    SentAll table a.arrived pass output served × (served.ending ≡ ending.Broken)
 Sent table a pass output (Some fault.Write) served = SentBeginning table a.arrived output served
 Sent table a pass output (Some fault.NoMemory) served = SentSome table a.arrived output served
 Sent table a pass output (Some fault.Stranger) served = SentSome table a.arrived output served
 Sent table a pass output (Some fault.Lane) served = SentSome table a.arrived output served
 
--- What a run did: it read a stream, and wrote bytes. So many jobs of its arrivals were admitted, so many bytes written, and so many
--- replies went out whole. For each of those the desk took a post with that place's job. A stranger is told only where a post was foreign.
-pub record HasServed (tells_in tells_out : Bool) (table : Keys) (given given' wrote wrote' : List ℕ) (pass : Pass Job) (taken : List (ℕ × Option Job))
+-- What a run did: it read a stream, and wrote bytes. So many jobs of its arrivals were admitted, so
+-- many bytes written, and so many replies went out whole. For each of those the desk took a post
+-- with that place's job. A stranger is told only where a post was foreign.
+pub record HasServed (tells_in tells_out : Bool) (table : Keys) (given given' wrote wrote' : List ℕ)
+    (pass : Pass Job) (taken : List (ℕ × Option Job))
     (why : Option ServeFault) (served : Served) : Type 0 where
   pub stream : List ℕ
   pub gave : Gave tells_in given given' stream
@@ -71,7 +82,8 @@ pub record HasServed (tells_in tells_out : Bool) (table : Keys) (given given' wr
   pub posts : List (ℕ × Option Job)
   pub taken_is : served.desk.taker ≡ taken ++ posts
   pub answered : AreAnswered (jobs_of table (arrivals_of stream).arrived) served.sent posts
-  pub foreign : why ≡ Some fault.Stranger → TookForeign (jobs_of table (arrivals_of stream).arrived) served.sent posts
+  pub foreign : why ≡ Some fault.Stranger
+      → TookForeign (jobs_of table (arrivals_of stream).arrived) served.sent posts
 
 -- the fault that a result tells, if any, and what else it tells
 abbrev pub fault_of : Result Served (ServeFault × Served) → Option ServeFault
@@ -86,8 +98,8 @@ served_of (Err e) = e.1
 abbrev pub MayCount : ℕ → ℕ → Type 0
 MayCount old new = (new ≡ old) ⊎ (new ≡ old + 1)
 
--- What the devices counted, the source first: a failure of the source where that is told, and of the sink where that is told; the sink's comes
--- before the source's, so that both may have failed.
+-- What the devices counted, the source first: a failure of the source where that is told, and of
+-- the sink where that is told; the sink's comes before the source's, so that both may have failed.
 abbrev pub CountsServed : Option ServeFault → ℕ → ℕ → ℕ → ℕ → Type 0
 CountsServed None read read' write write' = (read' ≡ read) × (write' ≡ write)
 CountsServed (Some fault.Torn) read read' write write' = (read' ≡ read) × (write' ≡ write)
@@ -104,15 +116,18 @@ ended_as ending.Torn = (Some fault.Torn, ending.Torn)
 ended_as ending.Oversize = (None, ending.Oversize)
 ended_as ending.Broken = (None, ending.Broken)
 
--- What is told of how the two halves ended, and of whether a reply to each job was released: the fault of the half that sends comes first,
--- then that of the half that reads, and where none is told all is sent.
-abbrev pub outcome_of : {T : Type 0} → Result T OutboundFault → Result Ending InboundFault → Bool → Option ServeFault × Ending
+-- What is told of how the two halves ended, and of whether a reply to each job was released: the
+-- fault of the half that sends comes first, then that of the half that reads, and where none is
+-- told all is sent.
+abbrev pub outcome_of : {T : Type 0} → Result T OutboundFault → Result Ending InboundFault → Bool
+    → Option ServeFault × Ending
 outcome_of (Err sending.Write) read all = (Some fault.Write, ending.Broken)
 outcome_of (Err sending.NoMemory) read all = (Some fault.NoMemory, ending.Broken)
 outcome_of (Err sending.Stranger) read all = (Some fault.Stranger, ending.Broken)
 outcome_of (Err sending.Lane) read all = (Some fault.Lane, ending.Broken)
 outcome_of (Ok sent) (Err reading.NoMemory) all = (Some fault.NoMemory, ending.Broken)
-outcome_of (Ok sent) (Err reading.Read) all = (Some (if all then fault.Read else fault.Lane), ending.Broken)
+outcome_of (Ok sent) (Err reading.Read) all =
+    (Some (if all then fault.Read else fault.Lane), ending.Broken)
 outcome_of (Ok sent) (Err reading.Lane) all = (Some fault.Lane, ending.Broken)
 outcome_of (Ok sent) (Err reading.Stopped) all = (Some fault.Lane, ending.Broken)
 outcome_of (Ok sent) (Ok end) all = if all then ended_as end else (Some fault.Lane, ending.Broken)

@@ -16,7 +16,8 @@ use std::alloc::Global;
 use std::sync::Wait;
 use std::thread;
 
-/// The half of a connection that reads requests: its end of the lane, and its way into the line of jobs.
+/// The half of a connection that reads requests: its end of the lane, and its way into the line of
+/// jobs.
 #[derive(Drop)]
 pub struct Inbound {
     pub lane: Intake<Macaroons>,
@@ -47,8 +48,10 @@ impl Inbound {
         ensures lane { IsSameIntake self.old.lane self.new.lane }
         ensures putter { self.new.putter ≡ self.old.putter }
         ensures place { IfOk result (λ place. place ≡ length (admitted self.old.lane)) }
-        ensures admitted { OnOk result (admitted self.new.lane ≡ admitted self.old.lane ++ job ∷ []) }
-        ensures refused { IfErr result (λ e. (admitted self.new.lane ≡ admitted self.old.lane) × (e.1 ≡ job)) }
+        ensures admitted { OnOk result
+            (admitted self.new.lane ≡ admitted self.old.lane ++ job ∷ []) }
+        ensures refused { IfErr result (λ e.
+            (admitted self.new.lane ≡ admitted self.old.lane) × (e.1 ≡ job)) }
     {
         let length = payload_length(&job);
         if !self.unsent.has_room(length, signals.sent()) {
@@ -64,7 +67,8 @@ impl Inbound {
         ensures lane { IsSameIntake self.old.lane self.new.lane }
         ensures putter { self.new.putter ≡ self.old.putter }
         ensures place { IfOk result (λ place. place ≡ length (admitted self.old.lane)) }
-        ensures admitted { OnOk result (admitted self.new.lane ≡ admitted self.old.lane ++ job ∷ []) }
+        ensures admitted { OnOk result
+            (admitted self.new.lane ≡ admitted self.old.lane ++ job ∷ []) }
         ensures refused { OnErr result (admitted self.new.lane ≡ admitted self.old.lane) }
         ensures no_read { result ≢ Err InboundFault.Read }
     {
@@ -160,7 +164,8 @@ impl Inbound {
         Ok(())
     }
 
-    /// Reads some bytes, and puts the jobs of the arrivals that are whole with them. Whether the stream goes on.
+    /// Reads some bytes, and puts the jobs of the arrivals that are whole with them. Whether the
+    /// stream goes on.
     fn take_next<R: Wait, In: Source>(
         &mut self,
         rt: &R,
@@ -174,9 +179,12 @@ impl Inbound {
         requires room { HasRoom incoming.old }
         ensures lane { IsSameIntake self.old.lane self.new.lane }
         ensures goes_on { (given : List ℕ) (start : Inbound)
-            → GoesOn In.tells keys.now given (In.taken source.old) incoming.old.reader start self.old
-            → Continues In.tells keys.now given (In.taken source.new) result incoming.new.reader start self.new }
-        ensures end { result ≡ Ok false → IsTrue (In.ended source.new) ⊎ HasEnded incoming.new.reader }
+            → GoesOn In.tells keys.now given (In.taken source.old) incoming.old.reader
+            start self.old
+            → Continues In.tells keys.now given (In.taken source.new) result incoming.new.reader
+            start self.new }
+        ensures end { result ≡ Ok false
+            → IsTrue (In.ended source.new) ⊎ HasEnded incoming.new.reader }
         ensures room { HasRoom incoming.new }
         ensures faults { CountsRead result (In.faults source.old) (In.faults source.new) }
     {
@@ -201,8 +209,10 @@ impl Inbound {
     ) -> Result<Ending, InboundFault>
         requires { In.faults source.old < u64.MAX }
         ensures lane { IsSameIntake self.old.lane self.new.lane }
-        ensures run { HasRun In.tells keys.now (In.taken source.old) (In.taken source.new) result self.old self.new }
-        ensures end { IfOk result (λ ending. ending ≢ Ending.Oversize → IsTrue (In.ended source.new)) }
+        ensures run { HasRun In.tells keys.now (In.taken source.old) (In.taken source.new) result
+            self.old self.new }
+        ensures end { IfOk result (λ ending. ending ≢ Ending.Oversize
+            → IsTrue (In.ended source.new)) }
         ensures faults { CountsRead result (In.faults source.old) (In.faults source.new) }
     {
         let mut incoming = Incoming::new(alloc)?;
@@ -214,7 +224,8 @@ impl Inbound {
         unreachable!()
     }
 
-    /// Reads where that can be: the failures of the source can be counted, and replies are being sent.
+    /// Reads where that can be: the failures of the source can be counted, and replies are being
+    /// sent.
     fn read_if_served<R: Wait, In: Source>(
         &mut self,
         rt: &R,
@@ -224,8 +235,10 @@ impl Inbound {
         signals: &Signals,
     ) -> Result<Ending, InboundFault>
         ensures lane { IsSameIntake self.old.lane self.new.lane }
-        ensures run { HasRun In.tells keys.now (In.taken source.old) (In.taken source.new) result self.old self.new }
-        ensures end { IfOk result (λ ending. ending ≢ Ending.Oversize → IsTrue (In.ended source.new)) }
+        ensures run { HasRun In.tells keys.now (In.taken source.old) (In.taken source.new) result
+            self.old self.new }
+        ensures end { IfOk result (λ ending. ending ≢ Ending.Oversize
+            → IsTrue (In.ended source.new)) }
         ensures faults { CountsRead result (In.faults source.old) (In.faults source.new) }
     {
         if source.faults() == u64::MAX {
@@ -237,7 +250,8 @@ impl Inbound {
         self.read_until_done(rt, alloc, source, keys, signals)
     }
 
-    /// Reads requests until the source has ended, or until a fault. The outbound half hears of its end.
+    /// Reads requests until the source has ended, or until a fault. The outbound half hears of its
+    /// end.
     pub fn run<R: Wait, In: Source>(
         &mut self,
         rt: &R,
@@ -247,8 +261,10 @@ impl Inbound {
         signals: &Signals,
     ) -> Result<Ending, InboundFault>
         ensures lane { IsSameIntake self.old.lane self.new.lane }
-        ensures run { HasRun In.tells keys.now (In.taken source.old) (In.taken source.new) result self.old self.new }
-        ensures end { IfOk result (λ ending. ending ≢ Ending.Oversize → IsTrue (In.ended source.new)) }
+        ensures run { HasRun In.tells keys.now (In.taken source.old) (In.taken source.new) result
+            self.old self.new }
+        ensures end { IfOk result (λ ending. ending ≢ Ending.Oversize
+            → IsTrue (In.ended source.new)) }
         ensures faults { CountsRead result (In.faults source.old) (In.faults source.new) }
     {
         let ended = self.read_if_served(rt, alloc, source, keys, signals);

@@ -74,8 +74,10 @@ impl Incoming {
     ) -> Result<Option<Vec<Arrival>>, InboundFault>
         requires countable { In.faults source.old < u64.MAX }
         requires room { HasRoom self.old }
-        ensures reads { (stream : List ℕ) (handed : List Arrival) → HasRead self.old.reader stream handed
-            → Reads In.tells (In.taken source.old) (In.taken source.new) stream handed result self.new.reader }
+        ensures reads { (stream : List ℕ) (handed : List Arrival)
+            → HasRead self.old.reader stream handed
+            → Reads In.tells (In.taken source.old) (In.taken source.new) stream handed result
+            self.new.reader }
         ensures end { IfOk result (λ more. more ≡ None → IsTrue (In.ended source.new)) }
         ensures room { HasRoom self.new }
         ensures faults { CountsRead result (In.faults source.old) (In.faults source.new) }
@@ -94,10 +96,13 @@ impl Incoming {
 
     /// How the stream ended.
     pub fn finish(self) -> Ending
-        ensures ending { (stream : List ℕ) (handed : List Arrival) → HasRead self.reader stream handed
+        ensures ending { (stream : List ℕ) (handed : List Arrival)
+            → HasRead self.reader stream handed
             → arrivals_of stream ≡ record { arrived = handed; ending = result } }
-        ensures whole { (stream : List ℕ) (handed : List Arrival) → HasRead self.reader stream handed → result ≢ Ending.Broken }
-        ensures oversize { HasEnded self.reader → result ≢ Ending.Broken → result ≡ Ending.Oversize }
+        ensures whole { (stream : List ℕ) (handed : List Arrival)
+            → HasRead self.reader stream handed → result ≢ Ending.Broken }
+        ensures oversize { HasEnded self.reader → result ≢ Ending.Broken
+            → result ≡ Ending.Oversize }
     {
         let Incoming { reader, piece: _ } = self;
         reader.finish()

@@ -41,8 +41,8 @@ enum Due {
     NoMemory,
 }
 
-/// The half of a connection that sends replies: its end of the lane, and the mailbox of its answers. Replies are gathered
-/// and written many at a time.
+/// The half of a connection that sends replies: its end of the lane, and the mailbox of its
+/// answers. Replies are gathered and written many at a time.
 #[derive(Drop)]
 pub struct Outbound {
     pub lane: Outlet<Macaroons>,
@@ -91,7 +91,8 @@ impl Outbound {
     /// Takes one post, and settles its answer. Whether there was one.
     fn settle_next<R: Wait>(&mut self, rt: &R) -> Result<bool, OutboundFault>
         ensures lane { IsSameOutlet self.old.lane self.new.lane }
-        ensures sends { (before : List (ℕ × Option Job)) → Stands before self.old → Sends before result self.new }
+        ensures sends { (before : List (ℕ × Option Job))
+            → Stands before self.old → Sends before result self.new }
         ensures out { out_text self.new ≡ out_text self.old }
         ensures no_write { result ≢ Err OutboundFault.Write }
     {
@@ -110,7 +111,8 @@ impl Outbound {
     /// Takes every post that is there, and settles their answers. Whether there was one.
     fn settle_all<R: Wait>(&mut self, rt: &R) -> Result<bool, OutboundFault>
         ensures lane { IsSameOutlet self.old.lane self.new.lane }
-        ensures sends { (before : List (ℕ × Option Job)) → Stands before self.old → Sends before result self.new }
+        ensures sends { (before : List (ℕ × Option Job))
+            → Stands before self.old → Sends before result self.new }
         ensures out { out_text self.new ≡ out_text self.old }
         ensures no_write { result ≢ Err OutboundFault.Write }
     {
@@ -127,7 +129,8 @@ impl Outbound {
     /// Gathers the reply of the next place, where it is due.
     fn release_next(&mut self) -> Due
         ensures lane { IsSameOutlet self.old.lane self.new.lane }
-        ensures releases { (before : List (ℕ × Option Job)) → Stands before self.old → Releases before result self.new }
+        ensures releases { (before : List (ℕ × Option Job))
+            → Stands before self.old → Releases before result self.new }
         ensures out { out_text self.new ≡ out_text self.old }
     {
         laws::replies_can_be_sent();
@@ -150,10 +153,12 @@ impl Outbound {
         ensures holds { (before : List (ℕ × Option Job)) → Holds before self.old
             → MatchResult result (λ _. Holds before self.new)
             (λ why. (why ≢ OutboundFault.Stranger) × Fell before why self.new) }
-        ensures sends { (before : List (ℕ × Option Job)) → Stands before self.old → Sends before result self.new }
+        ensures sends { (before : List (ℕ × Option Job))
+            → Stands before self.old → Sends before result self.new }
         ensures sent { OnOk result (self.new.sent ≡ next self.new) }
-        ensures written { IsTrue W.tells → (before : List (ℕ × Option Job)) (head : List ℕ) → Holds before self.old
-            → W.written sink.old ≡ head ++ out_text self.old → W.written sink.new ≡ head ++ out_text self.new }
+        ensures written { IsTrue W.tells → (before : List (ℕ × Option Job)) (head : List ℕ)
+            → Holds before self.old → W.written sink.old ≡ head ++ out_text self.old
+            → W.written sink.new ≡ head ++ out_text self.new }
         ensures faults { CountsWrite result (W.faults sink.old) (W.faults sink.new) }
     {
         laws::replies_can_be_sent();
@@ -182,10 +187,12 @@ impl Outbound {
     fn release_all<R: Wait, W: Sink>(&mut self, rt: &R, sink: &mut W) -> Result<(), OutboundFault>
         requires { W.faults sink.old < u64.MAX }
         ensures lane { IsSameOutlet self.old.lane self.new.lane }
-        ensures sends { (before : List (ℕ × Option Job)) → Stands before self.old → Sends before result self.new }
+        ensures sends { (before : List (ℕ × Option Job))
+            → Stands before self.old → Sends before result self.new }
         ensures sent { OnOk result (self.new.sent ≡ next self.new) }
-        ensures written { IsTrue W.tells → (before : List (ℕ × Option Job)) (head : List ℕ) → Stands before self.old
-            → W.written sink.old ≡ head ++ out_text self.old → W.written sink.new ≡ head ++ out_text self.new }
+        ensures written { IsTrue W.tells → (before : List (ℕ × Option Job)) (head : List ℕ)
+            → Stands before self.old → W.written sink.old ≡ head ++ out_text self.old
+            → W.written sink.new ≡ head ++ out_text self.new }
         ensures faults { CountsWrite result (W.faults sink.old) (W.faults sink.new) }
     {
         for _ in rt.forever() {
@@ -203,14 +210,17 @@ impl Outbound {
         unreachable!()
     }
 
-    /// Opens the slips and settles the answers that are there, and sends every reply that is due. Whether anything was there.
+    /// Opens the slips and settles the answers that are there, and sends every reply that is due.
+    /// Whether anything was there.
     fn turn<R: Wait, W: Sink>(&mut self, rt: &R, sink: &mut W) -> Result<bool, OutboundFault>
         requires { W.faults sink.old < u64.MAX }
         ensures lane { IsSameOutlet self.old.lane self.new.lane }
-        ensures sends { (before : List (ℕ × Option Job)) → Stands before self.old → Sends before result self.new }
+        ensures sends { (before : List (ℕ × Option Job))
+            → Stands before self.old → Sends before result self.new }
         ensures sent { OnOk result (self.new.sent ≡ next self.new) }
-        ensures written { IsTrue W.tells → (before : List (ℕ × Option Job)) (head : List ℕ) → Stands before self.old
-            → W.written sink.old ≡ head ++ out_text self.old → W.written sink.new ≡ head ++ out_text self.new }
+        ensures written { IsTrue W.tells → (before : List (ℕ × Option Job)) (head : List ℕ)
+            → Stands before self.old → W.written sink.old ≡ head ++ out_text self.old
+            → W.written sink.new ≡ head ++ out_text self.new }
         ensures faults { CountsWrite result (W.faults sink.old) (W.faults sink.new) }
     {
         let has_looked = self.look();
@@ -219,7 +229,8 @@ impl Outbound {
         Ok(has_looked || has_settled)
     }
 
-    /// Sends replies until the inbound half has ended and no slip is left that an answer will come for, or until a fault.
+    /// Sends replies until the inbound half has ended and no slip is left that an answer will come
+    /// for, or until a fault.
     fn send_until_done<R: Wait, W: Sink>(
         &mut self,
         rt: &R,
@@ -228,10 +239,12 @@ impl Outbound {
     ) -> Result<(), OutboundFault>
         requires { W.faults sink.old < u64.MAX }
         ensures lane { IsSameOutlet self.old.lane self.new.lane }
-        ensures sends { (before : List (ℕ × Option Job)) → Stands before self.old → Sends before result self.new }
+        ensures sends { (before : List (ℕ × Option Job))
+            → Stands before self.old → Sends before result self.new }
         ensures sent { OnOk result (self.new.sent ≡ next self.new) }
-        ensures written { IsTrue W.tells → (before : List (ℕ × Option Job)) (head : List ℕ) → Stands before self.old
-            → W.written sink.old ≡ head ++ out_text self.old → W.written sink.new ≡ head ++ out_text self.new }
+        ensures written { IsTrue W.tells → (before : List (ℕ × Option Job)) (head : List ℕ)
+            → Stands before self.old → W.written sink.old ≡ head ++ out_text self.old
+            → W.written sink.new ≡ head ++ out_text self.new }
         ensures faults { CountsWrite result (W.faults sink.old) (W.faults sink.new) }
     {
         for _ in rt.forever() {
@@ -273,10 +286,12 @@ impl Outbound {
         signals: &Signals,
     ) -> Result<(), OutboundFault>
         ensures lane { IsSameOutlet self.old.lane self.new.lane }
-        ensures sends { (before : List (ℕ × Option Job)) → Stands before self.old → Sends before result self.new }
+        ensures sends { (before : List (ℕ × Option Job))
+            → Stands before self.old → Sends before result self.new }
         ensures sent { OnOk result (self.new.sent ≡ next self.new) }
-        ensures written { IsTrue W.tells → (before : List (ℕ × Option Job)) (head : List ℕ) → Stands before self.old
-            → W.written sink.old ≡ head ++ out_text self.old → W.written sink.new ≡ head ++ out_text self.new }
+        ensures written { IsTrue W.tells → (before : List (ℕ × Option Job)) (head : List ℕ)
+            → Stands before self.old → W.written sink.old ≡ head ++ out_text self.old
+            → W.written sink.new ≡ head ++ out_text self.new }
         ensures faults { CountsWrite result (W.faults sink.old) (W.faults sink.new) }
     {
         if sink.faults() == u64::MAX {
@@ -285,7 +300,8 @@ impl Outbound {
         self.send_until_done(rt, sink, signals)
     }
 
-    /// Sends replies until the inbound half has ended and nothing more is due, or until a fault. The inbound half hears of its end.
+    /// Sends replies until the inbound half has ended and nothing more is due, or until a fault.
+    /// The inbound half hears of its end.
     pub fn run<R: Wait, W: Sink>(
         &mut self,
         rt: &R,
@@ -293,10 +309,12 @@ impl Outbound {
         signals: &Signals,
     ) -> Result<(), OutboundFault>
         ensures lane { IsSameOutlet self.old.lane self.new.lane }
-        ensures sends { (before : List (ℕ × Option Job)) → Stands before self.old → Sends before result self.new }
+        ensures sends { (before : List (ℕ × Option Job))
+            → Stands before self.old → Sends before result self.new }
         ensures sent { OnOk result (self.new.sent ≡ next self.new) }
-        ensures written { IsTrue W.tells → (before : List (ℕ × Option Job)) (head : List ℕ) → Stands before self.old
-            → W.written sink.old ≡ head ++ out_text self.old → W.written sink.new ≡ head ++ out_text self.new }
+        ensures written { IsTrue W.tells → (before : List (ℕ × Option Job)) (head : List ℕ)
+            → Stands before self.old → W.written sink.old ≡ head ++ out_text self.old
+            → W.written sink.new ≡ head ++ out_text self.new }
         ensures faults { CountsWrite result (W.faults sink.old) (W.faults sink.new) }
     {
         signals.begin_outbound();

@@ -5,10 +5,12 @@ use std::sync::Wait;
 use std::sync::atomic::{AtomicBool, AtomicU64, Ordering};
 use std::time::Duration;
 
-/// How often the inbound half waits for the thread of the outbound half, each time a tenth of a second.
+/// How often the inbound half waits for the thread of the outbound half, each time a tenth of a
+/// second.
 const THREAD_TURNS: u32 = 100;
 
-/// What the two halves of a connection tell each other while they run. They are hints on when to look, to wait and to
+/// What the two halves of a connection tell each other while they run. They are hints on when to
+/// look, to wait and to
 /// stop: no contract speaks of them.
 #[derive(Drop)]
 pub struct Signals {
@@ -56,7 +58,8 @@ impl Signals {
         self.outbound_begun.load(Ordering::SeqCst) == 1
     }
 
-    /// The inbound half has put its last job. Where it failed, a job that it admitted may not have been put.
+    /// The inbound half has put its last job. Where it failed, a job that it admitted may not have
+    /// been put.
     pub fn end_inbound(&self, has_failed: bool) {
         self.inbound_failed.store(has_failed, Ordering::SeqCst);
         self.inbound_ended.store(true, Ordering::SeqCst);
@@ -83,7 +86,8 @@ impl Signals {
         self.outbound_ended.load(Ordering::SeqCst)
     }
 
-    /// The replies below this place went out, and slips may be free: wakes the inbound half where it waits for room.
+    /// The replies below this place went out, and slips may be free: wakes the inbound half where
+    /// it waits for room.
     pub fn make_room(&self, sent: u64) {
         self.sent.store(sent, Ordering::SeqCst);
         self.room.ring();
@@ -94,7 +98,8 @@ impl Signals {
         self.sent.load(Ordering::SeqCst)
     }
 
-    /// Announces that the inbound half is about to wait for room. It looks once more before it sleeps.
+    /// Announces that the inbound half is about to wait for room. It looks once more before it
+    /// sleeps.
     pub fn announce(&self) -> Notice {
         self.room.announce()
     }
