@@ -1,4 +1,4 @@
-.PHONY: test wrong-bodies demo build build-runs bench soak
+.PHONY: test wrong-bodies demo build build-runs bench load soak
 
 # Every proof from nothing, the wrong bodies, every test and program; then the pipe beside the README and the work of others.
 test:
@@ -34,7 +34,15 @@ build-runs:
 bench:
 	scripts/bench.py
 
+# The daemon under load: requests a second, waits, processor time, memory. After make build.
+load:
+	scripts/load.py
+	scripts/load.py --window 1
+
 # Four workers, 64 desks of two threads, pauses by chance, on two processors: 19,200 posts, then 1,000,320 of them.
-# A wait that nobody ends shows as a run that doesn't end. After make build-runs.
+# A wait that nobody ends shows as a run that doesn't end. Then hostile clients of the daemon, beside one that
+# compares every reply. After make build build-runs.
+MINUTES = 1
 soak:
 	scripts/soak.sh
+	scripts/hostile.py $(MINUTES)

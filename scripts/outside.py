@@ -4,6 +4,8 @@ import os
 import sys
 
 import case_files
+import daemon_rows
+import daemon_session
 import edges
 import peers
 import pipe_runs
@@ -23,16 +25,20 @@ def main():
     others = peers.installed_peers()
     runs = pipe_runs.runs({**readme.cases, **files, **statuses.cases(), **peers.cases(others)})
     faults = readme.compared(runs) + case_files.faults(runs) + statuses.faults(runs) + peers.faults(others, runs)
-    edge_faults, edge_runs = edges.faults() if pipe_runs.is_built() else ([], 0)
-    faults += edge_faults + quotes.faults()
+    is_built = pipe_runs.is_built()
+    edge_faults, edge_runs = edges.faults() if is_built else ([], 0)
+    daemon_faults, daemon_steps = daemon_session.faults() if is_built else ([], 0)
+    row_faults, rows = daemon_rows.faults() if is_built else ([], 0)
+    faults += edge_faults + daemon_faults + row_faults + quotes.faults()
     if faults:
         raise SystemExit("\n".join(faults))
     print(f"README: {len(readme.shown)} runs of the pipe print what it shows")
     print(f"cases: {len(files)} runs of the pipe print what they must, and {len(statuses.ENDINGS)} end as they must")
     if edge_runs:
         print(f"edges: {edge_runs} runs over failing devices, little memory and no UTF-8 end as they must")
+        print(f"daemon: {daemon_steps} commands of the README print what it shows, and {rows} runs over a socket end as they must")
     else:
-        print("edges: bin/macaroond isn't built from these sources (make build), so no run over failing devices was made")
+        print("edges: bin/macaroond isn't built from these sources (make build), so no run over failing devices or a socket was made")
     for peer in others:
         print(f"{peer.name}: tokens exchanged in {', '.join(peer.forms)}")
 

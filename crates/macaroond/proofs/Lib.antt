@@ -1,6 +1,7 @@
 pub mod Answered
 pub mod Comes
 pub mod CommandLineLemmas
+pub mod CrewLemmas
 pub mod Gathered
 pub mod KeyText
 pub mod LineLemmas

@@ -1,5 +1,6 @@
 pub mod Arrived
 pub mod CommandLine
+pub mod Crew
 pub mod Gathered
 pub mod Incoming
 pub mod Inner

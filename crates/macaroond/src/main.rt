@@ -4,13 +4,14 @@
 //! [`chosen`] and [`pipe`].
 #![tactic(auto)]
 
-ghost use Rattle.std.specs.Prelude.{◌≡◌, IfErr};
+ghost use Rattle.std.specs.Prelude.{◌≡◌, ◌≤◌, IfErr};
 ghost use Rattle.macaroond.specs.Status.{IsShown, run_status};
 
 mod arrived;
 mod choices;
 mod command_line;
 mod commands;
+mod daemon;
 mod fault;
 mod input;
 pub mod laws;
@@ -23,6 +24,8 @@ mod serving;
 pub use choices::{Choice, Mode};
 pub use command_line::{BAD_LINE, HELP_SHOWN, NO_MEMORY, chosen, words_of};
 pub use commands::{ACCEPT_MAX, IDLE_MAX, WORKERS_MAX};
+use daemon::read_keys;
+pub use daemon::{Day, LIVE_MAX, Terms, accept_all, listen};
 pub use fault::PipeFault;
 pub use input::INPUT_MAX;
 use mac_wire::{ReaderSource, WriterSink};
@@ -30,8 +33,13 @@ pub use piping::pipe;
 pub use serving::{ServeFault, Served, serve};
 use std::alloc::{Alloc, Global};
 use std::env::Env;
-use std::io;
-use std::process::ExitCode;
+use std::fs::Files;
+use std::net::Net;
+use std::process::{ExitCode, Process};
+use std::sync::{Arc, Wait};
+use std::thread::Threads;
+use std::time::{Clock, Duration};
+use std::{io, thread};
 
 /// The exit status of a run that answered all its requests.
 pub const ANSWERED: u8 = 0;
@@ -40,32 +48,112 @@ pub const ANSWERED: u8 = 0;
 pub const DEVICE_FAULT: u8 = 3;
 
 fn main(rt: HostRuntime) -> ExitCode {
-    ExitCode::from(run(&rt))
+    ExitCode::from(run(&rt, rt.process()))
 }
 
 // Does what the words of the process ask for, and gives the exit status.
-fn run<R: Env + Alloc<A = Global> + Input + Print + Eprint + Sync>(rt: &R) -> u8
+fn run<R>(rt: &R, process: Process) -> u8
 where
+    R: Env + Alloc<A = Global> + Input + Print + Eprint + Files + Net + Clock,
+    R: Threads + Wait + Sync + Copy + Send + 'static,
     R::Reader: Send,
+    R::File: Send,
 {
     let choice = words_of(rt).and_then(|words| chosen(rt.alloc(), words.as_slice()));
-    done(rt, choice)
+    done(rt, choice, process)
 }
 
 // Does what was chosen, and gives the exit status; what was refused is shown and not done.
-fn done<R: Alloc<A = Global> + Input + Print + Eprint + Sync>(
-    rt: &R,
-    choice: Result<Choice, (u8, String)>,
-) -> u8
+fn done<R>(rt: &R, choice: Result<Choice, (u8, String)>, process: Process) -> u8
 where
+    R: Alloc<A = Global> + Input + Print + Eprint + Files + Net + Clock,
+    R: Threads + Wait + Sync + Copy + Send + 'static,
     R::Reader: Send,
+    R::File: Send,
     ensures { IfErr choice (λ refusal. IsShown refusal.0 result) }
 {
     match choice {
         Ok(Choice::Pipe) => run_pipe(rt),
-        Ok(Choice::Serve { .. }) | Ok(Choice::Listen { .. }) => tell_fault(rt, DEVICE_FAULT),
+        Ok(
+            Choice::Serve {
+                socket,
+                keys,
+                workers,
+                accept,
+            },
+        ) => run_serve(rt, socket.as_str(), keys.as_str(), workers, accept),
+        Ok(
+            Choice::Listen {
+                socket,
+                keys,
+                workers,
+                mode,
+                idle,
+            },
+        ) => {
+            let terms = Terms {
+                path: socket.as_str(),
+                mode,
+                idle: idle.map(Duration::from_secs),
+                workers: workers_of(rt, workers),
+            };
+            run_listen(rt, keys.as_str(), terms, process)
+        }
         Err((status, text)) => show(rt, status, text.as_str()),
     }
+}
+
+// The workers that were asked for, or one for each processor.
+fn workers_of<R: Threads>(rt: &R, asked: Option<u64>) -> usize
+    ensures some { 1 ≤ result }
+    ensures most { result ≤ 16 }
+{
+    let most = WORKERS_MAX as usize;
+    let count = match asked {
+        Some(count) => count as usize,
+        None => thread::available_parallelism(rt).map_or(1, |count| count.get()),
+    };
+    count.max(1).min(most)
+}
+
+// Serves so many connections, and gives the exit status.
+fn run_serve<R>(rt: &R, path: &str, keys: &str, workers: u64, accept: u64) -> u8
+where
+    R: Alloc<A = Global> + Print + Eprint + Files + Net,
+    R: Threads + Wait + Sync + Copy + Send + 'static,
+    R::File: Send,
+{
+    let keys = match read_keys(rt, keys) {
+        Ok(keys) => keys,
+        Err(fault) => return told(rt, Err(fault)),
+    };
+    let Ok(keys) = Arc::new(rt.alloc(), keys) else {
+        return tell_fault(rt, NO_MEMORY);
+    };
+    let workers = workers_of(rt, Some(workers));
+    let accept = accept.max(1).min(ACCEPT_MAX);
+    let mut out = WriterSink::new(io::writer(rt));
+    match accept_all(rt, rt.alloc(), path, &keys, workers, accept, &mut out) {
+        Ok(_) => ANSWERED,
+        Err(status) => tell_fault(rt, status),
+    }
+}
+
+// Listens without end, or gives the exit status where that can't begin.
+fn run_listen<R>(rt: &R, keys: &str, terms: Terms<'_>, process: Process) -> u8
+where
+    R: Alloc<A = Global> + Print + Eprint + Files + Net + Clock,
+    R: Threads + Wait + Sync + Copy + Send + 'static,
+    R::File: Send,
+{
+    let keys = match read_keys(rt, keys) {
+        Ok(keys) => keys,
+        Err(fault) => return told(rt, Err(fault)),
+    };
+    let Ok(keys) = Arc::new(rt.alloc(), keys) else {
+        return tell_fault(rt, NO_MEMORY);
+    };
+    tell_fault(rt, listen(rt, rt.alloc(), terms, &keys, process))
 }
 
 // Pipes standard input to standard output, and gives the exit status.

@@ -59,7 +59,7 @@ pub fn pipe<R: Source, W: Sink>(
 }
 
 /// The table of the key lines.
-fn read_table(alloc: Global, text: &[u8]) -> Result<KeyTable, PipeFault>
+pub(crate) fn read_table(alloc: Global, text: &[u8]) -> Result<KeyTable, PipeFault>
     ensures table { IfOk result (λ table. table_of text.now ≡ Ok table) }
     ensures fault { IfErr result (Tells (table_of text.now)) }
 {

@@ -1,0 +1,10 @@
+-- What a daemon keeps of its live connections.
+use Rattle.std.specs.Prelude.{◌≡◌, ℕ, List, Option, Some, length, slice_get}
+
+-- whoever is in a berth has the property
+abbrev pub EachBerth : {X : Type 0} → List (Option X) → (X → Type 0) → Type 0
+EachBerth {X} berths P = (number : ℕ) (x : X) → slice_get berths number ≡ Some (Some x) → P x
+
+-- so many berths, and nobody in them
+abbrev pub AreFree : {X : Type 0} → ℕ → List (Option X) → Type 0
+AreFree count berths = (length berths ≡ count) × EachBerth berths (λ _. ⊥)

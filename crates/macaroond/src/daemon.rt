@@ -1,0 +1,12 @@
+//! What `serve` and `listen` share: a crew that serves the connections of a socket.
+mod accepting;
+mod connection;
+mod crew;
+mod key_file;
+mod listening;
+mod place;
+
+pub use accepting::{Day, accept_all};
+pub use crew::LIVE_MAX;
+pub(crate) use key_file::read_keys;
+pub use listening::{Terms, listen};

@@ -1,0 +1,114 @@
+"""Runs of `macaroond serve` and `macaroond listen` over a socket: what comes back, and how they end."""
+import contextlib
+import os
+import pathlib
+import socket
+import stat
+import subprocess
+import sys
+import tempfile
+import time
+
+import pipe_runs
+
+TOP = pathlib.Path(__file__).resolve().parent.parent
+sys.path.insert(0, str(TOP / "examples"))
+import request
+
+KEYS = str(TOP / "examples" / "keys")
+MINT = request.mint("v1-text", "bank", "http://mybank/", "we used our secret key")
+TOKEN = (
+    b"MDAxY2xvY2F0aW9uIGh0dHA6Ly9teWJhbmsvCjAwMjZpZGVudGlmaWVyIHdlIHVzZWQgb3VyIHNlY3JldCBrZXkK"
+    b"MDAyZnNpZ25hdHVyZSDj2eApCFJsTAA5rhURQRXZf91ovyujebNCqvD2F9BVLwo"
+)
+NO_REQUEST = bytes([0, 0, 0, 1, 16])
+
+
+def frame(payload):
+    return len(payload).to_bytes(4, "big") + payload
+
+
+def connected(path):
+    stream = socket.socket(socket.AF_UNIX)
+    stream.settimeout(20)
+    stream.connect(path)
+    return stream
+
+
+def answer(stream, data):
+    """What comes back, to its end, for a stream of these bytes."""
+    stream.sendall(data)
+    stream.shutdown(socket.SHUT_WR)
+    received = b""
+    while piece := stream.recv(65_536):
+        received += piece
+    return received
+
+
+@contextlib.contextmanager
+def daemon(*words):
+    """A daemon that has printed its first line."""
+    pipes = {"stdout": subprocess.PIPE, "stderr": subprocess.PIPE, "text": True}
+    with subprocess.Popen([pipe_runs.PROGRAM, *words], **pipes) as run:
+        try:
+            run.first = run.stdout.readline()
+            yield run
+        finally:
+            run.kill()
+
+
+def served(path, workers):
+    """Three clients, of which the second comes while the first is there and the third breaks off."""
+    words = ["serve", "--socket", path, "--keys", KEYS, "--workers", str(workers), "--accept", "3"]
+    with daemon(*words) as run:
+        with connected(path) as first, connected(path) as second, connected(path) as third:
+            answers = [answer(second, bytes(12)), answer(third, bytes(3))]
+            answers.insert(0, answer(first, frame(MINT) + frame(b"")))
+        output, error = run.communicate(timeout=20)
+    due = [frame(b"\x01" + TOKEN) + NO_REQUEST, NO_REQUEST * 3, b""]
+    yield f"{workers} workers answer", answers, due
+    yield f"{workers} workers end", (run.returncode, run.first + output, error), (0, "listening\nserved 3 faults 1\n", "")
+    again = subprocess.run([pipe_runs.PROGRAM, *words], capture_output=True, text=True, timeout=20)
+    yield "a path that is there", (again.returncode, again.stdout, again.stderr), (3, "", "fault 3\n")
+
+
+def listening(folder):
+    path = folder + "/listening"
+    words = ["listen", "--socket", path, "--keys", KEYS, "--workers", "2"]
+    with daemon(*words, "--mode", "660") as run:
+        yield "what listen prints", run.first, f"listening at {path}: 2 keys, 2 workers\n"
+        yield "the mode", stat.filemode(os.stat(path).st_mode), "srw-rw----"
+        yield "nothing beside the socket", os.listdir(folder), ["listening"]
+        with connected(path) as stream:
+            yield "an answer", answer(stream, frame(MINT)), frame(b"\x01" + TOKEN)
+        taken = subprocess.run([pipe_runs.PROGRAM, *words], capture_output=True, text=True, timeout=20)
+        due = (3, "", f"{path}: somebody listens there\nfault 3\n")
+        yield "a path that is listened on", (taken.returncode, taken.stdout, taken.stderr), due
+    with daemon(*words, "--idle", "1") as run:
+        yield "a path that was left is taken over", run.first, f"listening at {path}: 2 keys, 2 workers\n"
+        yield "the owner's mode", stat.filemode(os.stat(path).st_mode), "srw-------"
+        begin = time.monotonic()
+        with connected(path) as stream:
+            stream.sendall(bytes(3))
+            yield "silence is ended", stream.recv(1), b""
+        yield "after its second", 0.9 < time.monotonic() - begin < 5, True
+        yield "and told", run.stderr.readline(), "a connection ended: the source failed\n"
+        with contextlib.ExitStack() as crowd:
+            streams = [crowd.enter_context(connected(path)) for _ in range(130)]
+            streams[-1].sendall(frame(b""))
+            yield "a client behind 64 silent ones", streams[-1].recv(5), NO_REQUEST
+    file = folder + "/file"
+    pathlib.Path(file).write_text("")
+    words[2] = file
+    refused = subprocess.run([pipe_runs.PROGRAM, *words], capture_output=True, text=True, timeout=20)
+    due = (3, "", f"{file}: there is something that is no socket\nfault 3\n")
+    yield "a path that is no socket", (refused.returncode, refused.stdout, refused.stderr), due
+
+
+def faults():
+    """What went otherwise than it must, and how many things were looked at."""
+    with tempfile.TemporaryDirectory() as folder:
+        seen = [one for workers in (1, 2, 16) for one in served(f"{folder}/{workers}", workers)]
+    with tempfile.TemporaryDirectory() as folder:
+        seen += listening(folder)
+    return [f"daemon: {what}: {got!r} where {due!r} is due" for what, got, due in seen if got != due], len(seen)
