@@ -103,7 +103,7 @@ impl Crew {
         }
     }
 
-    /// Ends the workers, once all berths are free. While a desk is lost the pool is dropped instead.
+    /// Ends the workers once all berths are free. While a desk is lost the pool is dropped instead.
     pub fn stop<R: Threads + Wait>(self, rt: &R) {
         let Crew { pool, berths: _ } = self;
         let _ = pool.stop(rt);

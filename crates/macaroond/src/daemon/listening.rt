@@ -35,7 +35,7 @@ pub struct Terms<'a> {
     pub workers: usize,
 }
 
-/// How many milliseconds to wait where the system accepts no connection, as for want of descriptors.
+/// How many milliseconds to wait where the system accepts no connection, for want of descriptors.
 const PAUSE_MILLIS: u64 = 100;
 
 // Which berths were left since the last look, a bit for each, and a bell for who waits for one.
