@@ -87,8 +87,8 @@ impl Token {
     ) -> Result<Token, TokenRefusal>
         ensures made { let parts = token_parts (string_bytes location) identifier.items
             (byte_lists caveats.items) sig in OkIff result (IsWithinLimits parts) parts }
-        ensures answer { result ≡ token_or_limit (token_parts (string_bytes location) identifier.items
-            (byte_lists caveats.items) sig) }
+        ensures answer { result ≡ token_or_limit (token_parts (string_bytes location)
+            identifier.items (byte_lists caveats.items) sig) }
     {
         if !is_within(&location, &identifier, &caveats) {
             return Err(TokenRefusal::Limit);
