@@ -17,20 +17,22 @@ $(notdir $(wildcard crates/*)):
 demo:
 	scripts/demo.sh
 
-# Proves and builds the programs, and leaves them as bin/macaroond and bin/hash_blocks.
+# Proves and builds the programs, and leaves them as bin/macaroond and bin/hash_blocks. With CPU=x86-64-v3 they ask for
+# such a processor, and look for it as they start.
 build:
-	cd crates/macaroond && rt run -- --help > /dev/null
-	cd crates/hash_blocks && rt run -- 0 > /dev/null
+	cd crates/macaroond && rt run $(CPU:%=--cpu=%) -- --help > /dev/null
+	cd crates/hash_blocks && rt run $(CPU:%=--cpu=%) -- 0 > /dev/null
 	mkdir -p bin
 	cp crates/macaroond/out/macaroond crates/hash_blocks/out/hash_blocks bin/
 
-# The same for bin/pool_runs, which drives the ring and the pool.
+# The same for bin/pool_runs, which drives the ring and the pool, and bin/serve_runs, which drives serve over memory.
 build-runs:
 	cd crates/pool_runs && rt run > /dev/null
+	cd crates/serve_runs && rt run > /dev/null
 	mkdir -p bin
-	cp crates/pool_runs/out/pool_runs bin/
+	cp crates/pool_runs/out/pool_runs crates/serve_runs/out/serve_runs bin/
 
-# Requests a second, beside what their hashing costs; what the ring and the pool cost. After make build build-runs.
+# Requests a second, beside what their hashing costs; what serve, the ring and the pool cost. After make build build-runs.
 bench:
 	scripts/bench.py
 
@@ -41,7 +43,7 @@ load:
 
 # Four workers, 64 desks of two threads, pauses by chance, on two processors: 19,200 posts, then 1,000,320 of them.
 # A wait that nobody ends shows as a run that doesn't end. Then hostile clients of the daemon, beside one that
-# compares every reply. After make build build-runs.
+# compares every reply, and clients that never read. After make build build-runs.
 MINUTES = 1
 soak:
 	scripts/soak.sh

@@ -1,5 +1,6 @@
 #!/usr/bin/env python3
-"""Times `macaroond pipe`, by its processor time, beside the SHA-256 that its answers need; then the ring and the pool.
+"""Times `macaroond pipe`, by its processor time, beside the SHA-256 that its answers need; then `serve` over memory,
+and the ring and the pool.
 Asks for the programs that `make build build-runs` leaves in bin/."""
 import os
 import pathlib
@@ -7,6 +8,7 @@ import resource
 import subprocess
 import sys
 import tempfile
+import time
 
 TOP = pathlib.Path(__file__).resolve().parent.parent
 sys.path.append(str(TOP / "examples"))
@@ -23,6 +25,9 @@ HMAC_BLOCKS = 4
 BLOCKS_TIMED = 5_000_000
 # How many caveats of 245 bytes the tokens have that are read and written.
 SIZES = (8, 32, 127)
+# What `serve` answers over memory, by so many workers: each kind with how many HMACs it needs.
+SERVED, SERVE_WORKERS = 200_000, 4
+SERVE_KINDS = {"verify": ("verify of 3 caveats, V2 binary", 4), "mint": ("mint, 3 caveats", 4), "empty": ("empty frames", 0)}
 # Slips through the ring, and the most nanoseconds that each may take.
 SLIPS, SLIP_NANOS_MAX = 5_000_000, 150
 # Tickets through the pool, in runs of 64, and the most that each may take of the processors' time: in microseconds, and with
@@ -122,6 +127,33 @@ def print_sizes():
         print(f"| {count} | {' | '.join(costs)} |")
 
 
+def serve_seconds(kind):
+    """The processor time and the time of `serve` for a request, beyond those of making its stream."""
+    runs = {"load": f"load:{kind}:{SERVE_WORKERS}:{SERVED}", "made": f"made:{kind}:{SERVED}"}
+    least = {}
+    for name, run in runs.items():
+        trials = []
+        for _ in range(TRIALS):
+            begin = time.monotonic()
+            taken, printed = seconds([TOP / "bin" / "serve_runs", run])
+            trials.append((taken, time.monotonic() - begin))
+            if name == "load" and printed != f"arrived {SERVED} sent {SERVED}\n":
+                sys.exit(f"serve_runs doesn't answer as it should: {run}")
+        least[name] = [min(column) for column in zip(*trials)]
+    return [(whole - front) / SERVED for whole, front in zip(least["load"], least["made"])]
+
+
+def print_serve():
+    """`serve` over memory: no socket, but all of its threads."""
+    block = block_seconds()
+    print(f"| `serve` over memory, {SERVE_WORKERS} workers | a second | processor time each | hashing, of it |")
+    print("|---|---|---|---|")
+    for kind, (name, hmacs) in SERVE_KINDS.items():
+        processor, passed = serve_seconds(kind)
+        share = 100 * hmacs * HMAC_BLOCKS * block / processor
+        print(f"| {name} | {1 / passed:,.0f} | {processor * 1e6:.2f} us | {share:.0f} % |")
+
+
 def run_seconds(run, told):
     """The processor time of a run of `pool_runs`, which answers as it is told."""
     trials = [seconds([TOP / "bin" / "pool_runs", run]) for _ in range(THREAD_TRIALS)]
@@ -153,7 +185,7 @@ def print_ring_and_pool():
 
 
 def stop_unless_built():
-    programs = ["bin/macaroond", "bin/hash_blocks", "bin/pool_runs"]
+    programs = ["bin/macaroond", "bin/hash_blocks", "bin/pool_runs", "bin/serve_runs"]
     lacking = " and ".join(name for name in programs if not os.access(TOP / name, os.X_OK))
     if lacking:
         sys.exit(f"no {lacking}: run `make build build-runs` first, which proves and builds the programs")
@@ -164,5 +196,7 @@ if __name__ == "__main__":
     print_kinds()
     print()
     print_sizes()
+    print()
+    print_serve()
     print()
     print_ring_and_pool()

@@ -2,11 +2,13 @@
 import contextlib
 import os
 import pathlib
+import select
 import socket
 import stat
 import subprocess
 import sys
 import tempfile
+import threading
 import time
 
 import pipe_runs
@@ -22,6 +24,13 @@ TOKEN = (
     b"MDAyZnNpZ25hdHVyZSDj2eApCFJsTAA5rhURQRXZf91ovyujebNCqvD2F9BVLwo"
 )
 NO_REQUEST = bytes([0, 0, 0, 1, 16])
+MALFORMED = bytes([0, 0, 0, 1, 20])
+# JSON that takes milliseconds to read, and is no token.
+SLOW_TOKEN = '{"a":[' + 10_900 * "{}," + "{}]}"
+# How often a quick request is sent behind a slow one until it is answered first.
+TRIES = 1000
+# How many requests are sent before the first reply is read.
+LATE = 20_000
 
 
 def frame(payload):
@@ -72,6 +81,54 @@ def served(path, workers):
     yield "a path that is there", (again.returncode, again.stdout, again.stderr), (3, "", "fault 3\n")
 
 
+def received(stream, count):
+    """So many bytes, or as many as come."""
+    pieces = b""
+    while len(pieces) < count and (piece := stream.recv(min(65_536, count - len(pieces)))):
+        pieces += piece
+    return pieces
+
+
+def both_ways(path):
+    """Requests that are read while replies are written."""
+    mint, token = frame(MINT), frame(b"\x01" + TOKEN)
+    with daemon("serve", "--socket", path, "--keys", KEYS, "--workers", "2", "--accept", "2") as run:
+        with connected(path) as stream:
+            stream.sendall(mint + mint[:30])
+            yield "a reply while the next request is on its way", received(stream, len(token)), token
+            stream.sendall(mint[30:])
+            yield "and the next one", received(stream, len(token)), token
+            yield "and the last", answer(stream, frame(b"")), NO_REQUEST
+        with connected(path) as stream:
+            sender = threading.Thread(target=stream.sendall, args=(mint * LATE,), daemon=True)
+            sender.start()
+            time.sleep(0.2)
+            yield "replies to one who reads late", received(stream, LATE * len(token)) == LATE * token, True
+            sender.join()
+        output, _ = run.communicate(timeout=20)
+        yield "the end of those", output, "served 2 faults 0\n"
+
+
+def overtaking(path):
+    """A quick request behind one that takes long: in the same connection its reply waits, in another it doesn't."""
+    slow, quick = frame(request.verify("bank", SLOW_TOKEN, 0)), frame(b"")
+    with daemon("serve", "--socket", path, "--keys", KEYS, "--workers", "2", "--accept", "2") as run:
+        with connected(path) as stream, connected(path) as other:
+            stream.sendall(20 * (slow + 8 * quick))
+            due = 20 * (MALFORMED + 8 * NO_REQUEST)
+            yield "replies keep the order of requests", received(stream, len(due)), due
+            for _ in range(TRIES):
+                stream.sendall(slow)
+                other.sendall(quick)
+                first = select.select([stream, other], [], [])[0]
+                replies = received(stream, len(MALFORMED)), received(other, len(NO_REQUEST))
+                if replies != (MALFORMED, NO_REQUEST) or first == [other]:
+                    break
+            yield "a quick request overtakes one that takes long", (first == [other], *replies), (True, MALFORMED, NO_REQUEST)
+        output, _ = run.communicate(timeout=20)
+        yield "the end of those", output, "served 2 faults 0\n"
+
+
 def listening(folder):
     path = folder + "/listening"
     words = ["listen", "--socket", path, "--keys", KEYS, "--workers", "2"]
@@ -109,6 +166,8 @@ def faults():
     """What went otherwise than it must, and how many things were looked at."""
     with tempfile.TemporaryDirectory() as folder:
         seen = [one for workers in (1, 2, 16) for one in served(f"{folder}/{workers}", workers)]
+    with tempfile.TemporaryDirectory() as folder:
+        seen += [*both_ways(folder + "/both_ways"), *overtaking(folder + "/overtaking")]
     with tempfile.TemporaryDirectory() as folder:
         seen += listening(folder)
     return [f"daemon: {what}: {got!r} where {due!r} is due" for what, got, due in seen if got != due], len(seen)

@@ -7,13 +7,22 @@ The hostile ones vanish in the middle of a frame, send garbage, send lengths tha
 connect and say nothing, send 64 KiB frames without end, and connect a thousand times one after the
 other. The one beside them, which was there before, must lose nothing and wait no longer than a
 second for a reply; on a machine that is busy with other work it may wait longer, and the run fails.
-Afterwards the daemon's descriptors and threads are as many as before, and it has grown by no more
-than a few MiB. Asks for bin/macaroond, or the program that MACAROOND names.
+
+They come in rounds. After each, the daemon's descriptors and threads are as many as before the first,
+and it is as large as after the first, but for GROWTH_MAX. It runs with one arena of the C library for
+that: by default glibc has up to eight for each processor, threads spread over them, and each keeps
+what it once held, so that a daemon grows to some 20 MiB in the first rounds and then no more.
+
+Then 63 clients that never read send requests whose replies are the largest beside them, as many as
+the daemon takes, and the daemon, now with all arenas, stays below PEAK_MAX. Asks for bin/macaroond,
+or the program that MACAROOND names.
 """
+import contextlib
 import multiprocessing
 import os
 import pathlib
 import random
+import select
 import socket
 import subprocess
 import sys
@@ -29,8 +38,13 @@ PROGRAM = os.environ.get("MACAROOND", str(TOP / "bin" / "macaroond"))
 KEYS = TOP / "examples" / "keys"
 FRAME_MAX = 65_536
 LONGEST_WAIT = 1.0
-# How much the daemon may have grown: what the allocator keeps.
-GROWTH_MAX = 16
+ROUNDS = 4
+# How many MiB the daemon may be larger after a later round than after the first.
+GROWTH_MAX = 2
+# How many clients never read, and the most MiB of the daemon that answers them.
+SILENT, PEAK_MAX = 63, 450
+# A caveat that JSON writes with six letters for a byte, and how many of them fill a token.
+CONTROL, CONTROLS = "hex:" + "01" * 1000, 5
 
 
 def connected(path):
@@ -111,26 +125,31 @@ def behaves(asked, until):
     return count, longest
 
 
+def status(pid):
+    lines = pathlib.Path(f"/proc/{pid}/status").read_text().splitlines()
+    return dict(line.split(":\t", 1) for line in lines if ":\t" in line)
+
+
+def mebibytes(pid, field):
+    return int(status(pid)[field].split()[0]) / 1024
+
+
 def state(pid):
-    """How many descriptors and threads the daemon has, and its MiB."""
-    status = dict(line.split(":\t", 1) for line in pathlib.Path(f"/proc/{pid}/status").read_text().splitlines() if ":\t" in line)
-    return len(os.listdir(f"/proc/{pid}/fd")), int(status["Threads"]), int(status["VmRSS"].split()[0]) / 1024
+    """How many descriptors and threads the daemon has."""
+    return len(os.listdir(f"/proc/{pid}/fd")), int(status(pid)["Threads"])
 
 
 def settled(pid, before):
     """The state once the last connections have ended, waited for up to ten seconds."""
     for _ in range(100):
-        if state(pid)[:2] == before[:2]:
+        if state(pid) == before:
             break
         time.sleep(0.1)
     return state(pid)
 
 
-def soak(path, pid, seconds):
-    with client.Client(path) as first:
-        first.ask(b"")
-    time.sleep(0.2)
-    before = state(pid)
+def crowded(path, seconds):
+    """A round: how many replies came as due beside the hostile clients, and the longest wait."""
     until = time.monotonic() + seconds
     crowd = [
         multiprocessing.Process(target=pesters, args=(path, kind, until, f"{kind.__name__} {number}"), daemon=True)
@@ -145,24 +164,90 @@ def soak(path, pid, seconds):
         count, longest = behaves(asked, until)
     for one in crowd:
         one.join(timeout=30)
-    after = settled(pid, before)
+    return count, longest
+
+
+def soak(path, pid, seconds):
+    """The rounds. What is wrong with them, if anything."""
+    with client.Client(path) as first:
+        first.ask(b"")
+    time.sleep(0.2)
+    before = state(pid)
+    count, longest, states, sizes = 0, 0.0, [], []
+    for _ in range(ROUNDS):
+        replies, wait = crowded(path, seconds / ROUNDS)
+        count, longest = count + replies, max(longest, wait)
+        states.append(settled(pid, before))
+        sizes.append(mebibytes(pid, "VmRSS"))
     print(f"hostile: {count} replies as due beside hostile clients, the longest wait {longest * 1000:.0f} ms;", end=" ")
-    print(f"descriptors {before[0]} and {after[0]}, threads {before[1]} and {after[1]}, MiB {before[2]:.0f} and {after[2]:.0f}")
-    if longest > LONGEST_WAIT or after[:2] != before[:2] or after[2] > before[2] + GROWTH_MAX:
-        raise SystemExit("hostile: the daemon was slow, or didn't come back to what it was")
+    print(f"descriptors and threads {before} and {states[-1]}; MiB after each round", *(f"{size:.1f}" for size in sizes))
+    if longest > LONGEST_WAIT:
+        yield "a reply came late"
+    if any(one != before for one in states):
+        yield f"descriptors and threads were {before}, and then {states}"
+    if max(sizes) > sizes[0] + GROWTH_MAX:
+        yield "the daemon grew"
+
+
+def largest_reply(path):
+    """A request of 5 KiB whose reply is a token of nearly 32 KiB."""
+    with client.Client(path) as asked:
+        token = asked.ask(request.mint("v2-binary", "bank", "", "a"))[1:]
+        narrowing = request.attenuate("v2-json", "hex:" + token.hex(), *[CONTROL] * CONTROLS)
+        reply = asked.ask(narrowing)
+    if reply[0] != 1 or len(reply) < 30_000:
+        raise SystemExit("hostile: the largest reply is not what it was thought to be")
+    return len(narrowing).to_bytes(4, "big") + narrowing
+
+
+def fill(path, pid):
+    """Clients that send and never read. What is wrong with the daemon then, if anything."""
+    frame = largest_reply(path)
+    with contextlib.ExitStack() as stack:
+        crowd = [stack.enter_context(connected(path)) for _ in range(SILENT)]
+        rest = {one: memoryview(frame * 400) for one in crowd}
+        until = time.monotonic() + 20
+        for one in crowd:
+            one.setblocking(False)
+        while (writable := select.select([], crowd, [], 1)[1]) and time.monotonic() < until:
+            for one in writable:
+                rest[one] = rest[one][one.send(rest[one]) :]
+        with client.Client(path) as asked:
+            asked.ask(b"")
+    peak = mebibytes(pid, "VmHWM")
+    print(f"hostile: {peak:.0f} MiB at most beside {SILENT} clients that never read")
+    if peak > PEAK_MAX:
+        yield f"the daemon took {peak:.0f} MiB"
+
+
+@contextlib.contextmanager
+def daemon(*words, **variables):
+    """A daemon that listens, with these variables of its environment: its socket's path and its process."""
+    with tempfile.TemporaryDirectory() as folder:
+        path = folder + "/socket"
+        command = [PROGRAM, "listen", "--socket", path, "--keys", KEYS, "--workers", "4", *words]
+        pipes = {"stdout": subprocess.PIPE, "stderr": subprocess.DEVNULL}
+        with subprocess.Popen(command, env={**os.environ, **variables}, **pipes) as run:
+            run.stdout.readline()
+            try:
+                yield path, run.pid
+            finally:
+                run.kill()
+
+
+def faults(seconds):
+    """What is wrong with the daemon after so many seconds of hostile use, beside what it prints."""
+    with daemon("--idle", "2", MALLOC_ARENA_MAX="1") as (path, pid):
+        found = [*soak(path, pid, seconds)]
+    with daemon() as (path, pid):
+        found += fill(path, pid)
+    return [f"hostile: {fault}" for fault in found]
 
 
 def main():
-    seconds = 60 * float(sys.argv[1]) if len(sys.argv) > 1 else 5
-    with tempfile.TemporaryDirectory() as folder:
-        path = folder + "/socket"
-        command = [PROGRAM, "listen", "--socket", path, "--keys", KEYS, "--workers", "4", "--idle", "2"]
-        with subprocess.Popen(command, stdout=subprocess.PIPE, stderr=subprocess.DEVNULL) as daemon:
-            daemon.stdout.readline()
-            try:
-                soak(path, daemon.pid, seconds)
-            finally:
-                daemon.kill()
+    found = faults(60 * float(sys.argv[1]) if len(sys.argv) > 1 else 8)
+    if found:
+        raise SystemExit("\n".join(found))
 
 
 if __name__ == "__main__":

@@ -1,13 +1,14 @@
 #!/usr/bin/env python3
 """Drives `macaroond listen` with requests over its socket, and tells how it did.
 
-    load.py [--connections N] [--window W] [--seconds S] [--workers COUNT] [--load NAME ..]
+    load.py [--connections N] [--window W] [--seconds S] [--workers COUNT] [--load NAME ..] [-- WORD ..]
 
 Each of N connections, a process of its own, keeps W requests unanswered, or with W = 0 as many as
 the socket takes. Every reply is compared byte for byte with what is due. For each load a line: the
 requests a second, with a window the median and the 99th percentile of the time to a reply, the
 daemon's processor time a request, and its peak memory. Asks for bin/macaroond, or the program that
-MACAROOND names. One machine runs both sides, so believe ratios of one run, not figures.
+MACAROOND names, and gives it the last words too. One machine runs both sides, so believe ratios of
+one run, not figures.
 """
 import argparse
 import collections
@@ -131,10 +132,11 @@ def main():
     words.add_argument("--seconds", type=float, default=2)
     words.add_argument("--workers", default=str(min(os.cpu_count() or 1, 16)))
     words.add_argument("--load", action="append", choices=["empty", "mint", "attenuate", "verify"])
+    words.add_argument("words", nargs="*")
     given = words.parse_args()
     with tempfile.TemporaryDirectory() as folder:
         path = folder + "/socket"
-        command = [PROGRAM, "listen", "--socket", path, "--keys", KEYS, "--workers", given.workers]
+        command = [PROGRAM, "listen", "--socket", path, "--keys", KEYS, "--workers", given.workers, *given.words]
         with subprocess.Popen(command, stdout=subprocess.PIPE) as daemon:
             daemon.stdout.readline()
             try:

@@ -3,10 +3,12 @@
 import os
 import sys
 
+import allocations
 import case_files
 import daemon_rows
 import daemon_session
 import edges
+import hostile
 import peers
 import pipe_runs
 import quotes
@@ -15,6 +17,8 @@ import tutorial
 
 # Where Debian's packages for Python are seen.
 DEBIAN_PYTHON = "/usr/bin/python3"
+# How long hostile clients use the daemon.
+HOSTILE_SECONDS = 4
 
 
 def main():
@@ -29,7 +33,9 @@ def main():
     edge_faults, edge_runs = edges.faults() if is_built else ([], 0)
     daemon_faults, daemon_steps = daemon_session.faults() if is_built else ([], 0)
     row_faults, rows = daemon_rows.faults() if is_built else ([], 0)
-    faults += edge_faults + daemon_faults + row_faults + quotes.faults()
+    hostile_faults = hostile.faults(HOSTILE_SECONDS) if is_built else []
+    memory_faults = allocations.faults() if is_built else []
+    faults += edge_faults + daemon_faults + row_faults + hostile_faults + memory_faults + quotes.faults()
     if faults:
         raise SystemExit("\n".join(faults))
     print(f"README: {len(readme.shown)} runs of the pipe print what it shows")

@@ -1,26 +1,32 @@
 //! Cases of `mac_wire`: requests.
 
-use crate::case::{CaseFault, Words, append_shown, shown};
-use mac_wire::{ByteLists, Request, RequestFault, key_name, parse_request};
-use std::alloc::{AllocError, Global};
+use crate::case::Case;
+use mac_wire::{FieldList, Refusal, Request, key_name, parse_request};
+
+/// Tells what a case comes to, if it is one of these kinds.
+pub(crate) fn tells(case: &mut Case<'_>, kind: &str) -> bool {
+    match kind.as_bytes() {
+        b"request" => request(case),
+        b"name" => name(case),
+        b"fronts" => fronts(case),
+        _ => return false,
+    }
+    true
+}
 
 /// What a payload asks, field by field, or its refusal.
-pub(crate) fn request(alloc: Global, words: &mut Words<'_>) -> Result<String, CaseFault> {
-    let payload = words.bytes(alloc)?;
-    match parse_request(alloc, &payload) {
-        Ok(request) => Ok(request_text(alloc, request)?),
-        Err(fault) => refusal(alloc, fault),
+fn request(case: &mut Case<'_>) {
+    let payload = case.bytes();
+    match parse_request(&payload) {
+        Some(request) => say_request(case, request),
+        None => {
+            case.say("refused ");
+            case.say_number(Refusal::BadRequest.code() as u64);
+        }
     }
 }
 
-fn refusal(alloc: Global, fault: RequestFault) -> Result<String, CaseFault> {
-    match fault.code() {
-        Some(code) => Ok(format!(in alloc; "refused {code}")?),
-        None => Err(CaseFault::Memory),
-    }
-}
-
-fn request_text(alloc: Global, request: Request<'_>) -> Result<String, CaseFault> {
+fn say_request(case: &mut Case<'_>, request: Request<'_>) {
     match request {
         Request::Mint {
             form,
@@ -29,22 +35,22 @@ fn request_text(alloc: Global, request: Request<'_>) -> Result<String, CaseFault
             identifier,
             caveats,
         } => {
-            let key = shown(alloc, key)?;
-            let location = shown(alloc, location.as_bytes())?;
-            let identifier = shown(alloc, identifier)?;
-            let caveats = lists_text(alloc, &caveats)?;
-            let form = form.code();
-            Ok(format!(in alloc; "mint {form} {key} {location} {identifier} {caveats}")?)
+            case.say("mint ");
+            case.say_number(form.code() as u64);
+            say_field(case, key);
+            say_field(case, location.as_bytes());
+            say_field(case, identifier);
+            say_lists(case, caveats);
         }
         Request::Attenuate {
             form,
             token,
             caveats,
         } => {
-            let token = shown(alloc, token)?;
-            let caveats = lists_text(alloc, &caveats)?;
-            let form = form.code();
-            Ok(format!(in alloc; "attenuate {form} {token} {caveats}")?)
+            case.say("attenuate ");
+            case.say_number(form.code() as u64);
+            say_field(case, token);
+            say_lists(case, caveats);
         }
         Request::Verify {
             key,
@@ -52,52 +58,58 @@ fn request_text(alloc: Global, request: Request<'_>) -> Result<String, CaseFault
             moment,
             facts,
         } => {
-            let key = shown(alloc, key)?;
-            let token = shown(alloc, token)?;
-            let facts = lists_text(alloc, &facts)?;
-            Ok(format!(in alloc; "verify {key} {token} {moment} {facts}")?)
+            case.say("verify");
+            say_field(case, key);
+            say_field(case, token);
+            case.say(" ");
+            case.say_number(moment);
+            say_lists(case, facts);
         }
     }
 }
 
-/// Lists between commas, `none` where there is none; how many, where there are more than eight.
-fn lists_text(alloc: Global, lists: &ByteLists) -> Result<String, AllocError> {
-    let lists = lists.as_slice();
-    if lists.is_empty() {
-        return String::from_str(alloc, "none");
+/// Appends bytes behind a space.
+fn say_field(case: &mut Case<'_>, bytes: &[u8]) {
+    case.say(" ");
+    case.shown(bytes);
+}
+
+/// Appends lists behind a space, between commas, `none` where there is none; how many, where there
+/// are more than eight.
+fn say_lists(case: &mut Case<'_>, lists: FieldList<'_>) {
+    if lists.len() == 0 {
+        return case.say(" none");
     }
     if lists.len() > 8 {
-        return format!(in alloc; "{} lists", lists.len());
+        case.say(" ");
+        case.say_number(lists.len() as u64);
+        return case.say(" lists");
     }
-    let mut text = String::new(alloc);
-    for list in lists.iter() {
-        if !text.is_empty() {
-            text.push_str(",")?;
-        }
-        append_shown(alloc, list, &mut text)?;
+    let mut is_first = true;
+    for list in lists {
+        case.say(if is_first { " " } else { "," });
+        case.shown(list);
+        is_first = false;
     }
-    Ok(text)
 }
 
 /// The key name in a payload's front, or `none`.
-pub(crate) fn name(alloc: Global, words: &mut Words<'_>) -> Result<String, CaseFault> {
-    let payload = words.bytes(alloc)?;
+fn name(case: &mut Case<'_>) {
+    let payload = case.bytes();
     match key_name(&payload) {
-        Some(name) => shown(alloc, name),
-        None => Ok(String::from_str(alloc, "none")?),
+        Some(name) => case.shown(name),
+        None => case.say("none"),
     }
 }
 
 /// How many of a payload's front parts, from none of its bytes to all but one, ask something.
-pub(crate) fn fronts(alloc: Global, words: &mut Words<'_>) -> Result<String, CaseFault> {
-    let payload = words.bytes(alloc)?;
-    let mut asking = 0u64;
+fn fronts(case: &mut Case<'_>) {
+    let payload = case.bytes();
+    let mut asking: u64 = 0;
     for length in 0..payload.len() {
-        match parse_request(alloc, &payload[..length]) {
-            Ok(_) => asking = asking.saturating_add(1),
-            Err(RequestFault::BadRequest) => {}
-            Err(RequestFault::Memory) => return Err(CaseFault::Memory),
+        if parse_request(&payload[..length]).is_some() {
+            asking = asking.saturating_add(1);
         }
     }
-    Ok(format!(in alloc; "{asking}")?)
+    case.say_number(asking);
 }

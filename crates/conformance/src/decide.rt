@@ -1,98 +1,128 @@
 //! Cases of `mac_decide`.
 
-use crate::case::{CaseFault, Words, digits, lists};
-use crate::token::{parts, refusal};
-use crate::verdicts::verdicts;
+use crate::case::{Case, CaseFault};
+use crate::keys::table;
+use crate::token::{next_token, say_parts, say_refusal, say_written, token_of};
+use crate::verdicts::say_verdicts;
 use mac_decide::{Context, answer, attenuate, job_of, mint, satisfied, time_limit};
 use mac_hmac::root_key;
-use mac_keys::KeyTable;
-use mac_token::{Form, Token, TokenFault, read, write};
-use mac_wire::{Arrival, ByteLists, Bytes, reply_bytes};
+use mac_token::{Form, Token, TokenFault, write};
+use mac_wire::{Arrival, Bytes, FieldList, reply_bytes};
 use std::alloc::Global;
 
+/// Tells what a case comes to, if it is one of these kinds.
+pub(crate) fn tells(case: &mut Case<'_>, kind: &str) -> bool {
+    match kind.as_bytes() {
+        b"time" => limit(case),
+        b"satisfied" => is_satisfied(case),
+        b"add" => narrowed(case),
+        b"token" => agreement(case),
+        b"length" => written_length(case),
+        b"answer" => reply(case),
+        _ => return false,
+    }
+    true
+}
+
 /// The second of a time limit.
-pub(crate) fn limit(alloc: Global, words: &mut Words<'_>) -> Result<String, CaseFault> {
-    let caveat = words.bytes(alloc)?;
+fn limit(case: &mut Case<'_>) {
+    let caveat = case.bytes();
     match time_limit(&caveat) {
-        Some(second) => Ok(format!(in alloc; "second {second}")?),
-        None => Ok(String::from_str(alloc, "none")?),
+        Some(second) => case.tell(format!(in case.alloc; "second {second}")),
+        None => case.say("none"),
     }
 }
 
 /// Whether a caveat is satisfied at a moment, with these facts.
-pub(crate) fn is_satisfied(alloc: Global, words: &mut Words<'_>) -> Result<String, CaseFault> {
-    let caveat = words.bytes(alloc)?;
-    let moment = words.number()?;
-    let facts = ByteLists::new(lists(alloc, words.next()?)?);
+fn is_satisfied(case: &mut Case<'_>) {
+    let caveat = case.bytes();
+    let moment = case.number();
+    let facts = case.lists();
+    let facts = case.counted_lists(&facts);
+    let Some(facts) = FieldList::read(&facts) else {
+        return case.fail(CaseFault::NoCase);
+    };
     let is_satisfied = satisfied(&caveat, &Context { moment, facts });
-    let word = if is_satisfied {
+    case.say(if is_satisfied {
         "satisfied"
     } else {
         "unsatisfied"
-    };
-    Ok(String::from_str(alloc, word)?)
+    });
 }
 
 /// A token with caveats added; or the refusal, and whether the token was handed back as it was.
-pub(crate) fn narrowed(alloc: Global, words: &mut Words<'_>) -> Result<String, CaseFault> {
-    let form = words.form()?;
-    let bytes = words.bytes(alloc)?;
-    let caveats = lists(alloc, words.next()?)?;
-    let token = match read(alloc, &bytes) {
-        Ok(token) => token,
-        Err(fault) => return refusal(alloc, fault),
+fn narrowed(case: &mut Case<'_>) {
+    let form = case.form();
+    let Some(token) = next_token(case) else {
+        return;
     };
-    let before = parts(alloc, &token)?;
-    let (fault, after) = match attenuate(alloc, token, &caveats) {
-        Ok(token) => match write(alloc, &token, form) {
-            Ok(bytes) => return digits(alloc, &bytes),
-            Err(fault) => return refusal(alloc, fault),
-        },
-        Err(refused) => refused,
-    };
-    let mut text = refusal(alloc, fault)?;
-    text.push_str(", the token ")?;
-    text.push_str(word_for(parts(alloc, &after)? == before))?;
-    Ok(text)
+    let caveats = case.lists();
+    let before = parts(case.alloc, &token);
+    match attenuate(case.alloc, token, &caveats) {
+        Ok(token) => say_written(case, &token, form),
+        Err((fault, token)) => {
+            say_refusal(case, fault);
+            let after = parts(case.alloc, &token);
+            case.say(", the token ");
+            case.say(word_for(after.is_like(&before)));
+        }
+    }
+}
+
+/// A case that comes to the token's parts.
+fn parts(alloc: Global, token: &Token) -> Case<'static> {
+    let mut parts = Case::of(alloc, "");
+    say_parts(&mut parts, token);
+    parts
 }
 
 /// The frame of the reply to a payload under a key file.
-pub(crate) fn reply(alloc: Global, words: &mut Words<'_>) -> Result<String, CaseFault> {
-    let file = words.bytes(alloc)?;
-    let payload = words.bytes(alloc)?;
-    let table = match KeyTable::read(alloc, &file) {
-        Ok(table) => table,
-        Err(_) => return Err(CaseFault::NoCase),
+fn reply(case: &mut Case<'_>) {
+    let Some(table) = table(case) else {
+        return;
     };
-    let job = job_of(&table, Arrival::Payload(Bytes::new(payload)));
-    let frame = reply_bytes(alloc, &answer(alloc, &job)?)?;
-    digits(alloc, &frame)
+    let payload = Bytes::new(case.bytes());
+    let job = job_of(&table, Arrival::Payload(payload));
+    let Ok(reply) = answer(case.alloc, &job) else {
+        return case.fail(CaseFault::Memory);
+    };
+    match reply_bytes(case.alloc, &reply) {
+        Ok(frame) => case.digits(&frame),
+        Err(_) => case.fail(CaseFault::Memory),
+    }
 }
 
 /// How a token agrees with its parts: whether it reads as them, is written so, and what its key
 /// says of it.
-pub(crate) fn agreement(alloc: Global, words: &mut Words<'_>) -> Result<String, CaseFault> {
-    let form = words.form()?;
-    let key = root_key(&words.bytes(alloc)?);
-    let location = words.bytes(alloc)?;
-    let identifier = words.bytes(alloc)?;
-    let caveats = words.next()?;
-    let bytes = words.bytes(alloc)?;
-    let token = match read(alloc, &bytes) {
-        Ok(token) => token,
-        Err(fault) => return refusal(alloc, fault),
+fn agreement(case: &mut Case<'_>) {
+    let form = case.form();
+    let key = root_key(&case.bytes());
+    let location = case.bytes();
+    let identifier = case.bytes();
+    let caveats = case.word();
+    let bytes = case.bytes();
+    let Some(token) = token_of(case, &bytes) else {
+        return;
     };
-    let added = lists(alloc, caveats)?;
-    let minted = match mint(alloc, &key, token.location(), &identifier, &added) {
-        Ok(token) => token,
-        Err(fault) => return refusal(alloc, fault),
+    let added = case.lists_of(caveats);
+    let minted = match mint(case.alloc, &key, token.location(), &identifier, &added) {
+        Ok(minted) => minted,
+        Err(fault) => return say_refusal(case, fault),
     };
-    let is_alike = token.location().as_bytes() == location.as_slice()
-        && parts(alloc, &token)? == parts(alloc, &minted)?;
-    let read = word_for(is_alike);
-    let written = word_for(is_written(alloc, &minted, form, &bytes)?);
-    let verdicts = verdicts(alloc, &key, &bytes, caveats)?;
-    Ok(format!(in alloc; "read {read}, written {written}, {verdicts}")?)
+    let is_there = token.location().as_bytes() == location.as_slice();
+    say_likeness(case, &token, &minted, is_there);
+    let is_written = is_written(case, &minted, form, &bytes);
+    case.say(", written ");
+    case.say(word_for(is_written));
+    case.say(", ");
+    say_verdicts(case, &key, &bytes, caveats);
+}
+
+/// Appends whether a token of the right location has the parts of the one that was minted.
+fn say_likeness(case: &mut Case<'_>, token: &Token, minted: &Token, is_there: bool) {
+    let is_alike = parts(case.alloc, token).is_like(&parts(case.alloc, minted));
+    case.say("read ");
+    case.say(word_for(is_there && is_alike));
 }
 
 fn word_for(is_as_made: bool) -> &'static str {
@@ -100,30 +130,35 @@ fn word_for(is_as_made: bool) -> &'static str {
 }
 
 /// Whether a token is written as these bytes.
-fn is_written(alloc: Global, token: &Token, form: Form, bytes: &[u8]) -> Result<bool, CaseFault> {
-    match write(alloc, token, form) {
-        Ok(written) => Ok(written.as_slice() == bytes),
-        Err(TokenFault::Memory) => Err(CaseFault::Memory),
-        Err(_) => Ok(false),
+fn is_written(case: &mut Case<'_>, token: &Token, form: Form, bytes: &[u8]) -> bool {
+    match write(case.alloc, token, form) {
+        Ok(written) => written.as_slice() == bytes,
+        Err(TokenFault::Memory) => {
+            case.fail(CaseFault::Memory);
+            false
+        }
+        Err(_) => false,
     }
 }
 
 /// How many bytes the token of these parts, minted under the empty secret, has in a form.
-pub(crate) fn written_length(alloc: Global, words: &mut Words<'_>) -> Result<String, CaseFault> {
-    let form = words.form()?;
-    let location = words.bytes(alloc)?;
-    let identifier = words.bytes(alloc)?;
-    let caveats = lists(alloc, words.next()?)?;
+fn written_length(case: &mut Case<'_>) {
+    let form = case.form();
+    let location = case.bytes();
+    let identifier = case.bytes();
+    let caveats = case.lists();
     let Ok(location) = str::from_utf8(&location) else {
-        return Err(CaseFault::NoCase);
+        return case.fail(CaseFault::NoCase);
     };
-    let minted = mint(alloc, &root_key(&[]), location, &identifier, &caveats);
-    let written = match minted {
-        Ok(token) => write(alloc, &token, form),
-        Err(fault) => Err(fault),
-    };
-    match written {
-        Ok(written) => Ok(format!(in alloc; "{}", written.len())?),
-        Err(fault) => refusal(alloc, fault),
+    match mint(case.alloc, &root_key(&[]), location, &identifier, &caveats) {
+        Ok(token) => say_length(case, &token, form),
+        Err(fault) => say_refusal(case, fault),
+    }
+}
+
+fn say_length(case: &mut Case<'_>, token: &Token, form: Form) {
+    match write(case.alloc, token, form) {
+        Ok(written) => case.say_number(written.len() as u64),
+        Err(fault) => say_refusal(case, fault),
     }
 }

@@ -1,98 +1,104 @@
 //! Cases of `mac_wire`: devices.
 
-use crate::case::{CaseFault, Words, append_shown, lists};
+use crate::case::{Case, CaseFault};
 use mac_wire::{MemSink, MemSource, ReaderSource, Sink, Source, WriterSink, send_all};
-use std::alloc::Global;
+
+/// Tells what a case comes to, if it is one of these kinds.
+pub(crate) fn tells(case: &mut Case<'_>, kind: &str) -> bool {
+    match kind.as_bytes() {
+        b"reads" => memory_reads(case),
+        b"reader" => reader_reads(case),
+        b"sends" => memory_sends(case),
+        b"writes" => writer_writes(case),
+        _ => return false,
+    }
+    true
+}
 
 /// The longest read of a case, in bytes.
 const READ_MAX: usize = 8;
 
 /// What eight reads of a source over memory give.
-pub(crate) fn memory_reads(alloc: Global, words: &mut Words<'_>) -> Result<String, CaseFault> {
-    let piece = words.number()?.max(1);
-    let fails = words.number()?;
-    let bytes = words.bytes(alloc)?;
+fn memory_reads(case: &mut Case<'_>) {
+    let piece = case.number().max(1);
+    let fails = case.number();
+    let bytes = case.bytes();
     let mut source = MemSource::new(bytes, piece as usize, fails);
-    reads(alloc, &mut source)
+    say_reads(case, &mut source);
 }
 
 /// What eight reads of a source over a reader give.
-pub(crate) fn reader_reads(alloc: Global, words: &mut Words<'_>) -> Result<String, CaseFault> {
-    let bytes = words.bytes(alloc)?;
+fn reader_reads(case: &mut Case<'_>) {
+    let bytes = case.bytes();
     let mut source = ReaderSource::new(bytes.as_slice());
-    reads(alloc, &mut source)
+    say_reads(case, &mut source);
 }
 
-fn reads<R: Source>(alloc: Global, source: &mut R) -> Result<String, CaseFault> {
-    let mut text = String::new(alloc);
+fn say_reads<R: Source>(case: &mut Case<'_>, source: &mut R) {
     for _ in 0..8u8 {
-        append_read(alloc, source, &mut text)?;
+        say_read(case, source);
     }
-    let faults = source.faults();
-    Ok(format!(in alloc; "{text}faults {faults}")?)
+    case.say("faults ");
+    case.say_number(source.faults());
 }
 
 /// Appends what a read into a small buffer gives: bytes, `end` or `fault`.
-fn append_read<R: Source>(
-    alloc: Global,
-    source: &mut R,
-    text: &mut String,
-) -> Result<(), CaseFault> {
+fn say_read<R: Source>(case: &mut Case<'_>, source: &mut R) {
     if source.faults() == u64::MAX {
-        return Err(CaseFault::NoCase);
+        return case.fail(CaseFault::NoCase);
     }
     let mut buf = [0; READ_MAX];
     match source.read(&mut buf) {
-        Ok(0) => text.push_str("end")?,
-        Ok(count) => append_shown(alloc, &buf[..count], text)?,
-        Err(_) => text.push_str("fault")?,
+        Ok(0) => case.say("end"),
+        Ok(count) => case.shown(&buf[..count]),
+        Err(_) => case.say("fault"),
     }
-    text.push_str(" ")?;
-    Ok(())
+    case.say(" ");
 }
 
 /// What of some bytes goes out to a sink over memory, and how many are told.
-pub(crate) fn memory_sends(alloc: Global, words: &mut Words<'_>) -> Result<String, CaseFault> {
-    let room = words.number()?;
-    let piece = words.number()?.max(1);
-    let fails = words.number()?;
-    let bytes = words.bytes(alloc)?;
-    let mut sink = MemSink::new(alloc, room as usize, piece as usize, fails)?;
+fn memory_sends(case: &mut Case<'_>) {
+    let room = case.number();
+    let piece = case.number().max(1);
+    let fails = case.number();
+    let bytes = case.bytes();
+    let Ok(mut sink) = MemSink::new(case.alloc, room as usize, piece as usize, fails) else {
+        return case.fail(CaseFault::Memory);
+    };
     let sent = match send_all(&mut sink, &bytes) {
         Ok(()) => bytes.len(),
         Err((_, sent)) => sent,
     };
-    let mut text = format!(in alloc; "sent {sent} faults {} ", sink.faults())?;
-    append_shown(alloc, sink.bytes(), &mut text)?;
-    Ok(text)
+    case.say("sent ");
+    case.say_number(sent as u64);
+    case.say(" faults ");
+    case.say_number(sink.faults());
+    case.say(" ");
+    case.shown(sink.bytes());
 }
 
 /// How many bytes each write takes of a sink over a writer with some room, or `fault`.
-pub(crate) fn writer_writes(alloc: Global, words: &mut Words<'_>) -> Result<String, CaseFault> {
-    let room = words.number()?;
-    let writes = lists(alloc, words.next()?)?;
-    let mut room = vec![in alloc; 0; room as usize]?;
+fn writer_writes(case: &mut Case<'_>) {
+    let room = case.number();
+    let writes = case.lists();
+    let Ok(mut room) = vec![in case.alloc; 0; room as usize] else {
+        return case.fail(CaseFault::Memory);
+    };
     let mut sink = WriterSink::new(room.as_mut_slice());
-    let mut text = String::new(alloc);
     for bytes in writes.iter() {
-        append_write(alloc, &mut sink, bytes, &mut text)?;
+        say_write(case, &mut sink, bytes);
     }
-    let faults = sink.faults();
-    Ok(format!(in alloc; "{text}faults {faults}")?)
+    case.say("faults ");
+    case.say_number(sink.faults());
 }
 
-fn append_write<W: Sink>(
-    alloc: Global,
-    sink: &mut W,
-    bytes: &[u8],
-    text: &mut String,
-) -> Result<(), CaseFault> {
+fn say_write<W: Sink>(case: &mut Case<'_>, sink: &mut W, bytes: &[u8]) {
     if sink.faults() == u64::MAX {
-        return Err(CaseFault::NoCase);
+        return case.fail(CaseFault::NoCase);
     }
     match sink.write(bytes) {
-        Ok(count) => text.push_str(format!(in alloc; "{count} ")?.as_str())?,
-        Err(_) => text.push_str("fault ")?,
+        Ok(count) => case.say_number(count as u64),
+        Err(_) => case.say("fault"),
     }
-    Ok(())
+    case.say(" ");
 }

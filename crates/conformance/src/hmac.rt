@@ -1,21 +1,33 @@
 //! Cases of `mac_hmac`.
 
-use crate::case::{CaseFault, Words, digits, lists};
+use crate::case::Case;
 use mac_hmac::{HmacState, RootKey, Sig, extend, hmac, root_key, same, start};
-use std::alloc::Global;
+
+/// Tells what a case comes to, if it is one of these kinds.
+pub(crate) fn tells(case: &mut Case<'_>, kind: &str) -> bool {
+    match kind.as_bytes() {
+        b"hmac" => keyed(case),
+        b"root" => root(case),
+        b"start" => started(case),
+        b"chain" => chained(case),
+        b"same" => compared(case),
+        _ => return false,
+    }
+    true
+}
 
 /// HMAC of a text, which is to be the same however the text is cut.
-pub(crate) fn keyed(alloc: Global, words: &mut Words<'_>) -> Result<String, CaseFault> {
-    let key = words.bytes(alloc)?;
-    let text = words.bytes(alloc)?;
+fn keyed(case: &mut Case<'_>) {
+    let key = case.bytes();
+    let text = case.bytes();
     let whole = hmac(&key, &text);
     if fed(&key, &text, 1) == whole
         && fed(&key, &text, 7) == whole
         && fed(&key, &text, 64) == whole
     {
-        digits(alloc, &whole)
+        case.digits(&whole);
     } else {
-        Ok(String::from_str(alloc, "it depends on the pieces")?)
+        case.say("it depends on the pieces");
     }
 }
 
@@ -29,34 +41,37 @@ fn fed(key: &[u8], text: &[u8], size: usize) -> [u8; 32] {
 }
 
 /// The root key of a secret.
-pub(crate) fn root(alloc: Global, words: &mut Words<'_>) -> Result<String, CaseFault> {
-    let secret = words.bytes(alloc)?;
-    digits(alloc, &root_key(&secret).bytes())
+fn root(case: &mut Case<'_>) {
+    let secret = case.bytes();
+    case.digits(&root_key(&secret).bytes());
 }
 
 /// The signature of an identifier under a root key.
-pub(crate) fn started(alloc: Global, words: &mut Words<'_>) -> Result<String, CaseFault> {
-    let key = RootKey::from_bytes(words.digest(alloc)?);
-    let identifier = words.bytes(alloc)?;
-    digits(alloc, &start(&key, &identifier).bytes())
+fn started(case: &mut Case<'_>) {
+    let key = RootKey::from_bytes(case.digest());
+    let identifier = case.bytes();
+    case.digits(&start(&key, &identifier).bytes());
 }
 
 /// Whether two signatures are the same.
-pub(crate) fn compared(alloc: Global, words: &mut Words<'_>) -> Result<String, CaseFault> {
-    let first = Sig::from_bytes(words.digest(alloc)?);
-    let second = Sig::from_bytes(words.digest(alloc)?);
-    let is_same = same(&first, &second);
-    Ok(String::from_str(alloc, if is_same { "same" } else { "another" })?)
+fn compared(case: &mut Case<'_>) {
+    let first = Sig::from_bytes(case.digest());
+    let second = Sig::from_bytes(case.digest());
+    case.say(if same(&first, &second) {
+        "same"
+    } else {
+        "another"
+    });
 }
 
 /// The signature of a token with these parts.
-pub(crate) fn chained(alloc: Global, words: &mut Words<'_>) -> Result<String, CaseFault> {
-    let key = root_key(&words.bytes(alloc)?);
-    let identifier = words.bytes(alloc)?;
-    let caveats = lists(alloc, words.next()?)?;
+fn chained(case: &mut Case<'_>) {
+    let key = root_key(&case.bytes());
+    let identifier = case.bytes();
+    let caveats = case.lists();
     let mut signature = start(&key, &identifier);
     for caveat in caveats.iter() {
         signature = extend(signature, caveat);
     }
-    digits(alloc, &signature.bytes())
+    case.digits(&signature.bytes());
 }

@@ -1,32 +1,54 @@
 //! Cases of `mac_keys`.
 
-use crate::case::{CaseFault, Words, digits};
+use crate::case::{Case, CaseFault};
 use mac_keys::{KeyFault, KeyTable};
-use std::alloc::Global;
+
+/// Tells what a case comes to, if it is one of these kinds.
+pub(crate) fn tells(case: &mut Case<'_>, kind: &str) -> bool {
+    match kind.as_bytes() {
+        b"keys" => names(case),
+        b"key" => found(case),
+        _ => return false,
+    }
+    true
+}
 
 /// The number of names in a key file, or its fault.
-pub(crate) fn table(alloc: Global, words: &mut Words<'_>) -> Result<String, CaseFault> {
-    let file = words.bytes(alloc)?;
-    match KeyTable::read(alloc, &file) {
-        Ok(table) => Ok(format!(in alloc; "names {}", table.len())?),
+fn names(case: &mut Case<'_>) {
+    let file = case.bytes();
+    match KeyTable::read(case.alloc, &file) {
+        Ok(table) => {
+            case.say("names ");
+            case.say_number(table.len() as u64);
+        }
         Err(KeyFault::Line { line, kind }) => {
             let fault = KeyFault::Line { line, kind };
-            Ok(format!(in alloc; "kind {}: {fault}", kind.code())?)
+            case.tell(format!(in case.alloc; "kind {}: {fault}", kind.code()));
         }
-        Err(KeyFault::Memory) => Err(CaseFault::Memory),
+        Err(KeyFault::Memory) => case.fail(CaseFault::Memory),
     }
 }
 
 /// The root key that a key file gives a name, or that it gives none.
-pub(crate) fn found(alloc: Global, words: &mut Words<'_>) -> Result<String, CaseFault> {
-    let file = words.bytes(alloc)?;
-    let name = words.bytes(alloc)?;
-    let table = match KeyTable::read(alloc, &file) {
-        Ok(table) => table,
-        Err(_) => return Err(CaseFault::NoCase),
+fn found(case: &mut Case<'_>) {
+    let Some(table) = table(case) else {
+        return;
     };
+    let name = case.bytes();
     match table.find(&name) {
-        Some(key) => digits(alloc, &key.bytes()),
-        None => Ok(String::from_str(alloc, "no key")?),
+        Some(key) => case.digits(&key.bytes()),
+        None => case.say("no key"),
+    }
+}
+
+/// The key table of the file that the next word spells.
+pub(crate) fn table(case: &mut Case<'_>) -> Option<KeyTable> {
+    let file = case.bytes();
+    match KeyTable::read(case.alloc, &file) {
+        Ok(table) => Some(table),
+        Err(_) => {
+            case.fail(CaseFault::NoCase);
+            None
+        }
     }
 }

@@ -1,12 +1,18 @@
 //! The kinds of cases, and what answers each. Each crate's cases stand in a file of its name.
 
-use crate::case::{CaseFault, Words};
+use crate::case::{Case, CaseFault};
 use crate::{asked, decide, devices, hmac, keys, lane, token, wire, world};
 use std::alloc::{AllocError, Global};
 
 /// What a line's case comes to, or that it is none.
 pub(crate) fn outcome(alloc: Global, line: &str) -> Result<String, AllocError> {
-    match case_outcome(alloc, line) {
+    let (kind, rest) = line.split_once(' ').unwrap_or((line, ""));
+    if kind == "#" {
+        return String::from_str(alloc, line);
+    }
+    let mut case = Case::of(alloc, rest);
+    answer(&mut case, kind);
+    match case.outcome() {
         Ok(text) => Ok(text),
         Err(CaseFault::NoCase) => String::from_str(alloc, "the line is no case"),
         Err(CaseFault::Memory) => Err(AllocError),
@@ -52,51 +58,26 @@ pub(crate) fn outcome(alloc: Global, line: &str) -> Result<String, AllocError> {
 /// length FORM LOCATION IDENTIFIER CAVEAT,..: how many bytes a token of these has, or the refusal
 /// answer FILE PAYLOAD: the reply's frame
 /// world FILE WORKERS EVENT..: what each event comes to, and what is sent
-/// lane CONNECTIONS WORKERS EVENT,..: the same of a world of numbers, and what arrived
-/// buffer CALL,..: what calls come to, the next place, the open slips
+/// lane CONNECTIONS WORKERS EVENT..: the same of a world of numbers, and what arrived
+/// buffer CALL..: what calls come to, the next place, the open slips
 /// buffer_texts: the number and the text of each fault of a buffer
+///
+/// an event: arrive CONNECTION JOB, claim WORKER CONNECTION PLACE, finish WORKER, send CONNECTION
+///           or close CONNECTION; in a world of macaroons a JOB is a payload, and oversize
+///           CONNECTION an arrival too
+/// a call: open JOB, settle PLACE JOB, next or close
 /// ```
-fn case_outcome(alloc: Global, line: &str) -> Result<String, CaseFault> {
-    let (kind, rest) = line.split_once(' ').unwrap_or((line, ""));
-    let mut words = Words::of(rest);
-    match kind.as_bytes() {
-        b"#" => Ok(String::from_str(alloc, line)?),
-        b"hmac" => hmac::keyed(alloc, &mut words),
-        b"root" => hmac::root(alloc, &mut words),
-        b"start" => hmac::started(alloc, &mut words),
-        b"chain" => hmac::chained(alloc, &mut words),
-        b"same" => hmac::compared(alloc, &mut words),
-        b"keys" => keys::table(alloc, &mut words),
-        b"key" => keys::found(alloc, &mut words),
-        b"frames" => wire::frames(alloc, &mut words),
-        b"feeds" => wire::feeds(alloc, &mut words),
-        b"replies" => wire::replies(alloc, &mut words),
-        b"whole" => wire::whole(alloc, &mut words),
-        b"faults" => wire::fault_texts(alloc),
-        b"request" => asked::request(alloc, &mut words),
-        b"name" => asked::name(alloc, &mut words),
-        b"fronts" => asked::fronts(alloc, &mut words),
-        b"reads" => devices::memory_reads(alloc, &mut words),
-        b"reader" => devices::reader_reads(alloc, &mut words),
-        b"sends" => devices::memory_sends(alloc, &mut words),
-        b"writes" => devices::writer_writes(alloc, &mut words),
-        b"read" => token::read_parts(alloc, &mut words),
-        b"raw" => token::raw_parts(alloc, &mut words),
-        b"code" => token::code(alloc, &mut words),
-        b"rewrite" => token::rewritten(alloc, &mut words),
-        b"push" => token::longer(alloc, &mut words),
-        b"texts" => token::fault_texts(alloc),
-        b"cuts" => token::cut_codes(alloc, &mut words),
-        b"time" => decide::limit(alloc, &mut words),
-        b"satisfied" => decide::is_satisfied(alloc, &mut words),
-        b"add" => decide::narrowed(alloc, &mut words),
-        b"token" => decide::agreement(alloc, &mut words),
-        b"length" => decide::written_length(alloc, &mut words),
-        b"answer" => decide::reply(alloc, &mut words),
-        b"world" => world::ran(alloc, &mut words),
-        b"lane" => lane::outcomes(alloc, &mut words),
-        b"buffer" => lane::answers(alloc, &mut words),
-        b"buffer_texts" => lane::fault_texts(alloc),
-        _ => Err(CaseFault::NoCase),
+fn answer(case: &mut Case<'_>, kind: &str) {
+    let is_known = hmac::tells(case, kind)
+        || keys::tells(case, kind)
+        || wire::tells(case, kind)
+        || asked::tells(case, kind)
+        || devices::tells(case, kind)
+        || token::tells(case, kind)
+        || decide::tells(case, kind)
+        || world::tells(case, kind)
+        || lane::tells(case, kind);
+    if !is_known {
+        case.fail(CaseFault::NoCase);
     }
 }

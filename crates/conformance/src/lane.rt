@@ -1,135 +1,157 @@
-//! Cases of `mac_lane`, by words that `words.rt` lists. Jobs are numbers, and the reply to a number
-//! is its eight bytes, the greatest first.
+//! Cases of `mac_lane`. Jobs are numbers, and the reply to a number is its eight bytes, the
+//! greatest first.
 
 ghost use Rattle.std.specs.Prelude.{◌<◌, length};
 
 mod digits;
-mod words;
 
-use crate::case::{CaseFault, Words, append_digits};
-use crate::world::append_outcome;
+use crate::case::{Case, CaseFault, WORDS_MAX};
+use crate::world::{event_of, say_outcomes};
 use digits::Digits;
-use mac_lane::{Answer, Next, OpenFault, Reorder, SettleFault, World};
-use std::alloc::{AllocError, Global};
-use words::{Call, call_of, count, event_of};
+use mac_lane::{Answer, Event, Next, OpenFault, Reorder, SettleFault, World};
+
+/// Tells what a case comes to, if it is one of these kinds.
+pub(crate) fn tells(case: &mut Case<'_>, kind: &str) -> bool {
+    match kind.as_bytes() {
+        b"lane" => outcomes(case),
+        b"buffer" => calls(case),
+        b"buffer_texts" => fault_texts(case),
+        _ => return false,
+    }
+    true
+}
 
 /// What events come to, and then what arrived and was sent on each connection.
-pub(crate) fn outcomes(alloc: Global, words: &mut Words<'_>) -> Result<String, CaseFault> {
-    let connections = count(words.next()?)?;
-    let workers = count(words.next()?)?;
-    let mut events = Vec::new(alloc);
-    for word in words.next()?.split(',') {
-        events.push(event_of(word)?)?;
-    }
-    let mut world = World::<Digits>::new(alloc, connections, workers)?;
-    let Ok(outcomes) = world.run(alloc, events) else {
-        return Err(CaseFault::Memory);
+fn outcomes(case: &mut Case<'_>) {
+    let connections = case.small();
+    let workers = case.small();
+    let events = events(case);
+    let Ok(mut world) = World::<Digits>::new(case.alloc, connections, workers) else {
+        return case.fail(CaseFault::Memory);
     };
-    let mut text = String::new(alloc);
-    for outcome in outcomes.iter() {
-        append_outcome(alloc, *outcome, &mut text)?;
+    match world.run(case.alloc, events) {
+        Ok(outcomes) => say_outcomes(case, &outcomes),
+        Err(_) => case.fail(CaseFault::Memory),
     }
     for number in 0..connections {
-        append_lists(alloc, &world, number, &mut text)?;
+        say_lists(case, &world, number);
     }
-    Ok(text)
+}
+
+/// The events that the words spell.
+fn events(case: &mut Case<'_>) -> Vec<Event<Digits>> {
+    let mut events = Vec::new(case.alloc);
+    for _ in 0..WORDS_MAX {
+        if case.is_empty() {
+            break;
+        }
+        let event = event(case);
+        case.keep(&mut events, event);
+    }
+    events
+}
+
+fn event(case: &mut Case<'_>) -> Event<Digits> {
+    let word = case.word();
+    if word == "arrive" {
+        return Event::Arrive(case.small(), case.number());
+    }
+    event_of(case, word)
 }
 
 /// Appends the jobs that arrived on a connection, and the replies that were sent.
-fn append_lists(
-    alloc: Global,
-    world: &World<Digits>,
-    number: u32,
-    text: &mut String,
-) -> Result<(), AllocError>
+fn say_lists(case: &mut Case<'_>, world: &World<Digits>, number: u32)
     requires { number < length world.now.connections }
 {
-    text.push_str("arrived")?;
+    case.say("arrived");
     for job in world.arrived(number).iter() {
-        let told = format!(in alloc; " {job}")?;
-        text.push_str(told.as_str())?;
+        case.say(" ");
+        case.say_number(*job);
     }
-    text.push_str(" sent")?;
+    case.say(" sent");
     for reply in world.sent(number).iter() {
-        text.push_str(" ")?;
-        append_digits(alloc, reply, text)?;
+        case.say(" ");
+        case.digits(reply);
     }
-    text.push_str(";")
+    case.say(";");
 }
 
 /// What the calls of a reorder buffer come to, and then its next place and its open slips.
-pub(crate) fn answers(alloc: Global, words: &mut Words<'_>) -> Result<String, CaseFault> {
-    let mut buffer = Reorder::<Digits>::new(alloc)?;
-    let mut text = String::new(alloc);
-    for word in words.next()?.split(',') {
-        append_answer(alloc, &mut buffer, call_of(word)?, &mut text)?;
-    }
-    let (place, slips) = (buffer.next_place(), buffer.open_slips());
-    let told = format!(in alloc; "next {place} open {slips}")?;
-    text.push_str(told.as_str())?;
-    Ok(text)
-}
-
-/// Makes the call and appends what it comes to.
-fn append_answer(
-    alloc: Global,
-    buffer: &mut Reorder<Digits>,
-    call: Call,
-    text: &mut String,
-) -> Result<(), CaseFault> {
-    let told = match call {
-        Call::Open(job) => match buffer.open(job) {
-            Ok(place) => format!(in alloc; "place {place}")?,
-            Err((fault, back)) => format!(in alloc; "fault {} job {back}", fault.code())?,
-        },
-        Call::Settle(place, job) => settled(alloc, buffer, place, job)?,
-        Call::Next => sent(alloc, buffer)?,
-        Call::Close => {
-            buffer.close();
-            String::from_str(alloc, "closed")?
-        }
+fn calls(case: &mut Case<'_>) {
+    let Ok(mut buffer) = Reorder::<Digits>::new(case.alloc) else {
+        return case.fail(CaseFault::Memory);
     };
-    text.push_str(told.as_str())?;
-    text.push_str(", ")?;
-    Ok(())
+    for _ in 0..WORDS_MAX {
+        if case.is_empty() {
+            break;
+        }
+        say_call(case, &mut buffer);
+        case.say(", ");
+    }
+    say_with(case, "next ", buffer.next_place());
+    say_with(case, " open ", buffer.open_slips() as u64);
 }
 
-/// Settles the answer to a job at a place.
-fn settled(
-    alloc: Global,
-    buffer: &mut Reorder<Digits>,
-    place: u64,
-    job: u64,
-) -> Result<String, CaseFault> {
-    let Ok(answer) = Answer::make(alloc, job) else {
-        return Err(CaseFault::Memory);
+/// Makes the call that the next words spell, and appends what it comes to.
+fn say_call(case: &mut Case<'_>, buffer: &mut Reorder<Digits>) {
+    match case.word().as_bytes() {
+        b"open" => say_opened(case, buffer),
+        b"settle" => say_settled(case, buffer),
+        b"next" => say_sent(case, buffer),
+        b"close" => {
+            buffer.close();
+            case.say("closed");
+        }
+        _ => case.fail(CaseFault::NoCase),
+    }
+}
+
+fn say_with(case: &mut Case<'_>, word: &str, number: u64) {
+    case.say(word);
+    case.say_number(number);
+}
+
+/// Opens a job.
+fn say_opened(case: &mut Case<'_>, buffer: &mut Reorder<Digits>) {
+    match buffer.open(case.number()) {
+        Ok(place) => say_with(case, "place ", place),
+        Err((fault, back)) => {
+            say_with(case, "fault ", fault.code() as u64);
+            say_with(case, " job ", back);
+        }
+    }
+}
+
+/// Settles, at a place, the answer to a job.
+fn say_settled(case: &mut Case<'_>, buffer: &mut Reorder<Digits>) {
+    let place = case.number();
+    let Ok(answer) = Answer::make(case.alloc, case.number()) else {
+        return case.fail(CaseFault::Memory);
     };
     match buffer.settle(place, answer) {
-        Ok(()) => Ok(String::from_str(alloc, "settled")?),
-        Err((fault, _)) => Ok(format!(in alloc; "fault {}", fault.code())?),
+        Ok(()) => case.say("settled"),
+        Err((fault, _)) => say_with(case, "fault ", fault.code() as u64),
     }
 }
 
 /// What goes out next.
-fn sent(alloc: Global, buffer: &mut Reorder<Digits>) -> Result<String, CaseFault> {
+fn say_sent(case: &mut Case<'_>, buffer: &mut Reorder<Digits>) {
     match buffer.next() {
         Next::Reply(place, reply) => {
-            let mut text = format!(in alloc; "sent {place} ")?;
-            append_digits(alloc, &reply, &mut text)?;
-            Ok(text)
+            say_with(case, "sent ", place);
+            case.say(" ");
+            case.digits(&reply);
         }
-        Next::Stranger(place) => Ok(format!(in alloc; "stranger {place}")?),
-        Next::Closed => Ok(String::from_str(alloc, "ended")?),
-        Next::Waiting => Ok(String::from_str(alloc, "waiting")?),
+        Next::Stranger(place) => say_with(case, "stranger ", place),
+        Next::Closed => case.say("ended"),
+        Next::Waiting => case.say("waiting"),
     }
 }
 
 /// The number and the text of each fault of a buffer.
-pub(crate) fn fault_texts(alloc: Global) -> Result<String, CaseFault> {
-    let mut text = String::new(alloc);
+fn fault_texts(case: &mut Case<'_>) {
     for fault in [OpenFault::Full, OpenFault::Closed, OpenFault::Last] {
-        let told = format!(in alloc; "open {} {fault}; ", fault.code())?;
-        text.push_str(told.as_str())?;
+        case.tell(format!(in case.alloc; "open {} {fault}; ", fault.code()));
     }
     for fault in [
         SettleFault::Old,
@@ -137,8 +159,6 @@ pub(crate) fn fault_texts(alloc: Global) -> Result<String, CaseFault> {
         SettleFault::Twice,
         SettleFault::Closed,
     ] {
-        let told = format!(in alloc; "settle {} {fault}; ", fault.code())?;
-        text.push_str(told.as_str())?;
+        case.tell(format!(in case.alloc; "settle {} {fault}; ", fault.code()));
     }
-    Ok(text)
 }

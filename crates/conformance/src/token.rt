@@ -1,172 +1,223 @@
 //! Cases of `mac_token`.
 
-use crate::case::{CaseFault, Words, append_digits, digits, lists};
-use mac_token::{RawCaveat, Token, TokenFault, TokenRefusal, read, read_raw, write};
-use std::alloc::{AllocError, Global};
+use crate::case::{Case, CaseFault};
+use mac_token::{
+    Form, RawToken, Token, TokenFault, TokenRefusal, TokenView, bare, read, read_raw, write,
+};
 
-/// A token's parts, or its refusal.
-pub(crate) fn read_parts(alloc: Global, words: &mut Words<'_>) -> Result<String, CaseFault> {
-    let bytes = words.bytes(alloc)?;
-    match read(alloc, &bytes) {
-        Ok(token) => Ok(parts(alloc, &token)?),
-        Err(fault) => refusal(alloc, fault),
+/// Tells what a case comes to, if it is one of these kinds.
+pub(crate) fn tells(case: &mut Case<'_>, kind: &str) -> bool {
+    match kind.as_bytes() {
+        b"read" => read_parts(case),
+        b"raw" => raw_parts(case),
+        b"code" => code(case),
+        b"rewrite" => rewritten(case),
+        b"push" => longer(case),
+        b"texts" => fault_texts(case),
+        b"cuts" => cut_codes(case),
+        _ => return false,
+    }
+    true
+}
+
+/// A token's parts, or its refusal. A view of it is to give the same.
+fn read_parts(case: &mut Case<'_>) {
+    let mut viewed = case.again();
+    if let Some(token) = next_token(case) {
+        say_parts(case, &token);
+    }
+    if has_view(&mut viewed) && !case.is_like(&viewed) {
+        case.say(" but viewed otherwise");
     }
 }
 
-/// A token's location, identifier, signature and caveats.
-pub(crate) fn parts(alloc: Global, token: &Token) -> Result<String, AllocError> {
-    let location = token.location().as_bytes();
-    let mut text = front(alloc, location, token.identifier(), &token.sig())?;
+/// The same by a view, where there is one: V2 JSON has none.
+fn has_view(case: &mut Case<'_>) -> bool {
+    let input = case.bytes();
+    let mut room = Vec::new(case.alloc);
+    match bare(&mut room, case.alloc, &input) {
+        Ok([b'{', ..]) => return false,
+        Ok(bytes) => match TokenView::of(bytes) {
+            Ok(view) => say_view(case, &view),
+            Err(reason) => say_refusal(case, TokenFault::Refused(reason)),
+        },
+        Err(fault) => say_refusal(case, fault),
+    }
+    true
+}
+
+fn say_view(case: &mut Case<'_>, view: &TokenView<'_>) {
+    say_front(case, view.location(), view.identifier(), &view.sig());
+    for caveat in view.walk() {
+        case.say(" ");
+        case.digits(caveat);
+    }
+}
+
+/// Appends a token's location, identifier, signature and caveats.
+pub(crate) fn say_parts(case: &mut Case<'_>, token: &Token) {
+    say_front(case, token.location(), token.identifier(), &token.sig());
     for caveat in token.caveat_list() {
-        text.push_str(" ")?;
-        append_digits(alloc, caveat, &mut text)?;
+        case.say(" ");
+        case.digits(caveat);
     }
-    Ok(text)
 }
 
-fn front(
-    alloc: Global,
-    location: &[u8],
-    identifier: &[u8],
-    signature: &[u8],
-) -> Result<String, AllocError> {
-    let mut text = String::new(alloc);
-    append_digits(alloc, location, &mut text)?;
-    text.push_str(" ")?;
-    append_digits(alloc, identifier, &mut text)?;
-    text.push_str(" ")?;
-    append_digits(alloc, signature, &mut text)?;
-    Ok(text)
+fn say_front(case: &mut Case<'_>, location: &str, identifier: &[u8], signature: &[u8]) {
+    case.digits(location.as_bytes());
+    case.say(" ");
+    case.digits(identifier);
+    case.say(" ");
+    case.digits(signature);
 }
 
 /// The same of a token as it is spelled; a caveat may have a vid and a location.
-pub(crate) fn raw_parts(alloc: Global, words: &mut Words<'_>) -> Result<String, CaseFault> {
-    let bytes = words.bytes(alloc)?;
-    let raw = match read_raw(alloc, &bytes) {
-        Ok(raw) => raw,
-        Err(fault) => return refusal(alloc, fault),
-    };
-    let mut text = front(alloc, raw.location.as_bytes(), &raw.identifier, &raw.sig)?;
+fn raw_parts(case: &mut Case<'_>) {
+    let bytes = case.bytes();
+    match read_raw(case.alloc, &bytes) {
+        Ok(raw) => say_raw(case, &raw),
+        Err(fault) => say_refusal(case, fault),
+    }
+}
+
+fn say_raw(case: &mut Case<'_>, raw: &RawToken) {
+    say_front(case, raw.location.as_str(), &raw.identifier, &raw.sig);
     for caveat in raw.caveats.iter() {
-        append_caveat(alloc, caveat, &mut text)?;
+        case.say(" ");
+        case.digits(&caveat.id);
+        if let Some(vid) = &caveat.vid {
+            case.say(" vid=");
+            case.digits(vid);
+        }
+        if let Some(location) = &caveat.location {
+            case.say(" at=");
+            case.digits(location.as_bytes());
+        }
     }
-    Ok(text)
 }
 
-fn append_caveat(alloc: Global, caveat: &RawCaveat, text: &mut String) -> Result<(), AllocError> {
-    text.push_str(" ")?;
-    append_digits(alloc, &caveat.id, text)?;
-    if let Some(vid) = &caveat.vid {
-        text.push_str(" vid=")?;
-        append_digits(alloc, vid, text)?;
-    }
-    if let Some(location) = &caveat.location {
-        text.push_str(" at=")?;
-        append_digits(alloc, location.as_bytes(), text)?;
-    }
-    Ok(())
-}
-
-/// A refusal by its number; want of memory has none and is the case's fault.
-pub(crate) fn refusal(alloc: Global, fault: TokenFault) -> Result<String, CaseFault> {
+/// Appends a refusal by its number; want of memory has none and is the case's fault.
+pub(crate) fn say_refusal(case: &mut Case<'_>, fault: TokenFault) {
     match fault.code() {
-        Some(code) => Ok(format!(in alloc; "refused {code}")?),
-        None => Err(CaseFault::Memory),
+        Some(code) => {
+            case.say("refused ");
+            case.say_number(code as u64);
+        }
+        None => case.fail(CaseFault::Memory),
     }
 }
 
 /// Whether a token is taken, or its refusal.
-pub(crate) fn code(alloc: Global, words: &mut Words<'_>) -> Result<String, CaseFault> {
-    let bytes = words.bytes(alloc)?;
-    match read(alloc, &bytes) {
-        Ok(_) => Ok(String::from_str(alloc, "taken")?),
-        Err(fault) => refusal(alloc, fault),
+fn code(case: &mut Case<'_>) {
+    if next_token(case).is_some() {
+        case.say("taken");
+    }
+}
+
+/// The token that the next word spells; its refusal is told.
+pub(crate) fn next_token(case: &mut Case<'_>) -> Option<Token> {
+    let bytes = case.bytes();
+    token_of(case, &bytes)
+}
+
+/// The token that the bytes spell; its refusal is told.
+pub(crate) fn token_of(case: &mut Case<'_>, bytes: &[u8]) -> Option<Token> {
+    match read(case.alloc, bytes) {
+        Ok(token) => Some(token),
+        Err(fault) => {
+            say_refusal(case, fault);
+            None
+        }
     }
 }
 
 /// A token in another form.
-pub(crate) fn rewritten(alloc: Global, words: &mut Words<'_>) -> Result<String, CaseFault> {
-    let form = words.form()?;
-    let bytes = words.bytes(alloc)?;
-    let written = match read(alloc, &bytes) {
-        Ok(token) => write(alloc, &token, form),
-        Err(fault) => Err(fault),
-    };
-    match written {
-        Ok(written) => digits(alloc, &written),
-        Err(fault) => refusal(alloc, fault),
+fn rewritten(case: &mut Case<'_>) {
+    let form = case.form();
+    if let Some(token) = next_token(case) {
+        say_written(case, &token, form);
+    }
+}
+
+/// Appends a token's bytes in a form, or the refusal.
+pub(crate) fn say_written(case: &mut Case<'_>, token: &Token, form: Form) {
+    match write(case.alloc, token, form) {
+        Ok(written) => case.digits(&written),
+        Err(fault) => say_refusal(case, fault),
     }
 }
 
 /// A token with more caveats and a signature of zeros; after a refusal the token handed back.
-pub(crate) fn longer(alloc: Global, words: &mut Words<'_>) -> Result<String, CaseFault> {
-    let bytes = words.bytes(alloc)?;
-    let caveats = lists(alloc, words.next()?)?;
-    let token = match read(alloc, &bytes) {
-        Ok(token) => token,
-        Err(fault) => return refusal(alloc, fault),
+fn longer(case: &mut Case<'_>) {
+    let Some(token) = next_token(case) else {
+        return;
     };
-    match token.push(alloc, &caveats, [0; 32]) {
-        Ok(token) => Ok(parts(alloc, &token)?),
+    let caveats = case.lists();
+    match token.push(case.alloc, &caveats, [0; 32]) {
+        Ok(token) => say_parts(case, &token),
         Err((fault, token)) => {
-            let mut text = refusal(alloc, fault)?;
-            text.push_str(", still ")?;
-            text.push_str(parts(alloc, &token)?.as_str())?;
-            Ok(text)
+            say_refusal(case, fault);
+            case.say(", still ");
+            say_parts(case, &token);
         }
     }
 }
 
 /// The number of each fault, where it has one, and its text.
-pub(crate) fn fault_texts(alloc: Global) -> Result<String, CaseFault> {
-    let faults = [
-        TokenFault::Refused(TokenRefusal::Transport),
-        TokenFault::Refused(TokenRefusal::Malformed),
-        TokenFault::Refused(TokenRefusal::ThirdParty),
-        TokenFault::Refused(TokenRefusal::Limit),
-        TokenFault::Refused(TokenRefusal::CaveatLocation),
-        TokenFault::Memory,
+fn fault_texts(case: &mut Case<'_>) {
+    let refusals = [
+        TokenRefusal::Transport,
+        TokenRefusal::Malformed,
+        TokenRefusal::ThirdParty,
+        TokenRefusal::Limit,
+        TokenRefusal::CaveatLocation,
     ];
-    let mut text = String::new(alloc);
-    for fault in faults {
-        let fault_text = match fault.code() {
-            Some(code) => format!(in alloc; "{code} {fault}; ")?,
-            None => format!(in alloc; "{fault}")?,
-        };
-        text.push_str(fault_text.as_str())?;
+    for refusal in refusals {
+        let fault = TokenFault::Refused(refusal);
+        let code = fault.code().unwrap_or(0);
+        case.tell(format!(in case.alloc; "{code} {fault}; "));
     }
-    Ok(text)
+    let memory = TokenFault::Memory;
+    match memory.code() {
+        Some(_) => case.fail(CaseFault::NoCase),
+        None => case.tell(format!(in case.alloc; "{memory}")),
+    }
 }
 
 /// The refusals of a token's front parts, from none of its bytes to all but one, in runs of one
 /// refusal.
-pub(crate) fn cut_codes(alloc: Global, words: &mut Words<'_>) -> Result<String, CaseFault> {
-    let bytes = words.bytes(alloc)?;
-    let mut text = String::new(alloc);
+fn cut_codes(case: &mut Case<'_>) {
+    let bytes = case.bytes();
     let mut last = None;
     for length in 0..bytes.len() {
-        let code = code_of(alloc, &bytes[..length])?;
+        let code = code_of(case, &bytes[..length]);
         if last != Some(code) {
-            append_run(alloc, length, code, &mut text)?;
+            say_run(case, length, code);
             last = Some(code);
         }
     }
-    Ok(text)
 }
 
 /// The number of a token's refusal, 0 where it is taken.
-fn code_of(alloc: Global, bytes: &[u8]) -> Result<u8, CaseFault> {
-    match read(alloc, bytes) {
-        Ok(_) => Ok(0),
-        Err(fault) => fault.code().ok_or(CaseFault::Memory),
+fn code_of(case: &mut Case<'_>, bytes: &[u8]) -> u8 {
+    match read(case.alloc, bytes) {
+        Ok(_) => 0,
+        Err(fault) => match fault.code() {
+            Some(code) => code,
+            None => {
+                case.fail(CaseFault::Memory);
+                0
+            }
+        },
     }
 }
 
 /// Appends where a run begins, and its number.
-fn append_run(alloc: Global, length: usize, code: u8, text: &mut String) -> Result<(), AllocError> {
-    let run = format!(in alloc; "{length}:{code}")?;
-    if !text.is_empty() {
-        text.push_str(" ")?;
+fn say_run(case: &mut Case<'_>, length: usize, code: u8) {
+    if length > 0 {
+        case.say(" ");
     }
-    text.push_str(run.as_str())
+    case.say_number(length as u64);
+    case.say(":");
+    case.say_number(code as u64);
 }

@@ -1,90 +1,105 @@
 //! Cases of `mac_wire`: streams, replies and faults.
 
-ghost use Rattle.std.specs.Prelude.{IfOk};
+ghost use Rattle.std.specs.Prelude.{IfSome};
 ghost use Rattle.mac_wire.specs.Reply.{IsReply};
 
-use crate::case::{CaseFault, Words, append_shown, lists, shown};
+use crate::case::{Case, CaseFault};
 use mac_wire::{
     Arrival, Bytes, DeviceFault, Ending, FeedFault, FrameReader, REPLY_TOKEN_MAX, Refusal, Reply,
-    RequestFault, append_reply, whole_frames,
+    append_reply, whole_frames,
 };
-use std::alloc::{AllocError, Global};
+use std::alloc::Global;
+
+/// Tells what a case comes to, if it is one of these kinds.
+pub(crate) fn tells(case: &mut Case<'_>, kind: &str) -> bool {
+    match kind.as_bytes() {
+        b"frames" => frames(case),
+        b"feeds" => feeds(case),
+        b"replies" => replies(case),
+        b"whole" => whole(case),
+        b"faults" => fault_texts(case),
+        _ => return false,
+    }
+    true
+}
 
 /// The arrivals of a stream that is fed byte by byte, and its ending. Where the stream in two
 /// pieces gives anything else, how long the first such first piece is, and what comes of it.
-pub(crate) fn frames(alloc: Global, words: &mut Words<'_>) -> Result<String, CaseFault> {
-    let stream = words.bytes(alloc)?;
-    let mut reader = FrameReader::new(alloc);
-    let mut text = String::new(alloc);
+fn frames(case: &mut Case<'_>) {
+    let stream = case.bytes();
+    let mut reader = FrameReader::new(case.alloc);
     for byte in stream.iter() {
-        let _ = append_feed(alloc, &mut reader, &[*byte], &mut text)?;
+        let _ = feed(case, &mut reader, &[*byte]);
     }
-    text.push_str(ending_word(reader.finish()))?;
+    case.say(ending_word(reader.finish()));
     for cut in 0..stream.len() {
-        let halves = in_two(alloc, &stream, cut)?;
-        if halves.as_str() != text.as_str() {
-            return Ok(format!(in alloc; "cut at {cut}: {halves}")?);
+        let halves = in_two(case.alloc, &stream, cut);
+        if !case.is_like(&halves) {
+            return say_cut(case, cut, halves);
         }
     }
-    Ok(text)
 }
 
-/// The arrivals of a stream in two pieces, and its ending.
-fn in_two(alloc: Global, stream: &[u8], cut: usize) -> Result<String, CaseFault> {
+/// The case that the arrivals of a stream in two pieces, and its ending, are.
+fn in_two(alloc: Global, stream: &[u8], cut: usize) -> Case<'static> {
+    let mut case = Case::of(alloc, "");
     let mut reader = FrameReader::new(alloc);
-    let mut text = String::new(alloc);
     let (first, second) = stream.split_at_checked(cut).unwrap_or((stream, &[]));
-    let _ = append_feed(alloc, &mut reader, first, &mut text)?;
-    let _ = append_feed(alloc, &mut reader, second, &mut text)?;
-    text.push_str(ending_word(reader.finish()))?;
-    Ok(text)
+    let _ = feed(&mut case, &mut reader, first);
+    let _ = feed(&mut case, &mut reader, second);
+    case.say(ending_word(reader.finish()));
+    case
+}
+
+/// Appends where a stream was cut, and what came of it.
+fn say_cut(case: &mut Case<'_>, cut: usize, halves: Case<'_>) {
+    case.say(", cut at ");
+    case.say_number(cut as u64);
+    match halves.outcome() {
+        Ok(text) => {
+            case.say(": ");
+            case.say(text.as_str());
+        }
+        Err(fault) => case.fail(fault),
+    }
 }
 
 /// What each piece of a stream gives, a bar behind each, and the ending.
-pub(crate) fn feeds(alloc: Global, words: &mut Words<'_>) -> Result<String, CaseFault> {
-    let pieces = lists(alloc, words.next()?)?;
-    let mut reader = FrameReader::new(alloc);
-    let mut text = String::new(alloc);
+fn feeds(case: &mut Case<'_>) {
+    let pieces = case.lists();
+    let mut reader = FrameReader::new(case.alloc);
     for piece in pieces.iter() {
-        if !append_feed(alloc, &mut reader, piece, &mut text)? {
-            text.push_str("ended, ")?;
+        if !feed(case, &mut reader, piece) {
+            case.say("ended, ");
         }
-        text.push_str("| ")?;
+        case.say("| ");
     }
-    text.push_str(ending_word(reader.finish()))?;
-    Ok(text)
+    case.say(ending_word(reader.finish()));
 }
 
-/// Feeds a piece and appends its arrivals. Says whether the reader took it.
-fn append_feed(
-    alloc: Global,
-    reader: &mut FrameReader,
-    piece: &[u8],
-    text: &mut String,
-) -> Result<bool, CaseFault> {
+/// Feeds a piece and appends its arrivals. Whether the reader took it.
+fn feed(case: &mut Case<'_>, reader: &mut FrameReader, piece: &[u8]) -> bool {
     match reader.feed(piece) {
         Ok(arrivals) => {
-            append_arrivals(alloc, &arrivals, text)?;
-            Ok(true)
+            say_arrivals(case, &arrivals);
+            true
         }
-        Err(FeedFault::Ended) => Ok(false),
-        Err(FeedFault::NoMemory) => Err(CaseFault::Memory),
+        Err(FeedFault::Ended) => false,
+        Err(FeedFault::NoMemory) => {
+            case.fail(CaseFault::Memory);
+            false
+        }
     }
 }
 
-fn append_arrivals(
-    alloc: Global,
-    arrivals: &[Arrival],
-    text: &mut String,
-) -> Result<(), AllocError> {
+fn say_arrivals(case: &mut Case<'_>, arrivals: &[Arrival]) {
     for arrival in arrivals.iter() {
         match arrival {
-            Arrival::Payload(payload) => append_shown(alloc, payload.as_slice(), text)?,
-            Arrival::Oversize => text.push_str("oversize")?,
+            Arrival::Payload(payload) => case.shown(payload.as_slice()),
+            Arrival::Oversize => case.say("oversize"),
         }
-        text.push_str(", ")?;
+        case.say(", ");
     }
-    Ok(())
 }
 
 fn ending_word(ending: Ending) -> &'static str {
@@ -97,77 +112,83 @@ fn ending_word(ending: Ending) -> &'static str {
 }
 
 /// The frames of replies, appended to one another.
-pub(crate) fn replies(alloc: Global, words: &mut Words<'_>) -> Result<String, CaseFault> {
-    let mut frames = Vec::new(alloc);
-    for word in words.next()?.split(',') {
-        let reply = reply_of(alloc, word)?;
-        append_reply(&mut frames, &reply)?;
+fn replies(case: &mut Case<'_>) {
+    let mut frames = Vec::new(case.alloc);
+    for word in case.word().split(',') {
+        append_named(case, word, &mut frames);
     }
-    shown(alloc, &frames)
+    case.shown(&frames);
 }
 
-/// The reply that a word names.
-fn reply_of(alloc: Global, word: &str) -> Result<Reply, CaseFault>
-    ensures { IfOk result IsReply }
+/// Appends the frame of the reply that a word names.
+fn append_named(case: &mut Case<'_>, word: &str, frames: &mut Vec<u8>) {
+    let Some(reply) = reply_of(case, word) else {
+        return case.fail(CaseFault::NoCase);
+    };
+    if append_reply(frames, &reply).is_err() {
+        case.fail(CaseFault::Memory);
+    }
+}
+
+/// The reply that a word names, if any.
+fn reply_of(case: &mut Case<'_>, word: &str) -> Option<Reply>
+    ensures { IfSome result IsReply }
 {
     let (name, value) = word.split_once('=').unwrap_or((word, "-"));
     match name.as_bytes() {
-        b"granted" => Ok(Reply::Granted),
-        b"token" => token_reply(Words::of(value).bytes(alloc)?),
-        b"refused" => Ok(Reply::Refused(refusal_of(value)?)),
+        b"granted" => Some(Reply::Granted),
+        b"token" => token_reply(case.spelled(value)),
+        b"refused" => refusal_reply(value),
         b"index" => match value.parse::<u16>() {
-            Ok(index) => Ok(Reply::Unsatisfied(index)),
-            Err(_) => Err(CaseFault::NoCase),
+            Ok(index) => Some(Reply::Unsatisfied(index)),
+            Err(_) => None,
         },
-        _ => Err(CaseFault::NoCase),
+        _ => None,
     }
 }
 
 /// The reply with a token, if it isn't too long for one.
-fn token_reply(token: Vec<u8>) -> Result<Reply, CaseFault>
-    ensures { IfOk result IsReply }
+fn token_reply(token: Vec<u8>) -> Option<Reply>
+    ensures { IfSome result IsReply }
 {
     if token.len() > REPLY_TOKEN_MAX {
-        return Err(CaseFault::NoCase);
+        return None;
     }
-    Ok(Reply::Token(Bytes::new(token)))
+    Some(Reply::Token(Bytes::new(token)))
 }
 
-/// The refusal of a name.
-fn refusal_of(name: &str) -> Result<Refusal, CaseFault> {
-    match name.as_bytes() {
-        b"bad-request" => Ok(Refusal::BadRequest),
-        b"frame-too-long" => Ok(Refusal::FrameTooLong),
-        b"unknown-key" => Ok(Refusal::UnknownKey),
-        b"transport" => Ok(Refusal::Transport),
-        b"malformed" => Ok(Refusal::Malformed),
-        b"third-party" => Ok(Refusal::ThirdParty),
-        b"limit" => Ok(Refusal::Limit),
-        b"bad-signature" => Ok(Refusal::BadSignature),
-        b"caveat-location" => Ok(Refusal::CaveatLocation),
-        _ => Err(CaseFault::NoCase),
+/// The reply with the refusal of a name.
+fn refusal_reply(name: &str) -> Option<Reply>
+    ensures { IfSome result IsReply }
+{
+    for (word, refusal) in [
+        ("bad-request", Refusal::BadRequest),
+        ("frame-too-long", Refusal::FrameTooLong),
+        ("unknown-key", Refusal::UnknownKey),
+        ("transport", Refusal::Transport),
+        ("malformed", Refusal::Malformed),
+        ("third-party", Refusal::ThirdParty),
+        ("limit", Refusal::Limit),
+        ("bad-signature", Refusal::BadSignature),
+        ("caveat-location", Refusal::CaveatLocation),
+    ] {
+        if name == word {
+            return Some(Reply::Refused(refusal));
+        }
     }
+    None
 }
 
 /// How many whole frames stand in the front of some bytes.
-pub(crate) fn whole(alloc: Global, words: &mut Words<'_>) -> Result<String, CaseFault> {
-    let bytes = words.bytes(alloc)?;
-    let count = whole_frames(&bytes);
-    Ok(format!(in alloc; "{count}")?)
+fn whole(case: &mut Case<'_>) {
+    let bytes = case.bytes();
+    case.say_number(whole_frames(&bytes) as u64);
 }
 
 /// The number of each fault, where it has one, and its text.
-pub(crate) fn fault_texts(alloc: Global) -> Result<String, CaseFault> {
-    let bad = RequestFault::BadRequest;
-    let memory = RequestFault::Memory;
-    let refused = FeedFault::NoMemory;
-    let ended = FeedFault::Ended;
-    let requests = format!(in alloc; "{} {bad}; {} {memory}", code(bad), code(memory))?;
-    let feeds = format!(in alloc; "{} {refused}; {} {ended}", refused.code(), ended.code())?;
-    Ok(format!(in alloc; "{requests}; {feeds}; {DeviceFault}")?)
-}
-
-/// The number of a request's fault, 0 where it has none.
-fn code(fault: RequestFault) -> u8 {
-    fault.code().unwrap_or(0)
+fn fault_texts(case: &mut Case<'_>) {
+    for fault in [FeedFault::NoMemory, FeedFault::Ended] {
+        case.tell(format!(in case.alloc; "{} {fault}; ", fault.code()));
+    }
+    case.tell(format!(in case.alloc; "{DeviceFault}"));
 }

@@ -1,108 +1,104 @@
 //! The world of macaroons: what each event comes to, and what leaves on each connection.
 
-use crate::case::{CaseFault, Words, append_digits};
+use crate::case::{Case, CaseFault, WORDS_MAX};
+use crate::keys::table;
 use mac_decide::{Job, Macaroons, job_of};
 use mac_keys::KeyTable;
-use mac_lane::{Event, Outcome, World};
+use mac_lane::{Event, Outcome, Service, World};
 use mac_wire::{Arrival, Bytes, Reply};
-use std::alloc::{AllocError, Global};
 
-/// As many events as a case may have.
-const EVENTS_MAX: u32 = 1000;
+/// Tells what a case comes to, if it is of this kind.
+pub(crate) fn tells(case: &mut Case<'_>, kind: &str) -> bool {
+    let is_this = kind == "world";
+    if is_this {
+        ran(case);
+    }
+    is_this
+}
 
 /// What comes of the events that the next words spell, under a key file; then the number of jobs
 /// that arrived on connection 0, and the replies that were sent on it.
-pub(crate) fn ran(alloc: Global, words: &mut Words<'_>) -> Result<String, CaseFault> {
-    let file = words.bytes(alloc)?;
-    let table = match KeyTable::read(alloc, &file) {
-        Ok(table) => table,
-        Err(_) => return Err(CaseFault::NoCase),
+fn ran(case: &mut Case<'_>) {
+    let Some(table) = table(case) else {
+        return;
     };
-    let workers = small(words)?;
-    let mut world: World<Macaroons> = World::new(alloc, 1, workers)?;
-    let events = events(alloc, &table, words)?;
-    let outcomes = match world.run(alloc, events) {
-        Ok(outcomes) => outcomes,
-        Err(_) => return Err(CaseFault::Memory),
+    let workers = case.small();
+    let events = events(case, &table);
+    let Ok(mut world) = World::<Macaroons>::new(case.alloc, 1, workers) else {
+        return case.fail(CaseFault::Memory);
     };
-    let mut text = String::new(alloc);
-    for outcome in outcomes.iter() {
-        append_outcome(alloc, *outcome, &mut text)?;
+    match world.run(case.alloc, events) {
+        Ok(outcomes) => say_outcomes(case, &outcomes),
+        Err(_) => case.fail(CaseFault::Memory),
     }
-    let arrived = world.arrived(0).len();
-    text.push_str(format!(in alloc; "arrived {arrived}, sent")?.as_str())?;
+    case.say("arrived ");
+    case.say_number(world.arrived(0).len() as u64);
+    case.say(", sent");
     for reply in world.sent(0) {
-        append_reply(alloc, reply, &mut text)?;
+        say_reply(case, reply);
     }
-    Ok(text)
 }
 
-fn events(
-    alloc: Global,
-    table: &KeyTable,
-    words: &mut Words<'_>,
-) -> Result<Vec<Event<Macaroons>>, CaseFault> {
-    let mut events = Vec::new(alloc);
-    for _ in 0..EVENTS_MAX {
-        if words.is_empty() {
+fn events(case: &mut Case<'_>, table: &KeyTable) -> Vec<Event<Macaroons>> {
+    let mut events = Vec::new(case.alloc);
+    for _ in 0..WORDS_MAX {
+        if case.is_empty() {
             break;
         }
-        let event = event(alloc, table, words)?;
-        events.push(event)?;
+        let event = event(case, table);
+        case.keep(&mut events, event);
     }
-    Ok(events)
+    events
 }
 
-/// The number of a connection or of a worker, or how many there are.
-fn small(words: &mut Words<'_>) -> Result<u32, CaseFault> {
-    match u32::try_from(words.number()?) {
-        Ok(number) => Ok(number),
-        Err(_) => Err(CaseFault::NoCase),
-    }
-}
-
-fn event(
-    alloc: Global,
-    table: &KeyTable,
-    words: &mut Words<'_>,
-) -> Result<Event<Macaroons>, CaseFault> {
-    match words.next()?.as_bytes() {
-        b"arrive" => Ok(Event::Arrive(small(words)?, job(alloc, table, words)?)),
-        b"oversize" => Ok(Event::Arrive(small(words)?, job_of(table, Arrival::Oversize))),
-        b"claim" => Ok(Event::Claim(small(words)?, small(words)?, words.number()?)),
-        b"finish" => Ok(Event::Finish(small(words)?)),
-        b"send" => Ok(Event::Send(small(words)?)),
-        b"close" => Ok(Event::Close(small(words)?)),
-        _ => Err(CaseFault::NoCase),
+fn event(case: &mut Case<'_>, table: &KeyTable) -> Event<Macaroons> {
+    let word = case.word();
+    match word.as_bytes() {
+        b"arrive" => Event::Arrive(case.small(), job(case, table)),
+        b"oversize" => Event::Arrive(case.small(), job_of(table, Arrival::Oversize)),
+        _ => event_of(case, word),
     }
 }
 
-fn job(alloc: Global, table: &KeyTable, words: &mut Words<'_>) -> Result<Job, CaseFault> {
-    let payload = Bytes::new(words.bytes(alloc)?);
-    Ok(job_of(table, Arrival::Payload(payload)))
+/// The event without a job that a word names, by the words behind it.
+pub(crate) fn event_of<S: Service>(case: &mut Case<'_>, word: &str) -> Event<S> {
+    match word.as_bytes() {
+        b"claim" => Event::Claim(case.small(), case.small(), case.number()),
+        b"finish" => Event::Finish(case.small()),
+        b"send" => Event::Send(case.small()),
+        b"close" => Event::Close(case.small()),
+        _ => {
+            case.fail(CaseFault::NoCase);
+            Event::Close(0)
+        }
+    }
 }
 
-/// Appends what an event came to, and a comma.
-pub(crate) fn append_outcome(
-    alloc: Global,
-    outcome: Outcome,
-    text: &mut String,
-) -> Result<(), AllocError> {
-    let word = match outcome {
-        Outcome::Admitted(place) => format!(in alloc; "admitted {place}, ")?,
-        Outcome::Sent(place) => format!(in alloc; "sent {place}, ")?,
-        other => format!(in alloc; "{}, ", outcome_word(other))?,
-    };
-    text.push_str(word.as_str())
+fn job(case: &mut Case<'_>, table: &KeyTable) -> Job {
+    let payload = Bytes::new(case.bytes());
+    job_of(table, Arrival::Payload(payload))
 }
 
+/// Appends what each event came to, a comma behind each.
+pub(crate) fn say_outcomes(case: &mut Case<'_>, outcomes: &[Outcome]) {
+    for outcome in outcomes.iter() {
+        case.say(outcome_word(*outcome));
+        match outcome {
+            Outcome::Admitted(place) | Outcome::Sent(place) => case.say_number(*place),
+            _ => {}
+        }
+        case.say(", ");
+    }
+}
+
+/// The word for an outcome, and a space where a place comes behind it.
 fn outcome_word(outcome: Outcome) -> &'static str {
     match outcome {
-        Outcome::Admitted(_) => "admitted",
+        Outcome::Admitted(_) => "admitted ",
         Outcome::Claimed => "claimed",
         Outcome::Finished => "finished",
         Outcome::Discarded => "discarded",
-        Outcome::Sent(_) => "sent",
+        Outcome::Sent(_) => "sent ",
         Outcome::Closed => "closed",
         Outcome::Ended => "ended",
         Outcome::Full => "full",
@@ -116,20 +112,20 @@ fn outcome_word(outcome: Outcome) -> &'static str {
 }
 
 /// Appends a reply, behind a comma.
-fn append_reply(alloc: Global, reply: &Reply, text: &mut String) -> Result<(), AllocError> {
+fn say_reply(case: &mut Case<'_>, reply: &Reply) {
     match reply {
-        Reply::Granted => text.push_str(", granted"),
+        Reply::Granted => case.say(", granted"),
         Reply::Refused(reason) => {
-            let word = format!(in alloc; ", refused {}", reason.code())?;
-            text.push_str(word.as_str())
+            case.say(", refused ");
+            case.say_number(reason.code() as u64);
         }
         Reply::Unsatisfied(index) => {
-            let word = format!(in alloc; ", unsatisfied {index}")?;
-            text.push_str(word.as_str())
+            case.say(", unsatisfied ");
+            case.say_number(*index as u64);
         }
         Reply::Token(token) => {
-            text.push_str(", token ")?;
-            append_digits(alloc, token.as_slice(), text)
+            case.say(", token ");
+            case.digits(token.as_slice());
         }
     }
 }

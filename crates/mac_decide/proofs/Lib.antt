@@ -10,3 +10,4 @@ pub mod AnswerLemmas
 pub mod SendableLemmas
 pub mod CarriedLemmas
 pub mod WorldLemmas
+pub mod VerifiedLemmas

@@ -1,13 +1,11 @@
 -- When a caveat is satisfied.
-use Rattle.std.proofs.Common.{◌≡◌, ◌↔◌, ℕ, ℤ, pos, negsuc, unsigned_abs, ◌<ℤ◌, nat_lt, FitsSigned, w64, List, [], ◌∷◌, map, Bool, true, ◌||◌, IsTrue, arith, refl, sym, ap, ◌∙◌}
+use Rattle.std.proofs.Common.{◌≡◌, ◌↔◌, ℕ, ℤ, pos, negsuc, unsigned_abs, ◌<ℤ◌, nat_lt, FitsSigned, w64, List, true, IsTrue, arith}
 use Rattle.std.specs.List.{list_any, Contains}
 use Rattle.std.specs.Str.{bytes_eq}
 use Rattle.std.specs.Cmp.Lexicographic.{nat_list_eq_equiv}
 use Rattle.std.specs.Int.{FitsUnsignedBits}
 use Rattle.std.proofs.lemmas.Bool.Decides.{nat_tests}
 use Rattle.std.proofs.lemmas.Int.{ints}
-use Rattle.std.specs.declared.alloc.Global.{Global}
-use Rattle.std.specs.declared.vec.Vec.{Vec}
 use Rattle.std.proofs.lemmas.Slice.Eq.{bytes_eq-Decides}
 use Rattle.std.proofs.lemmas.Map.Views.{list_any-from_Contains, Contains-from_any}
 use Rattle.mac_decide.specs.Time.{IsTimeLimit}
@@ -19,17 +17,11 @@ pub IsBefore-known : (moment : ℕ) (caveat : List ℕ) (w : ℤ) → IsTimeLimi
 IsBefore-known moment caveat w known (v, h, below) = rw (one_limit caveat w v known h) below
 
 -- the test that looks for the caveat among the facts
-pub list_any-map : {A B : Type 0} (f : A → B) (test : B → Bool) (xs : List A) → list_any test (map f xs) ≡ list_any (λ x. test (f x)) xs
-list_any-map f test [] = refl
-list_any-map f test (x ∷ xs) = ap (λ b. test (f x) || b) (list_any-map f test xs)
+pub Contains-found : (facts : List (List ℕ)) (caveat : List ℕ) → list_any (bytes_eq caveat) facts ≡ true → Contains facts caveat
+Contains-found facts caveat e = Contains-from_any (λ x y. (bytes_eq-Decides x y).0) caveat facts e
 
-pub Contains-found : (facts : List (Vec ℕ Global)) (caveat : List ℕ) → list_any (λ fact. bytes_eq caveat fact.items) facts ≡ true → Contains (map (λ fact. fact.items) facts) caveat
-Contains-found facts caveat e =
-    Contains-from_any (λ x y. (bytes_eq-Decides x y).0) caveat _ (list_any-map (λ fact. fact.items) (bytes_eq caveat) facts ∙ e)
-
-pub found-Contains : (facts : List (Vec ℕ Global)) (caveat : List ℕ) → Contains (map (λ fact. fact.items) facts) caveat → list_any (λ fact. bytes_eq caveat fact.items) facts ≡ true
-found-Contains facts caveat has =
-    sym (list_any-map (λ fact. fact.items) (bytes_eq caveat) facts) ∙ list_any-from_Contains nat_list_eq_equiv caveat _ has
+pub found-Contains : (facts : List (List ℕ)) (caveat : List ℕ) → Contains facts caveat → list_any (bytes_eq caveat) facts ≡ true
+found-Contains facts caveat has = list_any-from_Contains nat_list_eq_equiv caveat facts has
 
 -- no moment is below a limit that no unsigned number is
 pub too_low : (limit : ℤ) → FitsSigned w64 limit → ¬ (FitsUnsignedBits 64 limit) → (moment : ℕ) → ¬ (pos moment <ℤ limit)

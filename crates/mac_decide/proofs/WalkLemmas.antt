@@ -1,14 +1,16 @@
 -- A walk over a token's caveats.
-use Rattle.std.proofs.Common.{◌≡◌, ℕ, ◌+◌, ◌<◌, ◌≤◌, Vec, Global, option_map, refl, List, [], ◌∷◌, ◌++◌, take, length, get_or, Option, Some, None, MatchOption, sym, ap, ◌∙◌}
+use Rattle.std.proofs.Common.{◌≡◌, ℕ, zero, suc, arith, drop, ◌+◌, ◌<◌, ◌≤◌, Vec, Global, option_map, refl, List, [], ◌∷◌, ◌++◌, take, length, get_or, Option, Some, None, MatchOption, sym, ap, ◌∙◌}
 use Rattle.std.specs.List.{All, slice_get}
-use Rattle.std.proofs.lemmas.List.{take_more, take_all, length-map}
+use Rattle.std.proofs.lemmas.List.{take_more, take_all, length-map, length-drop}
 use Rattle.std.proofs.lemmas.List.Elements.{All-more}
 use Rattle.std.proofs.lemmas.Option.{slice_get_within, get_or_from_slice_get, slice_get_read, slice_get-map}
 use Rattle.mac_hmac.specs.Chain.{chain, extended}
 use Rattle.mac_hmac.proofs.ChainLemmas.{extended-append}
 use Rattle.mac_decide.specs.declared.context.Context.{Context}
 use Rattle.mac_token.specs.RawToken.{TokenParts, byte_lists}
-use Rattle.mac_decide.specs.Verdict.{Satisfied, Accepts, IsFirstUnsatisfied}
+use Rattle.mac_decide.specs.Verdict.{Satisfied, Accepts, IsFirstUnsatisfied, IsVerdict, Concludes}
+use Rattle.mac_decide.specs.declared.verdict.Verdict.{Verdict}
+use Rattle.mac_decide.specs.declared.verdict.Verdict.TheVariants.{Granted, BadSignature, Unsatisfied}
 
 -- the caveats up to one, and that one
 pub take-next : (caveats : List (List ℕ)) (i : ℕ) (caveat : List ℕ) → slice_get caveats i ≡ Some caveat → take (i + 1) caveats ≡ take i caveats ++ caveat ∷ []
@@ -56,3 +58,29 @@ pub accepted-at_end : (key : List ℕ) (t : TokenParts) (x : Context) (i : ℕ) 
 accepted-at_end key t x i signature end chained same each =
     let whole : take i t.caveats ≡ t.caveats = take_all i t.caveats end in
     record { minted = sym same ∙ rw whole at chained; satisfied = rw whole at each }
+
+-- what a walk comes to is the verdict
+pub concluded : (key : List ℕ) (t : TokenParts) (x : Context) (i : ℕ) (signature : List ℕ) (found : Option ℕ) (v : Verdict) → length t.caveats ≤ i → signature ≡ chain key t.identifier (take i t.caveats)
+    → MatchOption found (All (λ c. Satisfied c x) (take i t.caveats)) (IsFirstUnsatisfied t.caveats x) → Concludes signature t.sig found v → IsVerdict key t x v
+concluded key t x i signature found Granted end chained each (same, none) = accepted-at_end key t x i signature end chained same (rw none at each)
+concluded key t x i signature found BadSignature end chained each other =
+    λ minted. other (chained ∙ ap (chain key t.identifier) (take_all i t.caveats end) ∙ sym minted)
+concluded key t x i signature found (Unsatisfied index) end chained each (same, some) =
+    (sym same ∙ chained ∙ ap (chain key t.identifier) (take_all i t.caveats end), rw some at each)
+
+-- the first of the caveats from an index on
+first_dropped : (caveats : List (List ℕ)) (i : ℕ) (caveat : List ℕ) (rest : List (List ℕ)) → drop i caveats ≡ caveat ∷ rest → (slice_get caveats i ≡ Some caveat) × (drop (suc i) caveats ≡ rest)
+first_dropped [] zero caveat rest e = absurd cc
+first_dropped [] (suc i) caveat rest e = absurd cc
+first_dropped (c ∷ cs) zero caveat rest e = (cc, cc)
+first_dropped (c ∷ cs) (suc i) caveat rest e = first_dropped cs i caveat rest e
+
+pub first-of-drop : (caveats : List (List ℕ)) (i : ℕ) (caveat : List ℕ) (rest : List (List ℕ)) → drop i caveats ≡ caveat ∷ rest → (slice_get caveats i ≡ Some caveat) × (drop (i + 1) caveats ≡ rest)
+first-of-drop caveats i caveat rest e =
+    let found = first_dropped caveats i caveat rest e in
+    let next : i + 1 ≡ suc i = omega arith in
+    (found.0, ap (λ n. drop n caveats) next ∙ found.1)
+
+-- none from an index on
+pub end-of-drop : (caveats : List (List ℕ)) (i : ℕ) → drop i caveats ≡ [] → length caveats ≤ i
+end-of-drop caveats i e = omega (arith, length-drop i caveats, ap length e)

@@ -1,5 +1,5 @@
 -- What a key accepts (NDSS 2014): the chain of signatures, and caveats that hold in a context.
-use Rattle.std.specs.Prelude.{◌⊎◌, ℕ, ℤ, pos, ◌<ℤ◌, List, take, slice_get, IsSomeAnd, Contains, All}
+use Rattle.std.specs.Prelude.{◌≡◌, ◌⊎◌, ℕ, ℤ, pos, ◌<ℤ◌, List, take, slice_get, Option, Some, None, IsSomeAnd, Contains, All}
 use Rattle.mac_token.specs.RawToken.{TokenParts}
 use Rattle.mac_decide.specs.Minted.{Minted}
 use Rattle.mac_decide.specs.Time.{IsTimeLimit}
@@ -30,3 +30,10 @@ abbrev pub IsVerdict : List ℕ → TokenParts → Context → Verdict → Type 
 IsVerdict key t x Granted = Accepts key t x
 IsVerdict key t x BadSignature = ¬ (Minted key t)
 IsVerdict key t x (Unsatisfied index) = Minted key t × IsFirstUnsatisfied t.caveats x index
+
+-- the verdict at the end of a walk over the caveats: by the signature that the key gives and the
+-- one that the token tells, then by the first caveat that was found unsatisfied
+abbrev pub Concludes : (signature told : List ℕ) → Option ℕ → Verdict → Type 0
+Concludes signature told found Granted = (signature ≡ told) × (found ≡ None)
+Concludes signature told found BadSignature = ¬ (signature ≡ told)
+Concludes signature told found (Unsatisfied index) = (signature ≡ told) × (found ≡ Some index)

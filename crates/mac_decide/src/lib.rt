@@ -2,7 +2,7 @@
 //! arrival.
 //!
 //! [`job_of`] takes an arrival with the key that it names, and [`answer`] gives its reply, by
-//! [`mint`], [`attenuate`] and [`verify`].
+//! [`mint`], [`attenuate`] and [`verify`] or [`verify_view`].
 #![tactic(auto)]
 
 mod context;
@@ -20,4 +20,4 @@ pub use macaroons::Macaroons;
 pub use minting::{attenuate, mint};
 pub use reply::answer;
 pub use time::time_limit;
-pub use verdict::{Verdict, verify};
+pub use verdict::{Verdict, verify, verify_view};

@@ -2,7 +2,8 @@
 
 ghost use Rattle.std.specs.Prelude.{◌≡◌, ◌↔◌, IfOk, OnErr, List, ℕ};
 ghost use Rattle.mac_token.specs.RawToken.{byte_lists};
-ghost use Rattle.mac_token.specs.Read.{read_of};
+ghost use Rattle.mac_token.specs.Read.{bare_of, carried_of, or_malformed, read_of, token_of_read};
+ghost use Rattle.mac_token.specs.Spells.{BeginsWith};
 ghost use Rattle.mac_wire.specs.Reading.{request_of};
 ghost use Rattle.mac_wire.specs.Reply.{IsReply};
 ghost use Rattle.mac_wire.specs.Request.{Asks, verify, asked as asked_of};
@@ -14,11 +15,11 @@ ghost use Rattle.mac_decide.specs.Answer as answers;
 use crate::context::Context;
 use crate::job::Job;
 use crate::minting::{attenuate, mint};
-use crate::verdict::{Verdict, verify};
+use crate::verdict::{Verdict, verify, verify_view};
 use mac_hmac::RootKey;
-use mac_token::{Form, Token, TokenFault, TokenRefusal, read, write};
+use mac_token::{Form, Token, TokenFault, TokenRefusal, TokenView, bare, read, write};
 use mac_wire::{
-    Arrival, Bytes, NoMemory, Refusal, Reply, Request, RequestFault, TokenForm, parse_request,
+    Arrival, Bytes, FieldList, NoMemory, Refusal, Reply, Request, TokenForm, parse_request,
 };
 use std::alloc::{AllocError, Global};
 
@@ -58,10 +59,9 @@ fn refused(reason: Refusal) -> Reply
 fn payload_reply(alloc: Global, payload: &[u8], key: Option<RootKey>) -> Result<Reply, NoMemory>
     ensures { Answers result (answers.asked_reply (request_of payload.now) key) }
 {
-    match parse_request(alloc, payload) {
-        Ok(request) => request_reply(alloc, request, key),
-        Err(RequestFault::BadRequest) => Ok(refused(Refusal::BadRequest)),
-        Err(RequestFault::Memory) => Err(AllocError),
+    match parse_request(payload) {
+        Some(request) => request_reply(alloc, request, key),
+        None => Ok(refused(Refusal::BadRequest)),
     }
 }
 
@@ -80,14 +80,14 @@ fn request_reply(
             caveats,
             ..
         } => match key {
-            Some(key) => mint_reply(alloc, form, &key, location, identifier, caveats.as_slice()),
+            Some(key) => mint_reply(alloc, form, &key, location, identifier, &caveats),
             None => Ok(refused(Refusal::UnknownKey)),
         },
         Request::Attenuate {
             form,
             token,
             caveats,
-        } => attenuate_reply(alloc, form, token, caveats.as_slice()),
+        } => attenuate_reply(alloc, form, token, &caveats),
         Request::Verify {
             token,
             moment,
@@ -100,18 +100,30 @@ fn request_reply(
     }
 }
 
+/// The fields as lists of their own.
+fn copies(alloc: Global, fields: &FieldList<'_>) -> Result<Vec<Vec<u8>>, NoMemory>
+    ensures { IfOk result (λ lists. byte_lists lists.items ≡ fields.now) }
+{
+    let mut lists = Vec::with_capacity(alloc, fields.len())?;
+    for field in fields.walk() {
+        lists.push(Vec::from_slice(alloc, field)?)?;
+    }
+    Ok(lists)
+}
+
 fn mint_reply(
     alloc: Global,
     form: TokenForm,
     key: &RootKey,
     location: &str,
     identifier: &[u8],
-    caveats: &[Vec<u8>],
+    caveats: &FieldList<'_>,
 ) -> Result<Reply, NoMemory>
     ensures { Answers result (answers.token_reply form
-        (minted key.now location.now identifier.now (byte_lists caveats.now))) }
+        (minted key.now location.now identifier.now caveats.now)) }
 {
-    match mint(alloc, key, location, identifier, caveats) {
+    let caveats = copies(alloc, caveats)?;
+    match mint(alloc, key, location, identifier, &caveats) {
         Ok(token) => written_reply(alloc, form, &token),
         Err(TokenFault::Refused(reason)) => Ok(refused(refusal_of(reason))),
         Err(TokenFault::Memory) => Err(AllocError),
@@ -122,10 +134,10 @@ fn attenuate_reply(
     alloc: Global,
     form: TokenForm,
     token: &[u8],
-    caveats: &[Vec<u8>],
+    caveats: &FieldList<'_>,
 ) -> Result<Reply, NoMemory>
     ensures { Answers result (answers.told (read_of token.now)
-        (λ t. answers.token_reply form (add t (byte_lists caveats.now)))) }
+        (λ t. answers.token_reply form (add t caveats.now))) }
 {
     match read(alloc, token) {
         Ok(token) => narrowed_reply(alloc, form, token, caveats),
@@ -138,12 +150,12 @@ fn narrowed_reply(
     alloc: Global,
     form: TokenForm,
     token: Token,
-    caveats: &[Vec<u8>],
+    caveats: &FieldList<'_>,
 ) -> Result<Reply, NoMemory>
-    ensures { Answers result
-        (answers.token_reply form (add token (byte_lists caveats.now))) }
+    ensures { Answers result (answers.token_reply form (add token caveats.now)) }
 {
-    match attenuate(alloc, token, caveats) {
+    let caveats = copies(alloc, caveats)?;
+    match attenuate(alloc, token, &caveats) {
         Ok(token) => written_reply(alloc, form, &token),
         Err((TokenFault::Refused(reason), _)) => Ok(refused(refusal_of(reason))),
         Err((TokenFault::Memory, _)) => Err(AllocError),
@@ -154,7 +166,54 @@ fn verify_reply(
     alloc: Global,
     key: &RootKey,
     token: &[u8],
-    context: &Context,
+    context: &Context<'_>,
+) -> Result<Reply, NoMemory>
+    ensures { Answers result (answers.told (read_of token.now)
+        (λ t. answers.verdict_reply (verdict_of key.now t context.now))) }
+{
+    let mut room = Vec::new(alloc);
+    match bare(&mut room, alloc, token) {
+        Ok(bytes) => carried_reply(alloc, key, token, bytes, context),
+        Err(TokenFault::Refused(reason)) => Ok(refused(refusal_of(reason))),
+        Err(TokenFault::Memory) => Err(AllocError),
+    }
+}
+
+/// The same, where these are the bytes that the token carries. Only JSON is read with memory.
+fn carried_reply(
+    alloc: Global,
+    key: &RootKey,
+    token: &[u8],
+    bytes: &[u8],
+    context: &Context<'_>,
+) -> Result<Reply, NoMemory>
+    requires { carried_of token.now ≡ Ok bytes.now }
+    ensures { Answers result (answers.told (read_of token.now)
+        (λ t. answers.verdict_reply (verdict_of key.now t context.now))) }
+{
+    match bytes {
+        [b'{', ..] => json_reply(alloc, key, token, context),
+        _ => Ok(view_reply(key, bytes, context)),
+    }
+}
+
+fn view_reply(key: &RootKey, bytes: &[u8], context: &Context<'_>) -> Reply
+    requires { ¬ BeginsWith 123 bytes.now }
+    ensures value { result ≡ answers.told (token_of_read (or_malformed (bare_of bytes.now)))
+        (λ t. answers.verdict_reply (verdict_of key.now t context.now)) }
+    ensures sendable { IsReply result }
+{
+    match TokenView::of(bytes) {
+        Ok(token) => verdict_reply(verify_view(key, &token, context)),
+        Err(reason) => refused(refusal_of(reason)),
+    }
+}
+
+fn json_reply(
+    alloc: Global,
+    key: &RootKey,
+    token: &[u8],
+    context: &Context<'_>,
 ) -> Result<Reply, NoMemory>
     ensures { Answers result (answers.told (read_of token.now)
         (λ t. answers.verdict_reply (verdict_of key.now t context.now))) }

@@ -1,11 +1,11 @@
 //! Whether a key grants a token.
 
 ghost use Rattle.std.specs.Prelude.{◌≡◌, MatchOption};
-ghost use Rattle.mac_decide.specs.Verdict.{Satisfied, IsVerdict};
+ghost use Rattle.mac_decide.specs.Verdict.{Satisfied, IsVerdict, Concludes};
 
 use crate::context::{Context, satisfied};
-use mac_hmac::{RootKey, Sig, extend, same, start};
-use mac_token::Token;
+use mac_hmac::{Chain, RootKey, Sig, same};
+use mac_token::{Token, TokenView};
 
 /// The verdict on a token.
 #[derive(Clone, Copy, Debug, PartialEq, Eq)]
@@ -20,20 +20,44 @@ pub enum Verdict {
 
 /// The verdict on a token under a key in a context, by one walk over the token. For an identifier
 /// and n caveats of at most 55 bytes each it hashes 4n + 4 blocks; it takes no memory.
-pub fn verify(key: &RootKey, token: &Token, context: &Context) -> Verdict
+pub fn verify(key: &RootKey, token: &Token, context: &Context<'_>) -> Verdict
     ensures { IsVerdict key.now token.now context.now result }
 {
-    let mut signature = start(key, token.identifier());
+    let mut chain = Chain::start(key, token.identifier());
     let mut unsatisfied = None;
     let mut index = 0;
     let caveats = token.caveat_list();
     for caveat in caveats {
         let caveat = caveat.as_slice();
-        signature = extend(signature, caveat);
+        chain.push(caveat);
         unsatisfied = first_unsatisfied(unsatisfied, index, caveat, context);
         index += 1;
     }
-    if !same(&signature, &Sig::from_bytes(token.sig())) {
+    conclusion(chain.sig(), Sig::from_bytes(token.sig()), unsatisfied)
+}
+
+/// The same of a token that is read where it lies.
+pub fn verify_view(key: &RootKey, token: &TokenView<'_>, context: &Context<'_>) -> Verdict
+    ensures { IsVerdict key.now token.now context.now result }
+{
+    let mut chain = Chain::start(key, token.identifier());
+    let mut unsatisfied = None;
+    let mut index = 0;
+    let _count = token.caveats();
+    for caveat in token.walk() {
+        chain.push(caveat);
+        unsatisfied = first_unsatisfied(unsatisfied, index, caveat, context);
+        index += 1;
+    }
+    conclusion(chain.sig(), Sig::from_bytes(token.sig()), unsatisfied)
+}
+
+/// The verdict at the end of a walk: whether the key's signature is the one that the token tells,
+/// then the caveat that was found.
+fn conclusion(signature: Sig, told: Sig, unsatisfied: Option<u16>) -> Verdict
+    ensures { Concludes signature told unsatisfied result }
+{
+    if !same(&signature, &told) {
         return Verdict::BadSignature;
     }
     match unsatisfied {
@@ -48,7 +72,7 @@ fn first_unsatisfied(
     found: Option<u16>,
     index: u16,
     caveat: &[u8],
-    context: &Context,
+    context: &Context<'_>,
 ) -> Option<u16>
     ensures { MatchOption found
         (MatchOption result

@@ -10,4 +10,4 @@ mod signature;
 
 pub use hmac_state::{HmacState, hmac};
 pub use key::{RootKey, root_key};
-pub use signature::{Sig, extend, same, start};
+pub use signature::{Chain, Sig, extend, same, start};

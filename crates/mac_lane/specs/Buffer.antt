@@ -1,4 +1,5 @@
--- A reorder buffer, as contracts see it, and what each call makes of it. All of it is this project's own.
+-- A reorder buffer, as contracts see it, and what each call makes of it. All of it is this
+-- project's own.
 use Rattle.std.specs.Prelude.{◌≡◌, ℕ, ◌+◌, ◌-◌, ◌<◌, ◌≤◌, ◌^◌, Bool, true, false, ◌==◌, if◌then◌else◌, nat_lt, nat_le, List, [], ◌∷◌, ◌++◌, length, Option, None, Some, IsSome}
 use Rattle.std.specs.FinMap.{FinMap, empty, get, contains_key, insert, remove}
 use Rattle.std.specs.Ordering.{nat_cmp}
@@ -10,7 +11,8 @@ use Rattle.mac_lane.specs.declared.fault.SettleFault.TheVariants.{Old, TooFar, T
 use Rattle.mac_lane.specs.declared.next.Next.{Next}
 use Rattle.mac_lane.specs.declared.next.Next.TheVariants.{Reply, Stranger, Closed, Waiting}
 
--- the place that is sent next, the jobs that are open from there on, the answers that wait by their places, and whether it is closed
+-- the place that is sent next, the jobs that are open from there on, the answers that wait by their
+-- places, and whether it is closed
 pub record Buffer (Job : Type 0) : Type 0 where
   pub next : ℕ
   pub slips : List Job
@@ -57,17 +59,25 @@ module _ {Job : Type 0} where
 
   -- the buffer once its next place is sent, which leaves these slips
   abbrev pub sent_off : Buffer Job → List Job → Buffer Job
-  sent_off buffer slips = record { next = buffer.next + 1; slips = slips; answers = remove buffer.answers buffer.next; closed = false }
+  sent_off buffer slips = record {
+    next = buffer.next + 1;
+    slips = slips;
+    answers = remove buffer.answers buffer.next;
+    closed = false;
+  }
 
-  -- what always holds: at most 128 slips, each with a place; answers wait within 128 places; a closed buffer has neither
+  -- what always holds: at most 128 slips, each with a place; answers wait within 128 places; a
+  -- closed buffer has neither
   pub record IsBounded (buffer : Buffer Job) : Type 0 where
     pub slips : length buffer.slips ≤ SLOTS
     pub places : place_to_open buffer < 2 ^ 64
-    pub answers : (place : ℕ) → IsSome (get buffer.answers place) → (buffer.next ≤ place) × (place < buffer.next + SLOTS)
+    pub answers : (place : ℕ) → IsSome (get buffer.answers place)
+        → (buffer.next ≤ place) × (place < buffer.next + SLOTS)
     pub closed : buffer.closed ≡ true → (buffer.slips ≡ []) × (buffer.answers ≡ empty)
 
 -- what goes out where these slips are open and this answer, if any, is at the next place
-abbrev pub meeting : {Which Job Reply : Type 0} → (Job → Job → Bool) → (Job → Reply) → Buffer Job → List Job → Option Job → Next Which Job Reply × Buffer Job
+abbrev pub meeting : {Which Job Reply : Type 0} → (Job → Job → Bool) → (Job → Reply) → Buffer Job
+    → List Job → Option Job → Next Which Job Reply × Buffer Job
 meeting same reply_to buffer [] answer = (Waiting, buffer)
 meeting same reply_to buffer (slip ∷ slips) None = (Waiting, buffer)
 meeting same reply_to buffer (slip ∷ slips) (Some answer) =
@@ -75,6 +85,8 @@ meeting same reply_to buffer (slip ∷ slips) (Some answer) =
     else (Stranger buffer.next, closed_off buffer)
 
 -- what goes out next, and the buffer after it
-abbrev pub next_of : {Which Job Reply : Type 0} → (Job → Job → Bool) → (Job → Reply) → Buffer Job → Next Which Job Reply × Buffer Job
+abbrev pub next_of : {Which Job Reply : Type 0} → (Job → Job → Bool) → (Job → Reply) → Buffer Job
+    → Next Which Job Reply × Buffer Job
 next_of same reply_to buffer =
-    if buffer.closed then (Closed, buffer) else meeting same reply_to buffer buffer.slips (get buffer.answers buffer.next)
+    if buffer.closed then (Closed, buffer)
+    else meeting same reply_to buffer buffer.slips (get buffer.answers buffer.next)

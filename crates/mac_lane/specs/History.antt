@@ -90,8 +90,8 @@ Spares Which reply_to state event number =
     slice_get (step reply_to state event).0.connections number ≡ slice_get state.connections number
 
 -- some events lead from the state to one whose connection 0 is open, with these jobs and replies
-pub record LeadsTo (Which : Type 0) {Job Reply : Type 0} (reply_to : Job → Reply) (state : State Job Reply)
-    (arrived : List Job) (sent : List Reply) : Type 0 where
+pub record LeadsTo (Which : Type 0) {Job Reply : Type 0} (reply_to : Job → Reply)
+    (state : State Job Reply) (arrived : List Job) (sent : List Reply) : Type 0 where
   pub events : Events Which Job Reply
   pub link : Connection Job Reply
   pub known : slice_get (ran reply_to state events).0.connections 0 ≡ Some link

@@ -17,7 +17,8 @@ module _ {Job : Type 0} where
   -- the answers of this many places from this one on, each in the slot of its place
   unfoldable pub answers_from : ℕ → ℕ → List (Option Job) → FinMap nat_cmp Job
   answers_from zero place slots = empty
-  answers_from (suc count) place slots = put_some place (in_slot slots place) (answers_from count (place + 1) slots)
+  answers_from (suc count) place slots =
+      put_some place (in_slot slots place) (answers_from count (place + 1) slots)
 
   -- the answers that wait: those of the 128 places from the next one on
   unfoldable pub answers_in : ℕ → List (Option Job) → FinMap nat_cmp Job
@@ -25,10 +26,17 @@ module _ {Job : Type 0} where
 
   -- the buffer that lies in these slots
   abbrev pub lies_as : ℕ → List Job → List (Option Job) → Bool → Buffer Job
-  lies_as next slips slots closed = record { next = next; slips = slips; answers = answers_in next slots; closed = closed }
+  lies_as next slips slots closed = record {
+    next = next;
+    slips = slips;
+    answers = answers_in next slots;
+    closed = closed;
+  }
 
--- how the fields fit together: 128 slots, or none once it is closed; room for 128 slips; each slip has a place
-pub record IsLaidOut {Job : Type 0} (next : ℕ) (slips : List Job) (room : ℕ) (slots : List (Option Job)) (closed : Bool) : Type 0 where
+-- how the fields fit together: 128 slots, or none once it is closed; room for 128 slips; each slip
+-- has a place
+pub record IsLaidOut {Job : Type 0} (next : ℕ) (slips : List Job) (room : ℕ)
+    (slots : List (Option Job)) (closed : Bool) : Type 0 where
   pub slips_fit : length slips ≤ SLOTS
   pub room_fits : SLOTS ≤ room
   pub places_fit : next + length slips < 2 ^ 64

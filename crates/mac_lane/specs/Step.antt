@@ -67,7 +67,8 @@ module _ {Job Reply : Type 0} where
   abbrev pub on_connection : State Job Reply → ℕ
       → (Connection Job Reply → Connection Job Reply × Outcome) → State Job Reply × Outcome
   on_connection state number act =
-      where_known state (slice_get state.connections number) (λ link. put_back state number (act link))
+      where_known state (slice_get state.connections number)
+      (λ link. put_back state number (act link))
 
   -- a worker that has this claim, if any, claims a place of this connection
   abbrev pub claim_with : State Job Reply → ℕ → Task → Option Task → Connection Job Reply
@@ -107,7 +108,8 @@ module _ {Job Reply : Type 0} where
   abbrev pub finish_with : State Job Reply → ℕ → Option Task → State Job Reply × Outcome
   finish_with state worker None = (state, Idle)
   finish_with state worker (Some task) =
-      where_known state (slice_get state.connections task.connection) (finish_task state worker task)
+      where_known state (slice_get state.connections task.connection)
+      (finish_task state worker task)
 
   -- a worker finishes what it has claimed
   abbrev pub finish_by : State Job Reply → ℕ → State Job Reply × Outcome

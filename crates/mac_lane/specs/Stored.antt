@@ -16,16 +16,29 @@ buffer_code {Job} job =
     (λ p. record { next = p.0; slips = p.1.0; answers = p.1.1.0; closed = p.1.1.1 })
     (λ _. refl)
 
-abbrev pub connection_code : {Job Reply : Type 0} → Coded Job → Coded Reply → Coded (Connection Job Reply)
+abbrev pub connection_code : {Job Reply : Type 0} → Coded Job → Coded Reply
+    → Coded (Connection Job Reply)
 connection_code {Job} {Reply} job reply =
     code_by (List Job × (List Reply × (Bool × (set.FinSet nat_cmp × set.FinSet nat_cmp))))
-    (coded× (coded_list job) (coded× (coded_list reply) (coded× coded_bool (coded× (set.code coded_ℕ) (set.code coded_ℕ)))))
+    (coded× (coded_list job) (coded× (coded_list reply)
+    (coded× coded_bool (coded× (set.code coded_ℕ) (set.code coded_ℕ)))))
     (λ c. (c.arrived, (c.sent, (c.closed, (c.claimed, c.finished)))))
-    (λ p. record { arrived = p.0; sent = p.1.0; closed = p.1.1.0; claimed = p.1.1.1.0; finished = p.1.1.1.1 })
+    (λ p. record {
+      arrived = p.0;
+      sent = p.1.0;
+      closed = p.1.1.0;
+      claimed = p.1.1.1.0;
+      finished = p.1.1.1.1;
+    })
     (λ _. refl)
 
 abbrev pub task_code : Coded Task
-task_code = code_by (ℕ × ℕ) (coded× coded_ℕ coded_ℕ) (λ t. (t.connection, t.place)) (λ p. record { connection = p.0; place = p.1 }) (λ _. refl)
+task_code =
+    code_by (ℕ × ℕ)
+    (coded× coded_ℕ coded_ℕ)
+    (λ t. (t.connection, t.place))
+    (λ p. record { connection = p.0; place = p.1 })
+    (λ _. refl)
 
 abbrev pub state_code : {Job Reply : Type 0} → Coded Job → Coded Reply → Coded (State Job Reply)
 state_code {Job} {Reply} job reply =

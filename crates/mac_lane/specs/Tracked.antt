@@ -1,4 +1,5 @@
--- How a connection of the world keeps its history in marks, beside a reorder buffer. Serves proofs alone.
+-- How a connection of the world keeps its history in marks, beside a reorder buffer. Serves proofs
+-- alone.
 use Rattle.std.specs.Prelude.{◌≡◌, ℕ, ◌+◌, ◌<◌, ◌≤◌, Bool, true, false, ◌&&◌, if◌then◌else◌, nat_le, List, [], ◌∷◌, length, drop, map, Option, None, slice_get, slice_index_or}
 use Rattle.std.specs.FinMap.{get}
 use Rattle.std.specs.FinSet.{FinSet, empty, insert}
@@ -25,7 +26,8 @@ is_finished Finished = true
 unfoldable pub marked_from : (Mark → Bool) → ℕ → List Mark → FinSet nat_cmp
 marked_from test place [] = empty
 marked_from test place (mark ∷ marks) =
-    if test mark then insert (marked_from test (place + 1) marks) place else marked_from test (place + 1) marks
+    if test mark then insert (marked_from test (place + 1) marks) place
+    else marked_from test (place + 1) marks
 
 -- the places whose marks pass the test
 unfoldable pub marked : (Mark → Bool) → List Mark → FinSet nat_cmp
@@ -38,23 +40,34 @@ passes test marks place = slice_index_or (map test marks) place false
 module _ {Job Reply : Type 0} where
   -- the connection that these fields keep
   abbrev pub kept_as : List Job → List Reply → List Mark → Bool → Connection Job Reply
-  kept_as arrived sent marks closed =
-      record { arrived = arrived; sent = sent; closed = closed; claimed = marked is_claimed marks; finished = marked is_finished marks }
+  kept_as arrived sent marks closed = record {
+    arrived = arrived;
+    sent = sent;
+    closed = closed;
+    claimed = marked is_claimed marks;
+    finished = marked is_finished marks;
+  }
 
 module _ {Job : Type 0} where
-  -- the answer that is to wait at a place: that of a finished place which is not among the first so many, those that were sent
+  -- the answer that is to wait at a place: that of a finished place which is not among the first so
+  -- many, those that were sent
   abbrev pub due : List Job → ℕ → List Mark → ℕ → Option Job
-  due arrived sent marks place = if nat_le sent place && passes is_finished marks place then slice_get arrived place else None
+  due arrived sent marks place =
+      if nat_le sent place && passes is_finished marks place then slice_get arrived place else None
 
--- what the buffer of an open connection holds: the jobs that are not sent, and the answers that are due
-pub record Follows {Job : Type 0} (arrived : List Job) (sent : ℕ) (marks : List Mark) (buffer : Buffer Job) : Type 0 where
+-- what the buffer of an open connection holds: the jobs that are not sent, and the answers that are
+-- due
+pub record Follows {Job : Type 0} (arrived : List Job) (sent : ℕ) (marks : List Mark)
+    (buffer : Buffer Job) : Type 0 where
   pub next : buffer.next ≡ sent
   pub slips : buffer.slips ≡ drop sent arrived
   pub answers : (place : ℕ) → get buffer.answers place ≡ due arrived sent marks place
   pub window : length arrived ≤ sent + SLOTS
 
--- how the fields fit together: a mark for each place, room for each reply, sent places finished, and the buffer in step while it is open
-pub record IsTracked {Job : Type 0} (arrived : List Job) (sent room : ℕ) (marks : List Mark) (closed : Bool) (buffer : Buffer Job) : Type 0 where
+-- how the fields fit together: a mark for each place, room for each reply, sent places finished,
+-- and the buffer in step while it is open
+pub record IsTracked {Job : Type 0} (arrived : List Job) (sent room : ℕ) (marks : List Mark)
+    (closed : Bool) (buffer : Buffer Job) : Type 0 where
   pub marks_fit : length marks ≡ length arrived
   pub room_fits : length arrived ≤ room
   pub sent_fits : sent ≤ length arrived

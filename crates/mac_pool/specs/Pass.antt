@@ -4,7 +4,8 @@ use Rattle.std.specs.List.{flat_map}
 use Rattle.std.specs.Coded.{Coded, code_by, coded×, coded_list, coded_ℕ}
 use Rattle.atomic_table.specs.Seated.{TableId, table_id_coded}
 
--- a pass: its line, its seat there, its number, and the entries that it put and that it claimed, each a place and the job there
+-- a pass: its line, its seat there, its number, and the entries that it put and that it claimed,
+-- each a place and the job there
 pub record Pass (Job : Type 0) : Type 0 where
   pub line : TableId
   pub seat : ℕ
@@ -15,9 +16,16 @@ pub record Pass (Job : Type 0) : Type 0 where
 abbrev pub pass_code : {Job : Type 0} → Coded Job → Coded (Pass Job)
 pass_code {Job} job =
     code_by (TableId × (ℕ × (ℕ × (List (ℕ × Job) × List (ℕ × Job)))))
-    (coded× table_id_coded (coded× coded_ℕ (coded× coded_ℕ (coded× (coded_list (coded× coded_ℕ job)) (coded_list (coded× coded_ℕ job))))))
+    (coded× table_id_coded (coded× coded_ℕ (coded× coded_ℕ
+    (coded× (coded_list (coded× coded_ℕ job)) (coded_list (coded× coded_ℕ job))))))
     (λ p. (p.line, (p.seat, (p.number, (p.put, p.claimed)))))
-    (λ p. record { line = p.0; seat = p.1.0; number = p.1.1.0; put = p.1.1.1.0; claimed = p.1.1.1.1 })
+    (λ p. record {
+      line = p.0;
+      seat = p.1.0;
+      number = p.1.1.0;
+      put = p.1.1.1.0;
+      claimed = p.1.1.1.1;
+    })
     (λ _. refl)
 
 module _ {Job : Type 0} where
@@ -31,7 +39,8 @@ module _ {Job : Type 0} where
 
   -- one and the same pass, whatever it has put or claimed in between
   abbrev pub IsSamePass : Pass Job → Pass Job → Type 0
-  IsSamePass before after = (after.line ≡ before.line) × (after.seat ≡ before.seat) × (after.number ≡ before.number)
+  IsSamePass before after =
+      (after.line ≡ before.line) × (after.seat ≡ before.seat) × (after.number ≡ before.number)
 
   -- the entries that the passes put, and those that they claimed, one pass after another
   abbrev pub all_put : List (Pass Job) → List (ℕ × Job)
@@ -41,7 +50,8 @@ module _ {Job : Type 0} where
   all_claimed passes = flat_map (λ (p : Pass Job). p.claimed) passes
 
 -- the same pass, with so many entries more that it has claimed and nothing more that it has put
-pub record HasClaimed {Job : Type 0} (before : Pass Job) (count : ℕ) (after : Pass Job) : Type 0 where
+pub record HasClaimed {Job : Type 0} (before : Pass Job) (count : ℕ)
+    (after : Pass Job) : Type 0 where
   pub same : IsSamePass before after
   pub put : after.put ≡ before.put
   pub more : List (ℕ × Job)
@@ -57,4 +67,5 @@ pub record IsFresh {Job : Type 0} (line : TableId) (number : ℕ) (pass : Pass J
 
 -- the passes are fresh, and have the numbers 0, 1, 2 and so on
 abbrev pub AreFresh : {Job : Type 0} → TableId → List (Pass Job) → Type 0
-AreFresh {Job} line passes = (number : ℕ) (pass : Pass Job) → slice_get passes number ≡ Some pass → IsFresh line number pass
+AreFresh {Job} line passes =
+    (number : ℕ) (pass : Pass Job) → slice_get passes number ≡ Some pass → IsFresh line number pass

@@ -8,7 +8,8 @@ use Rattle.mac_pool.specs.declared.line.TheConstants.{PASSES}
 use Rattle.mac_pool.specs.declared.line.tally.Tally.{Tally}
 use Rattle.mac_pool.specs.declared.pool.TheConstants.{WORKERS_MAX}
 
--- a pool: its line, the number of its workers, and its passes by their numbers, None where one is out
+-- a pool: its line, the number of its workers, and its passes by their numbers, None where one is
+-- out
 pub record Slots (Job : Type 0) : Type 0 where
   pub line : TableId
   pub workers : ℕ
@@ -31,7 +32,8 @@ module _ {Job : Type 0} where
 
   -- the passes from one number up to another are out
   abbrev pub AreOut : ℕ → ℕ → List (Option (Pass Job)) → Type 0
-  AreOut from to slots = (number : ℕ) → from ≤ number → number < to → slice_get slots number ≡ Some None
+  AreOut from to slots =
+      (number : ℕ) → from ≤ number → number < to → slice_get slots number ≡ Some None
 
   -- the pass of this number is at home
   abbrev pub IsHome : ℕ → List (Option (Pass Job)) → Type 0
@@ -53,19 +55,24 @@ module _ {Job : Type 0} where
 
   -- each is a pass of this line that has put nothing
   abbrev pub AreWorkers : TableId → List (Pass Job) → Type 0
-  AreWorkers line passes = (number : ℕ) (pass : Pass Job) → slice_get passes number ≡ Some pass → IsWorkers line pass
+  AreWorkers line passes =
+      (number : ℕ) (pass : Pass Job) → slice_get passes number ≡ Some pass → IsWorkers line pass
 
 -- so many passes of this line came, which put nothing, behind those that were there
-pub record IsBrought {Job : Type 0} (line : TableId) (count : ℕ) (before after : List (Pass Job)) : Type 0 where
+pub record IsBrought {Job : Type 0} (line : TableId) (count : ℕ)
+    (before after : List (Pass Job)) : Type 0 where
   pub brought : List (Pass Job)
   pub after_is : after ≡ before ++ brought
   pub count_is : length brought ≡ count
   pub idle : AreWorkers line brought
 
--- how the fields fit together: a slot for each pass, at home only in the slot of its number, the passes that were given to workers, and room for all
-pub record IsKept {Job : Type 0} (line : TableId) (given : List (Pass Job)) (threads_room : ℕ) (slots : List (Option (Pass Job))) (all : List (Pass Job)) (all_room : ℕ) : Type 0 where
+-- how the fields fit together: a slot for each pass, at home only in the slot of its number, the
+-- passes that were given to workers, and room for all
+pub record IsKept {Job : Type 0} (line : TableId) (given : List (Pass Job)) (threads_room : ℕ)
+    (slots : List (Option (Pass Job))) (all : List (Pass Job)) (all_room : ℕ) : Type 0 where
   pub slots_fit : length slots ≡ PASSES
-  pub homes : (number : ℕ) (pass : Pass Job) → slice_get slots number ≡ Some (Some pass) → (pass.line ≡ line) × (pass.number ≡ number)
+  pub homes : (number : ℕ) (pass : Pass Job) → slice_get slots number ≡ Some (Some pass)
+      → (pass.line ≡ line) × (pass.number ≡ number)
   pub given_fit : length given ≤ WORKERS_MAX
   pub given_room : WORKERS_MAX ≤ threads_room
   pub given_are : AreWorkers line given
@@ -77,9 +84,12 @@ pub record IsStarted {Job : Type 0} (workers : ℕ) (pool : Slots Job) : Type 0 
   pub count : pool.workers ≡ workers
   pub slots_fit : length pool.passes ≡ PASSES
   pub out : AreOut 0 workers pool.passes
-  pub homes : (number : ℕ) → workers ≤ number → number < PASSES → (pass : Pass Job) × (slice_get pool.passes number ≡ Some (Some pass)) × IsFresh pool.line number pass
+  pub homes : (number : ℕ) → workers ≤ number → number < PASSES →
+      (pass : Pass Job)
+      × (slice_get pool.passes number ≡ Some (Some pass)) × IsFresh pool.line number pass
 
--- the tally is of the pool's passes: those that its workers brought back, which put nothing, and those that were at home
+-- the tally is of the pool's passes: those that its workers brought back, which put nothing, and
+-- those that were at home
 pub record IsStopped {Job : Type 0} (pool : Slots Job) (tally : Tally) : Type 0 where
   pub brought : List (Pass Job)
   pub count : length brought ≡ pool.workers

@@ -4,7 +4,8 @@ use Rattle.mac_pool.specs.Lists.{IsSplitInto}
 use Rattle.mac_pool.specs.Pass.{Pass, all_put, all_claimed}
 use Rattle.mac_pool.specs.declared.line.tally.Tally.{Tally}
 
--- what the passes put is, each as often, what they claimed together with what is left; the numbers are these lists' lengths
+-- what the passes put is, each as often, what they claimed together with what is left; the numbers
+-- are these lists' lengths
 pub record IsTally {Job : Type 0} (passes : List (Pass Job)) (tally : Tally) : Type 0 where
   pub left : List (ℕ × Job)
   pub each : IsSplitInto (all_put passes) (all_claimed passes) left

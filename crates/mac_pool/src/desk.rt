@@ -156,7 +156,13 @@ impl<S: Service> Taker<S> {
     /// Announces a wait for a post or a ring. Look after it at everything that is waited for, and
     /// then sleep, or withdraw where something was found.
     pub fn announce(&self) -> Notice {
-        self.mail.announce()
+        self.mail.announce(u64::MAX)
+    }
+
+    /// Announces a wait for the post at this place, for one before it, or for a ring. A worker that
+    /// posts at a later place wakes nobody. Look after it as after [`Taker::announce`].
+    pub fn announce_due(&self, place: u64) -> Notice {
+        self.mail.announce(place)
     }
 
     /// Sleeps until a post or a ring after the announcement. It may return for no reason: look

@@ -7,6 +7,7 @@ pub mod desk;
 pub mod fault;
 pub mod gate;
 pub mod hand;
+pub mod laws;
 pub mod line;
 pub mod mailbox;
 pub mod pool;

@@ -14,8 +14,8 @@ use std::alloc::Global;
 use std::collections::LinkedList;
 use std::marker::Model;
 use std::sync::Wait;
-use std::sync::atomic::AtomicBool;
 use std::sync::atomic::Ordering::SeqCst;
+use std::sync::atomic::{AtomicBool, AtomicU64};
 
 /// The most posts that a mailbox holds.
 pub const MAIL_MAX: usize = 128;
@@ -54,6 +54,8 @@ pub(crate) type MailPass<S> = Pass<Post<S>, Taken<S>>;
 pub struct Mailbox<S: Service> {
     queue: RuledArrayQueue<Post<S>, Taken<S>, Told>,
     posts: Bell,
+    // Who waits for posts waits for the one at this place, or for one before it.
+    due: AtomicU64,
     room: Bell,
     is_closed: AtomicBool,
 }
@@ -77,6 +79,7 @@ impl<S: Service> Mailbox<S> {
         let mail = Mailbox {
             queue,
             posts: Bell::new(),
+            due: AtomicU64::new(u64::MAX),
             room: Bell::new(),
             is_closed: AtomicBool::new(false),
         };
@@ -173,7 +176,13 @@ impl<S: Service> Mailbox<S> {
         self.posts.ring();
     }
 
-    pub(crate) fn announce(&self) -> Notice {
+    /// Whether who waits for posts waits for that of this place. Asked after the post went in.
+    pub(crate) fn is_due(&self, place: u64) -> bool {
+        place <= self.due.load(SeqCst)
+    }
+
+    pub(crate) fn announce(&self, due: u64) -> Notice {
+        self.due.store(due, SeqCst);
         self.posts.announce()
     }
 

@@ -166,10 +166,9 @@ impl<S: Service, G: Gate> Pool<S, G> {
         let Ok((mail, taker)) = mailbox(alloc) else {
             return Err(DeskFault::NoMemory);
         };
-        let Ok(line) = Arc::try_clone(&self.line) else {
+        let Ok((line, pass)) = self.give(number) else {
             return Err(DeskFault::NoMemory);
         };
-        let pass = take_out(&mut self.passes, number);
         let putter = Putter { line, pass, mail };
         Ok(Desk { putter, taker })
     }
@@ -192,10 +191,9 @@ impl<S: Service, G: Gate> Pool<S, G> {
         let Some(number) = first_home(&self.passes, 0, WORKERS_MAX) else {
             return Err(HandFault::AllOut);
         };
-        let Ok(line) = Arc::try_clone(&self.line) else {
+        let Ok((line, pass)) = self.give(number) else {
             return Err(HandFault::NoMemory);
         };
-        let pass = take_out(&mut self.passes, number);
         Ok(Hand { line, pass })
     }
 
@@ -205,6 +203,18 @@ impl<S: Service, G: Gate> Pool<S, G> {
         ensures { self.new ≡ with_home self.old hand }
     {
         self.take_home(hand.into_pass());
+    }
+
+    /// Gives the pass of this number, with a handle on its line.
+    fn give(&mut self, number: usize) -> Result<(Arc<Line<S>, Global>, LinePass<S>), NoMemory>
+        requires home { IsHome number self.old.passes }
+        ensures given { IfOk result (λ given. IsGiven self.old given.1 self.new
+            × (given.1.number ≡ number) × (given.1.line ≡ arc_value given.0)) }
+        ensures same { OnErr result (self.new ≡ self.old) }
+    {
+        let line = Arc::try_clone(&self.line)?;
+        let pass = take_out(&mut self.passes, number);
+        Ok((line, pass))
     }
 
     fn take_home(&mut self, pass: LinePass<S>)

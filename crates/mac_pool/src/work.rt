@@ -236,7 +236,9 @@ fn post_all<S: Service, G: Gate, R: Wait>(
         let place = place_of(&post);
         mail.deliver(rt, post);
         gate.after(place);
-        owed.push_back_reserved(mail);
+        if mail.is_due(place) {
+            owed.push_back_reserved(mail);
+        }
     }
 }
 

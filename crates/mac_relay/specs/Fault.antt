@@ -8,7 +8,8 @@ abbrev pub admit_code : AdmitFault → ℕ
 admit_code Full = 1
 admit_code Last = 2
 
--- the first reason, if any, why no job is admitted, where so many slips are free and this is the job's place
+-- the first reason, if any, why no job is admitted, where so many slips are free and this is the
+-- job's place
 abbrev pub admit_fault : ℕ → ℕ → Option AdmitFault
 admit_fault free place =
     if free == 0 then Some Full

@@ -5,6 +5,11 @@ use Rattle.rtrb.specs.declared.consumer.Consumer.{Consumer}
 use Rattle.mac_lane.specs.Buffer.{Buffer}
 use Rattle.mac_relay.specs.Lane.{Exit}
 
-abbrev pub exit_code : {Job A P : Type 0} → Coded (Consumer Job A P) → Coded (Buffer Job) → Coded (Exit Job A P)
+abbrev pub exit_code : {Job A P : Type 0} → Coded (Consumer Job A P) → Coded (Buffer Job)
+    → Coded (Exit Job A P)
 exit_code {Job} {A} {P} ring buffer =
-    code_by (Consumer Job A P × Buffer Job) (coded× ring buffer) (λ e. (e.ring, e.buffer)) (λ p. record { ring = p.0; buffer = p.1 }) (λ _. refl)
+    code_by (Consumer Job A P × Buffer Job)
+    (coded× ring buffer)
+    (λ e. (e.ring, e.buffer))
+    (λ p. record { ring = p.0; buffer = p.1 })
+    (λ _. refl)

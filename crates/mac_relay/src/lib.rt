@@ -5,6 +5,7 @@
 
 pub mod fault;
 pub mod intake;
+pub mod laws;
 pub mod mark;
 mod numbered;
 pub mod outlet;

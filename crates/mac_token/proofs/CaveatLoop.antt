@@ -1,21 +1,13 @@
 -- Reading caveats one after the other, as a loop does.
-use Rattle.std.proofs.Common.{◌≡◌, ℕ, zero, suc, ◌<◌, List, [], ◌∷◌, ◌++◌, Option, Some, None, true, false, cond, length, refl, sym, ap, ◌∙◌, append_assoc, arith, length-append}
+use Rattle.std.proofs.Common.{◌≡◌, ℕ, zero, suc, ◌<◌, List, [], ◌∷◌, ◌++◌, Option, Some, None, true, false, cond, length, refl, ap, ◌∙◌, arith, length-append}
 use Rattle.std.specs.List.{flat_map}
-use Rattle.std.proofs.lemmas.List.{append-nil}
-use Rattle.mac_token.specs.declared.fault.ReadFault.{ReadFault}
-use Rattle.mac_token.specs.declared.fault.ReadFault.TheVariants.{Malformed, Memory}
 use Rattle.mac_token.specs.declared.v1.key.Key.TheVariants.{Cid}
 use Rattle.mac_token.specs.RawToken.{CaveatParts}
-use Rattle.mac_token.specs.Reads.{Fails}
 use Rattle.mac_token.specs.Steps.{◌>>=◌}
 use Rattle.mac_token.specs.V1.{Field, packet, vid_fields}
 use Rattle.mac_token.specs.V1Reading.{has_key, caveat_at, caveats_at}
 use Rattle.mac_token.proofs.Packets.{length-packet}
 use Rattle.mac_token.proofs.V1Caveats.{caveat_at_takes}
-
--- what was read before, and what is still read
-abbrev pub with_front : List CaveatParts → Option (List CaveatParts × List ℕ) → Option (List CaveatParts × List ℕ)
-with_front front reading = reading >>= λ x. Some (front ++ x.0, x.1)
 
 -- the caveats behind one that was read
 abbrev pub with_more : ℕ → CaveatParts × List ℕ → Option (List CaveatParts × List ℕ)
@@ -45,29 +37,21 @@ any_count (suc n) (suc m) bytes h k =
     ap (λ (o : Option (List CaveatParts × List ℕ)). cond (has_key Cid bytes) o (Some ([], bytes)))
     (same_more n m (caveat_at bytes) (λ c rest e. any_count n m rest (omega (arith, caveat_shortens bytes c rest e, h)) (omega (arith, caveat_shortens bytes c rest e, k))))
 
-regroup : (front : List CaveatParts) (c : CaveatParts) (reading : Option (List CaveatParts × List ℕ)) → with_front front (reading >>= λ cs. Some (c ∷ cs.0, cs.1)) ≡ with_front (front ++ c ∷ []) reading
-regroup front c (Some x) = ap (λ (cs : List CaveatParts). Some (cs, x.1)) (simp append_assoc)
-regroup front c None = refl
-
-pub goes_on : (front : List CaveatParts) (bytes : List ℕ) (c : CaveatParts) (rest : List ℕ) (total : Option (List CaveatParts × List ℕ)) → has_key Cid bytes ≡ true → caveat_at bytes ≡ Some (c, rest)
-    → with_front front (caveats_at (suc (length bytes)) bytes) ≡ total → with_front (front ++ c ∷ []) (caveats_at (suc (length rest)) rest) ≡ total
+-- one caveat, and those behind it
+pub v1_caveats_more : (bytes : List ℕ) (c : CaveatParts) (rest : List ℕ) → has_key Cid bytes ≡ true → caveat_at bytes ≡ Some (c, rest)
+    → caveats_at (suc (length bytes)) bytes ≡ with_more (suc (length rest)) (c, rest)
 unfolding caveats_at
-goes_on front bytes c rest total test read so_far =
-    let shorter = caveat_shortens bytes c rest read in
-    let fewer : caveats_at (length bytes) rest ≡ caveats_at (suc (length rest)) rest = any_count (length bytes) (suc (length rest)) rest shorter (omega arith) in
-    let one : with_front front (caveats_at (suc (length bytes)) bytes) ≡ with_front (front ++ c ∷ []) (caveats_at (length bytes) rest) = rw (test, read) (regroup front c (caveats_at (length bytes) rest)) in
-    sym (ap (with_front (front ++ c ∷ [])) fewer) ∙ sym one ∙ so_far
+v1_caveats_more bytes c rest test read =
+    let fewer = any_count (length bytes) (suc (length rest)) rest (caveat_shortens bytes c rest read) (omega arith) in
+    let one : caveats_at (suc (length bytes)) bytes ≡ with_more (length bytes) (c, rest) = rw (test, read) refl in
+    one ∙ ap (λ (cs : Option (List CaveatParts × List ℕ)). cs >>= λ cs. Some (c ∷ cs.0, cs.1)) fewer
 
-pub stops : (fault : ReadFault) (front : List CaveatParts) (bytes : List ℕ) (total : Option (List CaveatParts × List ℕ)) → has_key Cid bytes ≡ true → Fails fault (caveat_at bytes)
-    → with_front front (caveats_at (suc (length bytes)) bytes) ≡ total → Fails fault total
+-- a caveat that is none
+pub v1_caveats_fail : (bytes : List ℕ) → has_key Cid bytes ≡ true → caveat_at bytes ≡ None → caveats_at (suc (length bytes)) bytes ≡ None
 unfolding caveats_at
-stops Memory front bytes total test failed so_far = tt
-stops Malformed front bytes total test failed so_far =
-    let one : with_front front (caveats_at (suc (length bytes)) bytes) ≡ None = rw (test, failed) refl in
-    sym so_far ∙ one
+v1_caveats_fail bytes test none = rw (test, none) refl
 
-pub is_done : (front : List CaveatParts) (bytes : List ℕ) (total : Option (List CaveatParts × List ℕ)) → has_key Cid bytes ≡ false → with_front front (caveats_at (suc (length bytes)) bytes) ≡ total → total ≡ Some (front, bytes)
+-- no caveat
+pub v1_caveats_end : (bytes : List ℕ) → has_key Cid bytes ≡ false → caveats_at (suc (length bytes)) bytes ≡ Some ([], bytes)
 unfolding caveats_at
-is_done front bytes total test so_far =
-    let one : with_front front (caveats_at (suc (length bytes)) bytes) ≡ Some (front, bytes) = rw test (ap (λ (cs : List CaveatParts). Some (cs, bytes)) (append-nil front)) in
-    sym so_far ∙ one
+v1_caveats_end bytes test = rw test refl

@@ -27,6 +27,9 @@ pub mod V2Caveats
 pub mod V2Laws
 pub mod V2Writing
 pub mod V2Whole
+pub mod V2CaveatLoop
+pub mod CaveatsIn
+pub mod TallyLemmas
 pub mod ReadAnswers
 pub mod WritesLemmas
 pub mod ReadLemmas

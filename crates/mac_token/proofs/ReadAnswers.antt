@@ -15,10 +15,3 @@ answers_from_reads Spelled reading again takes (Err Malformed) reads = none_of r
     none_of None never = refl
     none_of (Some r) never = absurd (never r refl)
 answers_from_reads Spelled reading again takes (Err Memory) reads = tt
-
--- and the other way round
-pub reads_from_answers : (Spelled : RawParts → Type 0) (reading : Option RawParts) → ((r : RawParts) → Spelled r → reading ≡ Some r) → ((r : RawParts) → reading ≡ Some r → Spelled r)
-    → (result : Result RawParts ReadFault) → Answers (λ r. r) result reading → Reads (λ r. r) Spelled result
-reads_from_answers Spelled reading again takes (Ok r) given = takes r given
-reads_from_answers Spelled reading again takes (Err Malformed) given = λ r spelled. let read = again r spelled in cc
-reads_from_answers Spelled reading again takes (Err Memory) given = tt

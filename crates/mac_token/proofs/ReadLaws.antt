@@ -14,7 +14,7 @@ use Rattle.mac_token.specs.Answers.{IsFault, Answers, Ends}
 use Rattle.mac_token.specs.Limits.{IsWithinLimits, is_within, token_or_limit}
 use Rattle.mac_token.specs.RawToken.{CaveatParts, RawParts, TokenParts, first_party, raw_of}
 use Rattle.mac_token.specs.Spells.{Carries, Spells}
-use Rattle.mac_token.specs.Read.{parts_of, Read, ReadRaw, bare_bytes, bare_of, or_malformed, or_transport, raw_read_of, token_of, token_of_read, read_of}
+use Rattle.mac_token.specs.Read.{parts_of, Carried, Read, ReadRaw, bare_bytes, bare_of, or_malformed, or_transport, carried_of, raw_of_carried, raw_read_of, token_of, token_of_read, read_of}
 use Rattle.mac_token.proofs.ReadLemmas.{bare_bytes_takes, bare_bytes_again, bare_bytes_bytes, carries_one, bare_takes, bare_again}
 use Rattle.mac_token.proofs.Within.{is_within-Decides, token_or_limit-Ok, token_or_limit-Err}
 
@@ -28,6 +28,45 @@ ends_from_answers view IsEnd answer (Err Memory) is e = tt
 pub fault_through : (fault : TokenFault) (raw : Result RawParts TokenRefusal) → IsFault fault raw → IsFault fault (token_of_read raw)
 fault_through (Refused refusal) raw e = ap token_of_read e
 fault_through Memory raw e = tt
+
+-- the fault of what is carried is that of what is read
+pub fault_carried : (fault : TokenFault) (carried : Result (List ℕ) TokenRefusal) → IsFault fault carried → IsFault fault (raw_of_carried carried)
+fault_carried (Refused refusal) carried e = ap raw_of_carried e
+fault_carried Memory carried e = tt
+
+-- ---- what is carried
+
+carried_by : (long : Bool) (bytes : List ℕ) (reading : Option (List ℕ)) → nat_lt TOKEN_MAX (length bytes) ≡ long → bare_bytes bytes ≡ reading → Carried bytes (cond long (Err Limit) (or_transport reading))
+carried_by true bytes reading e is = ltb-true TOKEN_MAX (length bytes) e
+carried_by false bytes None e is = (ltb-false TOKEN_MAX (length bytes) e, λ (bare, carries). let read = bare_bytes_again bytes bare carries in cc)
+carried_by false bytes (Some bare) e is = (ltb-false TOKEN_MAX (length bytes) e, bare_bytes_takes bytes bare is)
+
+-- what is carried
+pub carried_means : (bytes : List ℕ) → Carried bytes (carried_of bytes)
+unfolding carried_of
+carried_means bytes = carried_by (nat_lt TOKEN_MAX (length bytes)) bytes (bare_bytes bytes) refl refl
+
+short_carried : (bytes : List ℕ) → length bytes ≤ TOKEN_MAX → carried_of bytes ≡ or_transport (bare_bytes bytes)
+unfolding carried_of
+short_carried bytes short = rw (le-ltb TOKEN_MAX (length bytes) short) refl
+
+nothing_bare : (bytes : List ℕ) (reading : Option (List ℕ)) → bare_bytes bytes ≡ reading → (¬ ((bare : List ℕ) × Carries bytes bare)) → reading ≡ None
+nothing_bare bytes None e never = refl
+nothing_bare bytes (Some bare) e never = absurd (never (bare, bare_bytes_takes bytes bare e))
+
+-- an input is taken in one way
+pub carried_once : (bytes : List ℕ) (x : Result (List ℕ) TokenRefusal) → Carried bytes x → carried_of bytes ≡ x
+unfolding carried_of
+carried_once bytes (Ok bare) (short, carries) = short_carried bytes short ∙ ap or_transport (bare_bytes_again bytes bare carries)
+carried_once bytes (Err Limit) long = rw (lt-ltb TOKEN_MAX (length bytes) long) refl
+carried_once bytes (Err Transport) (short, never) = short_carried bytes short ∙ ap or_transport (nothing_bare bytes (bare_bytes bytes) refl never)
+carried_once bytes (Err Malformed) carried = absurd carried
+carried_once bytes (Err ThirdParty) carried = absurd carried
+carried_once bytes (Err CaveatLocation) carried = absurd carried
+
+-- what answers as the function does ends as it is meant
+pub carried_ends : {X : Type 0} (view : X → List ℕ) (bytes : List ℕ) (result : Result X TokenFault) → Answers view result (carried_of bytes) → Ends view result (Carried bytes)
+carried_ends view bytes result answers = ends_from_answers view (Carried bytes) (carried_of bytes) result (carried_means bytes) answers
 
 -- ---- a raw token
 
@@ -43,20 +82,18 @@ bare_read bytes bare None short fits carries e = (
 )
 bare_read bytes bare (Some r) short fits carries e = (short, (bare, carries, bare_takes bare r fits e))
 
-bare_bytes_read : (bytes : List ℕ) (reading : Option (List ℕ)) → length bytes ≤ TOKEN_MAX → IsBytes bytes → bare_bytes bytes ≡ reading → ReadRaw bytes (or_transport reading)
-bare_bytes_read bytes None short fits e = (short, λ (bare, carries). let read = bare_bytes_again bytes bare carries in cc)
-bare_bytes_read bytes (Some bare) short fits e =
-    let carries = bare_bytes_takes bytes bare e in
-    bare_read bytes bare (bare_of bare) short (bare_bytes_bytes bytes bare fits carries) carries refl
-
-raw_read_by : (long : Bool) (bytes : List ℕ) → nat_lt TOKEN_MAX (length bytes) ≡ long → IsBytes bytes → ReadRaw bytes (cond long (Err Limit) (or_transport (bare_bytes bytes)))
-raw_read_by true bytes e fits = ltb-true TOKEN_MAX (length bytes) e
-raw_read_by false bytes e fits = bare_bytes_read bytes (bare_bytes bytes) (ltb-false TOKEN_MAX (length bytes) e) fits refl
+carried_read : (bytes : List ℕ) (carried : Result (List ℕ) TokenRefusal) → IsBytes bytes → Carried bytes carried → ReadRaw bytes (raw_of_carried carried)
+carried_read bytes (Ok bare) fits (short, carries) = bare_read bytes bare (bare_of bare) short (bare_bytes_bytes bytes bare fits carries) carries refl
+carried_read bytes (Err Limit) fits carried = carried
+carried_read bytes (Err Transport) fits carried = carried
+carried_read bytes (Err Malformed) fits carried = absurd carried
+carried_read bytes (Err ThirdParty) fits carried = absurd carried
+carried_read bytes (Err CaveatLocation) fits carried = absurd carried
 
 -- what is read up to the grammar
 pub raw_read_means : (bytes : List ℕ) → IsBytes bytes → ReadRaw bytes (raw_read_of bytes)
 unfolding raw_read_of
-raw_read_means bytes fits = raw_read_by (nat_lt TOKEN_MAX (length bytes)) bytes refl fits
+raw_read_means bytes fits = carried_read bytes (carried_of bytes) fits (carried_means bytes)
 
 -- what answers as the function does ends as it is meant
 pub raw_ends : {X : Type 0} (view : X → RawParts) (bytes : List ℕ) → IsBytes bytes → (result : Result X TokenFault) → Answers view result (raw_read_of bytes) → Ends view result (ReadRaw bytes)
@@ -145,18 +182,10 @@ read_means bytes fits = read_from bytes (raw_read_of bytes) (raw_read_means byte
 
 -- ---- one meaning
 
-pub short_read : (bytes : List ℕ) → length bytes ≤ TOKEN_MAX → raw_read_of bytes ≡ or_transport (bare_bytes bytes)
-unfolding raw_read_of
-short_read bytes short = rw (le-ltb TOKEN_MAX (length bytes) short) refl
-
 -- what is spelled within the greatest length is read
 pub spelled_read : (bytes : List ℕ) (r : RawParts) → length bytes ≤ TOKEN_MAX → Spells bytes r → raw_read_of bytes ≡ Ok r
-spelled_read bytes r short (bare, carries, is) =
-    short_read bytes short ∙ ap or_transport (bare_bytes_again bytes bare carries) ∙ ap or_malformed (bare_again bare r is)
-
-nothing_bare : (bytes : List ℕ) (reading : Option (List ℕ)) → bare_bytes bytes ≡ reading → (¬ ((bare : List ℕ) × Carries bytes bare)) → reading ≡ None
-nothing_bare bytes None e never = refl
-nothing_bare bytes (Some bare) e never = absurd (never (bare, bare_bytes_takes bytes bare e))
+unfolding raw_read_of
+spelled_read bytes r short (bare, carries, is) = ap raw_of_carried (carried_once bytes (Ok bare) (short, carries)) ∙ ap or_malformed (bare_again bare r is)
 
 nothing_spelled : (bytes bare : List ℕ) (reading : Option RawParts) → IsBytes bare → Carries bytes bare → bare_of bare ≡ reading → (¬ ((r : RawParts) × Spells bytes r)) → reading ≡ None
 nothing_spelled bytes bare None fits carries e never = refl
@@ -166,12 +195,12 @@ nothing_spelled bytes bare (Some r) fits carries e never = absurd (never (r, (ba
 pub raw_read_once : (bytes : List ℕ) (x : Result RawParts TokenRefusal) → IsBytes bytes → ReadRaw bytes x → raw_read_of bytes ≡ x
 unfolding raw_read_of
 raw_read_once bytes (Ok r) fits raw = spelled_read bytes r raw.0 raw.1
-raw_read_once bytes (Err Limit) fits raw = rw (lt-ltb TOKEN_MAX (length bytes) raw) refl
-raw_read_once bytes (Err Transport) fits raw = short_read bytes raw.0 ∙ ap or_transport (nothing_bare bytes (bare_bytes bytes) refl raw.1)
+raw_read_once bytes (Err Limit) fits raw = ap raw_of_carried (carried_once bytes (Err Limit) raw)
+raw_read_once bytes (Err Transport) fits raw = ap raw_of_carried (carried_once bytes (Err Transport) raw)
 raw_read_once bytes (Err Malformed) fits raw =
     let bare = raw.1.0 in
     let carries = raw.1.1 in
-    short_read bytes raw.0 ∙ ap or_transport (bare_bytes_again bytes bare carries)
+    ap raw_of_carried (carried_once bytes (Ok bare) (raw.0, carries))
     ∙ ap or_malformed (nothing_spelled bytes bare (bare_of bare) (bare_bytes_bytes bytes bare fits carries) carries refl raw.2)
 raw_read_once bytes (Err ThirdParty) fits raw = absurd raw
 raw_read_once bytes (Err CaveatLocation) fits raw = absurd raw

@@ -1,13 +1,7 @@
 -- A refusal of a part is one of the whole.
-use Rattle.std.proofs.Common.{◌≡◌, Option, None}
-use Rattle.mac_token.specs.Reads.{Refuses, Fails}
+use Rattle.mac_token.specs.Reads.{Refuses}
 use Rattle.mac_token.specs.declared.fault.ReadFault.{ReadFault}
 use Rattle.mac_token.specs.declared.fault.ReadFault.TheVariants.{Malformed, Memory}
-
--- where the part gives nothing, nothing is spelled; so the part's refusal is one of the whole
-pub refuses_from_part : {Y Z : Type 0} (fault : ReadFault) (reading : Option Y) (Spelled : Z → Type 0) → Fails fault reading → (reading ≡ None → (z : Z) → Spelled z → ⊥) → Refuses Spelled fault
-refuses_from_part Malformed reading Spelled fails nothing = nothing fails
-refuses_from_part Memory reading Spelled fails nothing = tt
 
 -- where the whole spells a part, a refusal of the part is one of the whole
 pub refuses_through : {Y Z : Type 0} (fault : ReadFault) (Part : Y → Type 0) (Spelled : Z → Type 0) → Refuses Part fault → ((z : Z) → Spelled z → (y : Y) × Part y) → Refuses Spelled fault

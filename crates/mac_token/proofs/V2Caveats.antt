@@ -1,7 +1,7 @@
 -- The sections of caveats, one after the other, and where they end.
-use Rattle.std.proofs.Common.{◌≡◌, ℕ, ◌<◌, List, [], ◌∷◌, ◌++◌, length, map, Option, Some, None, refl, sym, ap, subst, ◌∙◌, append_assoc, arith}
+use Rattle.std.proofs.Common.{◌≡◌, ℕ, ◌<◌, List, [], ◌∷◌, ◌++◌, length, map, Option, Some, None, refl, sym, ap, ◌∙◌, append_assoc, arith}
 use Rattle.std.specs.List.{flat_map}
-use Rattle.std.proofs.lemmas.List.{append-nil, length-append}
+use Rattle.std.proofs.lemmas.List.{length-append}
 use Rattle.base64.specs.GeneralPurpose.{IsBytes}
 use Rattle.mac_token.specs.RawToken.{CaveatParts}
 use Rattle.mac_token.specs.V2.{field, optional, section, end_mark}
@@ -70,65 +70,7 @@ caveats_more bytes s c after cs rest fits read says others = record {
   each = ap (λ (r : Option CaveatParts). r ∷ map caveat_said others.parts) says ∙ ap (λ (r : List (Option CaveatParts)). said c ∷ r) others.each;
 }
 
-first_of_parts : (parts : List SectionParts) (bytes : List ℕ) (s : SectionParts) (after : List ℕ) (cs : List CaveatParts) (rest : List ℕ) → section_at bytes ≡ Some (s, after) → bytes ≡ ended parts rest → map caveat_said parts ≡ map said cs → (c : CaveatParts) × (more : List CaveatParts) × (cs ≡ c ∷ more) × (caveat_said s ≡ Some c) × AreCaveats after more rest
-first_of_parts [] bytes s after cs rest read is each = let no : front s after ≡ None = sym read ∙ ap section_at is ∙ section_end rest in absurd cc
-first_of_parts (p ∷ ps) bytes s after [] rest read is each = absurd cc
-first_of_parts (p ∷ ps) bytes s after (c ∷ cs) rest read is each =
-    let same = same_front s p after (ended ps rest) (sym read ∙ ap section_at is ∙ section_at-ended p ps rest) in
-    let first : caveat_said p ≡ said c = cc in
-    let others : map caveat_said ps ≡ map said cs = cc in
-    (c, cs, refl, ap caveat_said same.0 ∙ first, record { parts = ps; spelled = same.1; each = others })
-
--- where a section stands at the front, it is the first caveat's
-pub caveats_first : (bytes : List ℕ) (s : SectionParts) (after : List ℕ) (cs : List CaveatParts) (rest : List ℕ) → section_at bytes ≡ Some (s, after) → AreCaveats bytes cs rest → (c : CaveatParts) × (more : List CaveatParts) × (cs ≡ c ∷ more) × (caveat_said s ≡ Some c) × AreCaveats after more rest
-caveats_first bytes s after cs rest read are = first_of_parts are.parts bytes s after cs rest read are.spelled are.each
-
-stop_of_parts : (parts : List SectionParts) (bytes rest : List ℕ) → section_at bytes ≡ None → bytes ≡ ended parts rest → end_at bytes ≡ Some rest
-stop_of_parts [] bytes rest none is = ap end_at is ∙ end_again rest
-stop_of_parts (p ∷ ps) bytes rest none is = let no : front p (ended ps rest) ≡ None = sym (section_at-ended p ps rest) ∙ sym (ap section_at is) ∙ none in absurd cc
-
--- where none stands there, no caveat comes, and the end mark does
-pub caveats_stop : (bytes : List ℕ) (cs : List CaveatParts) (rest : List ℕ) → section_at bytes ≡ None → AreCaveats bytes cs rest → end_at bytes ≡ Some rest
-caveats_stop bytes cs rest none are = stop_of_parts are.parts bytes rest none are.spelled
-
 -- ---- reading them one after the other
-
--- the caveats read so far, and those of the rest, are those of the bytes
-pub record Continues (bytes : List ℕ) (done : List CaveatParts) (rest : List ℕ) : Type 0 where
-  pub on : (cs : List CaveatParts) (after : List ℕ) → AreCaveats rest cs after → AreCaveats bytes (done ++ cs) after
-  pub fits : IsBytes rest
-  pub back : (cs : List CaveatParts) (after : List ℕ) → AreCaveats bytes cs after → (more : List CaveatParts) × AreCaveats rest more after
-
-pub continues_start : (bytes : List ℕ) → IsBytes bytes → Continues bytes [] bytes
-continues_start bytes fits = record { on = λ cs after are. are; fits = fits; back = λ cs after are. (cs, are) }
-
-pub continues_more : (bytes : List ℕ) (done : List CaveatParts) (rest : List ℕ) (s : SectionParts) (c : CaveatParts) (after : List ℕ) → Continues bytes done rest → section_at rest ≡ Some (s, after) → caveat_said s ≡ Some c → Continues bytes (done ++ c ∷ []) after
-continues_more bytes done rest s c after so_far read says = record {
-  fits = (section_takes rest s after so_far.fits read).rest_fits;
-  on = λ cs end are. subst (λ (all : List CaveatParts). AreCaveats bytes all end) (sym (append_assoc done (c ∷ []) cs)) (so_far.on (c ∷ cs) end (caveats_more rest s c after cs end so_far.fits read says are));
-  back = λ cs end are. let b = so_far.back cs end are in let f = caveats_first rest s after b.0 end read b.1 in (f.1, f.4);
-}
-
--- a section whose location is no text is no caveat's
-pub continues_refused : (bytes : List ℕ) (done : List CaveatParts) (rest : List ℕ) (s : SectionParts) (after : List ℕ) → Continues bytes done rest → section_at rest ≡ Some (s, after) → caveat_said s ≡ None → (cs : List CaveatParts) (end : List ℕ) → AreCaveats bytes cs end → ⊥
-continues_refused bytes done rest s after so_far read says cs end are =
-    let b = so_far.back cs end are in
-    let f = caveats_first rest s after b.0 end read b.1 in
-    let no : said f.0 ≡ None = sym f.3 ∙ says in
-    cc
-
-abbrev some_rest : List ℕ → Option (List ℕ)
-some_rest rest = Some rest
-
--- neither a section nor the end mark
-pub continues_stuck : (bytes : List ℕ) (done : List CaveatParts) (rest : List ℕ) → Continues bytes done rest → section_at rest ≡ None → end_at rest ≡ None → (cs : List CaveatParts) (end : List ℕ) → AreCaveats bytes cs end → ⊥
-continues_stuck bytes done rest so_far none no_end cs end are =
-    let b = so_far.back cs end are in
-    let no : some_rest end ≡ None = sym (caveats_stop rest b.0 end none b.1) ∙ no_end in
-    cc
-
-pub continues_end : (bytes : List ℕ) (done : List CaveatParts) (rest after : List ℕ) → Continues bytes done rest → end_at rest ≡ Some after → AreCaveats bytes done after
-continues_end bytes done rest after so_far e = subst (λ (all : List CaveatParts). AreCaveats bytes all after) (append-nil done) (so_far.on [] after (caveats_end rest after so_far.fits e))
 
 -- a section takes at least a byte
 pub section_shorter : (bytes : List ℕ) (s : SectionParts) (after : List ℕ) → IsBytes bytes → section_at bytes ≡ Some (s, after) → length after < length bytes

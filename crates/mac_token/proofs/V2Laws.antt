@@ -47,25 +47,6 @@ spells_from_V2 bytes head rest r read v =
       sig = v.sig;
     }
 
--- a token that is spelled has a section of its own
-pub no_head : (bytes : List ℕ) → head_at bytes ≡ None → (r : RawParts) → V2 bytes r → ⊥
-no_head bytes none r v = let no : front v.head (ended v.caveats (field Signature r.sig)) ≡ None = sym (V2_head bytes r v) ∙ none in cc
-
-abbrev some_text : List ℕ → Option (List ℕ)
-some_text text = Some text
-
--- and a location that is text
-pub no_location : (bytes : List ℕ) (head : SectionParts) (rest : List ℕ) → head_at bytes ≡ Some (head, rest) → text_at (location_bytes head) ≡ None → (r : RawParts) → V2 bytes r → ⊥
-no_location bytes head rest read none r v = let no : some_text r.location ≡ None = sym (spells_from_V2 bytes head rest r read v).location ∙ none in cc
-
--- and a signature behind its caveats
-pub no_signature : (bytes : List ℕ) (head : SectionParts) (rest : List ℕ) (cs : List CaveatParts) (after : List ℕ) → head_at bytes ≡ Some (head, rest) → AreCaveats rest cs after → signature_at after ≡ None → (r : RawParts) → V2 bytes r → ⊥
-no_signature bytes head rest cs after read are none r v =
-    let s = spells_from_V2 bytes head rest r read v in
-    let same = one_caveats rest cs r.caveats after (field Signature r.sig) are s.caveats in
-    let no : some_text r.sig ≡ None = sym (signature_again r.sig s.sig) ∙ sym (ap signature_at same.1) ∙ none in
-    cc
-
 -- what is read part by part is spelled
 pub V2_from_parts : (bytes : List ℕ) (head : SectionParts) (rest location : List ℕ) (cs : List CaveatParts) (after sig : List ℕ) → IsBytes bytes → head_at bytes ≡ Some (head, rest) → text_at (location_bytes head) ≡ Some location → AreCaveats rest cs after → signature_at after ≡ Some sig → V2 bytes (record { location = location; identifier = head.identifier; caveats = cs; sig = sig })
 V2_from_parts bytes head rest location cs after sig fits read text are last =

@@ -1,5 +1,5 @@
 -- The test of the limits.
-use Rattle.std.proofs.Common.{◌≡◌, ℕ, ◌≤◌, Bool, true, false, ◌&&◌, cond, List, length, Ok, Err, refl, ◌+◌, ◌-◌, ◌++◌, length-append, arith, subst}
+use Rattle.std.proofs.Common.{◌≡◌, ℕ, ◌≤◌, Bool, true, false, ◌&&◌, cond, List, map, length, Ok, Err, refl, ◌+◌, ◌-◌, ◌++◌, length-append, arith, subst}
 use Rattle.std.specs.Prelude.{nat_le}
 use Rattle.std.specs.List.{list_all}
 use Rattle.std.specs.Bool.{Decides}
@@ -7,9 +7,10 @@ use Rattle.std.proofs.lemmas.Bool.{leb-true, le-leb}
 use Rattle.std.proofs.lemmas.Bool.Decides.{Decides-and, Decides-like, Decides-by_and}
 use Rattle.std.proofs.lemmas.List.{get_or-append-add}
 use Rattle.std.proofs.lemmas.List.Elements.{All-append}
+use Rattle.std.proofs.lemmas.List.Folds.{list_all-map}
 use Rattle.mac_token.specs.declared.limits.TheConstants.{LOCATION_MAX, IDENTIFIER_MAX, CAVEAT_MAX, CAVEATS_MAX}
 use Rattle.mac_token.specs.declared.fault.TokenRefusal.TheVariants.{Limit}
-use Rattle.mac_token.specs.RawToken.{TokenParts}
+use Rattle.mac_token.specs.RawToken.{CaveatParts, TokenParts}
 use Rattle.mac_token.specs.Limits.{IsWithinLimits, PartsFit, AreShort, is_within, token_or_limit}
 
 at_most : (a b : ℕ) → Decides (nat_le a b) (a ≤ b)
@@ -64,3 +65,9 @@ pub fit_short : (location identifier : List ℕ) (caveats added : List (List ℕ
 fit_short location identifier caveats added fit = λ k d below.
     let at = fit.each (length caveats + k) d (omega (arith, length-append caveats added)) in
     subst (λ (c : List ℕ). length c ≤ CAVEAT_MAX) (get_or-append-add caveats added k d) at
+
+-- the test of caveats by their bytes
+pub short_ids : (caveats : List CaveatParts) → Decides (list_all (λ c. nat_le (length c.id) CAVEAT_MAX) caveats) (AreShort (map (λ c. c.id) caveats))
+short_ids caveats =
+    subst (λ (b : Bool). Decides b (AreShort (map (λ c. c.id) caveats)))
+    (list_all-map (λ (caveat : List ℕ). nat_le (length caveat) CAVEAT_MAX) (λ (c : CaveatParts). c.id) caveats) (are_short (map (λ c. c.id) caveats))

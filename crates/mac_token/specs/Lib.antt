@@ -1,8 +1,10 @@
+pub mod CaveatsIn
 pub mod Fault
 pub mod Form
 pub mod Limits
 pub mod RawToken
 pub mod Reads
+pub mod Room
 pub mod Location
 pub mod Section
 pub mod V1

@@ -1,5 +1,5 @@
 -- What reading answers, in the order of its tests.
-use Rattle.std.specs.Prelude.{◌⊎◌, ℕ, ◌<◌, ◌≤◌, ◌==◌, ◌||◌, nat_lt, Bool, if◌then◌else◌, List, [], ◌∷◌, map, length, is_some, Option, Some, None, IsSome, Result, Ok, Err, Any}
+use Rattle.std.specs.Prelude.{◌⊎◌, ℕ, ◌<◌, ◌≤◌, ◌==◌, ◌||◌, nat_lt, Bool, false, if◌then◌else◌, List, [], ◌∷◌, map, length, is_some, Option, Some, None, IsSome, Result, Ok, Err, Any}
 use Rattle.std.specs.List.{list_any}
 use Rattle.mac_token.specs.declared.fault.TokenRefusal.{TokenRefusal}
 use Rattle.mac_token.specs.declared.fault.TokenRefusal.TheVariants.{Transport, Malformed, ThirdParty, Limit, CaveatLocation}
@@ -30,6 +30,13 @@ parts_of r = token_parts r.location r.identifier (map (λ c. c.id) r.caveats) r.
 abbrev pub IsInBound : List ℕ → Type 0
 IsInBound bytes = length bytes ≤ TOKEN_MAX
 
+-- what an input is taken for: by its length, else by what it carries
+abbrev pub Carried : List ℕ → Result (List ℕ) TokenRefusal → Type 0
+Carried bytes (Ok bare) = IsInBound bytes × Carries bytes bare
+Carried bytes (Err Limit) = TOKEN_MAX < length bytes
+Carried bytes (Err Transport) = IsInBound bytes × (¬ ((bare : List ℕ) × Carries bytes bare))
+Carried bytes (Err _) = ⊥
+
 -- how reading ends up to the grammar: by the input's length, else its transport, else its form
 abbrev pub ReadRaw : List ℕ → Result RawParts TokenRefusal → Type 0
 ReadRaw bytes (Ok r) = IsInBound bytes × Spells bytes r
@@ -51,11 +58,17 @@ Read bytes (Err Limit) = ReadRaw bytes (Err Limit)
     ⊎ ((r : RawParts) × ReadRaw bytes (Ok r) × (¬ AnyVid r) × (¬ AnyLocation r)
     × (¬ IsWithinLimits (parts_of r)))
 
--- ---- for proofs: the same as functions; laws `raw_read_is_meant`, `read_is_meant` tie them to it
+-- ---- for proofs: the same as functions; laws `carried_is_meant`, `raw_read_is_meant`,
+-- `read_is_meant` tie them to it
 
 -- the first byte is one of `0`, 2 and `{`
 abbrev pub calls_for_bare : ℕ → Bool
 calls_for_bare b = b == 48 || (b == 2 || b == 123)
+
+-- an input is itself to be a bare form
+abbrev pub begins_bare : List ℕ → Bool
+begins_bare [] = false
+begins_bare (b ∷ bytes) = calls_for_bare b
 
 -- the bytes that are to be a bare form
 unfoldable pub bare_bytes : List ℕ → Option (List ℕ)
@@ -73,15 +86,24 @@ abbrev pub or_malformed : Option RawParts → Result RawParts TokenRefusal
 or_malformed None = Err Malformed
 or_malformed (Some r) = Ok r
 
--- the raw token in what is carried, or Transport
-abbrev pub or_transport : Option (List ℕ) → Result RawParts TokenRefusal
+-- the bytes that are carried, or Transport
+abbrev pub or_transport : Option (List ℕ) → Result (List ℕ) TokenRefusal
 or_transport None = Err Transport
-or_transport (Some bare) = or_malformed (bare_of bare)
+or_transport (Some bare) = Ok bare
+
+-- what `bare` answers
+unfoldable pub carried_of : List ℕ → Result (List ℕ) TokenRefusal
+carried_of bytes =
+    if nat_lt TOKEN_MAX (length bytes) then Err Limit else or_transport (bare_bytes bytes)
+
+-- the raw token in what is carried, or the refusal of the input
+abbrev pub raw_of_carried : Result (List ℕ) TokenRefusal → Result RawParts TokenRefusal
+raw_of_carried (Err fault) = Err fault
+raw_of_carried (Ok bare) = or_malformed (bare_of bare)
 
 -- what `read_raw` answers
 unfoldable pub raw_read_of : List ℕ → Result RawParts TokenRefusal
-raw_read_of bytes =
-    if nat_lt TOKEN_MAX (length bytes) then Err Limit else or_transport (bare_bytes bytes)
+raw_read_of bytes = raw_of_carried (carried_of bytes)
 
 -- a raw token as a token, or why it is none
 unfoldable pub token_of : RawParts → Result TokenParts TokenRefusal

@@ -13,7 +13,7 @@ ghost use Rattle.mac_token.specs.Json.{JsonText, json_bytes};
 ghost use Rattle.mac_token.specs.JsonReading.{json_text_of};
 ghost use Rattle.mac_token.specs.Limits.{IsWithinLimits, is_within};
 ghost use Rattle.mac_token.specs.RawToken.{RawParts, TokenParts, IsToken, byte_lists, raw_of};
-ghost use Rattle.mac_token.specs.Read.{Read, ReadRaw, read_of, raw_read_of};
+ghost use Rattle.mac_token.specs.Read.{Carried, Read, ReadRaw, bare_of, carried_of, or_malformed, read_of, raw_read_of, token_of_read};
 ghost use Rattle.mac_token.specs.Spells.{Spells};
 ghost use Rattle.mac_token.specs.V1.{V1, v1_bytes};
 ghost use Rattle.mac_token.specs.V1Reading.{v1_of};
@@ -83,6 +83,20 @@ fn all_are_bytes(lists: &[Vec<u8>])
 pub fn read_is_meant()
     ensures { (bytes : List ℕ) (end : Result TokenParts TokenRefusal) → IsBytes bytes
         → Read bytes end ↔ (read_of bytes ≡ end) }
+{}
+
+/// What the function of `bare` gives is the one way in which an input may be taken.
+pub fn carried_is_meant()
+    ensures { (bytes : List ℕ) (end : Result (List ℕ) TokenRefusal) →
+        Carried bytes end ↔ (carried_of bytes ≡ end) }
+{}
+
+/// What is read is what the bytes that are carried spell, or the refusal of the input.
+pub fn read_through_bare()
+    ensures taken { (input bytes : List ℕ) → carried_of input ≡ Ok bytes
+        → read_of input ≡ token_of_read (or_malformed (bare_of bytes)) }
+    ensures refused { (input : List ℕ) (refusal : TokenRefusal) → carried_of input ≡ Err refusal
+        → read_of input ≡ Err refusal }
 {}
 
 /// The same up to the grammar.

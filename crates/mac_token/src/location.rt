@@ -1,6 +1,6 @@
 //! Locations, which are texts; the empty one counts as absent.
 
-ghost use Rattle.std.specs.Prelude.{◌≡◌, string_bytes};
+ghost use Rattle.std.specs.Prelude.{◌≡◌, option_map, string_bytes};
 ghost use Rattle.mac_token.specs.Location.{text_at, location_at};
 ghost use Rattle.mac_token.specs.RawToken.{text_of};
 ghost use Rattle.mac_token.specs.Reads.{Answers};
@@ -8,13 +8,23 @@ ghost use Rattle.mac_token.specs.Reads.{Answers};
 use crate::fault::ReadFault;
 use std::alloc::Global;
 
-/// The text of these bytes; `Malformed` where they are not UTF-8.
+/// The text of these bytes, where they are UTF-8.
+pub(crate) fn text(bytes: &[u8]) -> Option<&str>
+    ensures { option_map (λ text. text.now) result ≡ text_at bytes.now }
+{
+    match str::from_utf8(bytes) {
+        Ok(text) => Some(text),
+        Err(_) => None,
+    }
+}
+
+/// A copy of the text of these bytes; `Malformed` where they are not UTF-8.
 pub(crate) fn copied_text(alloc: Global, bytes: &[u8]) -> Result<String, ReadFault>
     ensures { Answers (λ text. string_bytes text) result (text_at bytes.now) }
 {
-    match str::from_utf8(bytes) {
-        Ok(text) => Ok(String::from_str(alloc, text)?),
-        Err(_) => Err(ReadFault::Malformed),
+    match text(bytes) {
+        Some(text) => Ok(String::from_str(alloc, text)?),
+        None => Err(ReadFault::Malformed),
     }
 }
 

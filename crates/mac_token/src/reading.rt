@@ -15,14 +15,17 @@ ghost use Rattle.mac_token.specs.RawToken.{byte_lists};
 ghost use Rattle.std.specs.List.{list_any};
 ghost use Rattle.mac_token.specs.Answers.{Answers, Ends};
 ghost use Rattle.mac_token.specs.Base64Reading.{base64_bytes};
-ghost use Rattle.mac_token.specs.Read.{IsInBound, Read, ReadRaw, calls_for_bare, bare_of, or_transport, raw_read_of, token_of, read_of};
+ghost use Rattle.mac_token.specs.Read.{Carried, IsInBound, Read, ReadRaw, calls_for_bare, bare_of, or_transport, carried_of, raw_read_of, token_of, read_of};
 ghost use Rattle.mac_token.specs.Reads as reads;
+ghost use Rattle.mac_token.specs.Room.{Holds};
+ghost use Rattle.std.specs.Borrow.{sem};
 
 use crate::fault::{NoMemory, ReadFault, TokenFault, TokenRefusal};
 use crate::limits::TOKEN_MAX;
 use crate::raw::{RawCaveat, RawToken};
+use crate::raw_view::RawView;
 use crate::token::Token;
-use crate::{base64_text, v1, v2, v2_json};
+use crate::{base64_text, v2_json};
 use std::alloc::Global;
 
 fn calls_for_bare(first: u8) -> bool
@@ -31,44 +34,69 @@ fn calls_for_bare(first: u8) -> bool
     first == b'0' || first == 2 || first == b'{'
 }
 
-#[tactic(auto, unfolding(crate::specs::Read::bare_of))]
-fn bare(alloc: Global, bytes: &[u8]) -> Result<RawToken, ReadFault>
-    ensures { reads.Answers (λ raw. raw) result (bare_of bytes.now) }
+/// The bytes that are to be a bare form: the input itself where its first byte calls for one, else
+/// what it stands for as base64 text, which is kept in the room. `Limit` where the input is longer
+/// than a token may be; `Transport` where it carries nothing, or `Memory` in its place. What the
+/// room held is dropped.
+#[tactic(auto, unfolding(crate::specs::Read::bare_bytes, crate::specs::Read::carried_of))]
+pub fn bare<'a>(
+    room: &'a mut Vec<u8>,
+    alloc: Global,
+    input: &'a [u8],
+) -> Result<&'a [u8], TokenFault>
+    ensures answer { Answers (λ bytes. bytes.now) result (carried_of input.now) }
+    ensures meaning { Ends (λ bytes. bytes.now) result (Carried input.now) }
+    ensures memory { result ≡ Err TokenFault.Memory → IsInBound input.now }
+    ensures* kept { sem 𝓛 (Holds room.entry input.now result) }
 {
-    match bytes {
-        [b'0', ..] => v1::read(alloc, bytes),
-        [2, ..] => v2::read(alloc, bytes),
-        [b'{', ..] => v2_json::read(alloc, bytes),
-        _ => Err(ReadFault::Malformed),
+    room.clear();
+    if input.len() > TOKEN_MAX {
+        return Err(TokenFault::Refused(TokenRefusal::Limit));
+    }
+    match input {
+        [] => Err(TokenFault::Refused(TokenRefusal::Transport)),
+        [first, ..] if calls_for_bare(*first) => Ok(input),
+        _ => {
+            *room = decoded(alloc, input)?;
+            Ok(room.as_slice())
+        }
     }
 }
 
-fn decoded(alloc: Global, text: &[u8]) -> Result<RawToken, TokenFault>
-    ensures { Answers (λ raw. raw) result (or_transport (base64_bytes text.now)) }
+fn decoded(alloc: Global, text: &[u8]) -> Result<Vec<u8>, TokenFault>
+    ensures { Answers (λ bytes. bytes.items) result (or_transport (base64_bytes text.now)) }
 {
     match base64_text::decode(alloc, text)? {
-        Some(bytes) => Ok(bare(alloc, &bytes)?),
+        Some(bytes) => Ok(bytes),
         None => Err(TokenFault::Refused(TokenRefusal::Transport)),
     }
 }
 
+/// What a bare form spells.
+#[tactic(auto, unfolding(crate::specs::Read::bare_of))]
+fn spelled(alloc: Global, bytes: &[u8]) -> Result<RawToken, ReadFault>
+    ensures { reads.Answers (λ raw. raw) result (bare_of bytes.now) }
+{
+    if let [b'{', ..] = bytes {
+        return v2_json::read(alloc, bytes);
+    }
+    match RawView::of(bytes) {
+        Some(view) => view.copied(alloc),
+        None => Err(ReadFault::Malformed),
+    }
+}
+
 /// What the bytes spell, a token or not. Time and memory are linear in the bytes. The first refusal
-/// that applies: `Limit` where the bytes are longer than a token may be, `Transport` where they
-/// carry no bare form, `Malformed` where they spell nothing; `Memory` in place of any but `Limit`.
-#[tactic(auto, unfolding(crate::specs::Read::bare_bytes, crate::specs::Read::raw_read_of))]
+/// that applies: those of `bare`; `Malformed` where the bytes spell nothing, or `Memory` in its
+/// place.
 pub fn read_raw(alloc: Global, bytes: &[u8]) -> Result<RawToken, TokenFault>
     ensures answer { Answers (λ raw. raw) result (raw_read_of bytes.now) }
     ensures meaning { Ends (λ raw. raw) result (ReadRaw bytes.now) }
     ensures memory { result ≡ Err TokenFault.Memory → IsInBound bytes.now }
 {
-    if bytes.len() > TOKEN_MAX {
-        return Err(TokenFault::Refused(TokenRefusal::Limit));
-    }
-    match bytes {
-        [] => Err(TokenFault::Refused(TokenRefusal::Transport)),
-        [first, ..] if calls_for_bare(*first) => Ok(bare(alloc, bytes)?),
-        _ => decoded(alloc, bytes),
-    }
+    let mut room = Vec::new(alloc);
+    let bare = bare(&mut room, alloc, bytes)?;
+    Ok(spelled(alloc, bare)?)
 }
 
 fn has_vid(raw: &RawToken) -> bool

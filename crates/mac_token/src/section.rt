@@ -33,9 +33,9 @@ impl<'a> Model for Section<'a> {
     } };
 }
 
-impl Section<'_> {
+impl<'a> Section<'a> {
     /// The location's bytes, none where it is absent.
-    pub(crate) fn location_or_empty(&self) -> &[u8]
+    pub(crate) fn location_or_empty(&self) -> &'a [u8]
         ensures { result.now ≡ location_bytes self.now }
     {
         match self.location {

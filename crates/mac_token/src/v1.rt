@@ -14,5 +14,5 @@ mod key;
 mod reading;
 mod writing;
 
-pub(crate) use reading::read;
+pub(crate) use reading::{after_caveats, next_section, view};
 pub(crate) use writing::{write, written_len};

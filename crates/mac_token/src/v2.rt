@@ -15,7 +15,7 @@ ghost use Rattle.std.specs.Prelude.{◌≡◌};
 mod reading;
 mod writing;
 
-pub(crate) use reading::read;
+pub(crate) use reading::{end, section, view};
 pub(crate) use writing::{write, written_len};
 
 /// The first byte, which tells V2 binary from the other forms.

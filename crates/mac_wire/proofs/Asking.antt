@@ -1,22 +1,21 @@
 -- A payload asks a request exactly where it is read as that request.
-use Rattle.std.proofs.Common.{◌≡◌, ℕ, suc, ◌^◌, eqb, List, [], ◌∷◌, ◌++◌, Some, None, Result, Ok, Err, refl, sym, ap, subst, ◌∙◌, arith, inl, inr}
-use Rattle.std.specs.Prelude.{IfOk}
+use Rattle.std.proofs.Common.{◌≡◌, ℕ, suc, ◌^◌, eqb, List, [], ◌∷◌, ◌++◌, Option, Some, None, refl, sym, ap, subst, ◌∙◌, arith, inl, inr}
+use Rattle.std.specs.Prelude.{IfSome}
+use Rattle.std.specs.Option.{option_map}
 use Rattle.std.specs.Int.{w64, to_be_bytes}
 use Rattle.std.proofs.lemmas.Bool.{eqb-true}
 use Rattle.std.proofs.lemmas.List.{append-nil}
 use Rattle.std.proofs.lemmas.List.Elements.{All-from_recursion, recursion_from_All}
 use Rattle.mac_wire.specs.declared.request.TokenForm.{TokenForm}
 use Rattle.mac_wire.specs.declared.request.Request.{Request}
-use Rattle.mac_wire.specs.declared.request.RequestFault.{RequestFault}
 use Rattle.mac_wire.specs.declared.request.TheConstants.{FACTS_MAX}
 use Rattle.mac_wire.specs.Request.{Asked, mint, attenuate, verify, IsBytes, form_code, short_field, long_field, counted_fields, payload_of, IsRequest, Asks, asked, key_of}
-use Rattle.mac_wire.specs.Reading.{number_at, short_field_at, long_field_at, text_field_at, counted_fields_at, form_at, mint_of, attenuate_of, verify_of, request_of, name_at, mint_name_at, key_name_of}
-use Rattle.mac_wire.specs.Parsing.{Answers}
-use Rattle.mac_wire.proofs.Spelling.{bind_some, chosen, Takes, Takes-then, wide64, number_takes, number_again, short_takes, short_again, long_takes, long_again, text_takes, text_again, counted_take, counted_again, form_takes, form_again, ended}
+use Rattle.mac_wire.specs.Reading.{number_at, short_field_at, long_field_at, text_field_at, counted_list_at, form_at, mint_of, attenuate_of, verify_of, request_of, name_at, mint_name_at, key_name_of}
+use Rattle.mac_wire.proofs.Spelling.{bind_some, chosen, Takes, Takes-then, Takes-all, wide64, number_takes, number_again, short_takes, short_again, long_takes, long_again, text_takes, text_again, counted_take, counted_again, form_takes, form_again, some_is}
 
 -- what was taken is all, behind the number of the kind
-whole : (kind : ℕ) (bytes body rest : List ℕ) → Takes bytes body rest → rest ≡ [] → kind ∷ bytes ≡ kind ∷ body
-whole kind bytes body rest t none = ap (λ (xs : List ℕ). kind ∷ xs) (t.parts ∙ ap (λ (xs : List ℕ). body ++ xs) none ∙ append-nil body)
+whole : (kind : ℕ) (bytes body : List ℕ) → Takes bytes body [] → kind ∷ bytes ≡ kind ∷ body
+whole kind bytes body t = ap (λ (xs : List ℕ). kind ∷ xs) (t.parts ∙ append-nil body)
 
 -- ---- what is read is asked
 
@@ -27,21 +26,20 @@ mint_takes bytes q fits e =
     let k = bind_some (short_field_at f.0.1) _ q f.2 in
     let l = bind_some (text_field_at k.0.1) _ q k.2 in
     let i = bind_some (long_field_at l.0.1) _ q l.2 in
-    let c = bind_some (counted_fields_at 255 i.0.1) _ q i.2 in
-    let end = ended (mint f.0.0 k.0.0 l.0.0 i.0.0 c.0.0) q c.0.1 c.2 in
+    let c = bind_some (counted_list_at 255 i.0.1) _ q i.2 in
     let ft = form_takes bytes f.0.0 f.0.1 fits f.1 in
     let kt = short_takes f.0.1 k.0.0 k.0.1 ft.rest_fits k.1 in
     let lt = text_takes k.0.1 l.0.0 l.0.1 kt.0.rest_fits l.1 in
     let it = long_takes l.0.1 i.0.0 i.0.1 lt.0.rest_fits i.1 in
-    let ct = counted_take 255 i.0.1 c.0.0 c.0.1 it.0.rest_fits c.1 in
-    let tail : List ℕ = long_field i.0.0 ++ counted_fields c.0.0 in
-    let from_i = Takes-then l.0.1 (long_field i.0.0) i.0.1 (counted_fields c.0.0) c.0.1 it.0 ct.0 in
-    let from_l = Takes-then k.0.1 (long_field l.0.0) l.0.1 tail c.0.1 lt.0 from_i in
-    let from_k = Takes-then f.0.1 (short_field k.0.0) k.0.1 (long_field l.0.0 ++ tail) c.0.1 kt.0 from_l in
-    let all = Takes-then bytes (form_code f.0.0 ∷ []) f.0.1 (short_field k.0.0 ++ (long_field l.0.0 ++ tail)) c.0.1 ft from_k in
-    subst (Asks (1 ∷ bytes)) {x = mint f.0.0 k.0.0 l.0.0 i.0.0 c.0.0} end.1 (record {
-      is_request = (kt.1, lt.1, lt.2, it.1, ct.2, All-from_recursion _ c.0.0 ct.3);
-      is_payload = whole 1 bytes (form_code f.0.0 ∷ (short_field k.0.0 ++ (long_field l.0.0 ++ tail))) c.0.1 all end.0;
+    let ct = counted_take 255 i.0.1 c.0 it.0.rest_fits c.1 in
+    let tail : List ℕ = long_field i.0.0 ++ counted_fields c.0 in
+    let from_i = Takes-then l.0.1 (long_field i.0.0) i.0.1 (counted_fields c.0) [] it.0 (Takes-all _ _ ct.0) in
+    let from_l = Takes-then k.0.1 (long_field l.0.0) l.0.1 tail [] lt.0 from_i in
+    let from_k = Takes-then f.0.1 (short_field k.0.0) k.0.1 (long_field l.0.0 ++ tail) [] kt.0 from_l in
+    let all = Takes-then bytes (form_code f.0.0 ∷ []) f.0.1 (short_field k.0.0 ++ (long_field l.0.0 ++ tail)) [] ft from_k in
+    subst (Asks (1 ∷ bytes)) (some_is (mint f.0.0 k.0.0 l.0.0 i.0.0 c.0) q c.2) (record {
+      is_request = (kt.1, lt.1, lt.2, it.1, ct.2, All-from_recursion _ c.0 ct.3);
+      is_payload = whole 1 bytes (form_code f.0.0 ∷ (short_field k.0.0 ++ (long_field l.0.0 ++ tail))) all;
     })
 
 attenuate_takes : (bytes : List ℕ) (q : Asked) → IsBytes bytes → attenuate_of bytes ≡ Some q → Asks (2 ∷ bytes) q
@@ -49,16 +47,15 @@ unfolding attenuate_of
 attenuate_takes bytes q fits e =
     let f = bind_some (form_at bytes) _ q e in
     let t = bind_some (long_field_at f.0.1) _ q f.2 in
-    let c = bind_some (counted_fields_at 255 t.0.1) _ q t.2 in
-    let end = ended (attenuate f.0.0 t.0.0 c.0.0) q c.0.1 c.2 in
+    let c = bind_some (counted_list_at 255 t.0.1) _ q t.2 in
     let ft = form_takes bytes f.0.0 f.0.1 fits f.1 in
     let tt = long_takes f.0.1 t.0.0 t.0.1 ft.rest_fits t.1 in
-    let ct = counted_take 255 t.0.1 c.0.0 c.0.1 tt.0.rest_fits c.1 in
-    let from_t = Takes-then f.0.1 (long_field t.0.0) t.0.1 (counted_fields c.0.0) c.0.1 tt.0 ct.0 in
-    let all = Takes-then bytes (form_code f.0.0 ∷ []) f.0.1 (long_field t.0.0 ++ counted_fields c.0.0) c.0.1 ft from_t in
-    subst (Asks (2 ∷ bytes)) {x = attenuate f.0.0 t.0.0 c.0.0} end.1 (record {
-      is_request = (tt.1, ct.2, All-from_recursion _ c.0.0 ct.3);
-      is_payload = whole 2 bytes (form_code f.0.0 ∷ (long_field t.0.0 ++ counted_fields c.0.0)) c.0.1 all end.0;
+    let ct = counted_take 255 t.0.1 c.0 tt.0.rest_fits c.1 in
+    let from_t = Takes-then f.0.1 (long_field t.0.0) t.0.1 (counted_fields c.0) [] tt.0 (Takes-all _ _ ct.0) in
+    let all = Takes-then bytes (form_code f.0.0 ∷ []) f.0.1 (long_field t.0.0 ++ counted_fields c.0) [] ft from_t in
+    subst (Asks (2 ∷ bytes)) (some_is (attenuate f.0.0 t.0.0 c.0) q c.2) (record {
+      is_request = (tt.1, ct.2, All-from_recursion _ c.0 ct.3);
+      is_payload = whole 2 bytes (form_code f.0.0 ∷ (long_field t.0.0 ++ counted_fields c.0)) all;
     })
 
 verify_takes : (bytes : List ℕ) (q : Asked) → IsBytes bytes → verify_of bytes ≡ Some q → Asks (3 ∷ bytes) q
@@ -67,19 +64,18 @@ verify_takes bytes q fits e =
     let k = bind_some (short_field_at bytes) _ q e in
     let t = bind_some (long_field_at k.0.1) _ q k.2 in
     let m = bind_some (number_at w64 t.0.1) _ q t.2 in
-    let f = bind_some (counted_fields_at FACTS_MAX m.0.1) _ q m.2 in
-    let end = ended (verify k.0.0 t.0.0 m.0.0 f.0.0) q f.0.1 f.2 in
+    let f = bind_some (counted_list_at FACTS_MAX m.0.1) _ q m.2 in
     let kt = short_takes bytes k.0.0 k.0.1 fits k.1 in
     let tt = long_takes k.0.1 t.0.0 t.0.1 kt.0.rest_fits t.1 in
     let mt = number_takes w64 (2 ^ 64) wide64 t.0.1 m.0.0 m.0.1 tt.0.rest_fits m.1 in
-    let ft = counted_take FACTS_MAX m.0.1 f.0.0 f.0.1 mt.0.rest_fits f.1 in
-    let tail : List ℕ = to_be_bytes w64 m.0.0 ++ counted_fields f.0.0 in
-    let from_m = Takes-then t.0.1 (to_be_bytes w64 m.0.0) m.0.1 (counted_fields f.0.0) f.0.1 mt.0 ft.0 in
-    let from_t = Takes-then k.0.1 (long_field t.0.0) t.0.1 tail f.0.1 tt.0 from_m in
-    let all = Takes-then bytes (short_field k.0.0) k.0.1 (long_field t.0.0 ++ tail) f.0.1 kt.0 from_t in
-    subst (Asks (3 ∷ bytes)) {x = verify k.0.0 t.0.0 m.0.0 f.0.0} end.1 (record {
-      is_request = (kt.1, tt.1, mt.1, ft.1, All-from_recursion _ f.0.0 ft.3);
-      is_payload = whole 3 bytes (short_field k.0.0 ++ (long_field t.0.0 ++ tail)) f.0.1 all end.0;
+    let ft = counted_take FACTS_MAX m.0.1 f.0 mt.0.rest_fits f.1 in
+    let tail : List ℕ = to_be_bytes w64 m.0.0 ++ counted_fields f.0 in
+    let from_m = Takes-then t.0.1 (to_be_bytes w64 m.0.0) m.0.1 (counted_fields f.0) [] mt.0 (Takes-all _ _ ft.0) in
+    let from_t = Takes-then k.0.1 (long_field t.0.0) t.0.1 tail [] tt.0 from_m in
+    let all = Takes-then bytes (short_field k.0.0) k.0.1 (long_field t.0.0 ++ tail) [] kt.0 from_t in
+    subst (Asks (3 ∷ bytes)) (some_is (verify k.0.0 t.0.0 m.0.0 f.0) q f.2) (record {
+      is_request = (kt.1, tt.1, mt.1, ft.1, All-from_recursion _ f.0 ft.3);
+      is_payload = whole 3 bytes (short_field k.0.0 ++ (long_field t.0.0 ++ tail)) all;
     })
 
 IsBytes-rest : (b : ℕ) (bytes : List ℕ) → IsBytes (b ∷ bytes) → IsBytes bytes
@@ -107,33 +103,24 @@ mint_again : (f : TokenForm) (key location identifier : List ℕ) (caveats : Lis
     → request_of (payload_of (mint f key location identifier caveats)) ≡ Some (mint f key location identifier caveats)
 unfolding request_of mint_of
 mint_again f key location identifier caveats h =
-    let r3 : List ℕ = counted_fields caveats ++ [] in
-    let r2 : List ℕ = long_field identifier ++ r3 in
+    let r2 : List ℕ = long_field identifier ++ counted_fields caveats in
     let r1 : List ℕ = long_field location ++ r2 in
-    let end : long_field identifier ++ counted_fields caveats ≡ r2 = ap (λ (xs : List ℕ). long_field identifier ++ xs) (sym (append-nil (counted_fields caveats))) in
-    ap (λ (xs : List ℕ). request_of (1 ∷ form_code f ∷ (short_field key ++ (long_field location ++ xs)))) end
-    ∙ rw (form_again f (short_field key ++ r1), short_again key r1, text_again location r2 h.1 h.2, long_again identifier r3 h.3, counted_again 255 caveats [] (omega (arith, h.4)) (recursion_from_All _ caveats h.5)) refl
+    rw (form_again f (short_field key ++ r1), short_again key r1, text_again location r2 h.1 h.2, long_again identifier (counted_fields caveats) h.3, counted_again 255 caveats (omega (arith, h.4)) (recursion_from_All _ caveats h.5)) refl
 
 attenuate_again : (f : TokenForm) (token : List ℕ) (caveats : List (List ℕ)) → IsRequest (attenuate f token caveats)
     → request_of (payload_of (attenuate f token caveats)) ≡ Some (attenuate f token caveats)
 unfolding request_of attenuate_of
 attenuate_again f token caveats h =
-    let r2 : List ℕ = counted_fields caveats ++ [] in
-    let r1 : List ℕ = long_field token ++ r2 in
-    let end : long_field token ++ counted_fields caveats ≡ r1 = ap (λ (xs : List ℕ). long_field token ++ xs) (sym (append-nil (counted_fields caveats))) in
-    ap (λ (xs : List ℕ). request_of (2 ∷ form_code f ∷ xs)) end
-    ∙ rw (form_again f r1, long_again token r2 h.0, counted_again 255 caveats [] (omega (arith, h.1)) (recursion_from_All _ caveats h.2)) refl
+    let r1 : List ℕ = long_field token ++ counted_fields caveats in
+    rw (form_again f r1, long_again token (counted_fields caveats) h.0, counted_again 255 caveats (omega (arith, h.1)) (recursion_from_All _ caveats h.2)) refl
 
 verify_again : (key token : List ℕ) (moment : ℕ) (facts : List (List ℕ)) → IsRequest (verify key token moment facts)
     → request_of (payload_of (verify key token moment facts)) ≡ Some (verify key token moment facts)
 unfolding request_of verify_of
 verify_again key token moment facts h =
-    let r3 : List ℕ = counted_fields facts ++ [] in
-    let r2 : List ℕ = to_be_bytes w64 moment ++ r3 in
+    let r2 : List ℕ = to_be_bytes w64 moment ++ counted_fields facts in
     let r1 : List ℕ = long_field token ++ r2 in
-    let end : to_be_bytes w64 moment ++ counted_fields facts ≡ r2 = ap (λ (xs : List ℕ). to_be_bytes w64 moment ++ xs) (sym (append-nil (counted_fields facts))) in
-    ap (λ (xs : List ℕ). request_of (3 ∷ (short_field key ++ (long_field token ++ xs)))) end
-    ∙ rw (short_again key r1, long_again token r2 h.1, number_again w64 (2 ^ 64) wide64 moment r3 h.2, counted_again FACTS_MAX facts [] h.3 (recursion_from_All _ facts h.4)) refl
+    rw (short_again key r1, long_again token r2 h.1, number_again w64 (2 ^ 64) wide64 moment (counted_fields facts) h.2, counted_again FACTS_MAX facts h.3 (recursion_from_All _ facts h.4)) refl
 
 again : (q : Asked) → IsRequest q → request_of (payload_of q) ≡ Some q
 again (mint f key location identifier caveats) h = mint_again f key location identifier caveats h
@@ -144,9 +131,9 @@ pub request_of-asks : (payload : List ℕ) (q : Asked) → Asks payload q → re
 request_of-asks payload q h = ap request_of h.is_payload ∙ again q h.is_request
 
 -- what a parser gives is asked
-pub Answers-asks : (payload : List ℕ) (r : Result Request RequestFault) → IsBytes payload → Answers asked r (request_of payload) → IfOk r (λ x. Asks payload (asked x))
-Answers-asks payload (Ok x) fits given = asks-request_of payload (asked x) fits given
-Answers-asks payload (Err e) fits given = tt
+pub parsed-asks : (payload : List ℕ) (r : Option Request) → IsBytes payload → option_map asked r ≡ request_of payload → IfSome r (λ x. Asks payload (asked x))
+parsed-asks payload (Some x) fits given = asks-request_of payload (asked x) fits (sym given)
+parsed-asks payload None fits given = tt
 
 front_name : (q : Asked) → key_name_of (payload_of q) ≡ key_of q
 unfolding key_name_of mint_name_at name_at

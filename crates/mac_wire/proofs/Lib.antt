@@ -1,7 +1,7 @@
 pub mod Lists
 pub mod Devices
 pub mod Text
-pub mod FieldLoop
+pub mod FieldLists
 pub mod Partials
 pub mod Arrivals
 pub mod Cutting

@@ -4,14 +4,14 @@ use Rattle.std.specs.Int.{Width, w16, w64, byte_len, from_be_bytes, to_be_bytes}
 use Rattle.std.specs.List.{flat_map, AllByRecursion}
 use Rattle.std.specs.Str.{IsUtf8, is_utf8}
 use Rattle.std.proofs.lemmas.Bool.{cases_lt, ltb-false, le-ltb, leb-true, le-leb, eqb-true}
-use Rattle.std.proofs.lemmas.List.{take_at, drop_at, take-append-drop, length-append, length-take, get_or-drop, get_or-take, get_or_past, nil_from_length}
+use Rattle.std.proofs.lemmas.List.{take_at, drop_at, take-append-drop, length-append, length-take, get_or-drop, get_or-take, get_or_past, nil_from_length, append-nil}
 use Rattle.std.proofs.lemmas.List.Concat.{flat_map-cons}
 use Rattle.std.proofs.lemmas.Nat.{be_bytes_2, be_bytes_8, from_be_bytes-to_be_bytes_2, from_be_bytes-to_be_bytes_8}
 use Rattle.std.proofs.lemmas.Str.{IsUtf8-from_is_utf8, is_utf8-from_IsUtf8}
 use Rattle.mac_wire.specs.declared.request.TokenForm.{TokenForm}
 use Rattle.mac_wire.specs.declared.request.TokenForm.TheVariants as form
 use Rattle.mac_wire.specs.Request.{IsBytes, form_code, short_field, long_field, counted_fields}
-use Rattle.mac_wire.specs.Reading.{◌>>=◌, bytes_at, byte_at, number_at, short_field_at, long_field_at, text_field_at, fields_at, counted_fields_at, form_of, form_at, at_end}
+use Rattle.mac_wire.specs.Reading.{◌>>=◌, bytes_at, byte_at, number_at, short_field_at, long_field_at, text_field_at, list_at, counted_list_at, form_of, form_at, at_end}
 
 IsBytes-drop : (n : ℕ) (bytes : List ℕ) → IsBytes bytes → IsBytes (drop n bytes)
 IsBytes-drop n bytes h i = rw get_or-drop (h (n + i))
@@ -54,6 +54,10 @@ pub record Takes (bytes text rest : List ℕ) : Type 0 where
 
 pub Takes-then : (a x b y c : List ℕ) → Takes a x b → Takes b y c → Takes a (x ++ y) c
 Takes-then a x b y c p q = record { parts = p.parts ∙ ap (λ (t : List ℕ). x ++ t) q.parts ∙ sym (append_assoc x y c); rest_fits = q.rest_fits }
+
+-- what is all of it leaves nothing
+pub Takes-all : (bytes text : List ℕ) → bytes ≡ text → Takes bytes text []
+Takes-all bytes text e = record { parts = e ∙ sym (append-nil text); rest_fits = λ i. omega arith }
 
 -- ---- bytes
 
@@ -154,43 +158,51 @@ pub text_again : (text rest : List ℕ) → length text < 2 ^ 16 → IsUtf8 text
 unfolding text_field_at
 text_again text rest lt utf8 = rw (long_again text rest lt, is_utf8-from_IsUtf8 text utf8) refl
 
-fields_take : (n : ℕ) (bytes : List ℕ) (fields : List (List ℕ)) (rest : List ℕ) → IsBytes bytes → fields_at n bytes ≡ Some (fields, rest)
-    → Takes bytes (flat_map long_field fields) rest × (length fields ≡ n) × AllByRecursion (λ field. length field < 2 ^ 16) fields
-unfolding fields_at
-fields_take zero bytes fields rest fits e =
-    subst (λ (y : List (List ℕ) × List ℕ). Takes bytes (flat_map long_field y.0) y.1 × (length y.0 ≡ 0) × AllByRecursion (λ field. length field < 2 ^ 16) y.0)
-    (some_is ([], bytes) (fields, rest) e) (record { parts = refl; rest_fits = fits }, refl, tt)
-fields_take (suc n) bytes fields rest fits e =
-    let a = bind_some (long_field_at bytes) (λ first. fields_at n first.1 >>= λ others. Some (first.0 ∷ others.0, others.1)) (fields, rest) e in
-    let b = bind_some (fields_at n a.0.1) (λ others. Some (a.0.0 ∷ others.0, others.1)) (fields, rest) a.2 in
+-- ---- the end
+
+ended : {A : Type 0} (x y : A) (rest : List ℕ) → at_end x rest ≡ Some y → (rest ≡ []) × (x ≡ y)
+ended x y rest e =
+    let g = when_some (eqb (length rest) 0) (Some x) y e in
+    (nil_from_length rest (eqb-true _ _ g.0), some_is x y g.1)
+
+-- ---- lists of fields
+
+pub list_take : (n : ℕ) (bytes : List ℕ) (fields : List (List ℕ)) → IsBytes bytes → list_at n bytes ≡ Some fields
+    → (bytes ≡ flat_map long_field fields) × (length fields ≡ n) × AllByRecursion (λ field. length field < 2 ^ 16) fields
+unfolding list_at
+list_take zero bytes fields fits e =
+    let end = ended [] fields bytes e in
+    subst (λ (xs : List (List ℕ)). (bytes ≡ flat_map long_field xs) × (length xs ≡ 0) × AllByRecursion (λ field. length field < 2 ^ 16) xs) end.1 (end.0, refl, tt)
+list_take (suc n) bytes fields fits e =
+    let a = bind_some (long_field_at bytes) (λ first. list_at n first.1 >>= λ others. Some (first.0 ∷ others)) fields e in
+    let b = bind_some (list_at n a.0.1) (λ others. Some (a.0.0 ∷ others)) fields a.2 in
     let first = long_takes bytes a.0.0 a.0.1 fits a.1 in
-    let second = fields_take n a.0.1 b.0.0 b.0.1 first.0.rest_fits b.1 in
-    let both = Takes-then bytes (long_field a.0.0) a.0.1 (flat_map long_field b.0.0) b.0.1 first.0 second.0 in
-    subst (λ (y : List (List ℕ) × List ℕ). Takes bytes (flat_map long_field y.0) y.1 × (length y.0 ≡ suc n) × AllByRecursion (λ field. length field < 2 ^ 16) y.0)
-    (some_is (a.0.0 ∷ b.0.0, b.0.1) (fields, rest) b.2) (rw flat_map-cons both, ap suc second.1, (first.1, second.2))
+    let second = list_take n a.0.1 b.0 first.0.rest_fits b.1 in
+    let parts = first.0.parts ∙ ap (λ (xs : List ℕ). long_field a.0.0 ++ xs) second.0 ∙ sym (flat_map-cons long_field a.0.0 b.0) in
+    subst (λ (xs : List (List ℕ)). (bytes ≡ flat_map long_field xs) × (length xs ≡ suc n) × AllByRecursion (λ field. length field < 2 ^ 16) xs)
+    (some_is (a.0.0 ∷ b.0) fields b.2) (parts, ap suc second.1, (first.1, second.2))
 
-fields_again : (fields : List (List ℕ)) (rest : List ℕ) → AllByRecursion (λ field. length field < 2 ^ 16) fields → fields_at (length fields) (flat_map long_field fields ++ rest) ≡ Some (fields, rest)
-unfolding fields_at
-fields_again [] rest fits = refl
-fields_again (f ∷ fs) rest fits =
-    let regrouped : flat_map long_field (f ∷ fs) ++ rest ≡ long_field f ++ (flat_map long_field fs ++ rest) = ap (λ (x : List ℕ). x ++ rest) (flat_map-cons long_field f fs) ∙ append_assoc (long_field f) (flat_map long_field fs) rest in
-    ap (fields_at (suc (length fs))) regrouped ∙ rw (long_again f (flat_map long_field fs ++ rest) fits.0, fields_again fs rest fits.1) refl
+pub list_again : (fields : List (List ℕ)) → AllByRecursion (λ field. length field < 2 ^ 16) fields → list_at (length fields) (flat_map long_field fields) ≡ Some fields
+unfolding list_at
+list_again [] fits = refl
+list_again (f ∷ fs) fits =
+    ap (list_at (suc (length fs))) (flat_map-cons long_field f fs) ∙ rw (long_again f (flat_map long_field fs) fits.0, list_again fs fits.1) refl
 
-pub counted_take : (most : ℕ) (bytes : List ℕ) (fields : List (List ℕ)) (rest : List ℕ) → IsBytes bytes → counted_fields_at most bytes ≡ Some (fields, rest)
-    → Takes bytes (counted_fields fields) rest × (length fields ≤ most) × (length fields < 2 ^ 8) × AllByRecursion (λ field. length field < 2 ^ 16) fields
-unfolding counted_fields_at
-counted_take most bytes fields rest fits e =
-    let b = bind_some (byte_at bytes) (λ n. cond (leb n.0 most) (fields_at n.0 n.1) None) (fields, rest) e in
-    let g = when_some (leb b.0.0 most) (fields_at b.0.0 b.0.1) (fields, rest) b.2 in
+pub counted_take : (most : ℕ) (bytes : List ℕ) (fields : List (List ℕ)) → IsBytes bytes → counted_list_at most bytes ≡ Some fields
+    → (bytes ≡ counted_fields fields) × (length fields ≤ most) × (length fields < 2 ^ 8) × AllByRecursion (λ field. length field < 2 ^ 16) fields
+unfolding counted_list_at
+counted_take most bytes fields fits e =
+    let b = bind_some (byte_at bytes) (λ n. cond (leb n.0 most) (list_at n.0 n.1) None) fields e in
+    let g = when_some (leb b.0.0 most) (list_at b.0.0 b.0.1) fields b.2 in
     let n = byte_takes bytes b.0.0 b.0.1 fits b.1 in
-    let f = fields_take b.0.0 b.0.1 fields rest n.0.rest_fits g.1 in
-    let both = Takes-then bytes (b.0.0 ∷ []) b.0.1 (flat_map long_field fields) rest n.0 f.0 in
-    (subst (λ (k : ℕ). Takes bytes (k ∷ flat_map long_field fields) rest) (sym f.1) both, omega (arith, f.1, leb-true b.0.0 most g.0), omega (arith, f.1, n.1), f.2)
+    let l = list_take b.0.0 b.0.1 fields n.0.rest_fits g.1 in
+    let parts = n.0.parts ∙ ap (λ (xs : List ℕ). b.0.0 ∷ xs) l.0 ∙ ap (λ (k : ℕ). k ∷ flat_map long_field fields) (sym l.1) in
+    (parts, omega (arith, l.1, leb-true b.0.0 most g.0), omega (arith, l.1, n.1), l.2)
 
-pub counted_again : (most : ℕ) (fields : List (List ℕ)) (rest : List ℕ) → length fields ≤ most → AllByRecursion (λ field. length field < 2 ^ 16) fields
-    → counted_fields_at most (counted_fields fields ++ rest) ≡ Some (fields, rest)
-unfolding counted_fields_at
-counted_again most fields rest le fits = rw (le-leb (length fields) most le) (fields_again fields rest fits)
+pub counted_again : (most : ℕ) (fields : List (List ℕ)) → length fields ≤ most → AllByRecursion (λ field. length field < 2 ^ 16) fields
+    → counted_list_at most (counted_fields fields) ≡ Some fields
+unfolding counted_list_at
+counted_again most fields le fits = rw (le-leb (length fields) most le) (list_again fields fits)
 
 -- ---- forms
 
@@ -235,10 +247,3 @@ form_takes bytes f rest fits e =
 pub form_again : (f : TokenForm) (rest : List ℕ) → form_at (form_code f ∷ rest) ≡ Some (f, rest)
 unfolding form_at
 form_again f rest = rw (form_of-code f) refl
-
--- ---- the end
-
-pub ended : {A : Type 0} (x y : A) (rest : List ℕ) → at_end x rest ≡ Some y → (rest ≡ []) × (x ≡ y)
-ended x y rest e =
-    let g = when_some (eqb (length rest) 0) (Some x) y e in
-    (nil_from_length rest (eqb-true _ _ g.0), some_is x y g.1)

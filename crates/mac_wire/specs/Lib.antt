@@ -10,7 +10,7 @@ pub mod Device
 pub mod Memory
 -- functions that a law ties to these, and what serves proofs
 pub mod Reading
-pub mod Parsing
+pub mod FieldList
 pub mod Partial
 pub mod Steps
 pub mod Streams

@@ -40,13 +40,17 @@ long_field_at bytes = do
   n ← number_at w16 bytes
   bytes_at n.0 n.1
 
--- that many fields
-unfoldable pub fields_at : ℕ → List ℕ → Option (List (List ℕ) × List ℕ)
-fields_at zero bytes = Some ([], bytes)
-fields_at (suc n) bytes = do
+-- a value where nothing is left over
+abbrev pub at_end : {A : Type 0} → A → List ℕ → Option A
+at_end x bytes = if length bytes == 0 then Some x else None
+
+-- that many fields, and nothing behind them
+unfoldable pub list_at : ℕ → List ℕ → Option (List (List ℕ))
+list_at zero bytes = at_end [] bytes
+list_at (suc n) bytes = do
   first ← long_field_at bytes
-  others ← fields_at n first.1
-  Some (first.0 ∷ others.0, others.1)
+  others ← list_at n first.1
+  Some (first.0 ∷ others)
 
 -- a field that is UTF-8
 unfoldable pub text_field_at : List ℕ → Option (List ℕ × List ℕ)
@@ -54,11 +58,11 @@ text_field_at bytes = do
   text ← long_field_at bytes
   if is_utf8 text.0 then Some text else None
 
--- a count that isn't above that number, and that many fields
-unfoldable pub counted_fields_at : ℕ → List ℕ → Option (List (List ℕ) × List ℕ)
-counted_fields_at most bytes = do
+-- a count that isn't above that number, that many fields, and nothing behind them
+unfoldable pub counted_list_at : ℕ → List ℕ → Option (List (List ℕ))
+counted_list_at most bytes = do
   n ← byte_at bytes
-  if nat_le n.0 most then fields_at n.0 n.1 else None
+  if nat_le n.0 most then list_at n.0 n.1 else None
 
 -- the form of a byte
 unfoldable pub form_of : ℕ → Option TokenForm
@@ -75,10 +79,6 @@ form_at bytes = do
   form ← form_of n.0
   Some (form, n.1)
 
--- a value where nothing is left over
-abbrev pub at_end : {A : Type 0} → A → List ℕ → Option A
-at_end x bytes = if length bytes == 0 then Some x else None
-
 -- what follows the number of a mint
 unfoldable pub mint_of : List ℕ → Option Asked
 mint_of bytes = do
@@ -86,16 +86,16 @@ mint_of bytes = do
   key ← short_field_at form.1
   location ← text_field_at key.1
   identifier ← long_field_at location.1
-  caveats ← counted_fields_at 255 identifier.1
-  at_end (mint form.0 key.0 location.0 identifier.0 caveats.0) caveats.1
+  caveats ← counted_list_at 255 identifier.1
+  Some (mint form.0 key.0 location.0 identifier.0 caveats)
 
 -- what follows the number of an attenuate
 unfoldable pub attenuate_of : List ℕ → Option Asked
 attenuate_of bytes = do
   form ← form_at bytes
   token ← long_field_at form.1
-  caveats ← counted_fields_at 255 token.1
-  at_end (attenuate form.0 token.0 caveats.0) caveats.1
+  caveats ← counted_list_at 255 token.1
+  Some (attenuate form.0 token.0 caveats)
 
 -- what follows the number of a verify
 unfoldable pub verify_of : List ℕ → Option Asked
@@ -103,8 +103,8 @@ verify_of bytes = do
   key ← short_field_at bytes
   token ← long_field_at key.1
   moment ← number_at w64 token.1
-  facts ← counted_fields_at FACTS_MAX moment.1
-  at_end (verify key.0 token.0 moment.0 facts.0) facts.1
+  facts ← counted_list_at FACTS_MAX moment.1
+  Some (verify key.0 token.0 moment.0 facts)
 
 -- the request that a whole payload asks, if there is one
 unfoldable pub request_of : List ℕ → Option Asked

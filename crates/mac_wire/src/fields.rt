@@ -1,15 +1,12 @@
 //! The fields of a payload: each reader takes one from the front and gives the rest.
 
-ghost use Rattle.std.specs.Prelude.{◌≡◌, map};
+ghost use Rattle.std.specs.Prelude.{◌≡◌, if◌then◌else◌, Some, None};
 ghost use Rattle.std.specs.Int.{w16, w64};
 ghost use Rattle.std.specs.Option.{option_map};
-ghost use Rattle.mac_wire.specs.Reading.{byte_at, bytes_at, number_at, short_field_at, long_field_at, text_field_at, fields_at, counted_fields_at, form_of, form_at};
-ghost use Rattle.mac_wire.specs.Parsing.{Answers};
+ghost use Rattle.std.specs.Str.{is_utf8};
+ghost use Rattle.mac_wire.specs.Reading.{byte_at, bytes_at, number_at, short_field_at, long_field_at, text_field_at, form_of, form_at};
 
-use crate::byte_lists::ByteLists;
-use crate::bytes::Bytes;
-use crate::request::{RequestFault, TokenForm};
-use std::alloc::Global;
+use crate::request::TokenForm;
 
 // That many bytes.
 fn front(length: usize, bytes: &[u8]) -> Option<(&[u8], &[u8])>
@@ -90,55 +87,23 @@ pub fn form(bytes: &[u8]) -> Option<(TokenForm, &[u8])>
     Some((form, rest))
 }
 
-// A field behind a length of two bytes, copied.
-#[tactic(auto, unfolding(crate::specs::Reading::long_field_at))]
-fn bytes_field(alloc: Global, bytes: &[u8]) -> Result<(Bytes, &[u8]), RequestFault>
-    ensures { Answers (λ x. (x.0, x.1.now)) result (long_field_at bytes.now) }
+// The text of these bytes, where they are UTF-8.
+#[tactic(auto, using(crate::proofs::Text::is_text, crate::proofs::Text::is_no_text))]
+fn text(bytes: &[u8]) -> Option<&str>
+    ensures { option_map (λ text. text.now) result
+        ≡ (if is_utf8 bytes.now then Some bytes.now else None) }
 {
-    let (field, rest) = long_field(bytes).ok_or(RequestFault::BadRequest)?;
-    Ok((Bytes::new(Vec::from_slice(alloc, field)?), rest))
-}
-
-/// A field of UTF-8 behind a length of two bytes.
-#[tactic(auto, using(crate::proofs::Text::is_text, crate::proofs::Text::is_no_text), unfolding(crate::specs::Reading::text_field_at))]
-pub fn text_field(bytes: &[u8]) -> Option<(&str, &[u8])>
-    ensures { option_map (λ x. (x.0.now, x.1.now)) result ≡ text_field_at bytes.now }
-{
-    let (field, rest) = long_field(bytes)?;
-    match str::from_utf8(field) {
-        Ok(text) => Some((text, rest)),
+    match str::from_utf8(bytes) {
+        Ok(text) => Some(text),
         Err(_) => None,
     }
 }
 
-// That many fields behind a length of two bytes, copied.
-fn fields(alloc: Global, count: u8, bytes: &[u8]) -> Result<(Vec<Vec<u8>>, &[u8]), RequestFault>
-    ensures { Answers (λ x. (map (λ v. v.items) x.0.items, x.1.now)) result
-        (fields_at count bytes.now) }
+/// A field of UTF-8 behind a length of two bytes.
+#[tactic(auto, unfolding(crate::specs::Reading::text_field_at))]
+pub fn text_field(bytes: &[u8]) -> Option<(&str, &[u8])>
+    ensures { option_map (λ x. (x.0.now, x.1.now)) result ≡ text_field_at bytes.now }
 {
-    let mut fields = Vec::with_capacity(alloc, count as usize)?;
-    let mut rest = bytes;
-    for _ in 0..count {
-        let (field, after) = bytes_field(alloc, rest)?;
-        fields.push(field.into_vec())?;
-        rest = after;
-    }
-    Ok((fields, rest))
-}
-
-/// A count that isn't above the greatest, and that many fields behind lengths of two bytes, copied.
-#[tactic(auto, unfolding(crate::specs::Reading::counted_fields_at))]
-pub fn counted_fields(
-    alloc: Global,
-    most: u8,
-    bytes: &[u8],
-) -> Result<(ByteLists, &[u8]), RequestFault>
-    ensures { Answers (λ x. (x.0, x.1.now)) result (counted_fields_at most bytes.now) }
-{
-    let (count, rest) = byte(bytes).ok_or(RequestFault::BadRequest)?;
-    if count > most {
-        return Err(RequestFault::BadRequest);
-    }
-    let (fields, rest) = fields(alloc, count, rest)?;
-    Ok((ByteLists::new(fields), rest))
+    let (field, rest) = long_field(bytes)?;
+    Some((text(field)?, rest))
 }

@@ -7,9 +7,9 @@
 #![tactic(auto)]
 
 mod arrival;
-mod byte_lists;
 mod bytes;
 mod device;
+mod field_list;
 mod fields;
 mod frame;
 pub mod laws;
@@ -25,16 +25,16 @@ mod whole;
 mod writer_sink;
 
 pub use arrival::{Arrival, Ending, FRAME_MAX};
-pub use byte_lists::ByteLists;
 pub use bytes::Bytes;
 pub use device::{DeviceFault, Sink, Source};
+pub use field_list::FieldList;
 pub use frame::{FeedFault, FrameReader};
 pub use mem_sink::MemSink;
 pub use mem_source::MemSource;
 pub use parse::{key_name, parse_request};
 pub use reader_source::ReaderSource;
 pub use reply::{REPLY_TOKEN_MAX, Refusal, Reply, append_reply, reply_bytes};
-pub use request::{FACTS_MAX, Request, RequestFault, TokenForm};
+pub use request::{FACTS_MAX, Request, TokenForm};
 pub use send::send_all;
 pub use whole::whole_frames;
 pub use writer_sink::WriterSink;

@@ -1,14 +1,13 @@
 //! Payloads as requests.
 
-ghost use Rattle.std.specs.Prelude.{◌≡◌, Some, IfOk, IsErrOf};
-ghost use Rattle.std.specs.Option.{option_copied};
+ghost use Rattle.std.specs.Prelude.{◌≡◌, Some, IfSome};
+ghost use Rattle.std.specs.Option.{option_copied, option_map};
 ghost use Rattle.mac_wire.specs.Request.{Asked, asked, Asks};
 ghost use Rattle.mac_wire.specs.Reading.{key_name_of, name_at, request_of, mint_of, attenuate_of, verify_of};
-ghost use Rattle.mac_wire.specs.Parsing.{Answers, HasLists};
 
-use crate::fields::{byte, counted_fields, form, long_field, number_64, short_field, text_field};
-use crate::request::{FACTS_MAX, Request, RequestFault};
-use std::alloc::Global;
+use crate::field_list::FieldList;
+use crate::fields::{byte, form, long_field, number_64, short_field, text_field};
+use crate::request::{FACTS_MAX, Request};
 
 // The first byte of each kind of request.
 const MINT: u8 = 1;
@@ -44,50 +43,44 @@ fn name(bytes: &[u8]) -> Option<&[u8]>
     Some(name)
 }
 
-/// The request that a whole payload asks. It costs the time of the payload's bytes and the memory
-/// of its lists.
-pub fn parse_request(alloc: Global, payload: &[u8]) -> Result<Request<'_>, RequestFault>
+/// The request that a whole payload asks, if it asks one. It costs the time of the payload's bytes,
+/// and takes no memory.
+pub fn parse_request(payload: &[u8]) -> Option<Request<'_>>
     // What is parsed is asked.
-    ensures found { IfOk result (λ r. Asks payload.now (asked r)) }
-    // What is asked is parsed, unless memory runs out.
-    ensures only { (q : Asked) → Asks payload.now q → Answers asked result (Some q) }
-    // Nothing else is, unless memory runs out.
-    ensures exact { Answers asked result (request_of payload.now) }
-    // Only what has lists takes memory.
-    ensures memory { IsErrOf result RequestFault.Memory → HasLists payload.now }
+    ensures found { IfSome result (λ r. Asks payload.now (asked r)) }
+    // What is asked is parsed.
+    ensures only { (q : Asked) → Asks payload.now q → option_map asked result ≡ Some q }
+    // Nothing else is.
+    ensures exact { option_map asked result ≡ request_of payload.now }
 {
-    request(alloc, payload)
+    request(payload)
 }
 
 // the number of the kind, and its fields
 #[tactic(auto, unfolding(crate::specs::Reading::request_of))]
-fn request(alloc: Global, payload: &[u8]) -> Result<Request<'_>, RequestFault>
-    ensures exact { Answers asked result (request_of payload.now) }
-    ensures memory { IsErrOf result RequestFault.Memory → HasLists payload.now }
+fn request(payload: &[u8]) -> Option<Request<'_>>
+    ensures { option_map asked result ≡ request_of payload.now }
 {
-    let (kind, rest) = byte(payload).ok_or(RequestFault::BadRequest)?;
+    let (kind, rest) = byte(payload)?;
     match kind {
-        MINT => mint(alloc, rest),
-        ATTENUATE => attenuate(alloc, rest),
-        VERIFY => verify(alloc, rest),
-        _ => Err(RequestFault::BadRequest),
+        MINT => mint(rest),
+        ATTENUATE => attenuate(rest),
+        VERIFY => verify(rest),
+        _ => None,
     }
 }
 
 // form, key name, location, identifier, caveats
 #[tactic(auto, unfolding(crate::specs::Reading::mint_of))]
-fn mint(alloc: Global, bytes: &[u8]) -> Result<Request<'_>, RequestFault>
-    ensures { Answers asked result (mint_of bytes.now) }
+fn mint(bytes: &[u8]) -> Option<Request<'_>>
+    ensures { option_map asked result ≡ mint_of bytes.now }
 {
-    let (form, rest) = form(bytes).ok_or(RequestFault::BadRequest)?;
-    let (key, rest) = short_field(rest).ok_or(RequestFault::BadRequest)?;
-    let (location, rest) = text_field(rest).ok_or(RequestFault::BadRequest)?;
-    let (identifier, rest) = long_field(rest).ok_or(RequestFault::BadRequest)?;
-    let (caveats, rest) = counted_fields(alloc, u8::MAX, rest)?;
-    if !rest.is_empty() {
-        return Err(RequestFault::BadRequest);
-    }
-    Ok(Request::Mint {
+    let (form, rest) = form(bytes)?;
+    let (key, rest) = short_field(rest)?;
+    let (location, rest) = text_field(rest)?;
+    let (identifier, rest) = long_field(rest)?;
+    let caveats = FieldList::counted(u8::MAX, rest)?;
+    Some(Request::Mint {
         form,
         key,
         location,
@@ -98,16 +91,13 @@ fn mint(alloc: Global, bytes: &[u8]) -> Result<Request<'_>, RequestFault>
 
 // form, token, caveats
 #[tactic(auto, unfolding(crate::specs::Reading::attenuate_of))]
-fn attenuate(alloc: Global, bytes: &[u8]) -> Result<Request<'_>, RequestFault>
-    ensures { Answers asked result (attenuate_of bytes.now) }
+fn attenuate(bytes: &[u8]) -> Option<Request<'_>>
+    ensures { option_map asked result ≡ attenuate_of bytes.now }
 {
-    let (form, rest) = form(bytes).ok_or(RequestFault::BadRequest)?;
-    let (token, rest) = long_field(rest).ok_or(RequestFault::BadRequest)?;
-    let (caveats, rest) = counted_fields(alloc, u8::MAX, rest)?;
-    if !rest.is_empty() {
-        return Err(RequestFault::BadRequest);
-    }
-    Ok(Request::Attenuate {
+    let (form, rest) = form(bytes)?;
+    let (token, rest) = long_field(rest)?;
+    let caveats = FieldList::counted(u8::MAX, rest)?;
+    Some(Request::Attenuate {
         form,
         token,
         caveats,
@@ -116,17 +106,14 @@ fn attenuate(alloc: Global, bytes: &[u8]) -> Result<Request<'_>, RequestFault>
 
 // key name, token, moment, facts
 #[tactic(auto, unfolding(crate::specs::Reading::verify_of))]
-fn verify(alloc: Global, bytes: &[u8]) -> Result<Request<'_>, RequestFault>
-    ensures { Answers asked result (verify_of bytes.now) }
+fn verify(bytes: &[u8]) -> Option<Request<'_>>
+    ensures { option_map asked result ≡ verify_of bytes.now }
 {
-    let (key, rest) = short_field(bytes).ok_or(RequestFault::BadRequest)?;
-    let (token, rest) = long_field(rest).ok_or(RequestFault::BadRequest)?;
-    let (moment, rest) = number_64(rest).ok_or(RequestFault::BadRequest)?;
-    let (facts, rest) = counted_fields(alloc, FACTS_MAX, rest)?;
-    if !rest.is_empty() {
-        return Err(RequestFault::BadRequest);
-    }
-    Ok(Request::Verify {
+    let (key, rest) = short_field(bytes)?;
+    let (token, rest) = long_field(rest)?;
+    let (moment, rest) = number_64(rest)?;
+    let facts = FieldList::counted(FACTS_MAX, rest)?;
+    Some(Request::Verify {
         key,
         token,
         moment,

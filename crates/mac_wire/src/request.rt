@@ -2,13 +2,8 @@
 
 ghost use Rattle.std.specs.Prelude.{◌≡◌};
 ghost use Rattle.mac_wire.specs.Request.{form_code};
-ghost use Rattle.mac_wire.specs.Parsing.{fault_code};
-ghost use Rattle.mac_wire.specs.declared.request.RequestFault.TheVariants.{Memory};
 
-use crate::byte_lists::ByteLists;
-use crate::reply::Refusal;
-use std::alloc::{AllocError, AllocFailed};
-use thiserror::Error;
+use crate::field_list::FieldList;
 
 /// The greatest number of facts in a verify request.
 pub const FACTS_MAX: u8 = 128;
@@ -40,7 +35,7 @@ impl TokenForm {
     }
 }
 
-/// A request. All but its lists is lent from the payload that asks it.
+/// A request, lent from the payload that asks it.
 #[derive(PartialEq, Eq, Drop)]
 pub enum Request<'a> {
     /// A new token under the key of that name.
@@ -49,13 +44,13 @@ pub enum Request<'a> {
         key: &'a [u8],
         location: &'a str,
         identifier: &'a [u8],
-        caveats: ByteLists,
+        caveats: FieldList<'a>,
     },
     /// A token with further caveats.
     Attenuate {
         form: TokenForm,
         token: &'a [u8],
-        caveats: ByteLists,
+        caveats: FieldList<'a>,
     },
     /// Whether the key of that name grants the token at the moment, in seconds since 1970, with
     /// these facts.
@@ -63,45 +58,6 @@ pub enum Request<'a> {
         key: &'a [u8],
         token: &'a [u8],
         moment: u64,
-        facts: ByteLists,
+        facts: FieldList<'a>,
     },
-}
-
-/// Why a payload was not read as a request.
-#[derive(Clone, Copy, Debug, Error)]
-pub enum RequestFault {
-    /// No request is asked by the whole payload.
-    #[error("the payload is no request")]
-    BadRequest,
-    /// Memory was refused.
-    #[error("memory ran out")]
-    Memory,
-}
-
-impl RequestFault {
-    /// The number that the fault is answered with. Want of memory has none.
-    pub fn code(self) -> Option<u8>
-        ensures { result ≡ fault_code self }
-    {
-        match self {
-            RequestFault::BadRequest => Some(Refusal::BadRequest.code()),
-            RequestFault::Memory => None,
-        }
-    }
-}
-
-impl From<AllocError> for RequestFault {
-    ghost from_gives = { λ _ e. e ≡ Memory };
-
-    fn from(_e: AllocError) -> RequestFault {
-        RequestFault::Memory
-    }
-}
-
-impl<T: Drop> From<AllocFailed<T>> for RequestFault {
-    ghost from_gives = { λ _ e. e ≡ Memory };
-
-    fn from(_e: AllocFailed<T>) -> RequestFault {
-        RequestFault::Memory
-    }
 }

@@ -1,8 +1,5 @@
-pub mod Answered
-pub mod Comes
 pub mod CommandLineLemmas
 pub mod CrewLemmas
-pub mod Gathered
 pub mod KeyText
 pub mod LineLemmas
 pub mod OptionLemmas
@@ -11,6 +8,3 @@ pub mod OptionWalk
 pub mod OutputLemmas
 pub mod PipeLemmas
 pub mod PlainWords
-pub mod ReceivingLemmas
-pub mod SendingLemmas
-pub mod ServingLemmas

@@ -1,17 +1,11 @@
 pub mod Arrived
 pub mod CommandLine
 pub mod Crew
-pub mod Gathered
-pub mod Incoming
 pub mod Inner
 pub mod Lines
 pub mod Options
 pub mod Output
 pub mod Pipe
 pub mod PipeText
-pub mod Posts
-pub mod Receiving
 pub mod ReplyLine
-pub mod Sending
-pub mod Serving
 pub mod Status

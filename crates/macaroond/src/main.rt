@@ -19,7 +19,6 @@ mod lines;
 mod options;
 mod piping;
 mod reply_line;
-mod serving;
 
 pub use choices::{Choice, Mode};
 pub use command_line::{BAD_LINE, HELP_SHOWN, NO_MEMORY, chosen, words_of};
@@ -30,7 +29,6 @@ pub use fault::PipeFault;
 pub use input::INPUT_MAX;
 use mac_wire::{ReaderSource, WriterSink};
 pub use piping::pipe;
-pub use serving::{ServeFault, Served, serve};
 use std::alloc::{Alloc, Global};
 use std::env::Env;
 use std::fs::Files;

@@ -26,6 +26,24 @@ const TICKETS: u64 = 8192;
 /// How many posts a mailbox holds.
 const POSTS: u64 = 128;
 
+/// The row of a name.
+pub(crate) fn row<R>(rt: &R, alloc: Global, name: &str) -> Result<Outcome, RunFault>
+where
+    R: Threads + Wait + Copy + Send + Sync + 'static,
+{
+    match name.as_bytes() {
+        b"full" => full(rt, alloc),
+        b"closed" => closed(rt, alloc),
+        b"refused_work" => refused_work(rt, alloc),
+        b"exchange" => exchange(rt, alloc),
+        b"desks" => desks(rt, alloc),
+        b"desk_out" => desk_out(rt, alloc),
+        b"mailbox" => mailbox(rt, alloc),
+        b"rung" => rung(rt, alloc),
+        _ => Err(RunFault::NoRun),
+    }
+}
+
 fn right_if(is_right: bool) -> Result<Outcome, RunFault> {
     if is_right {
         Ok(Outcome::Right)
@@ -35,7 +53,7 @@ fn right_if(is_right: bool) -> Result<Outcome, RunFault> {
 }
 
 /// Puts at a line from which nobody claims, until one is refused.
-pub(crate) fn full<R: Threads + Wait>(rt: &R, alloc: Global) -> Result<Outcome, RunFault> {
+fn full<R: Threads + Wait>(rt: &R, alloc: Global) -> Result<Outcome, RunFault> {
     let Ok(mut pool) = Pool::by_hand(alloc) else {
         return Err(RunFault::Refused);
     };
@@ -54,7 +72,7 @@ fn fills<R: Wait>(rt: &R, desk: &mut Desk<Digits>) -> bool
 }
 
 /// Puts at a closed line, of a ticket and of a job.
-pub(crate) fn closed<R: Wait>(rt: &R, alloc: Global) -> Result<Outcome, RunFault> {
+fn closed<R: Wait>(rt: &R, alloc: Global) -> Result<Outcome, RunFault> {
     let (line, passes) = Line::<Digits>::new(alloc)?;
     let Some((first, mut second)) = two_of(&line, passes) else {
         return Err(RunFault::Wrong);
@@ -113,7 +131,7 @@ fn claims<R: Wait>(rt: &R, line: &Line<Digits>, pass: &mut LinePass<Digits>, pla
 }
 
 /// One worker meets want of memory at the second of three jobs, and goes on.
-pub(crate) fn refused_work<R>(rt: &R, alloc: Global) -> Result<Outcome, RunFault>
+fn refused_work<R>(rt: &R, alloc: Global) -> Result<Outcome, RunFault>
 where
     R: Threads + Wait + Copy + Send + 'static,
 {
@@ -139,7 +157,7 @@ fn fails_once<R: Wait>(rt: &R, desk: &mut Desk<Digits>) -> bool
 }
 
 /// Two desks put two jobs and three, each in a thread of its own; two hands claim three of them.
-pub(crate) fn exchange<R>(rt: &R, alloc: Global) -> Result<Outcome, RunFault>
+fn exchange<R>(rt: &R, alloc: Global) -> Result<Outcome, RunFault>
 where
     R: Threads + Wait + Copy + Send + Sync + 'static,
 {
@@ -197,7 +215,7 @@ fn claims_by<R: Wait>(rt: &R, hand: &mut Hand<Digits>, count: u64) -> bool
 }
 
 /// All desks, what the next one meets, and one once they are home.
-pub(crate) fn desks<R: Threads + Wait>(rt: &R, alloc: Global) -> Result<Outcome, RunFault> {
+fn desks<R: Threads + Wait>(rt: &R, alloc: Global) -> Result<Outcome, RunFault> {
     let Ok(mut pool) = Pool::by_hand(alloc) else {
         return Err(RunFault::Refused);
     };
@@ -219,7 +237,7 @@ where
 }
 
 /// An end while a desk is out, and once it is home.
-pub(crate) fn desk_out<R>(rt: &R, alloc: Global) -> Result<Outcome, RunFault>
+fn desk_out<R>(rt: &R, alloc: Global) -> Result<Outcome, RunFault>
 where
     R: Threads + Wait + Copy + Send + 'static,
 {
@@ -237,7 +255,7 @@ where
 }
 
 /// A mailbox is filled, taken from by two sides, closed, and taken from again.
-pub(crate) fn mailbox<R: Wait>(rt: &R, alloc: Global) -> Result<Outcome, RunFault> {
+fn mailbox<R: Wait>(rt: &R, alloc: Global) -> Result<Outcome, RunFault> {
     let Ok(mut pool) = Pool::by_hand(alloc) else {
         return Err(RunFault::Refused);
     };
@@ -282,7 +300,7 @@ fn is_taken<R: Wait>(rt: &R, mail: &Mailbox<Digits>, taker: &mut Taker<Digits>) 
 }
 
 /// A taker sleeps, and is rung for a flag and no post.
-pub(crate) fn rung<R>(rt: &R, alloc: Global) -> Result<Outcome, RunFault>
+fn rung<R>(rt: &R, alloc: Global) -> Result<Outcome, RunFault>
 where
     R: Threads + Wait + Sync,
 {

@@ -74,16 +74,8 @@ where
             tickets::idle_books(rt, alloc, workers as usize, millis)
         }
         b"hammer" => hammer::books(rt, alloc, number(rest)?),
-        b"full" => rows::full(rt, alloc),
-        b"closed" => rows::closed(rt, alloc),
-        b"refused_work" => rows::refused_work(rt, alloc),
-        b"exchange" => rows::exchange(rt, alloc),
-        b"desks" => rows::desks(rt, alloc),
         b"start" => rows::start(rt, alloc, number(rest)? as usize),
-        b"desk_out" => rows::desk_out(rt, alloc),
-        b"mailbox" => rows::mailbox(rt, alloc),
-        b"rung" => rows::rung(rt, alloc),
-        _ => Err(RunFault::NoRun),
+        _ => rows::row(rt, alloc, name),
     }
 }
 

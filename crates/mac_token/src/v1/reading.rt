@@ -1,17 +1,17 @@
 //! Packets read, from left to right.
 
-ghost use Rattle.std.specs.Prelude.{◌≡◌, ◌<◌, suc, length, option_map, IfSome};
+ghost use Rattle.std.specs.Prelude.{◌≡◌, ◌<◌, option_map, IfSome};
 ghost use Rattle.std.specs.Option.{option_copied};
-ghost use Rattle.mac_token.specs.Reads.{Answers, Reads};
-ghost use Rattle.mac_token.specs.V1.{V1};
-ghost use Rattle.mac_token.specs.V1Reading.{hex_value, hex_number, line_at, field_at, has_key, optional_at, section_at, caveat_at, caveats_at, signature_at, v1_of};
+ghost use Rattle.mac_token.specs.V1Reading.{hex_value, hex_number, line_at, field_at, has_key, optional_at, section_at, signature_at, v1_of};
+ghost use Rattle.mac_token.specs.CaveatsIn.{section_in, end_in};
+ghost use Rattle.mac_token.specs.declared.version.Version.TheVariants as Version;
 
 use super::key::Key;
-use crate::fault::ReadFault;
-use crate::location::copied_text;
-use crate::raw::{RawCaveat, RawToken};
+use crate::location::text;
+use crate::raw_view::RawView;
 use crate::section::Section;
-use std::alloc::Global;
+use crate::tally::Tally;
+use crate::version::Version;
 
 fn hex_value(digit: u8) -> Option<usize>
     ensures value { result ≡ hex_value digit }
@@ -107,29 +107,24 @@ fn section(bytes: &[u8]) -> Option<(Section<'_>, &[u8])>
     ))
 }
 
-#[tactic(auto, unfolding(crate::specs::V1Reading::caveat_at))]
-fn caveat(alloc: Global, bytes: &[u8]) -> Result<(RawCaveat, &[u8]), ReadFault>
-    ensures { Answers (λ x. (x.0, x.1.now)) result (caveat_at bytes.now) }
+/// The fields of the caveat that comes next, where one does, and what follows them.
+pub(crate) fn next_section(bytes: &[u8]) -> Option<(Section<'_>, &[u8])>
+    ensures { option_map (λ x. (x.0, x.1.now)) result ≡ section_in Version.V1 bytes.now }
 {
-    let Some((section, rest)) = section(bytes) else {
-        return Err(ReadFault::Malformed);
-    };
-    Ok((section.caveat(alloc)?, rest))
+    if !has_key(Key::Cid, bytes) {
+        return None;
+    }
+    section(bytes)
 }
 
-/// The caveats at the front, as many as there are.
-fn caveats(alloc: Global, bytes: &[u8]) -> Result<(Vec<RawCaveat>, &[u8]), ReadFault>
-    ensures { Answers (λ x. (x.0.items, x.1.now)) result
-        (caveats_at (suc (length bytes.now)) bytes.now) }
+/// The bytes, where no caveat comes next.
+pub(crate) fn after_caveats(bytes: &[u8]) -> Option<&[u8]>
+    ensures { option_map (λ rest. rest.now) result ≡ end_in Version.V1 bytes.now }
 {
-    let mut caveats = Vec::new(alloc);
-    let mut rest = bytes;
-    'next: while has_key(Key::Cid, rest) {
-        let (caveat, after) = caveat(alloc, rest)?;
-        caveats.push(caveat)?;
-        rest = after;
+    if has_key(Key::Cid, bytes) {
+        return None;
     }
-    Ok((caveats, rest))
+    Some(bytes)
 }
 
 /// The signature, of 32 bytes, with nothing behind it.
@@ -147,35 +142,23 @@ fn signature(bytes: &[u8]) -> Option<[u8; 32]>
     }
 }
 
+/// The raw token that these packets spell, all of the bytes; `None` where they spell none. The work
+/// is linear in the bytes, and no memory is taken.
 #[tactic(auto, unfolding(crate::specs::V1Reading::v1_of))]
-fn packets(alloc: Global, bytes: &[u8]) -> Result<RawToken, ReadFault>
-    ensures { Answers (λ x. x) result (v1_of bytes.now) }
+pub(crate) fn view(bytes: &[u8]) -> Option<RawView<'_>>
+    ensures { result ≡ v1_of bytes.now }
 {
-    let Some((location, rest)) = field(Key::Location, bytes) else {
-        return Err(ReadFault::Malformed);
-    };
-    let location = copied_text(alloc, location)?;
-    let Some((identifier, rest)) = field(Key::Identifier, rest) else {
-        return Err(ReadFault::Malformed);
-    };
-    let (caveats, rest) = caveats(alloc, rest)?;
-    let Some(sig) = signature(rest) else {
-        return Err(ReadFault::Malformed);
-    };
-    let identifier = Vec::from_slice(alloc, identifier)?;
-    Ok(RawToken {
+    let (location, rest) = field(Key::Location, bytes)?;
+    let location = text(location)?;
+    let (identifier, caveats) = field(Key::Identifier, rest)?;
+    let (tally, rest) = Tally::of(Version::V1, caveats)?;
+    let sig = signature(rest)?;
+    Some(RawView {
+        version: Version::V1,
         location,
         identifier,
         caveats,
+        tally,
         sig,
     })
-}
-
-/// The raw token that these packets spell, all of the bytes. The work is linear in the bytes, and
-/// so is the memory.
-pub(crate) fn read(alloc: Global, bytes: &[u8]) -> Result<RawToken, ReadFault>
-    ensures exact { Answers (λ raw. raw) result (v1_of bytes.now) }
-    ensures read { Reads (λ raw. raw) (V1 bytes.now) result }
-{
-    packets(alloc, bytes)
 }

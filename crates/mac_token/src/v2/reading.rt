@@ -1,20 +1,17 @@
 //! Reading V2 binary: each function takes its part from the front and gives the bytes after it.
 
-ghost use Rattle.std.specs.Prelude.{◌≡◌, ℕ, List, option_map};
+ghost use Rattle.std.specs.Prelude.{◌≡◌, option_map};
 ghost use Rattle.std.specs.Option.{option_copied};
-ghost use Rattle.mac_token.specs.RawToken.{CaveatParts};
-ghost use Rattle.mac_token.specs.Reads.{Reads, Answers};
-ghost use Rattle.mac_token.specs.V2.{V2};
 ghost use Rattle.mac_token.specs.V2Whole.{v2_of};
-ghost use Rattle.mac_token.specs.V2Reading.{counted_at, field_at, optional_at, end_at, section_at, head_at, signature_at, AreCaveats};
+ghost use Rattle.mac_token.specs.V2Reading.{counted_at, field_at, optional_at, end_at, section_at, head_at, signature_at};
 
-use crate::fault::ReadFault;
-use crate::location::copied_text;
-use crate::raw::{RawCaveat, RawToken};
+use crate::location::text;
+use crate::raw_view::RawView;
 use crate::section::Section;
+use crate::tally::Tally;
 use crate::v2::{END, FieldType, VERSION};
 use crate::varint::read_varint;
-use std::alloc::Global;
+use crate::version::Version;
 
 /// A length, and that many bytes.
 fn counted(bytes: &[u8]) -> Option<(&[u8], &[u8])>
@@ -55,7 +52,7 @@ fn optional(kind: FieldType, bytes: &[u8]) -> Option<(Option<&[u8]>, &[u8])>
 
 /// The end mark: the bytes after it.
 #[tactic(auto, unfolding(crate::specs::V2Reading::end_at))]
-fn end(bytes: &[u8]) -> Option<&[u8]>
+pub(crate) fn end(bytes: &[u8]) -> Option<&[u8]>
     ensures { option_map (λ rest. rest.now) result ≡ end_at bytes.now }
 {
     match bytes {
@@ -66,7 +63,7 @@ fn end(bytes: &[u8]) -> Option<&[u8]>
 
 /// A section: its fields, and the bytes after it.
 #[tactic(auto, unfolding(crate::specs::V2Reading::section_at))]
-fn section(bytes: &[u8]) -> Option<(Section<'_>, &[u8])>
+pub(crate) fn section(bytes: &[u8]) -> Option<(Section<'_>, &[u8])>
     ensures { option_map (λ x. (x.0, x.1.now)) result ≡ section_at bytes.now }
 {
     let (location, rest) = optional(FieldType::Location, bytes)?;
@@ -113,49 +110,22 @@ fn signature(bytes: &[u8]) -> Option<[u8; 32]>
     Some(sig)
 }
 
-/// The caveats' sections and the end mark behind them: the caveats, and the bytes after it.
-fn caveats(alloc: Global, bytes: &[u8]) -> Result<(Vec<RawCaveat>, &[u8]), ReadFault>
-    ensures { Reads {Y = List CaveatParts × List ℕ} (λ x. (x.0.items, x.1.now))
-        (λ x. AreCaveats bytes.now x.0 x.1) result }
+/// The raw token that these bytes spell in V2 binary, all of them; `None` where they spell none.
+/// The work is linear in the bytes, and no memory is taken.
+#[tactic(auto, unfolding(crate::specs::V2Whole::v2_of))]
+pub(crate) fn view(bytes: &[u8]) -> Option<RawView<'_>>
+    ensures { result ≡ v2_of bytes.now }
 {
-    let mut caveats = Vec::new(alloc);
-    let mut rest = bytes;
-    while let Some((section, after)) = section(rest) {
-        caveats.push(section.caveat(alloc)?)?;
-        rest = after;
-    }
-    match end(rest) {
-        Some(rest) => Ok((caveats, rest)),
-        None => Err(ReadFault::Malformed),
-    }
-}
-
-/// The token that the sections spell.
-fn sections(alloc: Global, bytes: &[u8]) -> Result<RawToken, ReadFault>
-    ensures { Reads (λ raw. raw) (V2 bytes.now) result }
-{
-    let Some((own, rest)) = head(bytes) else {
-        return Err(ReadFault::Malformed);
-    };
-    let location = copied_text(alloc, own.location_or_empty())?;
-    let identifier = Vec::from_slice(alloc, own.identifier)?;
-    let (caveats, rest) = caveats(alloc, rest)?;
-    let Some(sig) = signature(rest) else {
-        return Err(ReadFault::Malformed);
-    };
-    Ok(RawToken {
+    let (own, caveats) = head(bytes)?;
+    let location = text(own.location_or_empty())?;
+    let (tally, rest) = Tally::of(Version::V2, caveats)?;
+    let sig = signature(rest)?;
+    Some(RawView {
+        version: Version::V2,
         location,
-        identifier,
+        identifier: own.identifier,
         caveats,
+        tally,
         sig,
     })
-}
-
-/// The raw token that these bytes spell in V2 binary, all of them. The work is linear in the bytes,
-/// and so is the memory.
-pub(crate) fn read(alloc: Global, bytes: &[u8]) -> Result<RawToken, ReadFault>
-    ensures exact { Answers (λ raw. raw) result (v2_of bytes.now) }
-    ensures read { Reads (λ raw. raw) (V2 bytes.now) result }
-{
-    sections(alloc, bytes)
 }

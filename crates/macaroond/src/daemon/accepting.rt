@@ -3,9 +3,9 @@ ghost use Rattle.std.specs.Prelude.{◌≡◌, ◌≤◌, ◌<◌, ◌⊎◌, If
 
 use super::connection::Watch;
 use super::crew::{Crew, LIVE_MAX, Left};
-use crate::serving::ServeFault;
 use crate::{DEVICE_FAULT, NO_MEMORY};
 use mac_keys::KeyTable;
+use mac_serve::ServeFault;
 use mac_wire::{Sink, send_all};
 use std::alloc::Global;
 use std::fs::Files;

@@ -1,10 +1,10 @@
 //! One connection, in threads of its own.
 ghost use Rattle.std.specs.Prelude.{◌≡◌, IfSome};
 
-use crate::serving::{ServeFault, serve};
 use mac_decide::Macaroons;
 use mac_keys::KeyTable;
 use mac_pool::Desk;
+use mac_serve::{ServeFault, serve};
 use mac_wire::{ReaderSource, WriterSink};
 use std::alloc::Global;
 use std::io::Write;

@@ -4,10 +4,10 @@ ghost use Rattle.macaroond.specs.Crew.{AreFree, EachBerth};
 ghost use Rattle.macaroond.specs.declared.daemon.crew.TheConstants.{LIVE_MAX};
 
 use super::connection::{Connection, Watch, connected};
-use crate::serving::ServeFault;
 use mac_decide::Macaroons;
 use mac_keys::KeyTable;
 use mac_pool::{NoGate, Pool, PoolFault};
+use mac_serve::ServeFault;
 use std::alloc::{AllocError, Global};
 use std::os::unix::net::UnixStream;
 use std::sync::{Arc, Wait};

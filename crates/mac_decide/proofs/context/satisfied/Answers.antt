@@ -1,19 +1,16 @@
 use Rattle.std.proofs.Common.{inl, inr, sym, ◌∙◌}
-use Rattle.std.specs.List.{Contains}
 use Rattle.std.proofs.lemmas.Bool.{false≢true}
 use Rattle.mac_decide.proofs.SatisfiedLemmas.{Contains-found, found-Contains}
 use Rattle.mac_decide.proofs.context.satisfied.Goals as goal
 
 pub returns-then-is_fact : goal.returns-then-is_fact
-returns-then-is_fact c =
-    let has : Contains c.args.context.now.facts c.args.caveat.now = rw (← c.as_slice.ensures) (Contains-found _ _ (sym c.is_fact.ensures ∙ c.if-is_fact.true)) in
-    ((λ e. inl has), (λ h. c.if-is_fact.true))
+returns-then-is_fact c = ((λ e. inl (Contains-found _ _ (sym c.is_fact.ensures ∙ c.if-is_fact.true))), (λ h. c.if-is_fact.true))
 
 pub returns-else-is_fact : goal.returns-else-is_fact
 returns-else-is_fact c = (
   (λ e. inr (c.is_before.ensures.0 e)),
   (λ h. elim h [
-    | inl has ↦ absurd (false≢true (sym c.if-is_fact.false ∙ c.is_fact.ensures ∙ found-Contains _ _ (rw (← c.as_slice.ensures) at has)))
+    | inl has ↦ absurd (false≢true (sym c.if-is_fact.false ∙ c.is_fact.ensures ∙ found-Contains _ _ has))
     | inr before ↦ c.is_before.ensures.1 before
   ]),
 )

@@ -1,13 +1,12 @@
-use Rattle.std.proofs.Common.{ap, ◌∙◌}
-use Rattle.mac_decide.specs.Answer.{verdict_reply}
+use Rattle.std.proofs.Common.{◌≡◌, sym, ap, ◌∙◌}
+use Rattle.mac_decide.specs.Answer.{refused, refusal_of, told, verdict_reply}
 use Rattle.mac_decide.specs.Reading.{verdict_of}
-use Rattle.mac_decide.proofs.VerdictLemmas.{verdict_of-is, one_verdict}
+use Rattle.mac_decide.proofs.VerifiedLemmas.{read_of-refused}
 use Rattle.mac_decide.proofs.reply.verify_reply.Goals as goal
 
-pub returns-in-Ok : goal.returns-in-Ok
-returns-in-Ok c =
-    let key = c.args.key.now in
-    let context = c.args.context.now in
-    let token = c.in-Ok.token in
-    let same = one_verdict key token context c.verify.result (verdict_of key token context) c.verify.ensures (verdict_of-is key token context) in
-    (rw c.in-Ok.ensures.answer (c.verdict_reply.ensures.value ∙ ap verdict_reply same), c.verdict_reply.ensures.sendable)
+pub returns-in-Err-Refused : goal.returns-in-Err-Refused
+returns-in-Err-Refused c =
+    let reason = c.in-Err-Refused.reason in
+    let named : c.refusal_of.result ≡ refusal_of reason = rw c.in-Err-Refused.field-0-is at c.refusal_of.ensures in
+    let read = read_of-refused c.args.token.now c.in-Err-Refused.field-0 reason c.in-Err-Refused.field-0-is c.in-Err-Refused.ensures.answer in
+    (c.refused.ensures.value ∙ ap refused named ∙ ap (λ read. told read (λ t. verdict_reply (verdict_of c.args.key.now t c.args.context.now))) (sym read), c.refused.ensures.sendable)

@@ -1,7 +1,7 @@
 use Rattle.std.proofs.Common.{◌≡◌, [], ◌∷◌, ◌+◌, sym, ap, ◌∙◌, Some, arith}
 use Rattle.std.specs.List.{slice_get}
 use Rattle.mac_hmac.specs.Chain.{extended}
-use Rattle.mac_decide.proofs.WalkLemmas.{lent, length-lent, chain-next, found-next, accepted-at_end}
+use Rattle.mac_decide.proofs.WalkLemmas.{lent, length-lent, chain-next, found-next, concluded}
 use Rattle.mac_decide.proofs.verdict.verify.Goals as goal
 
 pub loop-caveat-preserved : goal.loop-caveat-preserved
@@ -13,7 +13,7 @@ loop-caveat-preserved c =
     lent c.caveat_list-caveats.result.now caveats i c.caveat-item.result c.caveat_list-caveats.ensures.value c.loop-caveat-test.true c.caveat-item.is
     ∙ ap Some (sym c.as_slice-caveat.ensures.value) in
     record {
-      signature = c.extend-signature.ensures
+      signature = c.push.ensures
           ∙ ap (λ s. extended s (caveat ∷ [])) c.loop-caveat.invariant.signature
           ∙ sym (chain-next c.args.key.now c.args.token.now.identifier caveats i caveat here);
       found = found-next _ caveats i c.loop-caveat.index caveat _ _ here c.loop-caveat.invariant.index c.loop-caveat.invariant.found c.first_unsatisfied-unsatisfied.ensures;
@@ -24,10 +24,9 @@ pub overflow_add-index : goal.overflow_add-index
 overflow_add-index c =
     omega (arith, c.loop-caveat.invariant.index, c.loop-caveat-test.true, length-lent c.caveat_list-caveats.result.now c.args.token.now.caveats c.caveat_list-caveats.ensures.value, c.caveat_list-caveats.ensures.within.count)
 
-pub returns-in-None : goal.returns-in-None
-returns-in-None c =
-    let same = c.same.ensures.0 c.if-not-same.false ∙ c.from_bytes.ensures ∙ c.sig.ensures in
-    accepted-at_end _ _ _ c.loop-caveat.caveat-index c.loop-caveat.signature
+pub returns : goal.returns
+returns c =
+    let told = c.from_bytes.ensures ∙ c.sig-2.ensures in
+    concluded _ _ _ c.loop-caveat.caveat-index c.loop-caveat.chain _ _
     (omega (arith, c.loop-caveat-test.false, length-lent c.caveat_list-caveats.result.now c.args.token.now.caveats c.caveat_list-caveats.ensures.value))
-    c.loop-caveat.invariant.signature same
-    (rw c.in-None.is at c.loop-caveat.invariant.found)
+    c.loop-caveat.invariant.signature c.loop-caveat.invariant.found (rw (← told, ← c.sig.ensures) c.conclusion.ensures)

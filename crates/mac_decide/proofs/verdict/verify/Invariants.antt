@@ -6,7 +6,7 @@ use Rattle.mac_decide.proofs.verdict.verify.Given as goal
 
 abbrev pub invariant-loop-caveat : goal.invariant-loop-caveat
 invariant-loop-caveat l = record {
-  signature : l.signature ≡ chain l.key l.token.identifier (take l.caveat-index l.token.caveats);
+  signature : l.chain ≡ chain l.key l.token.identifier (take l.caveat-index l.token.caveats);
   found : MatchOption l.unsatisfied (All (λ caveat. Satisfied caveat l.context) (take l.caveat-index l.token.caveats)) (IsFirstUnsatisfied l.token.caveats l.context);
   index : l.index ≡ l.caveat-index;
 }

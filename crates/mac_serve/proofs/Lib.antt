@@ -1,0 +1,6 @@
+pub mod Answered
+pub mod Comes
+pub mod Gathered
+pub mod ReceivingLemmas
+pub mod SendingLemmas
+pub mod ServingLemmas

@@ -1,0 +1,322 @@
+-- How each step leaves the outbound half of a connection.
+use Rattle.std.proofs.Common.{◌≡◌, ℕ, ◌+◌, ◌-◌, ◌^◌, ◌<◌, ◌≤◌, min, List, [], ◌∷◌, ◌++◌, length, take, drop, map, refl, sym, ap, subst, ◌∙◌, append_assoc, arith}
+use Rattle.std.specs.Prelude.{Option, Some, None, Result, Ok, Err, IsErrAnd, slice_get, Contains}
+use Rattle.std.specs.FinMap.{get, get-empty}
+use Rattle.std.specs.Ordering.{nat_cmp}
+use Rattle.std.specs.declared.vec.Vec.{Vec}
+use Rattle.std.specs.declared.alloc.Global.{Global}
+use Rattle.std.proofs.lemmas.Option.{slice_get-map}
+use Rattle.std.specs.Option.{option_map}
+use Rattle.mac_relay.proofs.Releases.{item_is}
+use Rattle.std.proofs.lemmas.List.{append-nil, map-append, take-append-le, length-append, length-map, length-take-le, append_cancel_left}
+use Rattle.mac_lane.specs.Buffer.{Buffer, fresh_buffer, settled, settle_fault, sent_off, closed_off}
+use Rattle.mac_lane.specs.declared.fault.SettleFault.{SettleFault}
+use Rattle.mac_relay.specs.Lane.{Exit, received, IsSameOutlet, IsKept}
+use Rattle.mac_relay.specs.declared.numbered.Numbered.{Numbered}
+use Rattle.mac_wire.specs.declared.reply.Reply.{Reply}
+use Rattle.mac_wire.specs.Reply.{IsReply, reply_frame, reply_text}
+use Rattle.std.specs.List.{All, AllByRecursion}
+use Rattle.std.proofs.lemmas.List.Elements.{All-from_recursion}
+use Rattle.std.proofs.lemmas.List.Concat.{flat_map-append}
+use Rattle.mac_wire.specs.Whole.{HasWhole}
+use Rattle.mac_decide.specs.declared.job.Job.{Job}
+use Rattle.mac_serve.specs.declared.outbound.Outbound.{Outbound}
+use Rattle.mac_serve.specs.declared.outbound.OutboundFault.{OutboundFault}
+use Rattle.mac_serve.specs.declared.outbound.OutboundFault.TheVariants as fault
+use Rattle.mac_serve.specs.Posts.{TookForeign}
+use Rattle.mac_serve.specs.Sending.{answer_to, replies, next, out_text, Holds, Stands, Fell, Sends}
+use Rattle.mac_serve.proofs.Gathered.{gathered-none, gathered-longer, gathered-one, gathered-flushed, gathered-sent, gathered-begins, gathered-cut, gathered-whole}
+use Rattle.mac_serve.proofs.Answered.{none-answered, answered-fewer, answered-longer, answered-more, answered-next, took-last, took-other, settle-foreign, waiting-settled, waiting-released}
+
+abbrev Entry : Type 0
+Entry = ℕ × Option Job
+
+-- only received jobs were released
+released-within : (before : List Entry) (o : Outbound) → Holds before o → next o ≤ length (received o.lane)
+released-within before o h =
+    let g = h.gathered in
+    let size = ap length g.parts in
+    omega (arith, size, length-map (received o.lane) answer_to, length-append g.out (g.held ++ g.others), length-append g.held g.others, g.is_next)
+
+sent-released : (before : List Entry) (o : Outbound) → Holds before o → o.sent ≤ next o
+sent-released before o h = let g = h.gathered in omega (arith, g.is_sent, g.is_next)
+
+-- a half that has sent nothing
+kept-new : (lane : Exit Job Global Numbered) → lane.buffer ≡ fresh_buffer → received lane ≡ [] → IsKept lane
+kept-new lane fresh empty =
+    let at : lane.buffer.next ≡ 0 = ap (λ (b : Buffer Job). b.next) fresh in
+    let none : length (received lane) ≡ 0 = ap length empty in
+    record {
+      sent = omega (arith, at);
+      window = omega (arith, none);
+      slips = λ _. ap (λ (b : Buffer Job). b.slips) fresh ∙ sym (ap (λ (n : ℕ). drop n (received lane)) at ∙ empty);
+    }
+
+pub stands-new : (o : Outbound) → o.lane.buffer ≡ fresh_buffer → received o.lane ≡ [] → o.sent ≡ 0 → o.written ≡ 0 → o.gathered.items ≡ [] → Stands o.taker o
+stands-new o fresh empty sent written none =
+    let at : next o ≡ 0 = ap (λ (b : Buffer Job). b.next) fresh in
+    record {
+      holds = record {
+        gathered = rw (at, sent, written, none) (gathered-none (replies o));
+        posts = [];
+        taken = sym (append-nil o.taker);
+        answered = rw at (none-answered (received o.lane));
+      };
+      kept = kept-new o.lane fresh empty;
+      live = ap (λ (b : Buffer Job). b.closed) fresh;
+      waiting = λ place job is. absurd (
+          let nothing : get o.lane.buffer.answers place ≡ None = ap (λ (b : Buffer Job). get b.answers place) fresh ∙ get-empty nat_cmp place in
+          let no : None ≡ Some job = sym nothing ∙ is in cc);
+    }
+
+-- more jobs were received
+pub stands-grown : (before : List Entry) (o : Outbound) (lane : Exit Job Global Numbered) (more : List Job) → Stands before o → IsKept lane
+    → received lane ≡ received o.lane ++ more → lane.buffer.next ≡ o.lane.buffer.next → lane.buffer.closed ≡ o.lane.buffer.closed → lane.buffer.answers ≡ o.lane.buffer.answers
+    → Stands before (record o { lane = lane }) × (out_text (record o { lane = lane }) ≡ out_text o)
+stands-grown before o lane more s kept grown same_next same_closed same_answers =
+    let longer : map answer_to (received lane) ≡ replies o ++ map answer_to more = ap (map answer_to) grown ∙ map-append answer_to (received o.lane) more in
+    let old = gathered-sent (replies o) (next o) o.sent o.written o.gathered.items s.holds.gathered in
+    let g = gathered-longer (replies o) (map answer_to more) (next o) o.sent o.written o.gathered.items s.holds.gathered in (
+      record {
+        holds = record {
+          gathered = rw (longer, same_next) g;
+          posts = s.holds.posts;
+          taken = s.holds.taken;
+          answered = rw (grown, same_next) (answered-longer (received o.lane) more (next o) s.holds.posts (released-within before o s.holds) s.holds.answered);
+        };
+        kept = kept;
+        live = same_closed ∙ s.live;
+        waiting = λ place job is. s.waiting place job (ap (λ a. get a place) (sym same_answers) ∙ is);
+      },
+      ap (λ (rs : List Reply). take o.written (reply_text rs)) longer
+          ∙ (gathered-sent (replies o ++ map answer_to more) (next o) o.sent o.written o.gathered.items g).1
+          ∙ ap reply_text (take-append-le o.sent (replies o) (map answer_to more) old.0) ∙ sym old.1,
+    )
+
+-- an answer was settled
+pub stands-settled : (before taken : List Entry) (o : Outbound) (lane : Exit Job Global Numbered) (place : ℕ) (job : Job) → Stands before o → IsKept lane
+    → taken ≡ o.taker ++ (place, Some job) ∷ [] → received lane ≡ received o.lane → lane.buffer ≡ settled o.lane.buffer place job
+    → Stands before (record o { lane = lane; taker = taken })
+stands-settled before taken o lane place job s kept one_more same is_settled =
+    let posts = s.holds.posts in
+    let same_next : lane.buffer.next ≡ next o = ap (λ (b : Buffer Job). b.next) is_settled in
+    record {
+      holds = record {
+        gathered = rw (same, same_next) s.holds.gathered;
+        posts = posts ++ (place, Some job) ∷ [];
+        taken = one_more ∙ ap (λ (l : List Entry). l ++ (place, Some job) ∷ []) s.holds.taken ∙ append_assoc before posts ((place, Some job) ∷ []);
+        answered = rw (same, same_next) (answered-more (received o.lane) (next o) posts ((place, Some job) ∷ []) s.holds.answered);
+      };
+      kept = kept;
+      live = ap (λ (b : Buffer Job). b.closed) is_settled ∙ s.live;
+      waiting = λ at other is. waiting-settled o.lane.buffer.answers place job posts s.waiting at other (ap (λ (b : Buffer Job). get b.answers at) (sym is_settled) ∙ is);
+    }
+
+-- the half ends as it holds, after a stranger where one is told
+pub fell-with : (before : List Entry) (o : Outbound) (why : OutboundFault) (h : Holds before o) → (why ≡ fault.Stranger → TookForeign (received o.lane) o.sent h.posts) → Fell before why o
+fell-with before o why h foreign =
+    let g = h.gathered in
+    let frames = gathered-whole (replies o) (next o) o.sent o.written o.gathered.items g in
+    record {
+      frames = frames.0;
+      within = frames.1;
+      whole = λ other. (gathered-sent (replies o) (next o) o.sent o.written o.gathered.items g).1;
+      posts = h.posts;
+      taken = h.taken;
+      answered = answered-fewer (received o.lane) o.sent (next o) h.posts (sent-released before o h) h.answered;
+      foreign = foreign;
+    }
+
+pub fell-held : (before : List Entry) (o : Outbound) (why : OutboundFault) → Holds before o → (why ≡ fault.Stranger → ⊥) → Fell before why o
+fell-held before o why h known = fell-with before o why h (λ is. absurd (known is))
+
+-- a post told that memory ran out
+pub fell-failed : (before taken : List Entry) (o : Outbound) (place : ℕ) → Stands before o → taken ≡ o.taker ++ (place, None) ∷ []
+    → Fell before fault.NoMemory (record o { taker = taken })
+fell-failed before taken o place s one_more =
+    let posts = s.holds.posts in
+    fell-held before (record o { taker = taken }) fault.NoMemory (record {
+      gathered = s.holds.gathered;
+      posts = posts ++ (place, None) ∷ [];
+      taken = one_more ∙ ap (λ (l : List Entry). l ++ (place, None) ∷ []) s.holds.taken ∙ append_assoc before posts ((place, None) ∷ []);
+      answered = answered-more (received o.lane) (next o) posts ((place, None) ∷ []) s.holds.answered;
+    }) (λ is. absurd cc)
+
+-- an answer couldn't be settled
+pub fell-unsettled : (before taken : List Entry) (o : Outbound) (lane : Exit Job Global Numbered) (place : ℕ) (job : Job) (why : SettleFault) → Stands before o
+    → taken ≡ o.taker ++ (place, Some job) ∷ [] → received lane ≡ received o.lane → lane.buffer ≡ o.lane.buffer → settle_fault o.lane.buffer place ≡ Some why
+    → Fell before fault.Stranger (record o { lane = lane; taker = taken })
+fell-unsettled before taken o lane place job why s one_more same same_buffer is =
+    let posts = s.holds.posts in
+    let same_next : lane.buffer.next ≡ next o = ap (λ (b : Buffer Job). b.next) same_buffer in
+    let now : Outbound = record o { lane = lane; taker = taken } in
+    let h : Holds before now = record {
+      gathered = rw (same, same_next) s.holds.gathered;
+      posts = posts ++ (place, Some job) ∷ [];
+      taken = one_more ∙ ap (λ (l : List Entry). l ++ (place, Some job) ∷ []) s.holds.taken ∙ append_assoc before posts ((place, Some job) ∷ []);
+      answered = rw (same, same_next) (answered-more (received o.lane) (next o) posts ((place, Some job) ∷ []) s.holds.answered);
+    } in
+    fell-with before now fault.Stranger h (λ _. rw same (took-last (received o.lane) o.sent posts place job
+    (settle-foreign (received o.lane) o.sent o.lane.buffer place job why posts s.live (sent-released before o s.holds) (released-within before o s.holds) s.holds.answered s.waiting is)))
+
+-- the same lane, at three times
+pub same-outlet : (a b c : Exit Job Global Numbered) → IsSameOutlet a b → IsSameOutlet b c → IsSameOutlet a c
+same-outlet a b c h k = ((k.0.0 ∙ h.0.0, k.0.1 ∙ h.0.1, k.0.2 ∙ h.0.2, k.0.3 ∙ h.0.3), k.1 ∙ h.1)
+
+-- the slip at the front is the job that was received at the next place
+slip-received : (before : List Entry) (o : Outbound) (slip : Job) (rest : List Job) → Stands before o → o.lane.buffer.slips ≡ slip ∷ rest
+    → slice_get (received o.lane) (next o) ≡ Some slip
+slip-received before o slip rest s is = item_is (received o.lane) (next o) slip rest (sym (s.kept.slips s.live) ∙ is)
+
+-- a reply was released
+pub stands-released : (before : List Entry) (o : Outbound) (lane : Exit Job Global Numbered) (gathered : Vec ℕ Global) (slip answer : Job) (rest : List Job)
+    → Stands before o → IsKept lane → received lane ≡ received o.lane → o.lane.buffer.slips ≡ slip ∷ rest → get o.lane.buffer.answers (next o) ≡ Some answer → answer ≡ slip
+    → lane.buffer ≡ sent_off o.lane.buffer rest → gathered.items ≡ o.gathered.items ++ reply_frame (answer_to slip)
+    → Stands before (record o { lane = lane; gathered = gathered })
+stands-released before o lane gathered slip answer rest s kept same slips settled_is equal after more =
+    let posts = s.holds.posts in
+    let at = slip-received before o slip rest s slips in
+    let next_is : lane.buffer.next ≡ next o + 1 = ap (λ (b : Buffer Job). b.next) after in
+    let reply_at : slice_get (replies o) (next o) ≡ Some (answer_to slip) = slice_get-map answer_to (received o.lane) (next o) ∙ ap (option_map answer_to) at in
+    let here : Contains posts (next o, Some slip) =
+    subst (λ (job : Job). Contains posts (next o, Some job)) equal (s.waiting (next o) answer settled_is) in
+    record {
+      holds = record {
+        gathered = rw (same, next_is) (gathered-one (replies o) (next o) o.sent o.written o.gathered.items gathered.items (answer_to slip) s.holds.gathered reply_at more);
+        posts = posts;
+        taken = s.holds.taken;
+        answered = rw (same, next_is) (answered-next (received o.lane) (next o) posts slip s.holds.answered at here);
+      };
+      kept = kept;
+      live = ap (λ (b : Buffer Job). b.closed) after;
+      waiting = λ place job is. waiting-released o.lane.buffer.answers (next o) posts s.waiting place job (ap (λ (b : Buffer Job). get b.answers place) (sym after) ∙ is);
+    }
+
+-- memory ran out for the frame of a reply
+pub fell-released : (before : List Entry) (o : Outbound) (lane : Exit Job Global Numbered) (gathered : Vec ℕ Global) → Stands before o → received lane ≡ received o.lane
+    → Fell before fault.NoMemory (record o { lane = lane; gathered = gathered })
+fell-released before o lane gathered s same =
+    let fell = fell-held before o fault.NoMemory s.holds (λ is. absurd cc) in
+    record {
+      frames = rw same fell.frames;
+      within = rw same fell.within;
+      whole = λ other. rw same (fell.whole other);
+      posts = fell.posts;
+      taken = fell.taken;
+      answered = rw same fell.answered;
+      foreign = λ is. absurd cc;
+    }
+
+-- an answer to another job closed the buffer
+pub holds-stranger : (before : List Entry) (o : Outbound) (lane : Exit Job Global Numbered) (answer job : Job) → Stands before o → received lane ≡ received o.lane
+    → lane.buffer ≡ closed_off o.lane.buffer → get o.lane.buffer.answers (next o) ≡ Some answer → slice_get (received o.lane) (next o) ≡ Some job → (job ≡ answer → ⊥)
+    → (h : Holds before (record o { lane = lane })) × ((sent : ℕ) → TookForeign (received lane) sent h.posts)
+holds-stranger before o lane answer job s same after settled_is at unlike =
+    let posts = s.holds.posts in
+    let next_is : lane.buffer.next ≡ next o = ap (λ (b : Buffer Job). b.next) after in (
+      record {
+        gathered = rw (same, next_is) s.holds.gathered;
+        posts = posts;
+        taken = s.holds.taken;
+        answered = rw (same, next_is) s.holds.answered;
+      },
+      λ sent. rw same (took-other (received o.lane) sent posts (next o) answer job (s.waiting (next o) answer settled_is) at unlike),
+    )
+
+-- nothing was released
+pub stands-waiting : (before : List Entry) (o : Outbound) (lane : Exit Job Global Numbered) → Stands before o → IsKept lane → received lane ≡ received o.lane → lane.buffer ≡ o.lane.buffer
+    → Stands before (record o { lane = lane })
+stands-waiting before o lane s kept same after =
+    (stands-grown before o lane [] s kept (same ∙ sym (append-nil (received o.lane)))
+    (ap (λ (b : Buffer Job). b.next) after) (ap (λ (b : Buffer Job). b.closed) after) (ap (λ (b : Buffer Job). b.answers) after)).0
+
+-- all that was gathered went out
+pub holds-flushed : (before : List Entry) (o : Outbound) (gathered : Vec ℕ Global) (sent written : ℕ) → Holds before o → gathered.items ≡ [] → sent ≡ next o
+    → written ≡ o.written + length o.gathered.items → Holds before (record o { gathered = gathered; sent = sent; written = written })
+holds-flushed before o gathered sent written h none sent_is written_is = record {
+  gathered = rw (none, sent_is, written_is) (gathered-flushed (replies o) (next o) o.sent o.written o.gathered.items h.gathered);
+  posts = h.posts;
+  taken = h.taken;
+  answered = h.answered;
+}
+
+-- what went out, after a beginning of what was gathered
+pub out-grown : (before : List Entry) (o : Outbound) (written n : ℕ) → Holds before o → n ≤ length o.gathered.items → written ≡ o.written + n
+    → take written (reply_text (replies o)) ≡ out_text o ++ take n o.gathered.items
+out-grown before o written n h within is =
+    ap (λ (w : ℕ). take w (reply_text (replies o))) is ∙ gathered-begins (replies o) (next o) o.sent o.written n o.gathered.items h.gathered within
+
+all-fit : ((job : Job) → IsReply (answer_to job)) → (jobs : List Job) → AllByRecursion IsReply (map answer_to jobs)
+all-fit fits [] = tt
+all-fit fits (job ∷ jobs) = (fits job, all-fit fits jobs)
+
+later-fit : (front back : List Reply) → AllByRecursion IsReply (front ++ back) → AllByRecursion IsReply back
+later-fit [] back all = all
+later-fit (r ∷ rs) back all = later-fit rs back all.1
+
+earlier-fit : (front back : List Reply) → AllByRecursion IsReply (front ++ back) → AllByRecursion IsReply front
+earlier-fit [] back all = tt
+earlier-fit (r ∷ rs) back all = (all.0, earlier-fit rs back all.1)
+
+-- the sink took a beginning of what was gathered
+pub fell-cut : (before : List Entry) (o : Outbound) (bytes : List ℕ) (count whole sent written : ℕ) → Holds before o → ((job : Job) → IsReply (answer_to job))
+    → next o < 2 ^ 64 → count < length o.gathered.items → bytes ≡ take count o.gathered.items
+    → ((rs : List Reply) → All IsReply rs → bytes ≡ take (length bytes) (reply_text rs) → HasWhole rs (length bytes) whole)
+    → sent ≡ min (o.sent + whole) (2 ^ 64 - 1) → written ≡ o.written + count
+    → Fell before fault.Write (record o { sent = sent; written = written })
+fell-cut before o bytes count whole sent written h fits bound few is counts sent_is written_is =
+    let g = h.gathered in
+    let size : length bytes ≡ count = ap length is ∙ length-take-le count o.gathered.items (omega arith) in
+    let all = later-fit g.out (g.held ++ g.others) (rw g.parts at (all-fit fits (received o.lane))) in
+    let held : All IsReply g.held = All-from_recursion IsReply g.held (earlier-fit g.held g.others all) in
+    let begins : bytes ≡ take (length bytes) (reply_text g.held) = is ∙ ap (take count) g.is_gathered ∙ ap (λ (n : ℕ). take n (reply_text g.held)) (sym size) in
+    let has : HasWhole g.held count whole = rw size at (counts g.held held begins) in
+    let frames : HasWhole (replies o) (o.written + count) (o.sent + whole) = gathered-cut (replies o) (next o) o.sent o.written count whole o.gathered.items g few has in
+    let length_held = ap length g.is_gathered in
+    let all_text = ap (λ (l : List Reply). length (reply_text l)) g.parts in
+    let fewer : o.sent + whole ≤ next o = omega (arith, g.is_sent, g.is_next, has.there) in
+    let exact : sent ≡ o.sent + whole = sent_is ∙ omega (arith, fewer, bound) in
+    record {
+      frames = rw (exact, written_is) frames;
+      within = rw written_is (omega (
+        arith,
+        all_text,
+        length_held,
+        few,
+        g.is_written,
+        ap length (flat_map-append reply_frame g.out (g.held ++ g.others)),
+        length-append (reply_text g.out) (reply_text (g.held ++ g.others)),
+        ap length (flat_map-append reply_frame g.held g.others),
+        length-append (reply_text g.held) (reply_text g.others),
+      ));
+      whole = λ other. absurd (other refl);
+      posts = h.posts;
+      taken = h.taken;
+      answered = rw exact (answered-fewer (received o.lane) (o.sent + whole) (next o) h.posts fewer h.answered);
+      foreign = λ no. absurd cc;
+    }
+
+-- what was flushed goes on as it stood
+pub stands-held : (before : List Entry) (o after : Outbound) → Stands before o → Holds before after → after.lane ≡ o.lane → after.taker ≡ o.taker → Stands before after
+stands-held before o after s h lane taker =
+    let same : h.posts ≡ s.holds.posts = append_cancel_left before h.posts s.holds.posts (sym h.taken ∙ taker ∙ s.holds.taken) in
+    record {
+      holds = h;
+      kept = subst (λ (l : Exit Job Global Numbered). IsKept l) (sym lane) s.kept;
+      live = ap (λ (l : Exit Job Global Numbered). l.buffer.closed) lane ∙ s.live;
+      waiting = λ place job is. subst (λ (posts : List Entry). Contains posts (place, Some job)) (sym same)
+          (s.waiting place job (ap (λ (l : Exit Job Global Numbered). get l.buffer.answers place) (sym lane) ∙ is));
+    }
+
+-- what was flushed after a stranger ends with it
+pub fell-stranger : (before : List Entry) (o after : Outbound) (h : Holds before o) → ((sent : ℕ) → TookForeign (received o.lane) sent h.posts) → Holds before after
+    → after.lane ≡ o.lane → after.taker ≡ o.taker → Fell before fault.Stranger after
+fell-stranger before o after h took held lane taker =
+    let same : held.posts ≡ h.posts = append_cancel_left before held.posts h.posts (sym held.taken ∙ taker ∙ h.taken) in
+    fell-with before after fault.Stranger held (λ _. subst (λ (posts : List Entry). TookForeign (received after.lane) after.sent posts) (sym same)
+    (subst (λ (l : Exit Job Global Numbered). TookForeign (received l) after.sent h.posts) (sym lane) (took after.sent)))
+
+-- a fault that is passed on
+pub sends-residual : {T : Type 0} (before : List Entry) (r : Result T OutboundFault) (why : OutboundFault) (o : Outbound) → IsErrAnd r (λ e. e ≡ why) → Fell before why o → Sends before r o
+sends-residual before (Ok x) why o is fell = absurd is
+sends-residual before (Err e) why o is fell = subst (λ (f : OutboundFault). Fell before f o) (sym is) fell

@@ -1,0 +1,27 @@
+use Rattle.std.proofs.Common.{◌≡◌, ◌++◌, ◌∙◌, ◌∷◌, [], refl, ap}
+use Rattle.mac_relay.specs.Lane.{admitted}
+use Rattle.mac_decide.specs.World.{job_under}
+use Rattle.mac_decide.specs.declared.job.Job.{Job}
+use Rattle.mac_serve.specs.declared.incoming.InboundFault.TheVariants as fault
+use Rattle.mac_serve.proofs.ReceivingLemmas.{receives-put, receives-residual, takes-none}
+use Rattle.mac_serve.proofs.inbound.Inbound.take_arrival.Goals as goal
+
+pub returns-in_err-copy-clause-receives : goal.returns-in_err-copy-clause-receives
+returns-in_err-copy-clause-receives g c =
+    receives-residual (job_under c.args.keys.now c.args.arrival ∷ []) c.from_residual.result fault.NoMemory c.args.self.now c.args.self.now c.from_residual.ensures.1
+    (takes-none (job_under c.args.keys.now c.args.arrival ∷ []) c.args.self.now c.args.self.now refl refl)
+
+pub returns-in_err-place-clause-receives : goal.returns-in_err-place-clause-receives
+returns-in_err-place-clause-receives g c =
+    receives-residual (job_under c.args.keys.now c.args.arrival ∷ []) c.from_residual-in_err-place.result c.in_err-place.field-0.0 c.args.self.now c.admit.new.self
+    c.from_residual-in_err-place.ensures.1
+    (takes-none (job_under c.args.keys.now c.args.arrival ∷ []) c.args.self.now c.admit.new.self c.in_err-place.ensures.refused c.in_err-place.ensures.putter)
+
+pub returns-clause-receives : goal.returns-clause-receives
+returns-clause-receives g c =
+    let job : Job = job_under c.args.keys.now c.args.arrival in
+    let copied : c.in_ok-copy.copy ≡ job = c.in_ok-copy.ensures ∙ c.job_of-job.ensures in
+    let put = rw c.job_of-job.ensures at c.put.ensures.put in
+    receives-put c.put.result job c.in_ok-place.place c.args.self.now c.admit.new.self c.put.new.self
+    (c.in_ok-place.ensures.admitted ∙ ap (λ (j : Job). admitted c.args.self.now.lane ++ j ∷ []) copied)
+    c.in_ok-place.ensures.putter c.put.ensures.lane c.in_ok-place.ensures.place put c.put.ensures.same

@@ -1,0 +1,6 @@
+pub mod Gathered
+pub mod Incoming
+pub mod Posts
+pub mod Receiving
+pub mod Sending
+pub mod Serving

@@ -1,0 +1,121 @@
+-- What the inbound half of a connection takes in.
+use Rattle.std.specs.Prelude.{◌≡◌, ◌≢◌, ◌⊎◌, ℕ, ◌+◌, ◌≤◌, Bool, IsTrue, List, [], ◌∷◌, ◌++◌, length, map, take, Option, Some, None, Result, Ok, Err}
+use Rattle.std.specs.declared.alloc.Global.{Global}
+use Rattle.std.specs.declared.vec.Vec.{Vec}
+use Rattle.mac_relay.specs.Lane.{admitted}
+use Rattle.mac_keys.specs.Table.{Keys}
+use Rattle.mac_wire.specs.declared.arrival.Arrival.{Arrival}
+use Rattle.mac_wire.specs.declared.arrival.Ending.{Ending}
+use Rattle.mac_wire.specs.declared.arrival.Ending.TheVariants as ending
+use Rattle.mac_wire.specs.declared.frame.FrameReader.{FrameReader}
+use Rattle.mac_wire.specs.Frame.{arrivals_of}
+use Rattle.mac_wire.specs.FrameReader.{HasRead}
+use Rattle.mac_decide.specs.declared.job.Job.{Job}
+use Rattle.mac_decide.specs.World.{job_under}
+use Rattle.mac_serve.specs.declared.incoming.InboundFault.{InboundFault}
+use Rattle.mac_serve.specs.declared.incoming.InboundFault.TheVariants as fault
+use Rattle.mac_serve.specs.declared.inbound.Inbound.{Inbound}
+
+-- a source gave these bytes, where it tells what it gives
+abbrev pub Gave : Bool → List ℕ → List ℕ → List ℕ → Type 0
+Gave tells before after bytes = IsTrue tells → after ≡ before ++ bytes
+
+-- The next bytes of a stream were read: the arrivals that are whole with them came, or none where
+-- nothing was left;
+-- where the device failed nothing came, and where memory ran out the bytes are lost.
+abbrev pub Reads : Bool → List ℕ → List ℕ → List ℕ → List Arrival
+    → Result (Option (Vec Arrival Global)) InboundFault → FrameReader → Type 0
+Reads tells before after stream handed (Ok (Some more)) reader =
+    (bytes : List ℕ) × Gave tells before after bytes
+    × HasRead reader (stream ++ bytes) (handed ++ more.items)
+Reads tells before after stream handed (Ok None) reader =
+    Gave tells before after [] × HasRead reader stream handed
+Reads tells before after stream handed (Err fault.Read) reader = Gave tells before after []
+Reads tells before after stream handed (Err fault.NoMemory) reader =
+    (bytes : List ℕ) × Gave tells before after bytes
+Reads tells before after stream handed (Err fault.Lane) reader = ⊥
+Reads tells before after stream handed (Err fault.Stopped) reader = ⊥
+
+-- one fault was counted where the source failed, and else none
+abbrev pub CountsRead : {T : Type 0} → Result T InboundFault → ℕ → ℕ → Type 0
+CountsRead (Ok x) old new = new ≡ old
+CountsRead (Err fault.Read) old new = new ≡ old + 1
+CountsRead (Err fault.NoMemory) old new = new ≡ old
+CountsRead (Err fault.Lane) old new = new ≡ old
+CountsRead (Err fault.Stopped) old new = new ≡ old
+
+-- the jobs of arrivals under a table
+abbrev pub jobs_of : Keys → List Arrival → List Job
+jobs_of table arrivals = map (job_under table) arrivals
+
+-- jobs at their places, from a first place on
+unfoldable pub placed : ℕ → List Job → List (ℕ × Job)
+placed place [] = []
+placed place (job ∷ jobs) = (place, job) ∷ placed (place + 1) jobs
+
+-- a count that is another, or one less
+abbrev pub IsBehind : ℕ → ℕ → Type 0
+IsBehind few count = (count ≡ few) ⊎ (count ≡ few + 1)
+
+-- from the one state to the other these jobs were admitted, and put into the line at their places
+pub record TakesIn (jobs : List Job) (before after : Inbound) : Type 0 where
+  pub admitted_is : admitted after.lane ≡ admitted before.lane ++ jobs
+  pub put_is : after.putter
+      ≡ record before.putter { put = before.putter.put ++ placed (length (admitted before.lane)) jobs }
+
+-- from the one state to the other some of these jobs, the first ones, were admitted, and all of
+-- them put into the line at their places, or all but the last
+pub record TakesSome (jobs : List Job) (before after : Inbound) : Type 0 where
+  pub count : ℕ
+  pub there : count ≤ length jobs
+  pub admitted_is : admitted after.lane ≡ admitted before.lane ++ take count jobs
+  pub puts : ℕ
+  pub put_behind : IsBehind puts count
+  pub put_is : after.putter ≡ record before.putter {
+    put = before.putter.put ++ placed (length (admitted before.lane)) (take puts jobs);
+  }
+
+-- what a step did with these jobs: it took in all, or some where it failed
+abbrev pub Receives : {T : Type 0} → List Job → Result T InboundFault → Inbound → Inbound → Type 0
+Receives jobs (Ok x) before after = TakesIn jobs before after
+Receives jobs (Err why) before after = TakesSome jobs before after
+
+-- What a run did with a stream: to its end, or to where the source failed, it took in the jobs of
+-- all arrivals, and else of some.
+abbrev pub Ran : Keys → List ℕ → Result Ending InboundFault → Inbound → Inbound → Type 0
+Ran table stream (Ok end) before after =
+    TakesIn (jobs_of table (arrivals_of stream).arrived) before after
+    × ((arrivals_of stream).ending ≡ end) × (end ≢ ending.Broken)
+Ran table stream (Err fault.Read) before after =
+    TakesIn (jobs_of table (arrivals_of stream).arrived) before after
+Ran table stream (Err fault.NoMemory) before after =
+    TakesSome (jobs_of table (arrivals_of stream).arrived) before after
+Ran table stream (Err fault.Lane) before after =
+    TakesSome (jobs_of table (arrivals_of stream).arrived) before after
+Ran table stream (Err fault.Stopped) before after =
+    TakesSome (jobs_of table (arrivals_of stream).arrived) before after
+
+-- a run over the bytes that the source gave
+pub record HasRun (tells : Bool) (table : Keys) (given given' : List ℕ)
+    (result : Result Ending InboundFault) (before after : Inbound) : Type 0 where
+  pub stream : List ℕ
+  pub gave : Gave tells given given' stream
+  pub ran : Ran table stream result before after
+
+-- a run that goes on: a reader was fed a stream, and the jobs of what it handed out were taken in
+pub record GoesOn (tells : Bool) (table : Keys) (given given' : List ℕ) (reader : FrameReader)
+    (before after : Inbound) : Type 0 where
+  pub stream : List ℕ
+  pub gave : Gave tells given given' stream
+  pub handed : List Arrival
+  pub read : HasRead reader stream handed
+  pub took : TakesIn (jobs_of table handed) before after
+
+-- how a step of a run ended: it goes on, whether or not more can come, or only some jobs were taken
+-- in
+abbrev pub Continues : Bool → Keys → List ℕ → List ℕ → Result Bool InboundFault → FrameReader
+    → Inbound → Inbound → Type 0
+Continues tells table given given' (Ok more) reader before after =
+    GoesOn tells table given given' reader before after
+Continues tells table given given' (Err why) reader before after =
+    HasRun tells table given given' (Err why) before after

@@ -1,0 +1,81 @@
+-- How the outbound half of a connection stands, and how it ends.
+use Rattle.std.specs.Prelude.{◌≡◌, ◌≢◌, ℕ, ◌+◌, ◌≤◌, false, List, ◌++◌, length, map, take, Option, Some, Contains, Result, Ok, Err}
+use Rattle.std.specs.FinMap.{get}
+use Rattle.mac_relay.specs.Lane.{received, IsKept}
+use Rattle.mac_wire.specs.declared.reply.Reply.{Reply}
+use Rattle.mac_wire.specs.Reply.{reply_text}
+use Rattle.mac_wire.specs.Whole.{HasWhole}
+use Rattle.mac_decide.specs.declared.job.Job.{Job}
+use Rattle.mac_decide.specs.Answer.{reply_of}
+use Rattle.mac_serve.specs.declared.outbound.Outbound.{Outbound}
+use Rattle.mac_serve.specs.declared.outbound.Due.{Due}
+use Rattle.mac_serve.specs.declared.outbound.Due.TheVariants as due
+use Rattle.mac_serve.specs.declared.outbound.OutboundFault.{OutboundFault}
+use Rattle.mac_serve.specs.declared.outbound.OutboundFault.TheVariants as fault
+use Rattle.mac_serve.specs.Gathered.{Gathered}
+use Rattle.mac_serve.specs.Posts.{AreAnswered, TookForeign}
+
+-- the reply to a job
+abbrev pub answer_to : Job → Reply
+answer_to job = reply_of job.arrival job.key
+
+-- the replies to the jobs that came through the lane
+abbrev pub replies : Outbound → List Reply
+replies o = map answer_to (received o.lane)
+
+-- the place whose reply is released next
+abbrev pub next : Outbound → ℕ
+next o = o.lane.buffer.next
+
+-- the bytes that went out
+abbrev pub out_text : Outbound → List ℕ
+out_text o = take o.written (reply_text (replies o))
+
+-- The half holds what it should, where its taker took `before` earlier: replies are released and
+-- gathered in order, and each that was released had its post.
+pub record Holds (before : List (ℕ × Option Job)) (o : Outbound) : Type 0 where
+  pub gathered : Gathered (replies o) (next o) o.sent o.written o.gathered.items
+  pub posts : List (ℕ × Option Job)
+  pub taken : o.taker ≡ before ++ posts
+  pub answered : AreAnswered (received o.lane) (next o) posts
+
+-- it goes on: its buffer is open, and each answer that waits came by a post
+pub record Stands (before : List (ℕ × Option Job)) (o : Outbound) : Type 0 where
+  pub holds : Holds before o
+  pub kept : IsKept o.lane
+  pub live : o.lane.buffer.closed ≡ false
+  pub waiting : (place : ℕ) (job : Job) → get o.lane.buffer.answers place ≡ Some job
+      → Contains holds.posts (place, Some job)
+
+-- It ended by this fault: `sent` replies went out whole, and but for a fault of the sink nothing
+-- else; each had its post; a stranger was told only where one came.
+pub record Fell (before : List (ℕ × Option Job)) (why : OutboundFault) (o : Outbound) : Type 0 where
+  pub frames : HasWhole (replies o) o.written o.sent
+  pub within : o.written ≤ length (reply_text (replies o))
+  pub whole : why ≢ fault.Write → out_text o ≡ reply_text (take o.sent (replies o))
+  pub posts : List (ℕ × Option Job)
+  pub taken : o.taker ≡ before ++ posts
+  pub answered : AreAnswered (received o.lane) o.sent posts
+  pub foreign : why ≡ fault.Stranger → TookForeign (received o.lane) o.sent posts
+
+-- how a step ended
+abbrev pub Sends : {T : Type 0} → List (ℕ × Option Job) → Result T OutboundFault → Outbound → Type 0
+Sends before (Ok x) o = Stands before o
+Sends before (Err why) o = Fell before why o
+
+-- one fault was counted where the sink failed, and else none
+abbrev pub CountsWrite : {T : Type 0} → Result T OutboundFault → ℕ → ℕ → Type 0
+CountsWrite (Err fault.Write) old new = new ≡ old + 1
+CountsWrite (Err fault.NoMemory) old new = new ≡ old
+CountsWrite (Err fault.Stranger) old new = new ≡ old
+CountsWrite (Err fault.Lane) old new = new ≡ old
+CountsWrite (Ok x) old new = new ≡ old
+
+-- what came of asking for the next reply: where an answer was to another job, the buffer is closed,
+-- and that answer came by a foreign post, however many replies are out
+abbrev pub Releases : List (ℕ × Option Job) → Due → Outbound → Type 0
+Releases before due.Gathered o = Stands before o
+Releases before due.Waiting o = Stands before o
+Releases before due.Stranger o =
+    (h : Holds before o) × ((sent : ℕ) → TookForeign (received o.lane) sent h.posts)
+Releases before due.NoMemory o = Fell before fault.NoMemory o

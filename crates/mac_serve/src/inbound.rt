@@ -1,0 +1,290 @@
+//! The half of a connection that reads requests.
+
+ghost use Rattle.std.specs.Prelude.{◌≡◌, ◌≢◌, ◌<◌, ◌++◌, ◌∷◌, ℕ, List, [], length, map, IsTrue, IfOk, OnOk, OnErr, MatchResult, Ok, Err, false, ◌⊎◌, IfErr};
+ghost use Rattle.mac_decide.specs.World.{job_under};
+
+use crate::incoming::{InboundFault, Incoming};
+use crate::signals::Signals;
+use crate::unsent::Unsent;
+use mac_decide::{Job, Macaroons, job_of};
+use mac_keys::KeyTable;
+use mac_lane::Service;
+use mac_pool::{PutFault, Putter};
+use mac_relay::{AdmitFault, Intake};
+use mac_wire::{Arrival, Ending, Source};
+use std::alloc::Global;
+use std::sync::Wait;
+use std::thread;
+
+/// The half of a connection that reads requests: its end of the lane, and its way into the line of
+/// jobs.
+#[derive(Drop)]
+pub struct Inbound {
+    pub lane: Intake<Macaroons>,
+    pub putter: Putter<Macaroons>,
+    unsent: Unsent,
+}
+
+impl Inbound {
+    ghost use Rattle.mac_relay.specs.Lane.{admitted, IsSameIntake, Knows};
+    ghost use Rattle.mac_pool.specs.Pass.{with_put, IsSamePass};
+    ghost use Rattle.mac_serve.specs.Receiving.{CountsRead, jobs_of, Receives, HasRun, GoesOn, Continues};
+    ghost use Rattle.mac_serve.specs.Incoming.{HasRoom};
+    ghost use Rattle.mac_wire.specs.FrameReader.{HasEnded};
+
+    /// A half that has read nothing.
+    pub fn new(lane: Intake<Macaroons>, putter: Putter<Macaroons>) -> Inbound
+        ensures { (result.lane ≡ lane) × (result.putter ≡ putter) }
+    {
+        Inbound {
+            lane,
+            putter,
+            unsent: Unsent::new(),
+        }
+    }
+
+    /// Admits the job, where the ring and the bytes of the jobs without reply leave room for it.
+    fn try_admit(&mut self, job: Job, signals: &Signals) -> Result<u64, (AdmitFault, Job)>
+        ensures lane { IsSameIntake self.old.lane self.new.lane }
+        ensures putter { self.new.putter ≡ self.old.putter }
+        ensures place { IfOk result (λ place. place ≡ length (admitted self.old.lane)) }
+        ensures admitted { OnOk result
+            (admitted self.new.lane ≡ admitted self.old.lane ++ job ∷ []) }
+        ensures refused { IfErr result (λ e.
+            (admitted self.new.lane ≡ admitted self.old.lane) × (e.1 ≡ job)) }
+    {
+        let length = payload_length(&job);
+        if !self.unsent.has_room(length, signals.sent()) {
+            return Err((AdmitFault::Full, job));
+        }
+        let place = self.lane.admit(job)?;
+        self.unsent.push(length);
+        Ok(place)
+    }
+
+    /// Admits the job, once there is room for it.
+    fn admit<R: Wait>(&mut self, rt: &R, job: Job, signals: &Signals) -> Result<u64, InboundFault>
+        ensures lane { IsSameIntake self.old.lane self.new.lane }
+        ensures putter { self.new.putter ≡ self.old.putter }
+        ensures place { IfOk result (λ place. place ≡ length (admitted self.old.lane)) }
+        ensures admitted { OnOk result
+            (admitted self.new.lane ≡ admitted self.old.lane ++ job ∷ []) }
+        ensures refused { OnErr result (admitted self.new.lane ≡ admitted self.old.lane) }
+        ensures no_read { result ≢ Err InboundFault.Read }
+    {
+        let mut job = job;
+        for _ in rt.forever() {
+            match self.try_admit(job, signals) {
+                Ok(place) => return Ok(place),
+                Err((AdmitFault::Last, _)) => return Err(InboundFault::Lane),
+                Err((AdmitFault::Full, back)) => job = back,
+            }
+            let notice = signals.announce(self.unsent.wanted());
+            match self.try_admit(job, signals) {
+                Ok(place) => {
+                    signals.withdraw(notice);
+                    return Ok(place);
+                }
+                Err((_, back)) => job = back,
+            }
+            if signals.has_outbound_ended() {
+                signals.withdraw(notice);
+                return Err(InboundFault::Stopped);
+            }
+            signals.sleep(rt, notice);
+        }
+        unreachable!()
+    }
+
+    /// Puts the job at its place into the line.
+    fn put<R: Wait>(
+        &mut self,
+        rt: &R,
+        place: u64,
+        job: Job,
+        signals: &Signals,
+    ) -> Result<(), InboundFault>
+        ensures lane { self.new.lane ≡ self.old.lane }
+        ensures put { OnOk result (self.new.putter ≡ with_put self.old.putter (place, job)) }
+        ensures same { OnErr result (self.new.putter ≡ self.old.putter) }
+        ensures no_read { result ≢ Err InboundFault.Read }
+    {
+        let mut job = job;
+        for _ in rt.forever() {
+            match self.putter.put(rt, place, job) {
+                Ok(()) => return Ok(()),
+                Err((PutFault::Closed, _)) => return Err(InboundFault::Lane),
+                Err((PutFault::NoMemory, _)) => return Err(InboundFault::NoMemory),
+                Err((PutFault::Full, back)) => job = back,
+            }
+            if signals.has_outbound_ended() {
+                return Err(InboundFault::Stopped);
+            }
+            thread::yield_now();
+        }
+        unreachable!()
+    }
+
+    /// Admits the job of an arrival, and puts it into the line.
+    fn take_arrival<R: Wait>(
+        &mut self,
+        rt: &R,
+        alloc: Global,
+        arrival: Arrival,
+        keys: &KeyTable,
+        signals: &Signals,
+    ) -> Result<(), InboundFault>
+        ensures lane { IsSameIntake self.old.lane self.new.lane }
+        ensures receives { Receives (job_under keys.now arrival ∷ []) result self.old self.new }
+        ensures no_read { result ≢ Err InboundFault.Read }
+    {
+        let job = job_of(keys, arrival);
+        let copy = Macaroons::copy(alloc, &job)?;
+        let place = self.admit(rt, copy, signals)?;
+        self.put(rt, place, job, signals)
+    }
+
+    /// Admits the jobs of arrivals, and puts them into the line.
+    fn take_arrivals<R: Wait>(
+        &mut self,
+        rt: &R,
+        alloc: Global,
+        arrivals: Vec<Arrival>,
+        keys: &KeyTable,
+        signals: &Signals,
+    ) -> Result<(), InboundFault>
+        ensures lane { IsSameIntake self.old.lane self.new.lane }
+        ensures receives { Receives (jobs_of keys.now arrivals.items) result self.old self.new }
+        ensures no_read { result ≢ Err InboundFault.Read }
+    {
+        for arrival in arrivals {
+            self.take_arrival(rt, alloc, arrival, keys, signals)?;
+        }
+        Ok(())
+    }
+
+    /// Reads some bytes, and puts the jobs of the arrivals that are whole with them. Whether the
+    /// stream goes on.
+    fn take_next<R: Wait, In: Source>(
+        &mut self,
+        rt: &R,
+        alloc: Global,
+        source: &mut In,
+        incoming: &mut Incoming,
+        keys: &KeyTable,
+        signals: &Signals,
+    ) -> Result<bool, InboundFault>
+        requires countable { In.faults source.old < u64.MAX }
+        requires room { HasRoom incoming.old }
+        ensures lane { IsSameIntake self.old.lane self.new.lane }
+        ensures goes_on { (given : List ℕ) (start : Inbound)
+            → GoesOn In.tells keys.now given (In.taken source.old) incoming.old.reader
+            start self.old
+            → Continues In.tells keys.now given (In.taken source.new) result incoming.new.reader
+            start self.new }
+        ensures end { result ≡ Ok false
+            → IsTrue (In.ended source.new) ⊎ HasEnded incoming.new.reader }
+        ensures room { HasRoom incoming.new }
+        ensures faults { CountsRead result (In.faults source.old) (In.faults source.new) }
+    {
+        if signals.has_outbound_ended() {
+            return Err(InboundFault::Stopped);
+        }
+        let Some(arrivals) = incoming.next(source)? else {
+            return Ok(false);
+        };
+        self.take_arrivals(rt, alloc, arrivals, keys, signals)?;
+        Ok(!incoming.reader.has_ended())
+    }
+
+    /// Reads the source to its end, and puts the job of each arrival, or as many as it can.
+    fn read_until_done<R: Wait, In: Source>(
+        &mut self,
+        rt: &R,
+        alloc: Global,
+        source: &mut In,
+        keys: &KeyTable,
+        signals: &Signals,
+    ) -> Result<Ending, InboundFault>
+        requires { In.faults source.old < u64.MAX }
+        ensures lane { IsSameIntake self.old.lane self.new.lane }
+        ensures run { HasRun In.tells keys.now (In.taken source.old) (In.taken source.new) result
+            self.old self.new }
+        ensures end { IfOk result (λ ending. ending ≢ Ending.Oversize
+            → IsTrue (In.ended source.new)) }
+        ensures faults { CountsRead result (In.faults source.old) (In.faults source.new) }
+    {
+        let mut incoming = Incoming::new(alloc)?;
+        for _ in rt.forever() {
+            if !self.take_next(rt, alloc, source, &mut incoming, keys, signals)? {
+                return Ok(incoming.finish());
+            }
+        }
+        unreachable!()
+    }
+
+    /// Reads where that can be: the failures of the source can be counted, and replies are being
+    /// sent.
+    fn read_if_served<R: Wait, In: Source>(
+        &mut self,
+        rt: &R,
+        alloc: Global,
+        source: &mut In,
+        keys: &KeyTable,
+        signals: &Signals,
+    ) -> Result<Ending, InboundFault>
+        ensures lane { IsSameIntake self.old.lane self.new.lane }
+        ensures run { HasRun In.tells keys.now (In.taken source.old) (In.taken source.new) result
+            self.old self.new }
+        ensures end { IfOk result (λ ending. ending ≢ Ending.Oversize
+            → IsTrue (In.ended source.new)) }
+        ensures faults { CountsRead result (In.faults source.old) (In.faults source.new) }
+    {
+        if source.faults() == u64::MAX {
+            return Err(InboundFault::Lane);
+        }
+        if !signals.await_outbound(rt) {
+            return Err(InboundFault::NoMemory);
+        }
+        self.read_until_done(rt, alloc, source, keys, signals)
+    }
+
+    /// Reads requests until the source has ended, or until a fault. The outbound half hears of its
+    /// end.
+    pub fn run<R: Wait, In: Source>(
+        &mut self,
+        rt: &R,
+        alloc: Global,
+        source: &mut In,
+        keys: &KeyTable,
+        signals: &Signals,
+    ) -> Result<Ending, InboundFault>
+        ensures lane { IsSameIntake self.old.lane self.new.lane }
+        ensures run { HasRun In.tells keys.now (In.taken source.old) (In.taken source.new) result
+            self.old self.new }
+        ensures end { IfOk result (λ ending. ending ≢ Ending.Oversize
+            → IsTrue (In.ended source.new)) }
+        ensures faults { CountsRead result (In.faults source.old) (In.faults source.new) }
+    {
+        let ended = self.read_if_served(rt, alloc, source, keys, signals);
+        signals.end_inbound(has_lost_jobs(&ended));
+        self.putter.ring();
+        ended
+    }
+}
+
+/// The length of a job's payload.
+fn payload_length(job: &Job) -> usize {
+    match &job.arrival {
+        Arrival::Payload(payload) => payload.as_slice().len(),
+        Arrival::Oversize => 0,
+    }
+}
+
+/// Whether a job that was admitted may not have been put.
+fn has_lost_jobs(ended: &Result<Ending, InboundFault>) -> bool {
+    match ended {
+        Ok(_) | Err(InboundFault::Read) => false,
+        Err(_) => true,
+    }
+}

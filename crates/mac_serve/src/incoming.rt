@@ -1,0 +1,110 @@
+//! The arrivals of a source.
+
+ghost use Rattle.std.specs.Prelude.{◌≡◌, ◌≢◌, ◌<◌, ℕ, List, [], None, length, IsTrue, IfOk, IfErr, OnOk};
+ghost use Rattle.mac_wire.specs.declared.arrival.Arrival.{Arrival};
+ghost use Rattle.mac_wire.specs.Frame.{arrivals_of};
+ghost use Rattle.mac_wire.specs.FrameReader.{HasRead, HasEnded};
+ghost use Rattle.mac_serve.specs.declared.incoming.InboundFault.TheVariants.{NoMemory};
+ghost use Rattle.mac_serve.specs.Receiving.{Reads, CountsRead};
+
+use mac_wire::{Arrival, Ending, FrameReader, NoMemory, Source};
+use std::alloc::{AllocError, AllocFailed, Global};
+
+/// How many bytes a read asks for.
+const PIECE: usize = 65_536;
+
+/// Why no more requests are read.
+#[derive(Clone, Copy, Debug, PartialEq, Eq)]
+pub enum InboundFault {
+    /// The source failed.
+    Read,
+    /// Memory was refused.
+    NoMemory,
+    /// There is no further place in the lane, or no place in the line, or the source's failures
+    /// can't be counted any more.
+    Lane,
+    /// The outbound half had ended.
+    Stopped,
+}
+
+impl From<AllocError> for InboundFault {
+    ghost from_gives = { λ _ fault. fault ≡ NoMemory };
+
+    fn from(_refused: AllocError) -> InboundFault {
+        InboundFault::NoMemory
+    }
+}
+
+impl<T: Drop> From<AllocFailed<T>> for InboundFault {
+    ghost from_gives = { λ _ fault. fault ≡ NoMemory };
+
+    fn from(_refused: AllocFailed<T>) -> InboundFault {
+        InboundFault::NoMemory
+    }
+}
+
+/// What comes in from a source: the reader of its frames, and room for a piece of its bytes.
+#[derive(Drop)]
+pub struct Incoming {
+    pub reader: FrameReader,
+    piece: Vec<u8>,
+}
+
+impl Incoming {
+    ghost use Rattle.mac_serve.specs.Incoming.{HasRoom};
+
+    /// Nothing has come yet.
+    pub fn new(alloc: Global) -> Result<Incoming, NoMemory>
+        ensures nothing { IfOk result (λ incoming. HasRead incoming.reader [] []) }
+        ensures room { IfOk result HasRoom }
+    {
+        let mut piece = Vec::new(alloc);
+        piece.resize(PIECE, 0)?;
+        Ok(Incoming {
+            reader: FrameReader::new(alloc),
+            piece,
+        })
+    }
+
+    /// Reads some bytes, and gives the arrivals that are whole with them: `None` at the end of the
+    /// source.
+    pub fn next<In: Source>(
+        &mut self,
+        source: &mut In,
+    ) -> Result<Option<Vec<Arrival>>, InboundFault>
+        requires countable { In.faults source.old < u64.MAX }
+        requires room { HasRoom self.old }
+        ensures reads { (stream : List ℕ) (handed : List Arrival)
+            → HasRead self.old.reader stream handed
+            → Reads In.tells (In.taken source.old) (In.taken source.new) stream handed result
+            self.new.reader }
+        ensures end { IfOk result (λ more. more ≡ None → IsTrue (In.ended source.new)) }
+        ensures room { HasRoom self.new }
+        ensures faults { CountsRead result (In.faults source.old) (In.faults source.new) }
+    {
+        let Ok(count) = source.read(self.piece.as_mut_slice()) else {
+            return Err(InboundFault::Read);
+        };
+        if count == 0 {
+            return Ok(None);
+        }
+        match self.reader.feed(&self.piece[..count]) {
+            Ok(arrivals) => Ok(Some(arrivals)),
+            Err(_) => Err(InboundFault::NoMemory),
+        }
+    }
+
+    /// How the stream ended.
+    pub fn finish(self) -> Ending
+        ensures ending { (stream : List ℕ) (handed : List Arrival)
+            → HasRead self.reader stream handed
+            → arrivals_of stream ≡ record { arrived = handed; ending = result } }
+        ensures whole { (stream : List ℕ) (handed : List Arrival)
+            → HasRead self.reader stream handed → result ≢ Ending.Broken }
+        ensures oversize { HasEnded self.reader → result ≢ Ending.Broken
+            → result ≡ Ending.Oversize }
+    {
+        let Incoming { reader, piece: _ } = self;
+        reader.finish()
+    }
+}

@@ -1,0 +1,328 @@
+//! The half of a connection that sends replies.
+
+ghost use Rattle.std.specs.Prelude.{◌≡◌, ◌<◌, ◌++◌, ℕ, List, [], Option, length, map, take, IsTrue, IsFalse, IfOk, IfErr, OnOk, OnErr, MatchResult, Err, ◌≢◌};
+ghost use Rattle.mac_decide.specs.declared.job.Job.{Job};
+
+use crate::signals::Signals;
+use mac_decide::{Macaroons, laws};
+use mac_lane::Next;
+use mac_lane::laws::equal_jobs_hold_the_same;
+use mac_pool::{Post, Taker};
+use mac_relay::Outlet;
+use mac_wire::{Sink, append_reply, send_all, whole_frames};
+use std::alloc::Global;
+use std::sync::Wait;
+
+/// How many bytes of replies are gathered before they are written.
+const GATHERED: usize = 65_536;
+
+/// Why no more replies are sent.
+#[derive(Clone, Copy, Debug, PartialEq, Eq)]
+pub enum OutboundFault {
+    /// The sink failed.
+    Write,
+    /// Memory was refused, here or to a worker.
+    NoMemory,
+    /// An answer came that was not due.
+    Stranger,
+    /// The bytes written can't be counted any more.
+    Lane,
+}
+
+/// What came of asking for the next reply.
+enum Due {
+    /// A reply was gathered.
+    Gathered,
+    /// The next reply isn't there yet.
+    Waiting,
+    /// An answer was there to another job.
+    Stranger,
+    /// Memory ran out for the reply's frame.
+    NoMemory,
+}
+
+/// The half of a connection that sends replies: its end of the lane, and the mailbox of its
+/// answers. Replies are gathered and written many at a time.
+#[derive(Drop)]
+pub struct Outbound {
+    pub lane: Outlet<Macaroons>,
+    pub taker: Taker<Macaroons>,
+    pub gathered: Vec<u8>,
+    pub sent: u64,
+    pub written: u64,
+}
+
+impl Outbound {
+    ghost use Rattle.mac_relay.specs.Lane.{received, IsSameOutlet};
+    ghost use Rattle.mac_lane.specs.Buffer.{fresh_buffer};
+    ghost use Rattle.mac_serve.specs.Posts.{TookForeign};
+    ghost use Rattle.mac_serve.specs.Sending.{Holds, Stands, Fell, Sends, Releases, CountsWrite, out_text, next};
+
+    /// A half that has sent nothing.
+    pub fn new(alloc: Global, lane: Outlet<Macaroons>, taker: Taker<Macaroons>) -> Outbound
+        requires fresh { lane.buffer ≡ fresh_buffer }
+        requires empty { received lane ≡ [] }
+        ensures lane { result.lane ≡ lane }
+        ensures stands { Stands taker result }
+        ensures none { out_text result ≡ [] }
+    {
+        Outbound {
+            lane,
+            taker,
+            gathered: Vec::new(alloc),
+            sent: 0,
+            written: 0,
+        }
+    }
+
+    /// Opens every slip that it may. Whether there was one.
+    fn look(&mut self) -> bool
+        ensures lane { IsSameOutlet self.old.lane self.new.lane }
+        ensures stands { (before : List (ℕ × Option Job)) → Stands before self.old
+            → Stands before self.new × (out_text self.new ≡ out_text self.old) }
+    {
+        let mut found = false;
+        while self.lane.look() {
+            found = true;
+        }
+        found
+    }
+
+    /// Takes one post, and settles its answer. Whether there was one.
+    fn settle_next<R: Wait>(&mut self, rt: &R) -> Result<bool, OutboundFault>
+        ensures lane { IsSameOutlet self.old.lane self.new.lane }
+        ensures sends { (before : List (ℕ × Option Job))
+            → Stands before self.old → Sends before result self.new }
+        ensures out { out_text self.new ≡ out_text self.old }
+        ensures no_write { result ≢ Err OutboundFault.Write }
+    {
+        let Some(post) = self.taker.take(rt) else {
+            return Ok(false);
+        };
+        match post {
+            Post::Failed(_) => Err(OutboundFault::NoMemory),
+            Post::Answered(place, answer) => match self.lane.settle(place, answer) {
+                Ok(()) => Ok(true),
+                Err(_) => Err(OutboundFault::Stranger),
+            },
+        }
+    }
+
+    /// Takes every post that is there, and settles their answers. Whether there was one.
+    fn settle_all<R: Wait>(&mut self, rt: &R) -> Result<bool, OutboundFault>
+        ensures lane { IsSameOutlet self.old.lane self.new.lane }
+        ensures sends { (before : List (ℕ × Option Job))
+            → Stands before self.old → Sends before result self.new }
+        ensures out { out_text self.new ≡ out_text self.old }
+        ensures no_write { result ≢ Err OutboundFault.Write }
+    {
+        let mut found = false;
+        for _ in rt.forever() {
+            if !self.settle_next(rt)? {
+                break;
+            }
+            found = true;
+        }
+        Ok(found)
+    }
+
+    /// Gathers the reply of the next place, where it is due.
+    fn release_next(&mut self) -> Due
+        ensures lane { IsSameOutlet self.old.lane self.new.lane }
+        ensures releases { (before : List (ℕ × Option Job))
+            → Stands before self.old → Releases before result self.new }
+        ensures out { out_text self.new ≡ out_text self.old }
+    {
+        laws::replies_can_be_sent();
+        equal_jobs_hold_the_same::<Macaroons>();
+        match self.lane.release() {
+            Next::Reply(_, reply) => match append_reply(&mut self.gathered, &reply) {
+                Ok(()) => Due::Gathered,
+                Err(_) => Due::NoMemory,
+            },
+            Next::Stranger(_) => Due::Stranger,
+            Next::Waiting => Due::Waiting,
+            Next::Closed => Due::Waiting,
+        }
+    }
+
+    /// Writes what is gathered.
+    fn flush<W: Sink>(&mut self, sink: &mut W) -> Result<(), OutboundFault>
+        requires { W.faults sink.old < u64.MAX }
+        ensures same { (self.new.lane ≡ self.old.lane) × (self.new.taker ≡ self.old.taker) }
+        ensures holds { (before : List (ℕ × Option Job)) → Holds before self.old
+            → MatchResult result (λ _. Holds before self.new)
+            (λ why. (why ≢ OutboundFault.Stranger) × Fell before why self.new) }
+        ensures sends { (before : List (ℕ × Option Job))
+            → Stands before self.old → Sends before result self.new }
+        ensures sent { OnOk result (self.new.sent ≡ next self.new) }
+        ensures written { IsTrue W.tells → (before : List (ℕ × Option Job)) (head : List ℕ)
+            → Holds before self.old → W.written sink.old ≡ head ++ out_text self.old
+            → W.written sink.new ≡ head ++ out_text self.new }
+        ensures faults { CountsWrite result (W.faults sink.old) (W.faults sink.new) }
+    {
+        laws::replies_can_be_sent();
+        let due = self.lane.next_place();
+        let Some(written) = self.written.checked_add(self.gathered.len() as u64) else {
+            return Err(OutboundFault::Lane);
+        };
+        match send_all(sink, self.gathered.as_slice()) {
+            Ok(()) => {
+                self.written = written;
+                self.sent = due;
+                self.gathered.clear();
+                Ok(())
+            }
+            Err((_, count)) => {
+                self.written += count as u64;
+                self.sent = self
+                    .sent
+                    .saturating_add(whole_frames(&self.gathered[..count]));
+                Err(OutboundFault::Write)
+            }
+        }
+    }
+
+    /// Sends every reply that is due.
+    fn release_all<R: Wait, W: Sink>(&mut self, rt: &R, sink: &mut W) -> Result<(), OutboundFault>
+        requires { W.faults sink.old < u64.MAX }
+        ensures lane { IsSameOutlet self.old.lane self.new.lane }
+        ensures sends { (before : List (ℕ × Option Job))
+            → Stands before self.old → Sends before result self.new }
+        ensures sent { OnOk result (self.new.sent ≡ next self.new) }
+        ensures written { IsTrue W.tells → (before : List (ℕ × Option Job)) (head : List ℕ)
+            → Stands before self.old → W.written sink.old ≡ head ++ out_text self.old
+            → W.written sink.new ≡ head ++ out_text self.new }
+        ensures faults { CountsWrite result (W.faults sink.old) (W.faults sink.new) }
+    {
+        for _ in rt.forever() {
+            match self.release_next() {
+                Due::Gathered if self.gathered.len() < GATHERED => {}
+                Due::Gathered => self.flush(sink)?,
+                Due::Waiting => return self.flush(sink),
+                Due::Stranger => {
+                    self.flush(sink)?;
+                    return Err(OutboundFault::Stranger);
+                }
+                Due::NoMemory => return Err(OutboundFault::NoMemory),
+            }
+        }
+        unreachable!()
+    }
+
+    /// Opens the slips and settles the answers that are there, and sends every reply that is due.
+    /// Whether anything was there.
+    fn turn<R: Wait, W: Sink>(&mut self, rt: &R, sink: &mut W) -> Result<bool, OutboundFault>
+        requires { W.faults sink.old < u64.MAX }
+        ensures lane { IsSameOutlet self.old.lane self.new.lane }
+        ensures sends { (before : List (ℕ × Option Job))
+            → Stands before self.old → Sends before result self.new }
+        ensures sent { OnOk result (self.new.sent ≡ next self.new) }
+        ensures written { IsTrue W.tells → (before : List (ℕ × Option Job)) (head : List ℕ)
+            → Stands before self.old → W.written sink.old ≡ head ++ out_text self.old
+            → W.written sink.new ≡ head ++ out_text self.new }
+        ensures faults { CountsWrite result (W.faults sink.old) (W.faults sink.new) }
+    {
+        let has_looked = self.look();
+        let has_settled = self.settle_all(rt)?;
+        self.release_all(rt, sink)?;
+        Ok(has_looked || has_settled)
+    }
+
+    /// Sends replies until the inbound half has ended and no slip is left that an answer will come
+    /// for, or until a fault.
+    fn send_until_done<R: Wait, W: Sink>(
+        &mut self,
+        rt: &R,
+        sink: &mut W,
+        signals: &Signals,
+    ) -> Result<(), OutboundFault>
+        requires { W.faults sink.old < u64.MAX }
+        ensures lane { IsSameOutlet self.old.lane self.new.lane }
+        ensures sends { (before : List (ℕ × Option Job))
+            → Stands before self.old → Sends before result self.new }
+        ensures sent { OnOk result (self.new.sent ≡ next self.new) }
+        ensures written { IsTrue W.tells → (before : List (ℕ × Option Job)) (head : List ℕ)
+            → Stands before self.old → W.written sink.old ≡ head ++ out_text self.old
+            → W.written sink.new ≡ head ++ out_text self.new }
+        ensures faults { CountsWrite result (W.faults sink.old) (W.faults sink.new) }
+    {
+        for _ in rt.forever() {
+            if self.turn(rt, sink)? {
+                signals.make_room(self.sent);
+                continue;
+            }
+            let notice = self.taker.announce_due(self.lane.next_place());
+            let has_ended = signals.has_inbound_ended();
+            match self.turn(rt, sink) {
+                Ok(true) => self.taker.withdraw(notice),
+                Ok(false) if !has_ended || self.awaits_answers(signals) => {
+                    signals.make_room(self.sent);
+                    self.taker.sleep(rt, notice);
+                }
+                Ok(false) => {
+                    self.taker.withdraw(notice);
+                    return Ok(());
+                }
+                Err(fault) => {
+                    self.taker.withdraw(notice);
+                    return Err(fault);
+                }
+            }
+        }
+        unreachable!()
+    }
+
+    /// Whether answers will come for the slips that are open.
+    fn awaits_answers(&self, signals: &Signals) -> bool {
+        self.lane.open_slips() > 0 && !signals.has_inbound_failed()
+    }
+
+    /// Sends where the failures of the sink can be counted.
+    fn send_if_counted<R: Wait, W: Sink>(
+        &mut self,
+        rt: &R,
+        sink: &mut W,
+        signals: &Signals,
+    ) -> Result<(), OutboundFault>
+        ensures lane { IsSameOutlet self.old.lane self.new.lane }
+        ensures sends { (before : List (ℕ × Option Job))
+            → Stands before self.old → Sends before result self.new }
+        ensures sent { OnOk result (self.new.sent ≡ next self.new) }
+        ensures written { IsTrue W.tells → (before : List (ℕ × Option Job)) (head : List ℕ)
+            → Stands before self.old → W.written sink.old ≡ head ++ out_text self.old
+            → W.written sink.new ≡ head ++ out_text self.new }
+        ensures faults { CountsWrite result (W.faults sink.old) (W.faults sink.new) }
+    {
+        if sink.faults() == u64::MAX {
+            return Err(OutboundFault::Lane);
+        }
+        self.send_until_done(rt, sink, signals)
+    }
+
+    /// Sends replies until the inbound half has ended and nothing more is due, or until a fault.
+    /// The inbound half hears of its end.
+    pub fn run<R: Wait, W: Sink>(
+        &mut self,
+        rt: &R,
+        sink: &mut W,
+        signals: &Signals,
+    ) -> Result<(), OutboundFault>
+        ensures lane { IsSameOutlet self.old.lane self.new.lane }
+        ensures sends { (before : List (ℕ × Option Job))
+            → Stands before self.old → Sends before result self.new }
+        ensures sent { OnOk result (self.new.sent ≡ next self.new) }
+        ensures written { IsTrue W.tells → (before : List (ℕ × Option Job)) (head : List ℕ)
+            → Stands before self.old → W.written sink.old ≡ head ++ out_text self.old
+            → W.written sink.new ≡ head ++ out_text self.new }
+        ensures faults { CountsWrite result (W.faults sink.old) (W.faults sink.new) }
+    {
+        signals.begin_outbound();
+        let ended = self.send_if_counted(rt, sink, signals);
+        if ended.is_err() {
+            self.taker.close();
+        }
+        signals.end_outbound();
+        ended
+    }
+}

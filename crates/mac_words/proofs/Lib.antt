@@ -1,0 +1,4 @@
+pub mod Appends
+pub mod InspectedLemmas
+pub mod MomentLemmas
+pub mod PayloadLemmas

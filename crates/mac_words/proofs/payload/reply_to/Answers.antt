@@ -1,0 +1,6 @@
+use Rattle.mac_decide.specs.Answer.{answer_of}
+use Rattle.mac_words.proofs.payload.reply_to.Goals as goal
+
+pub returns-clause-reply : goal.returns-clause-reply
+unfolding answer_of
+returns-clause-reply c = rw (c.job_of.ensures, c.new.ensures) at c.answer.ensures.reply

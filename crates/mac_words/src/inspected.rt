@@ -1,0 +1,76 @@
+//! What bytes spell, told to people.
+
+ghost use Rattle.std.specs.Prelude.{◌≡◌, ◌++◌, OnOk, IfOk};
+ghost use Rattle.mac_words.specs.Inspected.{Inspects, IsInspected, head_text, line, tail_text};
+ghost use Rattle.mac_words.specs.Escaped.{escaped};
+
+use crate::caveat_lines::append_caveats;
+use crate::escaped::append_escaped;
+use crate::spelled::Spelling;
+use mac_token::{RawToken, TokenFault, read_raw};
+use mac_wire::NoMemory;
+use std::alloc::Global;
+
+/// What the bytes spell, be it a token that is taken or not: its form, location, identifier,
+/// caveats, signature and length, a line each.
+pub fn inspect(alloc: Global, token: &[u8]) -> Result<Vec<u8>, TokenFault>
+    ensures { Inspects token.now result }
+{
+    let raw = read_raw(alloc, token)?;
+    Ok(inspected(alloc, token, &raw)?)
+}
+
+fn inspected(alloc: Global, token: &[u8], raw: &RawToken) -> Result<Vec<u8>, NoMemory>
+    ensures { IfOk result (λ text. IsInspected token.now raw.now text.items) }
+{
+    let mut text = Vec::new(alloc);
+    append_head(token, raw, &mut text)?;
+    append_caveats(alloc, raw.caveats.as_slice(), &mut text)?;
+    append_tail(alloc, token, raw, &mut text)?;
+    Ok(text)
+}
+
+fn append_head(token: &[u8], raw: &RawToken, out: &mut Vec<u8>) -> Result<(), NoMemory>
+    ensures { OnOk result (out.new.items ≡ out.old.items ++ head_text token.now raw.now) }
+{
+    append_line(b"form: ", Spelling::of(token).name().as_bytes(), out)?;
+    append_escaped_line(b"location: ", raw.location.as_bytes(), out)?;
+    append_escaped_line(b"identifier: ", raw.identifier.as_slice(), out)?;
+    Ok(())
+}
+
+fn append_tail(
+    alloc: Global,
+    token: &[u8],
+    raw: &RawToken,
+    out: &mut Vec<u8>,
+) -> Result<(), NoMemory>
+    ensures { OnOk result (out.new.items ≡ out.old.items ++ tail_text token.now raw.now) }
+{
+    let digits = hex::encode(alloc, &raw.sig)?;
+    let length = token.len();
+    let number = format!(in alloc; "{length}")?;
+    append_line(b"signature: ", digits.as_bytes(), out)?;
+    append_line(b"bytes: ", number.as_bytes(), out)?;
+    Ok(())
+}
+
+#[tactic(auto, unfolding(crate::specs::Inspected::line))]
+fn append_line(name: &[u8], words: &[u8], out: &mut Vec<u8>) -> Result<(), NoMemory>
+    ensures { OnOk result (out.new.items ≡ out.old.items ++ line name.now words.now) }
+{
+    out.extend_from_slice(name)?;
+    out.extend_from_slice(words)?;
+    out.extend_from_slice(b"\n")?;
+    Ok(())
+}
+
+#[tactic(auto, unfolding(crate::specs::Inspected::line))]
+fn append_escaped_line(name: &[u8], words: &[u8], out: &mut Vec<u8>) -> Result<(), NoMemory>
+    ensures { OnOk result (out.new.items ≡ out.old.items ++ line name.now (escaped words.now)) }
+{
+    out.extend_from_slice(name)?;
+    append_escaped(words, out)?;
+    out.extend_from_slice(b"\n")?;
+    Ok(())
+}

@@ -1,0 +1,32 @@
+//! What the words of a person ask, and what is printed for them.
+//!
+//! [`mint_payload`], [`attenuate_payload`] and [`verify_payload`] make the payload that asks a
+//! request in words, [`reply_to`] answers it as a worker does, and [`append_reply_text`] prints the
+//! answer. [`inspect`] prints what any bytes spell. Nothing here reads a device.
+#![tactic(auto)]
+
+mod caveat_lines;
+mod escaped;
+mod fault;
+mod inspected;
+mod key_lines;
+mod moments;
+mod payload;
+mod refusal;
+mod reply_text;
+mod spelled;
+mod token_text;
+
+pub use escaped::append_escaped;
+pub use fault::{FieldFault, TextFault};
+pub use inspected::inspect;
+pub use key_lines::{NameFault, key_line};
+pub use moments::moment;
+pub use payload::{
+    CAVEATS_TOLD_MAX, KEY_NAME_MAX, TEXT_MAX, attenuate_payload, mint_payload, reply_to,
+    verify_payload,
+};
+pub use refusal::{reason, token_refusal};
+pub use reply_text::{append_refusal, append_reply_text};
+pub use spelled::Spelling;
+pub use token_text::{append_token_text, token_bytes};

@@ -1,0 +1,38 @@
+//! Refusals in words.
+
+ghost use Rattle.std.specs.Prelude.{◌≡◌};
+ghost use Rattle.mac_decide.specs.Answer.{refusal_of};
+ghost use Rattle.mac_words.specs.ReplyText.{reason};
+
+use mac_token::TokenRefusal;
+use mac_wire::Refusal;
+
+/// The refusal that a token's is told as.
+pub fn token_refusal(why: TokenRefusal) -> Refusal
+    ensures { result ≡ refusal_of why }
+{
+    match why {
+        TokenRefusal::Transport => Refusal::Transport,
+        TokenRefusal::Malformed => Refusal::Malformed,
+        TokenRefusal::ThirdParty => Refusal::ThirdParty,
+        TokenRefusal::Limit => Refusal::Limit,
+        TokenRefusal::CaveatLocation => Refusal::CaveatLocation,
+    }
+}
+
+/// Why a request is refused, in words.
+pub fn reason(refusal: Refusal) -> &'static str
+    ensures { result.now ≡ reason refusal }
+{
+    match refusal {
+        Refusal::BadRequest => "the words make no request",
+        Refusal::FrameTooLong => "the request is too long",
+        Refusal::UnknownKey => "the key file has no key of this name",
+        Refusal::Transport => "the token is neither a bare form nor base64 text",
+        Refusal::Malformed => "the bytes are in no form of a token",
+        Refusal::ThirdParty => "a caveat of the token is third-party",
+        Refusal::Limit => "a limit is passed",
+        Refusal::BadSignature => "the key does not give the signature of the token",
+        Refusal::CaveatLocation => "a first-party caveat of the token has a location",
+    }
+}

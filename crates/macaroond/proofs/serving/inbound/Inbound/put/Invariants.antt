@@ -1,9 +1,0 @@
-use Rattle.std.proofs.Common.{◌≡◌}
-use Rattle.macaroond.proofs.serving.inbound.Inbound.put.Given as goal
-
-abbrev pub invariant-loop : goal.invariant-loop
-invariant-loop g l =
-    (goal.iterator-loop g).can_next l.iterator' × (goal.iterator-loop g).is_finite l.iterator'
-    × (l.self.lane ≡ l.initial.self.lane)
-    × (l.self.putter ≡ l.initial.self.putter)
-    × (l.job ≡ l.initial.job)

@@ -1,5 +1,0 @@
-use Rattle.std.proofs.Common.{◌-◌}
-use Rattle.macaroond.proofs.serving.unsent.Unsent.has_room.Given as goal
-
-abbrev pub decreases-loop-self : goal.decreases-loop-self
-decreases-loop-self l = l.sent - l.self.first

@@ -1,0 +1,121 @@
+//! A connection that reads and writes at once: its peer sends the second frame only once it has the
+//! first reply, and the first job waits until the second frame is asked for.
+
+ghost use Rattle.std.specs.Prelude.{true};
+
+use crate::fault::RunFault;
+use crate::flags::Flags;
+use crate::report::{report_text, tally_text};
+use crate::serving::{ROOM, by_a_pool};
+use crate::streams::{FIRST_REPLY, TWO_FRAMES};
+use mac_pool::Gate;
+use mac_wire::{DeviceFault, MemSink, MemSource, Sink, Source};
+use std::alloc::Global;
+use std::sync::{Arc, Wait};
+use std::thread::Threads;
+
+/// How many bytes the first frame has.
+const FIRST_FRAME: usize = 52;
+
+/// The first flag tells that the second frame is asked for, the second that the first reply was
+/// written.
+#[derive(Drop)]
+struct Meeting {
+    flags: Flags,
+}
+
+/// Holds the first job until the second frame is asked for.
+impl Gate for Meeting {
+    fn before(&self, place: u64) {
+        if place == 0 {
+            self.flags.await_first();
+        }
+    }
+
+    fn after(&self, _place: u64) {}
+}
+
+/// Gives the second frame once the first reply was written.
+#[derive(Drop)]
+struct Waiting<'a> {
+    inner: MemSource,
+    meeting: &'a Meeting,
+    has_given: bool,
+}
+
+impl<'a> Source for Waiting<'a> {
+    ghost tells = { true };
+
+    ghost taken = { λ s. s.inner.given };
+
+    ghost ended = { λ s. s.inner.has_ended };
+
+    ghost faults = { λ s. s.inner.fault_count };
+
+    fn read(&mut self, buf: &mut [u8]) -> Result<usize, DeviceFault> {
+        if self.has_given {
+            self.meeting.flags.set_first();
+            self.meeting.flags.await_second();
+        }
+        self.has_given = true;
+        self.inner.read(buf)
+    }
+
+    fn faults(&self) -> u64 {
+        self.inner.faults()
+    }
+}
+
+/// Tells that the first reply was written.
+#[derive(Drop)]
+struct Telling<'a> {
+    inner: MemSink,
+    meeting: &'a Meeting,
+}
+
+impl<'a> Sink for Telling<'a> {
+    ghost tells = { true };
+
+    ghost written = { λ s. s.inner.kept };
+
+    ghost faults = { λ s. s.inner.fault_count };
+
+    fn write(&mut self, buf: &[u8]) -> Result<usize, DeviceFault> {
+        let count = self.inner.write(buf);
+        if self.inner.bytes().len() >= FIRST_REPLY {
+            self.meeting.flags.set_second();
+        }
+        count
+    }
+
+    fn faults(&self) -> u64 {
+        self.inner.faults()
+    }
+}
+
+/// What comes of two frames whose second waits for the first's reply.
+pub(crate) fn duplex_told<R>(rt: &R, alloc: Global) -> Result<String, RunFault>
+where
+    R: Threads + Wait + Sync + Copy + Send + 'static,
+{
+    let flags = Flags::new();
+    let gate = Arc::new(alloc, Meeting { flags })?;
+    let theirs = Arc::try_clone(&gate)?;
+    let mut source = Waiting {
+        inner: MemSource::new(Vec::from_slice(alloc, TWO_FRAMES)?, FIRST_FRAME, 0),
+        meeting: &gate,
+        has_given: false,
+    };
+    let mut sink = Telling {
+        inner: MemSink::new(alloc, ROOM, ROOM, 0)?,
+        meeting: &gate,
+    };
+    let (report, tally) = by_a_pool(rt, alloc, 2, theirs, &mut source, &mut sink)?;
+    let Telling { inner, meeting } = sink;
+    if !meeting.flags.are_met() {
+        return Err(RunFault::Wrong);
+    }
+    let told = report_text(alloc, report, inner.bytes())?;
+    let books = tally_text(alloc, tally)?;
+    Ok(format!(in alloc; "{} {}", books.as_str(), told.as_str())?)
+}

@@ -1,0 +1,186 @@
+//! A worker that posts other answers than are due, or in another order.
+
+ghost use Rattle.std.specs.Prelude.{◌≡◌, IfOk};
+
+use crate::fault::RunFault;
+use crate::flags::TURNS;
+use crate::report::{Report, fault_number, tally_text};
+use crate::serving::{Ended, ROOM, attended, books, caller_at};
+use crate::streams::{FIRST_REPLY, TWO_FRAMES, TWO_REPLIES, key_table};
+use mac_decide::Macaroons;
+use mac_lane::{Answer, Service};
+use mac_pool::{Claim, Hand, NoGate, Pool, Post, Ticket};
+use std::alloc::Global;
+use std::sync::Wait;
+use std::thread;
+use std::thread::Threads;
+
+/// What the worker posts, once it has the tickets of both frames.
+#[derive(Clone, Copy)]
+enum Posts {
+    /// The second answer, and then the first.
+    Backwards,
+    /// The second's answer at the first place.
+    OthersFirst,
+    /// The first's answer at the second place, and then at its own.
+    OthersLast,
+    /// The first answer twice.
+    Twice,
+    /// The first answer at a place that is 200 away.
+    FarAway,
+    /// That memory ran out at the first place.
+    Failed,
+}
+
+fn posts_of(name: &str) -> Result<Posts, RunFault> {
+    match name.as_bytes() {
+        b"backwards" => Ok(Posts::Backwards),
+        b"others_first" => Ok(Posts::OthersFirst),
+        b"others_last" => Ok(Posts::OthersLast),
+        b"twice" => Ok(Posts::Twice),
+        b"far_away" => Ok(Posts::FarAway),
+        b"failed" => Ok(Posts::Failed),
+        _ => Err(RunFault::NoRun),
+    }
+}
+
+/// What comes of two frames by a worker that posts so.
+pub(crate) fn false_worker_told<R>(rt: &R, alloc: Global, name: &str) -> Result<String, RunFault>
+where
+    R: Threads + Wait + Sync,
+{
+    let posts = posts_of(name)?;
+    let keys = key_table(alloc)?;
+    let keys = &keys;
+    let mut pool = idle_pool(alloc)?;
+    let stream = Vec::from_slice(alloc, TWO_FRAMES)?;
+    let caller = caller_at(alloc, &mut pool, stream, ROOM, 64)?;
+    let hand = hand_of(alloc, &mut pool)?;
+    let (ended, working) = thread::join(
+        rt,
+        move || -> Ended
+            ensures { result.desk.putter.line ≡ caller.desk.putter.line }
+        { attended(rt, alloc, keys, caller) },
+        move || -> (bool, Hand<Macaroons>)
+            ensures { result.1.line ≡ hand.line }
+        { work(rt, alloc, hand, posts) },
+    );
+    let Ended { report, sink, desk } = ended;
+    pool.home(desk);
+    pool.hand_back(working.1);
+    let tally = books(rt, pool)?;
+    if !working.0 || !TWO_REPLIES.starts_with(sink.bytes()) {
+        return Err(RunFault::Wrong);
+    }
+    let fault = fault_number(report.fault);
+    let sent = sent_text(posts, report)?;
+    let books = tally_text(alloc, tally)?;
+    Ok(format!(in alloc; "{} fault {fault} {sent}", books.as_str())?)
+}
+
+/// Which replies were sent. Where the first answer comes twice, its reply may be out before the
+/// second is seen.
+fn sent_text(posts: Posts, report: Report) -> Result<&'static str, RunFault> {
+    let first = FIRST_REPLY as u64;
+    let both = TWO_REPLIES.len() as u64;
+    match (posts, report.sent, report.written) {
+        (Posts::Twice, 0, 0) => Ok("sent the first or none"),
+        (Posts::Twice, 1, written) if written == first => Ok("sent the first or none"),
+        (_, 0, 0) => Ok("sent none"),
+        (_, 1, written) if written == first => Ok("sent the first"),
+        (_, 2, written) if written == both => Ok("sent both"),
+        _ => Err(RunFault::Wrong),
+    }
+}
+
+fn idle_pool(alloc: Global) -> Result<Pool<Macaroons, NoGate>, RunFault> {
+    match Pool::by_hand(alloc) {
+        Ok(pool) => Ok(pool),
+        Err(_) => Err(RunFault::Refused),
+    }
+}
+
+fn hand_of(alloc: Global, pool: &mut Pool<Macaroons, NoGate>) -> Result<Hand<Macaroons>, RunFault>
+    ensures line { pool.new.line ≡ pool.old.line }
+    ensures at { IfOk result (λ hand. hand.line ≡ pool.old.line) }
+{
+    match pool.hand(alloc) {
+        Ok(hand) => Ok(hand),
+        Err(_) => Err(RunFault::Refused),
+    }
+}
+
+/// Claims both tickets, and posts. Whether that could be done.
+fn work<R: Wait>(
+    rt: &R,
+    alloc: Global,
+    mut hand: Hand<Macaroons>,
+    posts: Posts,
+) -> (bool, Hand<Macaroons>)
+    ensures { result.1.line ≡ hand.line }
+{
+    let first = next_ticket(rt, &mut hand);
+    let second = next_ticket(rt, &mut hand);
+    let is_done = match (first, second) {
+        (Some(first), Some(second)) => post_all(rt, alloc, &first, &second, posts).is_ok(),
+        _ => false,
+    };
+    (is_done, hand)
+}
+
+/// The next ticket, looked for some ten million times.
+fn next_ticket<R: Wait>(rt: &R, hand: &mut Hand<Macaroons>) -> Option<Ticket<Macaroons>>
+    ensures { hand.new.line ≡ hand.old.line }
+{
+    for _ in 0..TURNS {
+        if let Claim::Got(ticket) = hand.claim(rt) {
+            return Some(ticket);
+        }
+        thread::yield_now();
+    }
+    None
+}
+
+fn post_all<R: Wait>(
+    rt: &R,
+    alloc: Global,
+    first: &Ticket<Macaroons>,
+    second: &Ticket<Macaroons>,
+    posts: Posts,
+) -> Result<(), RunFault> {
+    match posts {
+        Posts::Backwards => {
+            post(rt, alloc, 1, second)?;
+            post(rt, alloc, 0, first)
+        }
+        Posts::OthersFirst => post(rt, alloc, 0, second),
+        Posts::OthersLast => {
+            post(rt, alloc, 1, first)?;
+            post(rt, alloc, 0, first)
+        }
+        Posts::Twice => {
+            post(rt, alloc, 0, first)?;
+            post(rt, alloc, 0, first)
+        }
+        Posts::FarAway => post(rt, alloc, 200, first),
+        Posts::Failed => {
+            let _ = first.mail.push(rt, Post::Failed(0));
+            Ok(())
+        }
+    }
+}
+
+/// Posts the answer to a ticket's job at a place. A mailbox that is closed drops it.
+fn post<R: Wait>(
+    rt: &R,
+    alloc: Global,
+    place: u64,
+    of: &Ticket<Macaroons>,
+) -> Result<(), RunFault> {
+    let job = Macaroons::copy(alloc, &of.job)?;
+    let Ok(answer) = Answer::make(alloc, job) else {
+        return Err(RunFault::Refused);
+    };
+    let _ = of.mail.push(rt, Post::Answered(place, answer));
+    Ok(())
+}

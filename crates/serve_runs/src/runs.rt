@@ -1,0 +1,82 @@
+//! The runs, and what does each.
+
+use crate::fault::RunFault;
+use crate::{duplex, false_worker, load, many, overtaking, serving, tables};
+use std::alloc::{AllocError, Global};
+use std::sync::Wait;
+use std::thread::Threads;
+
+/// What a word's run comes to, or why it comes to nothing.
+pub(crate) fn told<R>(rt: &R, alloc: Global, word: &str) -> Result<String, AllocError>
+where
+    R: Threads + Wait + Sync + Copy + Send + 'static,
+{
+    match run(rt, alloc, word) {
+        Ok(text) => Ok(text),
+        Err(RunFault::NoRun) => String::from_str(alloc, "no run"),
+        Err(RunFault::Refused) => String::from_str(alloc, "refused"),
+        Err(RunFault::Wrong) => String::from_str(alloc, "wrong"),
+    }
+}
+
+/// The runs: a name, and what it takes behind colons. `streams.rt` names the streams.
+///
+/// ```text
+/// stream:NAME:WORKERS:PIECE   a stream by so many workers, in pieces of so many bytes
+/// overtaking                  two frames, of which the first job waits for the second
+/// duplex                      two frames, of which the second waits for the first's reply
+/// cuts                        two frames, cut to each number of bytes
+/// failing_reads               two frames, and a source that fails at each of its calls
+/// failing_writes              two frames, and a sink that fails at each of its calls
+/// posts:HOW                   two frames, by a worker that posts false answers
+/// two:NAME:NAME               two streams at once by two workers, a byte a call
+/// many:REQUESTS:SEED          requests that look random, over three connections, by four workers
+/// load:KIND:WORKERS:REQUESTS  requests of one kind, to be timed: mint, verify or empty
+/// made:KIND:REQUESTS          what is done for it before it is served
+/// ```
+fn run<R>(rt: &R, alloc: Global, word: &str) -> Result<String, RunFault>
+where
+    R: Threads + Wait + Sync + Copy + Send + 'static,
+{
+    let (name, rest) = divided(word);
+    let (first, behind) = divided(rest);
+    match name.as_bytes() {
+        b"stream" => {
+            let (workers, piece) = numbers(behind)?;
+            serving::stream_told(rt, alloc, first, workers as usize, piece as usize)
+        }
+        b"overtaking" => overtaking::overtaking_told(rt, alloc),
+        b"duplex" => duplex::duplex_told(rt, alloc),
+        b"cuts" => tables::cuts_told(rt, alloc),
+        b"failing_reads" => tables::reads_told(rt, alloc),
+        b"failing_writes" => tables::writes_told(rt, alloc),
+        b"posts" => false_worker::false_worker_told(rt, alloc, rest),
+        b"two" => many::two_told(rt, alloc, first, behind),
+        b"many" => many::many_told(rt, alloc, number(first)?, number(behind)?),
+        b"load" => {
+            let (workers, count) = numbers(behind)?;
+            load::load_told(rt, alloc, first, workers as usize, count)
+        }
+        b"made" => load::made_told(alloc, first, number(behind)?),
+        _ => Err(RunFault::NoRun),
+    }
+}
+
+/// What stands before the first colon, and behind it.
+fn divided(word: &str) -> (&str, &str) {
+    word.split_once(':').unwrap_or((word, ""))
+}
+
+/// The number that a word is.
+fn number(word: &str) -> Result<u64, RunFault> {
+    match word.parse::<u64>() {
+        Ok(number) => Ok(number),
+        Err(_) => Err(RunFault::NoRun),
+    }
+}
+
+/// The numbers before and behind a colon.
+fn numbers(words: &str) -> Result<(u64, u64), RunFault> {
+    let (one, other) = divided(words);
+    Ok((number(one)?, number(other)?))
+}

@@ -1,0 +1,219 @@
+//! Serving over memory: pools, and connections with their desks.
+
+ghost use Rattle.std.specs.Prelude.{◌≡◌, ◌≤◌, IfOk};
+
+use crate::fault::RunFault;
+use crate::report::{Report, report_text, tally_text};
+use crate::streams::{key_table, stream_of};
+use mac_decide::Macaroons;
+use mac_keys::KeyTable;
+use mac_pool::{Desk, Gate, NoGate, Pool, Tally};
+use mac_serve::{ServeFault, Served, serve};
+use mac_wire::{MemSink, MemSource, Sink, Source};
+use std::alloc::Global;
+use std::sync::{Arc, Wait};
+use std::thread::Threads;
+
+/// How many bytes a memory sink has room for, at least.
+pub(crate) const ROOM: usize = 1_000;
+
+/// A connection that is to be served: its devices, and its desk.
+#[derive(Drop)]
+pub(crate) struct Caller {
+    pub source: MemSource,
+    pub sink: MemSink,
+    pub desk: Desk<Macaroons>,
+}
+
+/// A connection that has ended.
+#[derive(Drop)]
+pub(crate) struct Ended {
+    pub report: Report,
+    pub sink: MemSink,
+    pub desk: Desk<Macaroons>,
+}
+
+/// What a connection told, and its desk.
+#[derive(Drop)]
+pub(crate) struct Told {
+    pub report: Report,
+    pub desk: Desk<Macaroons>,
+}
+
+/// A pool of so many workers, if the system gives them.
+pub(crate) fn pool_of<R, G>(
+    rt: &R,
+    alloc: Global,
+    workers: usize,
+    gate: Arc<G, Global>,
+) -> Result<Pool<Macaroons, G>, RunFault>
+where
+    R: Threads + Wait + Copy + Send + 'static,
+    G: Gate + 'static,
+{
+    match Pool::start(rt, alloc, workers, gate) {
+        Ok(pool) => Ok(pool),
+        Err(_) => Err(RunFault::Refused),
+    }
+}
+
+/// A desk, if there is memory.
+pub(crate) fn desk_of<G: Gate>(
+    alloc: Global,
+    pool: &mut Pool<Macaroons, G>,
+) -> Result<Desk<Macaroons>, RunFault>
+    ensures line { pool.new.line ≡ pool.old.line }
+    ensures at { IfOk result (λ desk. desk.putter.line ≡ pool.old.line) }
+{
+    match pool.desk(alloc) {
+        Ok(desk) => Ok(desk),
+        Err(_) => Err(RunFault::Refused),
+    }
+}
+
+/// The books of a pool that ends now.
+pub(crate) fn books<R: Threads + Wait, G: Gate>(
+    rt: &R,
+    pool: Pool<Macaroons, G>,
+) -> Result<Tally, RunFault> {
+    match pool.stop(rt) {
+        Ok(tally) => Ok(tally),
+        Err(_) => Err(RunFault::Wrong),
+    }
+}
+
+/// Serves a connection at a desk.
+fn served<R: Threads + Wait + Sync, In: Source, Out: Sink>(
+    rt: &R,
+    alloc: Global,
+    source: &mut In,
+    sink: &mut Out,
+    keys: &KeyTable,
+    desk: Desk<Macaroons>,
+) -> Told
+    ensures { result.desk.putter.line ≡ desk.putter.line }
+{
+    match serve(rt, alloc, source, sink, keys, desk) {
+        Ok(served) => told_by(None, served),
+        Err((fault, served)) => told_by(Some(fault), served),
+    }
+}
+
+fn told_by(fault: Option<ServeFault>, served: Served) -> Told
+    ensures { result.desk ≡ served.desk }
+{
+    let Served {
+        arrived,
+        sent,
+        written,
+        ending,
+        desk,
+    } = served;
+    let report = Report {
+        fault,
+        ending,
+        arrived,
+        sent,
+        written,
+    };
+    Told { report, desk }
+}
+
+/// Serves a connection by a pool of its own, to whose workers the gate belongs.
+pub(crate) fn by_a_pool<R, G, In: Source, Out: Sink>(
+    rt: &R,
+    alloc: Global,
+    workers: usize,
+    gate: Arc<G, Global>,
+    source: &mut In,
+    sink: &mut Out,
+) -> Result<(Report, Tally), RunFault>
+where
+    R: Threads + Wait + Sync + Copy + Send + 'static,
+    G: Gate + 'static,
+{
+    let keys = key_table(alloc)?;
+    let mut pool = pool_of(rt, alloc, workers, gate)?;
+    let desk = desk_of(alloc, &mut pool)?;
+    let left = served(rt, alloc, source, sink, &keys, desk);
+    pool.home(left.desk);
+    Ok((left.report, books(rt, pool)?))
+}
+
+/// A connection with this stream, which is read and written in pieces of so many bytes.
+pub(crate) fn caller_at<G: Gate>(
+    alloc: Global,
+    pool: &mut Pool<Macaroons, G>,
+    stream: Vec<u8>,
+    room: usize,
+    piece: usize,
+) -> Result<Caller, RunFault>
+    requires { 1 ≤ piece }
+    ensures line { pool.new.line ≡ pool.old.line }
+    ensures at { IfOk result (λ caller. caller.desk.putter.line ≡ pool.old.line) }
+{
+    let source = MemSource::new(stream, piece, 0);
+    let sink = MemSink::new(alloc, room, piece, 0)?;
+    let desk = desk_of(alloc, pool)?;
+    Ok(Caller { source, sink, desk })
+}
+
+/// Serves a connection to its end.
+pub(crate) fn attended<R: Threads + Wait + Sync>(
+    rt: &R,
+    alloc: Global,
+    keys: &KeyTable,
+    caller: Caller,
+) -> Ended
+    ensures { result.desk.putter.line ≡ caller.desk.putter.line }
+{
+    let Caller {
+        mut source,
+        mut sink,
+        desk,
+    } = caller;
+    let Told { report, desk } = served(rt, alloc, &mut source, &mut sink, keys, desk);
+    Ended { report, sink, desk }
+}
+
+/// Serves two connections at once.
+pub(crate) fn both_attended<R: Threads + Wait + Sync>(
+    rt: &R,
+    alloc: Global,
+    keys: &KeyTable,
+    one: Caller,
+    other: Caller,
+) -> (Ended, Ended)
+    ensures one { result.0.desk.putter.line ≡ one.desk.putter.line }
+    ensures other { result.1.desk.putter.line ≡ other.desk.putter.line }
+{
+    std::thread::join(
+        rt,
+        move || -> Ended
+            ensures { result.desk.putter.line ≡ one.desk.putter.line }
+        { attended(rt, alloc, keys, one) },
+        move || -> Ended
+            ensures { result.desk.putter.line ≡ other.desk.putter.line }
+        { attended(rt, alloc, keys, other) },
+    )
+}
+
+/// What comes of a stream by so many workers, read and written in pieces of so many bytes.
+pub(crate) fn stream_told<R>(
+    rt: &R,
+    alloc: Global,
+    name: &str,
+    workers: usize,
+    piece: usize,
+) -> Result<String, RunFault>
+where
+    R: Threads + Wait + Sync + Copy + Send + 'static,
+{
+    let gate = Arc::new(alloc, NoGate)?;
+    let mut source = MemSource::new(stream_of(alloc, name)?, piece.max(1), 0);
+    let mut sink = MemSink::new(alloc, ROOM, piece.max(1), 0)?;
+    let (report, tally) = by_a_pool(rt, alloc, workers, gate, &mut source, &mut sink)?;
+    let told = report_text(alloc, report, sink.bytes())?;
+    let books = tally_text(alloc, tally)?;
+    Ok(format!(in alloc; "{} {}", books.as_str(), told.as_str())?)
+}

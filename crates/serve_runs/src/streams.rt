@@ -1,0 +1,55 @@
+//! The streams that are served, and the key table.
+
+use crate::fault::RunFault;
+use mac_keys::KeyTable;
+use mac_wire::FRAME_MAX;
+use std::alloc::{AllocError, Global};
+
+const KEYS: &[u8] =
+    b"key bank 74686973206973206f757220737570657220736563726574206b65793b206f6e6c792077652073686f756c64206b6e6f77206974\n";
+
+/// A mint, and an empty payload: frames of 52 and of 4 bytes.
+pub(crate) const TWO_FRAMES: &[u8] =
+    b"\x00\x00\x00\x30\x01\x01\x04bank\x00\x0ehttp://mybank/\x00\x16we used our secret key\x00\x00\x00\x00\x00";
+
+/// The token of the mint, which another library computed, and BadRequest: frames of 156 and of 5
+/// bytes.
+pub(crate) const TWO_REPLIES: &[u8] =
+    b"\x00\x00\x00\x98\x01MDAxY2xvY2F0aW9uIGh0dHA6Ly9teWJhbmsvCjAwMjZpZGVudGlmaWVyIHdlIHVzZWQgb3VyIHNlY3JldCBrZXkKMDAyZnNpZ25hdHVyZSDj2eApCFJsTAA5rhURQRXZf91ovyujebNCqvD2F9BVLwo\x00\x00\x00\x01\x10";
+
+/// How many bytes the first of the two replies has.
+pub(crate) const FIRST_REPLY: usize = 156;
+
+/// The table of the one key.
+pub(crate) fn key_table(alloc: Global) -> Result<KeyTable, RunFault> {
+    match KeyTable::read(alloc, KEYS) {
+        Ok(keys) => Ok(keys),
+        Err(_) => Err(RunFault::Refused),
+    }
+}
+
+/// The stream of a name.
+///
+/// ```text
+/// two_frames      a mint, and an empty payload
+/// empty_frames    two empty payloads
+/// greatest_frame  a payload of 65,536 zeros
+/// longer_frame    the length of a payload of 65,537 bytes, and an empty payload
+/// half_length     three bytes of a length
+/// ```
+pub(crate) fn stream_of(alloc: Global, name: &str) -> Result<Vec<u8>, RunFault> {
+    match name.as_bytes() {
+        b"two_frames" => Ok(Vec::from_slice(alloc, TWO_FRAMES)?),
+        b"empty_frames" => Ok(Vec::from_slice(alloc, &[0; 8])?),
+        b"greatest_frame" => Ok(greatest_frame(alloc)?),
+        b"longer_frame" => Ok(Vec::from_slice(alloc, &[0, 1, 0, 1, 0, 0, 0, 0])?),
+        b"half_length" => Ok(Vec::from_slice(alloc, &[0; 3])?),
+        _ => Err(RunFault::NoRun),
+    }
+}
+
+fn greatest_frame(alloc: Global) -> Result<Vec<u8>, AllocError> {
+    let mut stream = Vec::from_slice(alloc, &(FRAME_MAX as u32).to_be_bytes())?;
+    stream.resize(4 + FRAME_MAX, 0)?;
+    Ok(stream)
+}
