@@ -226,7 +226,7 @@ impl Outbound {
         let has_looked = self.look();
         let has_settled = self.settle_all(rt)?;
         self.release_all(rt, sink)?;
-        Ok(has_looked || has_settled)
+        Ok(has_looked | has_settled)
     }
 
     /// Sends replies until the inbound half has ended and no slip is left that an answer will come
@@ -300,8 +300,8 @@ impl Outbound {
         self.send_until_done(rt, sink, signals)
     }
 
-    /// Sends replies until the inbound half has ended and nothing more is due, or until a fault.
-    /// The inbound half hears of its end.
+    /// Sends replies until the inbound half has ended and nothing more is due, or until a fault,
+    /// which the sink hears of. The inbound half hears of the end.
     pub fn run<R: Wait, W: Sink>(
         &mut self,
         rt: &R,
@@ -321,6 +321,7 @@ impl Outbound {
         let ended = self.send_if_counted(rt, sink, signals);
         if ended.is_err() {
             self.taker.close();
+            sink.give_up();
         }
         signals.end_outbound();
         ended

@@ -73,4 +73,8 @@ pub trait Sink: Send {
     /// How often the device has failed.
     fn faults(&self) -> u64
         ensures { result ≡ faults self.now };
+
+    /// Nothing more is written, though more was to come. A device whose peer somebody waits for may
+    /// end that wait; most do nothing.
+    fn give_up(&self) {}
 }

@@ -5,17 +5,21 @@ use mac_keys::KeyTable;
 use mac_wire::FRAME_MAX;
 use std::alloc::{AllocError, Global};
 
-const KEYS: &[u8] =
-    b"key bank 74686973206973206f757220737570657220736563726574206b65793b206f6e6c792077652073686f756c64206b6e6f77206974\n";
+const KEYS: &[u8] = b"key bank 746869732069732\
+    06f757220737570657220736563726574206b65793b206f6e6c79207765\
+    2073686f756c64206b6e6f77206974\n";
 
 /// A mint, and an empty payload: frames of 52 and of 4 bytes.
-pub(crate) const TWO_FRAMES: &[u8] =
-    b"\x00\x00\x00\x30\x01\x01\x04bank\x00\x0ehttp://mybank/\x00\x16we used our secret key\x00\x00\x00\x00\x00";
+pub(crate) const TWO_FRAMES: &[u8] = b"\x00\x00\x00\x30\x01\x01\x04bank\x00\x0ehttp://mybank/\
+    \x00\x16we used our secret key\x00\x00\x00\x00\x00";
 
 /// The token of the mint, which another library computed, and BadRequest: frames of 156 and of 5
 /// bytes.
-pub(crate) const TWO_REPLIES: &[u8] =
-    b"\x00\x00\x00\x98\x01MDAxY2xvY2F0aW9uIGh0dHA6Ly9teWJhbmsvCjAwMjZpZGVudGlmaWVyIHdlIHVzZWQgb3VyIHNlY3JldCBrZXkKMDAyZnNpZ25hdHVyZSDj2eApCFJsTAA5rhURQRXZf91ovyujebNCqvD2F9BVLwo\x00\x00\x00\x01\x10";
+pub(crate) const TWO_REPLIES: &[u8] = b"\x00\x00\x00\x98\x01\
+    MDAxY2xvY2F0aW9uIGh0dHA6Ly9teWJhbmsvCjAwMjZpZGVudGlmaWVy\
+    IHdlIHVzZWQgb3VyIHNlY3JldCBrZXkKMDAyZnNpZ25hdHVyZSDj2eAp\
+    CFJsTAA5rhURQRXZf91ovyujebNCqvD2F9BVLwo\
+    \x00\x00\x00\x01\x10";
 
 /// How many bytes the first of the two replies has.
 pub(crate) const FIRST_REPLY: usize = 156;

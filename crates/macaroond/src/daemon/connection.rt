@@ -5,15 +5,14 @@ use mac_decide::Macaroons;
 use mac_keys::KeyTable;
 use mac_pool::Desk;
 use mac_serve::{ServeFault, serve};
-use mac_wire::{ReaderSource, WriterSink};
+use mac_wire::{DeviceFault, ReaderSource, Sink, WriterSink};
 use std::alloc::Global;
-use std::io::Write;
 use std::net::Shutdown;
 use std::os::unix::net::UnixStream;
 use std::snapshot::Snapshot;
 use std::sync::{Arc, Wait};
+use std::thread;
 use std::thread::{Promise, PromisedHandle, Threads};
-use std::{io, thread};
 
 /// What a connection leaves behind.
 #[derive(Drop)]
@@ -79,7 +78,7 @@ fn served<R: Threads + Wait + Sync>(
     ensures { result.desk.putter.line ≡ desk.putter.line }
 {
     let mut source = ReaderSource::new(stream);
-    let mut sink = WriterSink::new(Outgoing { stream });
+    let mut sink = Outgoing::new(stream);
     match serve(rt, alloc, &mut source, &mut sink, keys, desk) {
         Ok(served) => Ended {
             fault: None,
@@ -92,24 +91,41 @@ fn served<R: Threads + Wait + Sync>(
     }
 }
 
-/// The writing half of a stream. A write that fails shuts both halves down, so that a read that
-/// waits for the peer returns.
+/// The writing half of a stream. Once nothing more is written, though more was to come, both halves
+/// are shut down, so that a read that waits for the peer returns.
 #[derive(Drop)]
 struct Outgoing<'a> {
     stream: &'a UnixStream,
+    writer: WriterSink<&'a UnixStream>,
 }
 
-impl<'a> Write for Outgoing<'a> {
-    fn write(&mut self, buf: &[u8]) -> io::Result<usize> {
-        let mut stream = self.stream;
-        let taken = stream.write(buf);
-        if taken.is_err() {
-            let _ = self.stream.shutdown(Shutdown::Both);
+impl<'a> Outgoing<'a> {
+    fn new(stream: &'a UnixStream) -> Outgoing<'a> {
+        Outgoing {
+            stream,
+            writer: WriterSink::new(stream),
         }
-        taken
+    }
+}
+
+impl<'a> Sink for Outgoing<'a> {
+    ghost use Rattle.std.specs.Prelude.{[], false};
+
+    ghost tells = { false };
+
+    ghost written = { λ _. [] };
+
+    ghost faults = { λ s. s.writer.faults };
+
+    fn write(&mut self, buf: &[u8]) -> Result<usize, DeviceFault> {
+        self.writer.write(buf)
     }
 
-    fn flush(&mut self) -> io::Result<()> {
-        Ok(())
+    fn faults(&self) -> u64 {
+        self.writer.faults()
+    }
+
+    fn give_up(&self) {
+        let _ = self.stream.shutdown(Shutdown::Both);
     }
 }

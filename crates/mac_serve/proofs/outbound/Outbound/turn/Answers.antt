@@ -12,15 +12,8 @@ returns-in_err-release_all-clause-written g c tells before head s was =
     c.release_all.ensures.written tells before head settled
     (was ∙ ap (λ (l : List ℕ). head ++ l) (sym looked.1) ∙ ap (λ (l : List ℕ). head ++ l) (sym c.settle_all.ensures.out))
 
-pub returns-then-has_looked-clause-written : goal.returns-then-has_looked-clause-written
-returns-then-has_looked-clause-written g c tells before head s was =
-    let looked = c.look-has_looked.ensures.stands before s in
-    let settled = rw c.in_ok-has_settled.was at (c.settle_all.ensures.sends before looked.0) in
-    c.release_all.ensures.written tells before head settled
-    (was ∙ ap (λ (l : List ℕ). head ++ l) (sym looked.1) ∙ ap (λ (l : List ℕ). head ++ l) (sym c.settle_all.ensures.out))
-
-pub returns-else-has_looked-clause-written : goal.returns-else-has_looked-clause-written
-returns-else-has_looked-clause-written g c tells before head s was =
+pub returns-clause-written : goal.returns-clause-written
+returns-clause-written g c tells before head s was =
     let looked = c.look-has_looked.ensures.stands before s in
     let settled = rw c.in_ok-has_settled.was at (c.settle_all.ensures.sends before looked.0) in
     c.release_all.ensures.written tells before head settled
