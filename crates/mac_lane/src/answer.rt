@@ -34,6 +34,23 @@ impl<S: Service> Answer<S> {
         }
     }
 
+    /// Works on the jobs, in order. Want of memory hands all of them back.
+    pub fn make_all(alloc: Global, jobs: Vec<S::Job>) -> Result<Vec<Answer<S>>, Vec<S::Job>>
+        ensures ok { IfOk result (λ answers. answers.items ≡ jobs.items) }
+        ensures err { IfErr result (λ back. back.items ≡ jobs.items) }
+    {
+        let Ok(mut answers) = Vec::with_capacity(alloc, jobs.len()) else {
+            return Err(jobs);
+        };
+        let Ok(replies) = S::work_all(alloc, &jobs) else {
+            return Err(jobs);
+        };
+        for (job, reply) in jobs.into_iter().zip(replies) {
+            answers.push_reserved(Answer { job, reply });
+        }
+        Ok(answers)
+    }
+
     /// Whether this is an answer to the job, by `==` of jobs.
     pub(crate) fn is_to(&self, job: &S::Job) -> bool
         ensures { result ≡ S.Job.eq self.now job.now }

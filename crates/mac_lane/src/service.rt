@@ -1,6 +1,6 @@
 //! What the core asks of a service.
 
-ghost use Rattle.std.specs.Prelude.{◌≡◌, true, IfOk};
+ghost use Rattle.std.specs.Prelude.{◌≡◌, true, IfOk, map};
 
 use std::alloc::{AllocError, Global};
 
@@ -21,6 +21,17 @@ pub trait Service: Send + Sync {
     /// Computes the reply to the job, which is the definition's.
     fn work(alloc: Global, job: &Self::Job) -> Result<Self::Reply, NoMemory>
         ensures { IfOk result (λ reply. reply ≡ reply_to job.now) };
+
+    /// Computes the replies to the jobs, in order: one by one, or together where that costs less.
+    fn work_all(alloc: Global, jobs: &[Self::Job]) -> Result<Vec<Self::Reply>, NoMemory>
+        ensures { IfOk result (λ replies. replies.items ≡ map reply_to jobs.now) }
+    {
+        let mut replies = Vec::with_capacity(alloc, jobs.len())?;
+        for job in jobs {
+            replies.push_reserved(Self::work(alloc, job)?);
+        }
+        Ok(replies)
+    }
 
     /// Makes a second job that equals the first.
     fn copy(alloc: Global, job: &Self::Job) -> Result<Self::Job, NoMemory>
