@@ -10,13 +10,13 @@ use sha2::{Digest, Sha256};
 const BLOCK: usize = 64;
 
 /// The byte that the inner pad repeats (RFC 2104, section 2).
-const INNER_PAD: u8 = 0x36;
+pub(crate) const INNER_PAD: u8 = 0x36;
 
 /// The byte that the outer pad repeats (RFC 2104, section 2).
-const OUTER_PAD: u8 = 0x5c;
+pub(crate) const OUTER_PAD: u8 = 0x5c;
 
 /// The block of a key that fits one: zero bytes appended, and each byte XORed with the pad's.
-fn padded(key: &[u8], pad: u8) -> [u8; BLOCK]
+pub(crate) fn padded(key: &[u8], pad: u8) -> [u8; BLOCK]
     requires { length key.now ≤ 64 }
     ensures { result ≡ xor_pad (key.now ++ replicate (64 - length key.now) 0) pad }
 {

@@ -1,11 +1,38 @@
 //! Eight HMACs side by side.
 ghost use Rattle.std.specs.Prelude.{◌≡◌, ◌<◌, ◌∷◌, ℕ, [], map, slice_index_or};
 ghost use Rattle.mac_hmac.specs.Chain.{chain, extended};
-ghost use Rattle.mac_hmac.specs.Hmac.{hmac};
+ghost use Rattle.mac_hmac.specs.Hmac.{block_key, hmac, xor_pad};
 
-use crate::hmac_state::hmac;
+use crate::hmac_state::{INNER_PAD, OUTER_PAD, padded};
 use crate::key::RootKey;
-use crate::signature::{Sig, extend, start};
+use crate::signature::Sig;
+use sha256x8::digest_each;
+
+// The block of a key: zero bytes appended, and each byte XORed with the pad's.
+#[inline(always)]
+fn padded_key(key: &[u8; 32], pad: u8) -> [u8; 64]
+    ensures { result ≡ xor_pad (block_key key.now) pad }
+{
+    padded(key, pad)
+}
+
+// The block of each key: zero bytes appended, and each byte XORed with the pad's.
+#[inline(always)]
+fn padded_each(keys: &[[u8; 32]; 8], pad: u8) -> [[u8; 64]; 8]
+    ensures { (j : ℕ) → j < 8 → slice_index_or result j []
+        ≡ xor_pad (block_key (slice_index_or keys.now j [])) pad }
+{
+    [
+        padded_key(&keys[0], pad),
+        padded_key(&keys[1], pad),
+        padded_key(&keys[2], pad),
+        padded_key(&keys[3], pad),
+        padded_key(&keys[4], pad),
+        padded_key(&keys[5], pad),
+        padded_key(&keys[6], pad),
+        padded_key(&keys[7], pad),
+    ]
+}
 
 /// The HMAC of each text under the key of its place (RFC 2104, section 2), for eight of both.
 pub fn hmac_each(keys: &[[u8; 32]; 8], texts: &[&[u8]; 8]) -> [[u8; 32]; 8]
@@ -13,15 +40,29 @@ pub fn hmac_each(keys: &[[u8; 32]; 8], texts: &[&[u8]; 8]) -> [[u8; 32]; 8]
         ≡ hmac (slice_index_or keys.now j [])
         (slice_index_or (map (λ text. text.now) texts.now) j []) }
 {
+    let inner = digest_each(&padded_each(keys, INNER_PAD), texts);
+    digest_each(
+        &padded_each(keys, OUTER_PAD),
+        &[
+            &inner[0], &inner[1], &inner[2], &inner[3], &inner[4], &inner[5], &inner[6], &inner[7],
+        ],
+    )
+}
+
+// These digests as signatures.
+#[inline(always)]
+fn signatures_of(digests: [[u8; 32]; 8]) -> [Sig; 8]
+    ensures { (j : ℕ) → j < 8 → slice_index_or result j [] ≡ slice_index_or digests j [] }
+{
     [
-        hmac(&keys[0], texts[0]),
-        hmac(&keys[1], texts[1]),
-        hmac(&keys[2], texts[2]),
-        hmac(&keys[3], texts[3]),
-        hmac(&keys[4], texts[4]),
-        hmac(&keys[5], texts[5]),
-        hmac(&keys[6], texts[6]),
-        hmac(&keys[7], texts[7]),
+        Sig::from_bytes(digests[0]),
+        Sig::from_bytes(digests[1]),
+        Sig::from_bytes(digests[2]),
+        Sig::from_bytes(digests[3]),
+        Sig::from_bytes(digests[4]),
+        Sig::from_bytes(digests[5]),
+        Sig::from_bytes(digests[6]),
+        Sig::from_bytes(digests[7]),
     ]
 }
 
@@ -31,31 +72,34 @@ pub fn start_each(keys: &[RootKey; 8], identifiers: &[&[u8]; 8]) -> [Sig; 8]
         ≡ chain (slice_index_or keys.now j [])
         (slice_index_or (map (λ text. text.now) identifiers.now) j []) [] }
 {
-    [
-        start(&keys[0], identifiers[0]),
-        start(&keys[1], identifiers[1]),
-        start(&keys[2], identifiers[2]),
-        start(&keys[3], identifiers[3]),
-        start(&keys[4], identifiers[4]),
-        start(&keys[5], identifiers[5]),
-        start(&keys[6], identifiers[6]),
-        start(&keys[7], identifiers[7]),
-    ]
+    let keys = [
+        keys[0].bytes(),
+        keys[1].bytes(),
+        keys[2].bytes(),
+        keys[3].bytes(),
+        keys[4].bytes(),
+        keys[5].bytes(),
+        keys[6].bytes(),
+        keys[7].bytes(),
+    ];
+    signatures_of(hmac_each(&keys, identifiers))
 }
 
 /// The signatures of eight macaroons after one more first-party caveat on each.
 pub fn extend_each(signatures: &[Sig; 8], caveats: &[&[u8]; 8]) -> [Sig; 8]
     ensures { (j : ℕ) → j < 8 → slice_index_or result j []
-        ≡ extended (slice_index_or signatures.now j []) (slice_index_or (map (λ text. text.now) caveats.now) j [] ∷ []) }
+        ≡ extended (slice_index_or signatures.now j [])
+        (slice_index_or (map (λ text. text.now) caveats.now) j [] ∷ []) }
 {
-    [
-        extend(signatures[0], caveats[0]),
-        extend(signatures[1], caveats[1]),
-        extend(signatures[2], caveats[2]),
-        extend(signatures[3], caveats[3]),
-        extend(signatures[4], caveats[4]),
-        extend(signatures[5], caveats[5]),
-        extend(signatures[6], caveats[6]),
-        extend(signatures[7], caveats[7]),
-    ]
+    let keys = [
+        signatures[0].bytes(),
+        signatures[1].bytes(),
+        signatures[2].bytes(),
+        signatures[3].bytes(),
+        signatures[4].bytes(),
+        signatures[5].bytes(),
+        signatures[6].bytes(),
+        signatures[7].bytes(),
+    ];
+    signatures_of(hmac_each(&keys, caveats))
 }

@@ -1,5 +1,4 @@
-use Rattle.std.proofs.Common.{◌≡◌, ◌++◌, ◌-◌, ℕ, List, length, map, take, replicate, arith, sym, ap, ◌∙◌}
-use Rattle.std.proofs.Math.ListN.{set}
+use Rattle.std.proofs.Common.{◌≡◌, ℕ, length, take, arith, ◌∙◌}
 use Rattle.std.proofs.lemmas.List.{take_all}
 use Rattle.std.specs.Int.Bits.{bit_xor}
 use Rattle.mac_hmac.proofs.HmacLemmas.{filled_more, xor_pad-zeros}

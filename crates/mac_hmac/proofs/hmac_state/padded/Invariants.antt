@@ -1,4 +1,4 @@
-use Rattle.std.proofs.Common.{◌≡◌, ◌++◌, ◌-◌, ℕ, map, take, replicate}
+use Rattle.std.proofs.Common.{◌≡◌, ◌++◌, ◌-◌, map, take, replicate}
 use Rattle.std.specs.Int.Bits.{bit_xor}
 use Rattle.mac_hmac.proofs.hmac_state.padded.Given as goal
 

@@ -1,4 +1,4 @@
-use Rattle.std.proofs.Common.{◌≡◌, rules}
+use Rattle.std.proofs.Common.{rules}
 use Rattle.mac_hmac.specs.Chain.{root_of, key_generator}
 use Rattle.mac_hmac.proofs.key.root_key.Goals as goal
 

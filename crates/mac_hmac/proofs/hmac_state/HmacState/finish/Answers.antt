@@ -1,4 +1,4 @@
-use Rattle.std.proofs.Common.{◌≡◌, ◌++◌, ◌∙◌, ap, List, ℕ}
+use Rattle.std.proofs.Common.{◌++◌, ◌∙◌, ap, List, ℕ}
 use Rattle.sha2.specs.Sha256.{sha256}
 use Rattle.mac_hmac.specs.Hmac.{hmac, inner_block, outer_block}
 use Rattle.mac_hmac.proofs.hmac_state.HmacState.finish.Goals as goal

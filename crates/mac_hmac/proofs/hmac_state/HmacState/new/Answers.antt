@@ -1,4 +1,4 @@
-use Rattle.std.proofs.Common.{◌≡◌, ◌∙◌, sym}
+use Rattle.std.proofs.Common.{◌∙◌, sym}
 use Rattle.mac_hmac.proofs.HmacLemmas.{fitted_key-short, fitted_key-long, Holds-fitted}
 use Rattle.mac_hmac.proofs.hmac_state.HmacState.new.Goals as goal
 

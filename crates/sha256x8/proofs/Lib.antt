@@ -1,0 +1,4 @@
+pub mod LaneWise
+mod Majority
+pub mod PaddedBlocks
+pub mod HashAfter

@@ -1,0 +1,16 @@
+-- Several messages side by side: each word is a vector, with one lane for each message.
+use Rattle.std.specs.Prelude.{ℕ, List, [], ◌∷◌, map, slice_index, slice_index_or}
+
+-- the words of message j
+abbrev pub lane : ℕ → List (List ℕ) → List ℕ
+lane j x = map (λ v. slice_index v j) x
+
+-- word k of message j
+abbrev pub lane_at : List (List ℕ) → ℕ → ℕ → ℕ
+lane_at x k j = slice_index (slice_index_or x k []) j
+
+-- the eight working variables of message j
+abbrev pub lane_state : ℕ → List (List ℕ) → List ℕ
+lane_state j x =
+    lane_at x 0 j ∷ lane_at x 1 j ∷ lane_at x 2 j ∷ lane_at x 3 j
+    ∷ lane_at x 4 j ∷ lane_at x 5 j ∷ lane_at x 6 j ∷ lane_at x 7 j ∷ []
