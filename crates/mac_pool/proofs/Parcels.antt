@@ -1,8 +1,9 @@
--- One parcel more answers one ticket more.
-use Rattle.std.proofs.Common.{List, [], ◌∷◌, ◌++◌}
+-- One parcel more answers one ticket more, and what a ticket is taken apart into.
+use Rattle.std.proofs.Common.{◌≡◌, ◌+◌, ◌≤◌, ◌⊎◌, List, [], ◌∷◌, ◌++◌, length, sym, ◌∙◌, ap, refl, subst, ⊎_elim, arith, append_assoc, append-nil, length-append}
 use Rattle.mac_pool.specs.declared.ticket.Ticket.{Ticket}
+use Rattle.mac_pool.specs.declared.work.Label.{Label}
 use Rattle.mac_pool.specs.declared.work.Parcel.{Parcel}
-use Rattle.mac_pool.specs.Parcel.{IsAnswerTo, AnswerEach}
+use Rattle.mac_pool.specs.Parcel.{IsAnswerTo, AnswerEach, joined}
 
 module _ {S Job Reply : Type 0} where
   pub answer_push : (tickets : List (Ticket S Job Reply)) (parcels : List (Parcel S Job Reply)) (ticket : Ticket S Job Reply) (parcel : Parcel S Job Reply)
@@ -11,3 +12,52 @@ module _ {S Job Reply : Type 0} where
   answer_push [] (p ∷ parcels) ticket parcel each one = absurd each
   answer_push (t ∷ tickets) [] ticket parcel each one = absurd each
   answer_push (t ∷ tickets) (p ∷ parcels) ticket parcel each one = (each.0, answer_push tickets parcels ticket parcel each.1 one)
+
+  -- there are as many parcels as tickets
+  pub answers_long : (tickets : List (Ticket S Job Reply)) (parcels : List (Parcel S Job Reply)) → AnswerEach tickets parcels → length parcels ≡ length tickets
+  answers_long [] [] each = refl
+  answers_long [] (p ∷ parcels) each = absurd each
+  answers_long (t ∷ tickets) [] each = absurd each
+  answers_long (t ∷ tickets) (p ∷ parcels) each = let rest = answers_long tickets parcels each.1 in omega arith
+
+  -- a ticket moves from those that are left to those that are done
+  pub ticket_done : (done left rest tickets : List (Ticket S Job Reply)) (ticket : Ticket S Job Reply) → left ≡ ticket ∷ rest → done ++ left ≡ tickets → (done ++ ticket ∷ []) ++ rest ≡ tickets
+  ticket_done done left rest tickets ticket split was = append_assoc done (ticket ∷ []) rest ∙ subst (λ (l : List (Ticket S Job Reply)). done ++ l ≡ tickets) split was
+
+  -- the ticket of this label and this job
+  abbrev pub ticket_of : Label S Job Reply → Job → Ticket S Job Reply
+  ticket_of label job = record { place = label.place; job = job; mail = label.mail }
+
+  joined_push : (labels : List (Label S Job Reply)) (jobs : List Job) (label : Label S Job Reply) (job : Job) → length labels ≡ length jobs
+      → joined (labels ++ label ∷ []) (jobs ++ job ∷ []) ≡ joined labels jobs ++ ticket_of label job ∷ []
+  joined_push [] [] label job even = refl
+  joined_push [] (j ∷ jobs) label job even = absurd (omega arith)
+  joined_push (l ∷ labels) [] label job even = absurd (omega arith)
+  joined_push (l ∷ labels) (j ∷ jobs) label job even = ap (λ rest. ticket_of l j ∷ rest) (joined_push labels jobs label job (omega arith))
+
+  -- one ticket more is taken apart
+  pub joined_more : (labels more_labels : List (Label S Job Reply)) (jobs more_jobs : List Job) (label : Label S Job Reply) (job : Job) (left rest tickets : List (Ticket S Job Reply))
+      → more_labels ≡ labels ++ label ∷ [] → more_jobs ≡ jobs ++ job ∷ [] → length labels ≡ length jobs → left ≡ ticket_of label job ∷ rest → joined labels jobs ++ left ≡ tickets
+      → joined more_labels more_jobs ++ rest ≡ tickets
+  joined_more labels more_labels jobs more_jobs label job left rest tickets labels_are jobs_are even split was =
+      rw (labels_are, jobs_are, joined_push labels jobs label job even) (ticket_done (joined labels jobs) left rest tickets (ticket_of label job) split was)
+
+  -- the first label and the first job go
+  pub joined_less : (done tickets : List (Ticket S Job Reply)) (labels rest : List (Label S Job Reply)) (jobs others : List Job) (label : Label S Job Reply) (job : Job)
+      → labels ≡ label ∷ rest → jobs ≡ job ∷ others → done ++ joined labels jobs ≡ tickets → (done ++ ticket_of label job ∷ []) ++ joined rest others ≡ tickets
+  joined_less done tickets labels rest jobs others label job labels_are jobs_are was =
+      ticket_done done (joined labels jobs) (joined rest others) tickets (ticket_of label job)
+      (ap (λ (l : List (Label S Job Reply)). joined l jobs) labels_are ∙ ap (λ (l : List Job). joined (label ∷ rest) l) jobs_are) was
+
+  -- for which there is room
+  pub joined_room : (done tickets : List (Ticket S Job Reply)) (parcels : List (Parcel S Job Reply)) (labels rest : List (Label S Job Reply)) (jobs others : List Job) (label : Label S Job Reply) (job : Job)
+      → labels ≡ label ∷ rest → jobs ≡ job ∷ others → done ++ joined labels jobs ≡ tickets → AnswerEach done parcels → length parcels + 1 ≤ length tickets
+  joined_room done tickets parcels labels rest jobs others label job labels_are jobs_are was each =
+      let now = joined_less done tickets labels rest jobs others label job labels_are jobs_are was in
+      omega (arith, answers_long done parcels each, ap length now, length-append (done ++ ticket_of label job ∷ []) (joined rest others), length-append done (ticket_of label job ∷ []))
+
+  -- where no label or no job is left, all are done
+  pub joined_end : (done tickets : List (Ticket S Job Reply)) (labels : List (Label S Job Reply)) (jobs : List Job) → (length labels ≡ 0) ⊎ (length jobs ≡ 0) → done ++ joined labels jobs ≡ tickets → done ≡ tickets
+  joined_end done tickets [] jobs none was = sym (append-nil done) ∙ was
+  joined_end done tickets (label ∷ labels) [] none was = sym (append-nil done) ∙ was
+  joined_end done tickets (label ∷ labels) (job ∷ jobs) none was = ⊎_elim (λ n. absurd (omega arith)) (λ n. absurd (omega arith)) none

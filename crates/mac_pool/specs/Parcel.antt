@@ -2,6 +2,7 @@
 use Rattle.std.specs.Prelude.{◌≡◌, ◌⊎◌, ⊤, List, [], ◌∷◌, None, Some}
 use Rattle.mac_pool.specs.Post.{entry_of}
 use Rattle.mac_pool.specs.declared.ticket.Ticket.{Ticket}
+use Rattle.mac_pool.specs.declared.work.Label.{Label}
 use Rattle.mac_pool.specs.declared.work.Parcel.{Parcel}
 
 module _ {S Job Reply : Type 0} where
@@ -21,3 +22,10 @@ module _ {S Job Reply : Type 0} where
   AnswerEach (ticket ∷ tickets) [] = ⊥
   AnswerEach (ticket ∷ tickets) (parcel ∷ parcels) =
       IsAnswerTo ticket parcel × AnswerEach tickets parcels
+
+  -- the tickets that were taken apart into these labels and jobs
+  abbrev pub joined : List (Label S Job Reply) → List Job → List (Ticket S Job Reply)
+  joined [] jobs = []
+  joined (label ∷ labels) [] = []
+  joined (label ∷ labels) (job ∷ jobs) =
+      record { place = label.place; job = job; mail = label.mail } ∷ joined labels jobs

@@ -1,9 +1,9 @@
 //! A worker: it claims tickets, works on them, and posts the answers.
 
-ghost use Rattle.std.specs.Prelude.{◌≡◌, ◌+◌, ◌≤◌, ◌<◌, []};
+ghost use Rattle.std.specs.Prelude.{◌≡◌, ◌+◌, ◌≤◌, ◌<◌, [], length, IfOk, OnOk, OnErr};
 ghost use Rattle.std.specs.VecDeque.{deque_len, deque_capacity};
 ghost use Rattle.mac_pool.specs.Pass.{HasClaimed};
-ghost use Rattle.mac_pool.specs.Parcel.{IsAnswerTo, AnswerEach};
+ghost use Rattle.mac_pool.specs.Parcel.{IsAnswerTo, AnswerEach, joined};
 ghost use Rattle.mac_pool.specs.declared.gate.TheConstants.{TURN_MAX};
 
 use crate::gate::{Gate, TURN_MAX};
@@ -23,6 +23,13 @@ pub struct Worked<S: Service> {
     pub pass: LinePass<S>,
     /// How many tickets it claimed.
     pub claimed: u64,
+}
+
+// What stays of a ticket while its job is worked on.
+#[derive(Drop)]
+pub struct Label<S: Service> {
+    pub place: u64,
+    pub mail: Arc<Mailbox<S>, Global>,
 }
 
 // A post on its way to a mailbox.
@@ -202,9 +209,101 @@ fn answer_all<S: Service, G: Gate>(
     ensures capacity { (deque_capacity tickets.new ≡ deque_capacity tickets.old)
         × (deque_capacity parcels.new ≡ deque_capacity parcels.old) }
 {
+    if tickets.len() > 1 {
+        if let Ok((labels, jobs)) = taken_apart(alloc, gate, tickets) {
+            return answer_together(alloc, labels, jobs, parcels);
+        }
+    }
+    answer_each(alloc, gate, tickets, parcels);
+}
+
+/// Works on the tickets one by one.
+fn answer_each<S: Service, G: Gate>(
+    alloc: Global,
+    gate: &G,
+    tickets: &mut Tickets<S>,
+    parcels: &mut Parcels<S>,
+)
+    requires empty { parcels.old.items ≡ [] }
+    requires room { deque_len tickets.old ≤ deque_capacity parcels.old }
+    ensures answers { AnswerEach tickets.old.items parcels.new.items }
+    ensures done { tickets.new.items ≡ [] }
+    ensures count { deque_len parcels.new ≡ deque_len tickets.old }
+    ensures capacity { (deque_capacity tickets.new ≡ deque_capacity tickets.old)
+        × (deque_capacity parcels.new ≡ deque_capacity parcels.old) }
+{
     while let Some(ticket) = tickets.pop_front() {
         gate.before(ticket.place);
         parcels.push_back_reserved(answer(alloc, ticket));
+    }
+}
+
+/// Takes the tickets apart, into what stays of each and its job.
+fn taken_apart<S: Service, G: Gate>(
+    alloc: Global,
+    gate: &G,
+    tickets: &mut Tickets<S>,
+) -> Result<(Vec<Label<S>>, Vec<S::Job>), NoMemory>
+    ensures parts { IfOk result (λ parts. joined parts.0.items parts.1.items ≡ tickets.old.items) }
+    ensures done { OnOk result (tickets.new.items ≡ []) }
+    ensures same { OnErr result (tickets.new ≡ tickets.old) }
+    ensures capacity { deque_capacity tickets.new ≡ deque_capacity tickets.old }
+{
+    let mut labels = Vec::with_capacity(alloc, tickets.len())?;
+    let mut jobs = Vec::with_capacity(alloc, tickets.len())?;
+    while let Some(Ticket { place, job, mail }) = tickets.pop_front() {
+        gate.before(place);
+        labels.push_reserved(Label { place, mail });
+        jobs.push_reserved(job);
+    }
+    Ok((labels, jobs))
+}
+
+/// Works on the jobs together, and one by one where there is no memory for that.
+fn answer_together<S: Service>(
+    alloc: Global,
+    labels: Vec<Label<S>>,
+    jobs: Vec<S::Job>,
+    parcels: &mut Parcels<S>,
+)
+    requires empty { parcels.old.items ≡ [] }
+    requires room { length (joined labels.items jobs.items) ≤ deque_capacity parcels.old }
+    ensures answers { AnswerEach (joined labels.items jobs.items) parcels.new.items }
+    ensures capacity { deque_capacity parcels.new ≡ deque_capacity parcels.old }
+{
+    match Answer::make_all(alloc, jobs) {
+        Ok(answers) => pack(labels, answers, parcels),
+        Err(jobs) => answer_parts(alloc, labels, jobs, parcels),
+    }
+}
+
+/// Makes a parcel of each answer.
+fn pack<S: Service>(labels: Vec<Label<S>>, answers: Vec<Answer<S>>, parcels: &mut Parcels<S>)
+    requires empty { parcels.old.items ≡ [] }
+    requires room { length (joined labels.items answers.items) ≤ deque_capacity parcels.old }
+    ensures answers { AnswerEach (joined labels.items answers.items) parcels.new.items }
+    ensures capacity { deque_capacity parcels.new ≡ deque_capacity parcels.old }
+{
+    for (Label { place, mail }, answer) in labels.into_iter().zip(answers) {
+        let post = Post::Answered(place, answer);
+        parcels.push_back_reserved(Parcel { post, mail });
+    }
+}
+
+/// Works on the jobs one by one.
+fn answer_parts<S: Service>(
+    alloc: Global,
+    labels: Vec<Label<S>>,
+    jobs: Vec<S::Job>,
+    parcels: &mut Parcels<S>,
+)
+    requires empty { parcels.old.items ≡ [] }
+    requires room { length (joined labels.items jobs.items) ≤ deque_capacity parcels.old }
+    ensures answers { AnswerEach (joined labels.items jobs.items) parcels.new.items }
+    ensures capacity { deque_capacity parcels.new ≡ deque_capacity parcels.old }
+{
+    for (Label { place, mail }, job) in labels.into_iter().zip(jobs) {
+        parcels.push_back_reserved(answer(alloc, Ticket { place, job, mail }));
     }
 }
 

@@ -1,30 +1,9 @@
-use Rattle.std.proofs.Common.{◌∷◌, ◌++◌, [], arith, rules, ap, sym, refl, ◌∙◌, append_assoc, length}
-use Rattle.mac_pool.proofs.Parcels.{answer_push}
+use Rattle.std.proofs.Common.{length, arith, ap}
+use Rattle.mac_pool.proofs.Parcels.{answers_long}
 use Rattle.mac_pool.proofs.work.answer_all.Goals as goal
 
-pub loop-ticket-init : goal.loop-ticket-init
-loop-ticket-init g c =
-    let empty = c.requires.empty in
-    let len = c.args.parcels.now.ok.0 in
-    record {
-      done = [];
-      left = refl;
-      answers = rw empty tt;
-      count = omega (arith, ap length empty);
-      tickets = refl;
-      parcels = refl;
-    }
-
-pub loop-ticket-preserved : goal.loop-ticket-preserved
-loop-ticket-preserved g c =
-    let invariant = c.loop-ticket.invariant in
-    let ticket = c.in-Some.ticket in
-    let popped = c.in-Some.ensures.items in
-    record {
-      done = invariant.done ++ ticket ∷ [];
-      left = append_assoc invariant.done (ticket ∷ []) c.pop_front.new.self.items ∙ ap (λ l. invariant.done ++ l) (sym popped) ∙ invariant.left;
-      answers = rw c.push_back_reserved.ensures.items (answer_push invariant.done c.loop-ticket.parcels.items ticket c.answer.result invariant.answers c.answer.ensures);
-      count = search rules;
-      tickets = search rules;
-      parcels = search rules;
-    }
+pub returns-in-Ok-clause-count : goal.returns-in-Ok-clause-count
+returns-in-Ok-clause-count g c =
+    let tickets = c.args.tickets.now.ok.0 in
+    let parcels = c.answer_together.new.parcels.ok.0 in
+    omega (arith, answers_long _ _ c.answer_together.ensures.answers, ap length c.in-Ok.ensures.parts)

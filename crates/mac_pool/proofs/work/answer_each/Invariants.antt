@@ -2,7 +2,7 @@ use Rattle.std.proofs.Common.{◌≡◌, ◌+◌, ◌++◌, List}
 use Rattle.std.specs.VecDeque.{deque_len, deque_capacity}
 use Rattle.mac_pool.specs.declared.ticket.Ticket.{Ticket}
 use Rattle.mac_pool.specs.Parcel.{AnswerEach}
-use Rattle.mac_pool.proofs.work.answer_all.Given as goal
+use Rattle.mac_pool.proofs.work.answer_each.Given as goal
 
 abbrev pub invariant-loop-ticket : goal.invariant-loop-ticket
 invariant-loop-ticket g l = record {
