@@ -11,3 +11,5 @@ pub mod SendableLemmas
 pub mod CarriedLemmas
 pub mod WorldLemmas
 pub mod VerifiedLemmas
+pub mod PendingLemmas
+pub mod PreparedLemmas

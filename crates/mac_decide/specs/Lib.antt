@@ -1,6 +1,8 @@
 pub mod Answer
 pub mod Calendar
 pub mod Minted
+pub mod Pending
+pub mod Prepared
 pub mod Reading
 pub mod SameJobs
 pub mod Time

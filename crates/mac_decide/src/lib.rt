@@ -10,7 +10,9 @@ mod job;
 pub mod laws;
 mod macaroons;
 mod minting;
+mod pending;
 mod reply;
+mod side_by_side;
 mod time;
 mod verdict;
 
@@ -19,5 +21,6 @@ pub use job::{Job, job_of};
 pub use macaroons::Macaroons;
 pub use minting::{attenuate, mint};
 pub use reply::answer;
+pub use side_by_side::answer_all;
 pub use time::time_limit;
 pub use verdict::{Verdict, verify, verify_view};

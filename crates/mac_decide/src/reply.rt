@@ -225,7 +225,7 @@ fn json_reply(
     }
 }
 
-fn verdict_reply(verdict: Verdict) -> Reply
+pub(crate) fn verdict_reply(verdict: Verdict) -> Reply
     ensures value { result ≡ answers.verdict_reply verdict }
     ensures sendable { IsReply result }
 {

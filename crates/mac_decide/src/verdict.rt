@@ -1,7 +1,7 @@
 //! Whether a key grants a token.
 
-ghost use Rattle.std.specs.Prelude.{◌≡◌, MatchOption};
-ghost use Rattle.mac_decide.specs.Verdict.{Satisfied, IsVerdict, Concludes};
+ghost use Rattle.std.specs.Prelude.{◌≡◌, All, MatchOption};
+ghost use Rattle.mac_decide.specs.Verdict.{Satisfied, IsFirstUnsatisfied, IsVerdict, Concludes};
 
 use crate::context::{Context, satisfied};
 use mac_hmac::{Chain, RootKey, Sig, same};
@@ -41,20 +41,31 @@ pub fn verify_view(key: &RootKey, token: &TokenView<'_>, context: &Context<'_>) 
     ensures { IsVerdict key.now token.now context.now result }
 {
     let mut chain = Chain::start(key, token.identifier());
+    for caveat in token.walk() {
+        chain.push(caveat);
+    }
+    let found = unsatisfied_caveat(token, context);
+    conclusion(chain.sig(), Sig::from_bytes(token.sig()), found)
+}
+
+/// The index of the first caveat that isn't satisfied.
+pub(crate) fn unsatisfied_caveat(token: &TokenView<'_>, context: &Context<'_>) -> Option<u16>
+    ensures { MatchOption result (All (λ caveat. Satisfied caveat context.now) token.now.caveats)
+        (IsFirstUnsatisfied token.now.caveats context.now) }
+{
     let mut unsatisfied = None;
     let mut index = 0;
     let _count = token.caveats();
     for caveat in token.walk() {
-        chain.push(caveat);
         unsatisfied = first_unsatisfied(unsatisfied, index, caveat, context);
         index += 1;
     }
-    conclusion(chain.sig(), Sig::from_bytes(token.sig()), unsatisfied)
+    unsatisfied
 }
 
 /// The verdict at the end of a walk: whether the key's signature is the one that the token tells,
 /// then the caveat that was found.
-fn conclusion(signature: Sig, told: Sig, unsatisfied: Option<u16>) -> Verdict
+pub(crate) fn conclusion(signature: Sig, told: Sig, unsatisfied: Option<u16>) -> Verdict
     ensures { Concludes signature told unsatisfied result }
 {
     if !same(&signature, &told) {

@@ -1,32 +1,15 @@
-use Rattle.std.proofs.Common.{[], ◌∷◌, sym, ap, ◌∙◌, arith}
-use Rattle.std.proofs.lemmas.Option.{slice_get_within}
+use Rattle.std.proofs.Common.{◌≡◌, List, ℕ, sym, ap, ◌∙◌}
 use Rattle.mac_hmac.specs.Chain.{extended}
-use Rattle.mac_decide.proofs.WalkLemmas.{chain-next, found-next, concluded, first-of-drop, end-of-drop}
+use Rattle.mac_decide.proofs.WalkLemmas.{decided}
 use Rattle.mac_decide.proofs.verdict.verify_view.Goals as goal
 
 pub loop-caveat-preserved : goal.loop-caveat-preserved
 loop-caveat-preserved c =
-    let caveats = c.args.token.now.caveats in
-    let i = c.loop-caveat.index in
-    let caveat = c.in-Some.caveat.now in
-    let first = first-of-drop caveats i caveat c.next.new.self (c.loop-caveat.invariant.left ∙ c.in-Some.ensures.steps) in
-    record {
-      signature = c.push.ensures
-          ∙ ap (λ s. extended s (caveat ∷ [])) c.loop-caveat.invariant.signature
-          ∙ sym (chain-next c.args.key.now c.args.token.now.identifier caveats i caveat first.0);
-      found = found-next _ caveats i i caveat _ _ first.0 (λ _. i) c.loop-caveat.invariant.found c.first_unsatisfied-unsatisfied.ensures;
-      left = first.1;
-    }
-
-pub overflow_add-index : goal.overflow_add-index
-overflow_add-index c =
-    let caveats = c.args.token.now.caveats in
-    let first = first-of-drop caveats c.loop-caveat.index c.in-Some.caveat.now c.next.new.self (c.loop-caveat.invariant.left ∙ c.in-Some.ensures.steps) in
-    omega (arith, slice_get_within caveats c.loop-caveat.index c.in-Some.caveat.now first.0, c.caveats-count.ensures.within.count)
+    ap (λ (s : List ℕ). extended s c.next.new.self) c.push.ensures
+    ∙ ap (extended c.loop-caveat.chain) (sym c.in-Some.ensures.steps) ∙ c.loop-caveat.invariant
 
 pub returns : goal.returns
 returns c =
     let told = c.from_bytes.ensures ∙ c.sig-2.ensures in
-    concluded _ _ _ c.loop-caveat.index c.loop-caveat.chain _ _
-    (end-of-drop c.args.token.now.caveats c.loop-caveat.index (c.loop-caveat.invariant.left ∙ c.in-None.ensures.steps.0))
-    c.loop-caveat.invariant.signature c.loop-caveat.invariant.found (rw (← told, ← c.sig.ensures) c.conclusion.ensures)
+    let chained = rw c.in-None.ensures.steps.0 at c.loop-caveat.invariant in
+    decided _ _ _ c.loop-caveat.chain _ _ chained c.unsatisfied_caveat-found.ensures (rw (← told, ← c.sig.ensures) c.conclusion.ensures)

@@ -1,12 +1,7 @@
-use Rattle.std.proofs.Common.{◌≡◌, take, drop, MatchOption}
-use Rattle.std.specs.List.{All}
-use Rattle.mac_hmac.specs.Chain.{chain}
-use Rattle.mac_decide.specs.Verdict.{Satisfied, IsFirstUnsatisfied}
+use Rattle.std.proofs.Common.{◌≡◌}
+use Rattle.mac_hmac.specs.Chain.{chain, extended}
 use Rattle.mac_decide.proofs.verdict.verify_view.Given as goal
 
+-- the caveats that are left lead to the signature of all
 abbrev pub invariant-loop-caveat : goal.invariant-loop-caveat
-invariant-loop-caveat l = record {
-  signature : l.chain ≡ chain l.key l.token.identifier (take l.index l.token.caveats);
-  found : MatchOption l.unsatisfied (All (λ caveat. Satisfied caveat l.context) (take l.index l.token.caveats)) (IsFirstUnsatisfied l.token.caveats l.context);
-  left : drop l.index l.token.caveats ≡ l.caveat-iterator;
-}
+invariant-loop-caveat l = extended l.chain l.caveat-iterator ≡ chain l.key l.token.identifier l.token.caveats
