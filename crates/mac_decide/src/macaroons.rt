@@ -7,6 +7,7 @@ ghost use Rattle.mac_decide.specs.SameJobs.{same_jobs};
 
 use crate::job::Job;
 use crate::reply::answer;
+use crate::side_by_side::answer_all;
 use mac_hmac::RootKey;
 use mac_lane::Service;
 use mac_wire::{Arrival, NoMemory, Reply};
@@ -24,6 +25,10 @@ impl Service for Macaroons {
 
     fn work(alloc: Global, job: &Job) -> Result<Reply, NoMemory> {
         answer(alloc, job)
+    }
+
+    fn work_all(alloc: Global, jobs: &[Job]) -> Result<Vec<Reply>, NoMemory> {
+        answer_all(alloc, jobs)
     }
 
     fn copy(alloc: Global, job: &Job) -> Result<Job, NoMemory> {
