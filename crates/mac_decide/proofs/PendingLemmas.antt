@@ -1,8 +1,8 @@
 -- A verify whose signature is computed text by text.
-use Rattle.std.proofs.Common.{◌≡◌, ℕ, arith, ◌-◌, ◌<◌, List, [], ◌∷◌, length, Option, Some, None, Bor, sym, ap, ◌∙◌}
+use Rattle.std.proofs.Common.{◌≡◌, ℕ, arith, ◌-◌, ◌<◌, List, [], ◌∷◌, Option, Some, None, Bor, sym}
 use Rattle.std.specs.Iterator.{YieldsFirstRef}
 use Rattle.std.specs.Option.{option_map}
-use Rattle.mac_hmac.specs.Chain.{chain, extended}
+use Rattle.mac_hmac.specs.Chain.{extended}
 use Rattle.mac_token.specs.RawToken.{TokenParts}
 use Rattle.mac_decide.specs.Pending.{texts_left, IsOnItsWay}
 

@@ -8,7 +8,7 @@ use Rattle.mac_hmac.specs.Chain.{chain, extended}
 use Rattle.mac_hmac.proofs.ChainLemmas.{extended-append}
 use Rattle.mac_decide.specs.declared.context.Context.{Context}
 use Rattle.mac_token.specs.RawToken.{TokenParts, byte_lists}
-use Rattle.mac_decide.specs.Verdict.{Satisfied, Accepts, IsFirstUnsatisfied, IsVerdict, Concludes}
+use Rattle.mac_decide.specs.Verdict.{Satisfied, IsFirstUnsatisfied, IsVerdict, Concludes}
 use Rattle.mac_decide.specs.declared.verdict.Verdict.{Verdict}
 use Rattle.mac_decide.specs.declared.verdict.Verdict.TheVariants.{Granted, BadSignature, Unsatisfied}
 

@@ -56,7 +56,8 @@ pub(crate) fn unsatisfied_caveat(token: &TokenView<'_>, context: &Context<'_>) -
     let mut unsatisfied = None;
     let mut index = 0;
     let _count = token.caveats();
-    for caveat in token.walk() {
+    let walk = token.walk();
+    for caveat in walk {
         unsatisfied = first_unsatisfied(unsatisfied, index, caveat, context);
         index += 1;
     }

@@ -1,5 +1,4 @@
-use Rattle.std.proofs.Common.{◌≡◌, ◌+◌, ◌-◌, ℕ, arith, ap, ◌∙◌}
-use Rattle.mac_decide.specs.Prepared.{HasLeft}
+use Rattle.std.proofs.Common.{◌≡◌, ◌+◌, ◌-◌, arith, ◌∙◌}
 use Rattle.mac_decide.proofs.side_by_side.walk.Goals as goal
 
 pub loop-preserved : goal.loop-preserved

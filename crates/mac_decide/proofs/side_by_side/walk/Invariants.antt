@@ -1,4 +1,4 @@
-use Rattle.std.proofs.Common.{◌≡◌, ◌-◌, ◌≤◌, length, map}
+use Rattle.std.proofs.Common.{◌≡◌, ◌-◌, length, map}
 use Rattle.mac_decide.specs.Prepared.{HasLeft, comes_to}
 use Rattle.mac_decide.proofs.side_by_side.walk.Given as goal
 

@@ -1,4 +1,4 @@
-use Rattle.std.proofs.Common.{◌≡◌, List, ℕ, sym, ap, ◌∙◌}
+use Rattle.std.proofs.Common.{List, ℕ, sym, ap, ◌∙◌}
 use Rattle.mac_hmac.specs.Chain.{extended}
 use Rattle.mac_decide.proofs.WalkLemmas.{decided}
 use Rattle.mac_decide.proofs.verdict.verify_view.Goals as goal
