@@ -1,5 +1,5 @@
 -- What a pass has claimed grows by one entry after another.
-use Rattle.std.proofs.Common.{◌≡◌, ℕ, ◌+◌, [], ◌∷◌, ◌++◌, length-append, sym, ◌∙◌, ap, refl, arith, append_assoc, append-nil}
+use Rattle.std.proofs.Common.{◌≡◌, ℕ, ◌+◌, ◌<◌, ◌^◌, [], length, ◌∷◌, ◌++◌, length-append, sym, ◌∙◌, ap, refl, arith, append_assoc, append-nil}
 use Rattle.mac_pool.specs.Pass.{Pass, with_claimed, HasClaimed}
 
 module _ {Job : Type 0} where
@@ -23,3 +23,16 @@ module _ {Job : Type 0} where
     claimed = ap (λ (p : Pass Job). p.claimed) is;
     number = refl;
   }
+
+  -- a pass that has just claimed has claimed few
+  pub few_claimed : (before after : Pass Job) (entry : ℕ × Job) → after ≡ with_claimed before entry → (length before.claimed < length after.claimed → length after.claimed < 2 ^ 62) → length after.claimed < 2 ^ 62
+  few_claimed before after entry is few = few (omega (arith, ap (λ (p : Pass Job). length p.claimed) is, length-append before.claimed (entry ∷ [])))
+
+  -- a claim of the pass as it was before one that got nothing
+  pub claimed_later : (first second third : Pass Job) (entry : ℕ × Job) → second ≡ first → third ≡ with_claimed second entry → third ≡ with_claimed first entry
+  claimed_later first second third entry same is = is ∙ ap (λ (p : Pass Job). with_claimed p entry) same
+
+  -- a pass with few claims has counted few
+  pub few_counted : (first second third : Pass Job) (n : ℕ) (entry : ℕ × Job) → HasClaimed first n second → third ≡ with_claimed second entry → length third.claimed < 2 ^ 62 → n + 1 < 2 ^ 62
+  few_counted first second third n entry a is few =
+      omega (arith, few, ap (λ (p : Pass Job). length p.claimed) is, length-append second.claimed (entry ∷ []), ap length a.claimed, length-append first.claimed a.more, a.number)

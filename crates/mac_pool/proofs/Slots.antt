@@ -52,6 +52,10 @@ module _ {A : Type 0} where
   get_within (x ∷ xs) zero below = (x, refl)
   get_within (x ∷ xs) (suc n) below = get_within xs n (omega arith)
 
+  -- what a read by index gave stands there
+  pub get_read : (xs : List A) (n : ℕ) (x : A) → x ≡ get_or xs n x → n < length xs → slice_get xs n ≡ Some x
+  get_read xs n x is below = slice_get-get_or xs n x below ∙ ap Some (sym is)
+
   pub get_below : (xs : List A) (n : ℕ) (x : A) → slice_get xs n ≡ Some x → n < length xs
   get_below [] n x at = absurd (cc)
   get_below (y ∷ xs) zero x at = omega arith
@@ -130,6 +134,14 @@ module _ {Job : Type 0} where
   pub brought_is : (line : TableId) (given back : Pass Job) (n : ℕ) → IsWorkers line given → HasClaimed given n back → IsWorkers line back
   brought_is line given back n was has = (has.same.0 ∙ was.0, has.put ∙ was.1)
 
+  -- the first of passes that have put nothing
+  pub worker_first : (line : TableId) (pass : Pass Job) (rest : List (Pass Job)) → AreWorkers line (pass ∷ rest) → IsWorkers line pass
+  worker_first line pass rest all = all 0 pass refl
+
+  -- a pass more is brought
+  pub brought_more : (before brought all more : List (Pass Job)) (pass : Pass Job) → more ≡ all ++ pass ∷ [] → all ≡ before ++ brought → more ≡ before ++ (brought ++ pass ∷ [])
+  brought_more before brought all more pass is was = is ∙ ap (λ (l : List (Pass Job)). l ++ pass ∷ []) was ∙ append_assoc before brought (pass ∷ [])
+
   pub workers_push : (line : TableId) (passes : List (Pass Job)) (pass : Pass Job) → AreWorkers line passes → IsWorkers line pass → AreWorkers line (passes ++ pass ∷ [])
   workers_push line passes pass all one n other at =
       ⊎_elim (λ (there : slice_get passes n ≡ Some other). all n other there)
@@ -172,6 +184,14 @@ module _ {Job : Type 0} where
   -- one worker more
   pub workers_more : (line : TableId) (given all : List (Pass Job)) (pass : Pass Job) → all ≡ given ++ pass ∷ [] → AreWorkers line given → IsWorkers line pass → AreWorkers line all
   workers_more line given all pass is were one = subst (λ (l : List (Pass Job)). AreWorkers line l) (sym is) (workers_push line given pass were one)
+
+  -- one slot more was looked at, and is empty
+  pub out_next : (slots : List (Option (Pass Job))) (from n : ℕ) → slice_get slots n ≡ Some None → AreOut from n slots → AreOut from (n + 1) slots
+  out_next slots from n none out k least top = elim (position k n) [
+    | under less ↦ out k least less
+    | exactly same ↦ subst (λ (j : ℕ). slice_get slots j ≡ Some None) (sym same) none
+    | above more ↦ absurd (omega arith)
+  ]
 
   -- one worker more is out, and the others are still at home
   pub out_more : (slots : List (Option (Pass Job))) (n : ℕ) → n < length slots → AreOut 0 n slots → AreOut 0 (n + 1) (set slots n None)

@@ -1,15 +1,14 @@
-use Rattle.std.proofs.Common.{[], ◌∷◌, ◌++◌, List, length, arith, rules, ap, refl, sym, ◌∙◌, append-nil, append_assoc, length-append, suc}
-use Rattle.mac_pool.specs.Pass.{Pass}
-use Rattle.mac_pool.proofs.Slots.{brought_is, workers_push}
+use Rattle.std.proofs.Common.{[], ◌∷◌, ◌++◌, length, arith, ap, refl, sym, ◌∙◌, append-nil, length-append, suc}
+use Rattle.mac_pool.proofs.Slots.{brought_is, brought_more, worker_first, workers_push}
 use Rattle.mac_pool.proofs.pool.bring_back.Goals as goal
 
 pub loop-thread-init : goal.loop-thread-init
 loop-thread-init g c =
     let gives = c.into_iter-thread-iterator.ensures.into_iter_gives.0 in
     record {
-      runs = search rules;
-      ends = search rules;
-      capacity = search rules;
+      runs = tt;
+      ends = tt;
+      capacity = refl;
       brought = [];
       all = sym (append-nil _);
       count = omega (arith, ap length gives);
@@ -24,13 +23,13 @@ loop-thread-preserved g c =
     let left = rw split at invariant.left in
     let back = c.join.result.pass in
     record {
-      runs = search rules;
-      ends = search rules;
-      capacity = search rules;
+      runs = tt;
+      ends = tt;
+      capacity = c.push_reserved.ensures.capacity ∙ invariant.capacity;
       brought = invariant.brought ++ back ∷ [];
-      all = c.push_reserved.ensures.items ∙ ap (λ (l : List (Pass g.row.S-Job.Denot)). l ++ back ∷ []) invariant.all ∙ append_assoc c.args.all.now.items invariant.brought (back ∷ []);
+      all = brought_more c.args.all.now.items invariant.brought c.loop-thread.all.items c.push_reserved.new.self.items back c.push_reserved.ensures.items invariant.all;
       count = omega (arith, invariant.count, ap length split, length-append invariant.brought (back ∷ []));
-      idle = workers_push _ invariant.brought back invariant.idle (brought_is _ _ back _ (left 0 _ refl) c.join.ensures);
+      idle = workers_push _ invariant.brought back invariant.idle (brought_is _ _ back _ (worker_first _ _ _ left) c.join.ensures);
       left = λ number pass at. left (suc number) pass at;
     }
 

@@ -1,4 +1,4 @@
-use Rattle.std.proofs.Common.{◌≡◌, [], ◌++◌, List, Option, arith, rules, ap, sym, ◌∙◌, append-nil, length-append}
+use Rattle.std.proofs.Common.{◌≡◌, [], ◌++◌, List, Option, arith, ap, refl, sym, ◌∙◌, append-nil, length-append}
 use Rattle.std.specs.Vec.Iter.{into_iter_items}
 use Rattle.mac_pool.specs.Pass.{Pass}
 use Rattle.mac_pool.specs.Pool.{at_home}
@@ -16,17 +16,17 @@ push_reserved-requires g c =
 
 pub loop-slot-init : goal.loop-slot-init
 loop-slot-init g c = record {
-  runs = search rules;
-  ends = search rules;
-  capacity = search rules;
+  runs = tt;
+  ends = tt;
+  capacity = refl;
   done = ap (λ (l : List (Option (Pass g.row.S-Job.Denot))). c.args.all.now.items ++ at_home l) c.into_iter-slot-iterator.ensures.into_iter_gives.0;
 }
 
 pub loop-slot-preserved : goal.loop-slot-preserved
 loop-slot-preserved g c = record {
-  runs = search rules;
-  ends = search rules;
-  capacity = search rules;
+  runs = tt;
+  ends = tt;
+  capacity = c.loop-slot.invariant.capacity;
   done = home_none _ _ _ _ _ c.in-Some.ensures.steps.0 c.in_default.is c.loop-slot.invariant.done;
 }
 

@@ -1,4 +1,4 @@
-use Rattle.std.proofs.Common.{◌≡◌, [], ◌∷◌, ◌++◌, List, Some, map, arith, rules, ap, sym, ◌∙◌, append-nil, append_assoc}
+use Rattle.std.proofs.Common.{◌≡◌, [], ◌∷◌, ◌++◌, List, Some, map, arith, ap, sym, ◌∙◌, append-nil, append_assoc}
 use Rattle.std.specs.Vec.Iter.{into_iter_items}
 use Rattle.mac_pool.specs.Pass.{Pass}
 use Rattle.mac_pool.proofs.Balance.{empty_list}
@@ -8,8 +8,8 @@ pub loop-pass-init : goal.loop-pass-init
 loop-pass-init g c =
     let fresh = c.in_ok-slots.ensures.items in
     record {
-      runs = search rules;
-      ends = search rules;
+      runs = tt;
+      ends = tt;
       done = rw fresh (ap (λ (l : List (Pass g.row.S-Job.Denot)). map Some l) c.into_iter-pass-iterator.ensures.into_iter_gives.0);
     }
 
@@ -19,8 +19,8 @@ loop-pass-preserved g c =
     let rest = into_iter_items c.next.new.self in
     let split : into_iter_items c.loop-pass.pass-iterator ≡ pass ∷ rest = c.in-Some.ensures.steps.0 in
     record {
-      runs = search rules;
-      ends = search rules;
+      runs = tt;
+      ends = tt;
       done = rw c.in_ok-push.ensures.items
           (append_assoc c.loop-pass.slots.items (Some pass ∷ []) (map Some rest)
           ∙ sym (ap (λ (l : List (Pass g.row.S-Job.Denot)). c.loop-pass.slots.items ++ map Some l) split) ∙ c.loop-pass.invariant.done);

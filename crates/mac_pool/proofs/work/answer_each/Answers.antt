@@ -1,4 +1,4 @@
-use Rattle.std.proofs.Common.{◌∷◌, ◌++◌, [], arith, rules, ap, refl, length}
+use Rattle.std.proofs.Common.{◌∷◌, ◌++◌, [], arith, rules, ap, refl, ◌∙◌, length}
 use Rattle.mac_pool.proofs.Parcels.{answer_push, ticket_done}
 use Rattle.mac_pool.proofs.work.answer_each.Goals as goal
 
@@ -25,6 +25,6 @@ loop-ticket-preserved g c =
       left = ticket_done invariant.done _ _ _ ticket popped invariant.left;
       answers = rw c.push_back_reserved.ensures.items (answer_push invariant.done c.loop-ticket.parcels.items ticket c.answer.result invariant.answers c.answer.ensures);
       count = search rules;
-      tickets = search rules;
-      parcels = search rules;
+      tickets = c.in-Some.ensures.capacity ∙ invariant.tickets;
+      parcels = c.push_back_reserved.ensures.capacity ∙ invariant.parcels;
     }

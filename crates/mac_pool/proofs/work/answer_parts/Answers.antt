@@ -1,12 +1,12 @@
-use Rattle.std.proofs.Common.{[], ◌∷◌, ◌++◌, rules, arith, subst, ⊎_elim, inl, inr, refl}
+use Rattle.std.proofs.Common.{[], ◌∷◌, ◌++◌, rules, arith, ◌∙◌, subst, ⊎_elim, inl, inr, refl}
 use Rattle.mac_pool.specs.Parcel.{AnswerEach}
 use Rattle.mac_pool.proofs.Parcels.{answer_push, ticket_of, joined_less, joined_room, joined_end}
 use Rattle.mac_pool.proofs.work.answer_parts.Goals as goal
 
 pub loop-place-init : goal.loop-place-init
 loop-place-init g c = record {
-  runs = search rules;
-  ends = search rules;
+  runs = (tt, tt);
+  ends = tt;
   done = [];
   left = search rules;
   answers = rw c.requires.empty tt;
@@ -27,12 +27,12 @@ loop-place-preserved g c =
     let steps = c.in-Some.ensures.steps in
     let ticket = ticket_of c.in-Some.field-0-0 c.in-Some.job in
     record {
-      runs = search rules;
-      ends = search rules;
+      runs = (tt, tt);
+      ends = tt;
       done = invariant.done ++ ticket ∷ [];
       left = joined_less invariant.done _ _ _ _ _ c.in-Some.field-0-0 c.in-Some.job steps.0.0 steps.1.0 invariant.left;
       answers = rw c.push_back_reserved.ensures.items (answer_push invariant.done c.loop-place.parcels.items ticket _ invariant.answers c.answer.ensures);
-      capacity = search rules;
+      capacity = c.push_back_reserved.ensures.capacity ∙ invariant.capacity;
     }
 
 pub returns-clause-answers : goal.returns-clause-answers
