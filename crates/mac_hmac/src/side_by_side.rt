@@ -6,7 +6,7 @@ ghost use Rattle.mac_hmac.specs.Hmac.{block_key, hmac, xor_pad};
 use crate::hmac_state::{INNER_PAD, OUTER_PAD, padded};
 use crate::key::RootKey;
 use crate::signature::Sig;
-use sha256x8::digest_each;
+use sha256x8::nested_digest_each;
 
 // The block of a key: zero bytes appended, and each byte XORed with the pad's.
 #[inline(always)]
@@ -40,12 +40,10 @@ pub fn hmac_each(keys: &[[u8; 32]; 8], texts: &[&[u8]; 8]) -> [[u8; 32]; 8]
         ≡ hmac (slice_index_or keys.now j [])
         (slice_index_or (map (λ text. text.now) texts.now) j []) }
 {
-    let inner = digest_each(&padded_each(keys, INNER_PAD), texts);
-    digest_each(
+    nested_digest_each(
         &padded_each(keys, OUTER_PAD),
-        &[
-            &inner[0], &inner[1], &inner[2], &inner[3], &inner[4], &inner[5], &inner[6], &inner[7],
-        ],
+        &padded_each(keys, INNER_PAD),
+        texts,
     )
 }
 

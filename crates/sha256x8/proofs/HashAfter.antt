@@ -1,10 +1,13 @@
 -- The hash value of a message after its first block and some of those that follow.
-use Rattle.std.proofs.Common.{◌≡◌, ℕ, ◌+◌, ◌*◌, ◌/◌, ◌≤◌, min, inl, inr, List, ◌++◌, length, take, drop, refl, sym, ap, ◌∙◌, arith, length-append}
+use Rattle.std.proofs.Common.{◌≡◌, ℕ, ◌+◌, ◌*◌, ◌/◌, ◌-◌, ◌%◌, ◌^◌, ◌≤◌, ◌<◌, zero, suc, min, mod-lt, pow_pos, inl, inr, List, ◌∷◌, ◌++◌, length, take, drop, replicate, slice_index, refl, sym, ap, ◌∙◌, arith, length-append}
 use Rattle.std.proofs.Math.Seq.{drop-append-add}
 use Rattle.std.proofs.lemmas.Bool.{cases_lt, lt-ltb, le-ltb}
-use Rattle.std.proofs.lemmas.List.{append_assoc, take_at}
-use Rattle.sha2.specs.Sha256.{compress, digest_bytes, hash_after, initial_hash_256, padded_message, padding, sha256}
+use Rattle.std.proofs.lemmas.List.{append_assoc, length-replicate, take_all, take_at}
+use Rattle.std.specs.Int.{w64, to_be_bytes}
+use Rattle.sha2.specs.Sha256.{compress, final_hash, hash_after, initial_hash_256, padded_message, padding, rounds, schedule}
 use Rattle.sha2.proofs.Absorbing256.{hash_after_next}
+use Rattle.sha256x8.specs.Lanes.{AreWords}
+use Rattle.sha256x8.proofs.LaneWise.{below_eight}
 use Rattle.sha256x8.specs.Padded.{after_block, padded_text}
 use Rattle.sha256x8.proofs.PaddedBlocks.{length-padded_text}
 
@@ -47,9 +50,39 @@ hashed_more block text n whole =
     ]
 
 pub hashed_all : (block text : List ℕ) (n : ℕ) → length block ≡ 64 → length (padded_text text) ≤ 64 * n
-    → digest_bytes (hashed block text n) 8 ≡ sha256 (block ++ text)
-unfolding sha256
+    → hashed block text n ≡ final_hash initial_hash_256 (block ++ text)
 hashed_all block text n whole enough =
     let p = padded_text text in
     let count : min n (length p / 64) + 1 ≡ length (block ++ p) / 64 = omega (arith, length-append block p, length-padded_text text) in
     rw (padded_message_is block text whole, count) refl
+
+-- a text whose padding ends the block that it begins
+pub hashed_one_more : (block text h : List ℕ) → length block ≡ 64 → length (padded_text text) ≡ 64
+    → h ≡ hashed block text 0 → compress h (padded_text text) ≡ final_hash initial_hash_256 (block ++ text)
+unfolding after_block
+hashed_one_more block text h whole one before =
+    let p = padded_text text in
+    let alone : take 64 (drop 0 p) ≡ p = take_all 64 p (omega arith) in
+    let taken : compress h p ≡ after_block h text 0 = rw (one, alone) refl in
+    taken ∙ ap (λ (g : List ℕ). after_block g text 0) before ∙ hashed_more block text 0 whole ∙ hashed_all block text 1 whole (omega arith)
+
+-- the sums that end a block are words
+AreWords_compress : (h b : List ℕ) → AreWords (compress h b)
+unfolding compress
+AreWords_compress h b =
+    let sum = λ (k : ℕ). mod-lt (slice_index h k + slice_index (rounds h (schedule b 48) 64) k) (pow_pos 32) in
+    below_eight (λ (k : ℕ). slice_index (compress h b) k < 2 ^ 32) (sum 0) (sum 1) (sum 2) (sum 3) (sum 4) (sum 5) (sum 6) (sum 7)
+
+AreWords_hash_after : (h p : List ℕ) (n : ℕ) → 0 < n → AreWords (hash_after h p n)
+unfolding hash_after
+AreWords_hash_after h p zero some = absurd (omega arith)
+AreWords_hash_after h p (suc n) some = AreWords_compress (hash_after h p n) (take 64 (drop (n * 64) p))
+
+-- a hash value is words
+pub AreWords_final : (m : List ℕ) → AreWords (final_hash initial_hash_256 m)
+AreWords_final m =
+    let z = (119 - length m % 64) % 64 in
+    let field = to_be_bytes w64 (length m * 8 % 2 ^ 64) in
+    let tail : length (replicate z 0 ++ field) ≡ z + 8 = length-append (replicate z 0) field ∙ ap (λ (n : ℕ). n + 8) (length-replicate z 0) in
+    let whole = length-append m (0x80 ∷ (replicate z 0 ++ field)) in
+    AreWords_hash_after initial_hash_256 (padded_message m) (length (padded_message m) / 64) (omega (arith, tail, whole))

@@ -1,5 +1,5 @@
 -- Several messages side by side: each word is a vector, with one lane for each message.
-use Rattle.std.specs.Prelude.{ℕ, List, [], ◌∷◌, map, slice_index, slice_index_or}
+use Rattle.std.specs.Prelude.{ℕ, ◌<◌, ◌^◌, List, [], ◌∷◌, map, slice_index, slice_index_or}
 
 -- the words of message j
 abbrev pub lane : ℕ → List (List ℕ) → List ℕ
@@ -14,3 +14,7 @@ abbrev pub lane_state : ℕ → List (List ℕ) → List ℕ
 lane_state j x =
     lane_at x 0 j ∷ lane_at x 1 j ∷ lane_at x 2 j ∷ lane_at x 3 j
     ∷ lane_at x 4 j ∷ lane_at x 5 j ∷ lane_at x 6 j ∷ lane_at x 7 j ∷ []
+
+-- the first eight numbers are words
+abbrev pub AreWords : List ℕ → Type 0
+AreWords h = (k : ℕ) → k < 8 → slice_index h k < 2 ^ 32

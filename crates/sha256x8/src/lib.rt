@@ -4,8 +4,8 @@
 #![tactic(auto)]
 
 ghost use Rattle.std.specs.Prelude.{◌≡◌, ℕ, ◌+◌, ◌*◌, ◌<◌, ◌≤◌, ◌++◌, [], if◌then◌else◌, length, map, nat_lt, slice_index, slice_index_or};
-ghost use Rattle.sha2.specs.Sha256.{digest_bytes, initial_hash_256, sha256};
-ghost use Rattle.sha256x8.specs.Lanes.{lane_state};
+ghost use Rattle.sha2.specs.Sha256.{IsWindow, digest_bytes, final_hash, initial_hash_256, schedule, sha256};
+ghost use Rattle.sha256x8.specs.Lanes.{AreWords, lane, lane_state};
 ghost use Rattle.sha256x8.specs.Padded.{IsBlock, after_block, padded_text};
 
 mod block;
@@ -13,7 +13,7 @@ mod constants;
 mod padding;
 mod vector;
 
-use crate::block::compress;
+use crate::block::{compress, words_of};
 use crate::constants::INITIAL_HASH;
 use crate::padding::{block_count, padded_block};
 use crate::vector::chosen_word;
@@ -108,7 +108,7 @@ fn take_block(state: &mut [u32x8; 8], texts: &[&[u8]; 8], index: usize)
         (slice_index_or (map (λ text. text.now) texts.now) j []) index }
 {
     let mut next = *state;
-    compress(&mut next, &padded_blocks(texts, index));
+    compress(&mut next, &words_of(&padded_blocks(texts, index)));
     *state = chosen(have_block(texts, index), next, *state);
 }
 
@@ -170,26 +170,79 @@ fn are_whole(blocks: &[[u8; 64]; 8])
     }
 }
 
-/// The digests of eight messages, each a block and a text after it of any length (FIPS 180-4,
+// The hash values of eight messages, each a block and the text after it.
+#[inline(always)]
+fn hash_each(blocks: &[[u8; 64]; 8], texts: &[&[u8]; 8]) -> [u32x8; 8]
+    ensures { (j : ℕ) → j < 8 → lane_state j result ≡ final_hash initial_hash_256
+        (slice_index_or blocks.now j [] ++ slice_index_or (map (λ text. text.now) texts.now) j []) }
+{
+    are_whole(blocks);
+    let mut state = initial_state();
+    compress(&mut state, &words_of(blocks));
+    'blocks: for index in 0..greatest_count(texts) {
+        take_block(&mut state, texts, index);
+    }
+    state
+}
+
+// The digests of hash values.
+fn digests_of(state: &[u32x8; 8]) -> [[u8; 32]; 8]
+    ensures { (j : ℕ) → j < 8
+        → slice_index_or result j [] ≡ digest_bytes (lane_state j state.now) 8 }
+{
+    [
+        digest_of_lane(state, 0),
+        digest_of_lane(state, 1),
+        digest_of_lane(state, 2),
+        digest_of_lane(state, 3),
+        digest_of_lane(state, 4),
+        digest_of_lane(state, 5),
+        digest_of_lane(state, 6),
+        digest_of_lane(state, 7),
+    ]
+}
+
+// The words of the block that follows the first one of a message, where these hash values' digests
+// do.
+#[inline(always)]
+fn digest_words(state: &[u32x8; 8]) -> [u32x8; 16]
+    ensures { (j : ℕ) → j < 8 → AreWords (lane_state j state.now)
+        → IsWindow (lane j result)
+        (schedule (padded_text (digest_bytes (lane_state j state.now) 8)) 48) 16 }
+{
+    let zeros = u32x8::splat(0);
+    let end = u32x8::splat(0x8000_0000);
+    let bit_count = u32x8::splat(8 * (64 + 32));
+    let [a, b, c, d, e, f, g, h] = *state;
+    [
+        a, b, c, d, e, f, g, h, end, zeros, zeros, zeros, zeros, zeros, zeros, bit_count,
+    ]
+}
+
+/// The digests of eight messages, each a block and the text after it, of any length (FIPS 180-4,
 /// section 6.2). It costs the blocks of the longest message.
 pub fn digest_each(blocks: &[[u8; 64]; 8], texts: &[&[u8]; 8]) -> [[u8; 32]; 8]
     ensures { (j : ℕ) → j < 8 → slice_index_or result j [] ≡ sha256 (slice_index_or blocks.now j []
         ++ slice_index_or (map (λ text. text.now) texts.now) j []) }
 {
-    are_whole(blocks);
+    digests_of(&hash_each(blocks, texts))
+}
+
+/// The digests of eight messages, each a block and the digest of an inner block and a text after
+/// it, of any length. It costs two blocks more than `digest_each` of the inner ones.
+pub fn nested_digest_each(
+    outer_blocks: &[[u8; 64]; 8],
+    inner_blocks: &[[u8; 64]; 8],
+    texts: &[&[u8]; 8],
+) -> [[u8; 32]; 8]
+    ensures { (j : ℕ) → j < 8 → slice_index_or result j []
+        ≡ sha256 (slice_index_or outer_blocks.now j [] ++ sha256 (slice_index_or inner_blocks.now j []
+        ++ slice_index_or (map (λ text. text.now) texts.now) j [])) }
+{
+    are_whole(outer_blocks);
+    let inner = hash_each(inner_blocks, texts);
     let mut state = initial_state();
-    compress(&mut state, blocks);
-    'blocks: for index in 0..greatest_count(texts) {
-        take_block(&mut state, texts, index);
-    }
-    [
-        digest_of_lane(&state, 0),
-        digest_of_lane(&state, 1),
-        digest_of_lane(&state, 2),
-        digest_of_lane(&state, 3),
-        digest_of_lane(&state, 4),
-        digest_of_lane(&state, 5),
-        digest_of_lane(&state, 6),
-        digest_of_lane(&state, 7),
-    ]
+    compress(&mut state, &words_of(outer_blocks));
+    compress(&mut state, &digest_words(&inner));
+    digests_of(&state)
 }

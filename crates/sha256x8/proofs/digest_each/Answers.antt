@@ -1,30 +1,7 @@
-use Rattle.std.proofs.Common.{◌≡◌, ℕ, Bor, List, [], ◌∷◌, map, slice_index_or, sym, ap, ◌∙◌, arith}
-use Rattle.sha2.specs.Sha256.{compress, digest_bytes}
-use Rattle.sha256x8.specs.Lanes.{lane_state}
-use Rattle.sha256x8.specs.Padded.{after_block}
-use Rattle.sha256x8.proofs.HashAfter.{hashed_first, hashed_more, hashed_all}
-use Rattle.sha256x8.proofs.LaneWise.{below_eight}
+use Rattle.std.proofs.Common.{ℕ, List, ap, ◌∙◌}
+use Rattle.sha2.specs.Sha256.{digest_bytes, sha256}
 use Rattle.sha256x8.proofs.digest_each.Goals as goal
 
-pub blocks-2-init : goal.blocks-2-init
-blocks-2-init c = λ j lt.
-    let block = slice_index_or c.args.blocks.now j [] in
-    c.compress.ensures j lt ∙ ap (λ (h : List ℕ). compress h block) (c.initial_state-state.ensures j lt) ∙ sym (hashed_first block _ (c.are_whole.ensures j lt))
-
-pub blocks-2-preserved : goal.blocks-2-preserved
-blocks-2-preserved c = λ j lt.
-    let block = slice_index_or c.args.blocks.now j [] in
-    let text = slice_index_or (map (λ (text : Bor (List ℕ)). text.now) c.args.texts.now) j [] in
-    c.take_block.ensures j lt
-    ∙ ap (λ (h : List ℕ). after_block h text c.blocks-2.index) (c.blocks-2.invariant j lt)
-    ∙ hashed_more block text c.blocks-2.index (c.are_whole.ensures j lt)
-
 pub returns : goal.returns
-returns c = λ j lt.
-    let state = c.blocks-2.state in
-    let digests = c.digest_of_lane.result ∷ c.digest_of_lane-2.result ∷ c.digest_of_lane-3.result ∷ c.digest_of_lane-4.result ∷ c.digest_of_lane-5.result ∷ c.digest_of_lane-6.result ∷ c.digest_of_lane-7.result ∷ c.digest_of_lane-8.result ∷ [] in
-    let block = slice_index_or c.args.blocks.now j [] in
-    let text = slice_index_or (map (λ (text : Bor (List ℕ)). text.now) c.args.texts.now) j [] in
-    below_eight (λ (k : ℕ). slice_index_or digests k [] ≡ digest_bytes (lane_state k state) 8) c.digest_of_lane.ensures c.digest_of_lane-2.ensures c.digest_of_lane-3.ensures c.digest_of_lane-4.ensures c.digest_of_lane-5.ensures c.digest_of_lane-6.ensures c.digest_of_lane-7.ensures c.digest_of_lane-8.ensures j lt
-    ∙ ap (λ (h : List ℕ). digest_bytes h 8) (c.blocks-2.invariant j lt)
-    ∙ hashed_all block text c.blocks-2.index (c.are_whole.ensures j lt) (omega (arith, c.greatest_count-index-end.ensures j lt))
+unfolding sha256
+returns c = λ j lt. c.digests_of.ensures j lt ∙ ap (λ (h : List ℕ). digest_bytes h 8) (c.hash_each.ensures j lt)

@@ -1,7 +1,7 @@
 use Rattle.std.proofs.Common.{◌≡◌, ℕ, ◌<◌, Bor, List, [], map, slice_index_or}
 use Rattle.sha256x8.specs.Lanes.{lane_state}
 use Rattle.sha256x8.proofs.HashAfter.{hashed}
-use Rattle.sha256x8.proofs.digest_each.Given as goal
+use Rattle.sha256x8.proofs.hash_each.Given as goal
 
 abbrev pub invariant-blocks-2 : goal.invariant-blocks-2
 invariant-blocks-2 l = (j : ℕ) → j < 8 → lane_state j l.state
