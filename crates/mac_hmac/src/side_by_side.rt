@@ -1,5 +1,6 @@
 //! Eight HMACs side by side.
-ghost use Rattle.std.specs.Prelude.{◌≡◌, ◌<◌, ◌∷◌, ℕ, [], map, slice_index_or};
+ghost use Rattle.std.specs.Prelude.{◌≡◌, ◌<◌, ◌∷◌, ℕ, [], slice_index_or};
+ghost use Rattle.sha256x8.specs.Lanes.{text_at};
 ghost use Rattle.mac_hmac.specs.Chain.{chain, extended};
 ghost use Rattle.mac_hmac.specs.Hmac.{block_key, hmac, xor_pad};
 
@@ -37,8 +38,7 @@ fn padded_each(keys: &[[u8; 32]; 8], pad: u8) -> [[u8; 64]; 8]
 /// The HMAC of each text under the key of its place (RFC 2104, section 2), for eight of both.
 pub fn hmac_each(keys: &[[u8; 32]; 8], texts: &[&[u8]; 8]) -> [[u8; 32]; 8]
     ensures { (j : ℕ) → j < 8 → slice_index_or result j []
-        ≡ hmac (slice_index_or keys.now j [])
-        (slice_index_or (map (λ text. text.now) texts.now) j []) }
+        ≡ hmac (slice_index_or keys.now j []) (text_at texts.now j) }
 {
     nested_digest_each(
         &padded_each(keys, OUTER_PAD),
@@ -67,8 +67,7 @@ fn signatures_of(digests: [[u8; 32]; 8]) -> [Sig; 8]
 /// The signatures of eight macaroons with these identifiers and no caveat.
 pub fn start_each(keys: &[RootKey; 8], identifiers: &[&[u8]; 8]) -> [Sig; 8]
     ensures { (j : ℕ) → j < 8 → slice_index_or result j []
-        ≡ chain (slice_index_or keys.now j [])
-        (slice_index_or (map (λ text. text.now) identifiers.now) j []) [] }
+        ≡ chain (slice_index_or keys.now j []) (text_at identifiers.now j) [] }
 {
     let keys = [
         keys[0].bytes(),
@@ -86,8 +85,7 @@ pub fn start_each(keys: &[RootKey; 8], identifiers: &[&[u8]; 8]) -> [Sig; 8]
 /// The signatures of eight macaroons after one more first-party caveat on each.
 pub fn extend_each(signatures: &[Sig; 8], caveats: &[&[u8]; 8]) -> [Sig; 8]
     ensures { (j : ℕ) → j < 8 → slice_index_or result j []
-        ≡ extended (slice_index_or signatures.now j [])
-        (slice_index_or (map (λ text. text.now) caveats.now) j [] ∷ []) }
+        ≡ extended (slice_index_or signatures.now j []) (text_at caveats.now j ∷ []) }
 {
     let keys = [
         signatures[0].bytes(),

@@ -20,39 +20,51 @@ unfolding padded_text
 padded_text_is text = refl
 
 length-tail : (z : ℕ) (field : List ℕ) → length (replicate z 0 ++ field) ≡ z + length field
-length-tail z field = length-append (replicate z 0) field ∙ ap (λ (n : ℕ). n + length field) (length-replicate {A = ℕ} z 0)
+length-tail z field =
+    length-append (replicate z 0) field
+    ∙ ap (λ (n : ℕ). n + length field) (length-replicate {A = ℕ} z 0)
 
-pub length-padded_text : (text : List ℕ) → length (padded_text text) ≡ 64 * ((length text + 8) / 64 + 1)
+pub length-padded_text : (text : List ℕ) → length (padded_text text)
+    ≡ 64 * ((length text + 8) / 64 + 1)
 length-padded_text text =
     let n = length text in
     let z = zeros_after n in
     let whole = ap length (padded_text_is text) in
     let joined = length-append text (0x80 ∷ (replicate z 0 ++ bit_count_after n)) in
-    let tail : length (replicate z 0 ++ bit_count_after n) ≡ z + 8 = length-tail z (bit_count_after n) in
+    let tail : length (replicate z 0 ++ bit_count_after n) ≡ z + 8 =
+    length-tail z (bit_count_after n) in
     omega (arith, whole, joined, tail)
 
 length-marked : (r : List ℕ) (z : ℕ) → length (r ++ 0x80 ∷ replicate z 0) ≡ length r + 1 + z
-length-marked r z = omega (arith, length-append r (0x80 ∷ replicate z 0), length-replicate {A = ℕ} z 0)
+length-marked r z = omega
+    (arith, length-append r (0x80 ∷ replicate z 0), length-replicate {A = ℕ} z 0)
 
 -- zeros in two runs, between a bit 1 and what follows
 zeros_split : (r x : List ℕ) (a b : ℕ) → r ++ 0x80 ∷ (replicate (a + b) 0 ++ x)
     ≡ (r ++ 0x80 ∷ replicate a 0) ++ (replicate b 0 ++ x)
 zeros_split r x a b =
     let split : replicate (a + b) 0 ++ x ≡ replicate a 0 ++ (replicate b 0 ++ x) =
-    ap (λ (l : List ℕ). l ++ x) (sym (replicate-append-replicate a b 0)) ∙ append_assoc (replicate a 0) (replicate b 0) x in
-    ap (λ (l : List ℕ). r ++ 0x80 ∷ l) split ∙ sym (append_assoc r (0x80 ∷ replicate a 0) (replicate b 0 ++ x))
+    ap (λ (l : List ℕ). l ++ x) (sym (replicate-append-replicate a b 0))
+    ∙ append_assoc (replicate a 0) (replicate b 0) x in
+    ap (λ (l : List ℕ). r ++ 0x80 ∷ l) split
+    ∙ sym (append_assoc r (0x80 ∷ replicate a 0) (replicate b 0 ++ x))
 
 -- the last block, which the rest of the text begins
 pub last_block : (r field : List ℕ) (z : ℕ) → length r + z ≡ 55 → length field ≡ 8
-    → take 56 (r ++ 0x80 ∷ replicate (63 - length r) 0) ++ field ≡ take 64 (r ++ 0x80 ∷ (replicate z 0 ++ field))
+    → take 56 (r ++ 0x80 ∷ replicate (63 - length r) 0) ++ field
+    ≡ take 64 (r ++ 0x80 ∷ (replicate z 0 ++ field))
 last_block r field z fits eight =
     let front = r ++ 0x80 ∷ replicate z 0 in
     let more : 63 - length r ≡ z + 8 = omega arith in
     let two : r ++ 0x80 ∷ replicate (z + 8) 0 ≡ front ++ replicate 8 0 =
-    ap (λ (l : List ℕ). r ++ 0x80 ∷ l) (sym (replicate-append-replicate z 8 0)) ∙ sym (append_assoc r (0x80 ∷ replicate z 0) (replicate 8 0)) in
-    let head : take 56 (front ++ replicate 8 0) ≡ front = take_at front (replicate 8 0) 56 (omega (arith, length-marked r z)) in
-    let whole : r ++ 0x80 ∷ (replicate z 0 ++ field) ≡ front ++ field = sym (append_assoc r (0x80 ∷ replicate z 0) field) in
-    let long : length (front ++ field) ≡ 64 = omega (arith, length-append front field, length-marked r z) in
+    ap (λ (l : List ℕ). r ++ 0x80 ∷ l) (sym (replicate-append-replicate z 8 0))
+    ∙ sym (append_assoc r (0x80 ∷ replicate z 0) (replicate 8 0)) in
+    let head : take 56 (front ++ replicate 8 0) ≡ front =
+    take_at front (replicate 8 0) 56 (omega (arith, length-marked r z)) in
+    let whole : r ++ 0x80 ∷ (replicate z 0 ++ field) ≡ front ++ field =
+    sym (append_assoc r (0x80 ∷ replicate z 0) field) in
+    let long : length (front ++ field) ≡ 64 =
+    omega (arith, length-append front field, length-marked r z) in
     rw (more, two, head, whole) (sym (take_all 64 (front ++ field) (omega arith)))
 
 -- the block before it, where the length field has no room behind the rest of the text
@@ -62,17 +74,24 @@ ended_block r field z short fits =
     let a = 63 - length r in
     let sum : z ≡ a + 56 = omega arith in
     rw (sum, zeros_split r field a 56)
-    (sym (take_at (r ++ 0x80 ∷ replicate a 0) (replicate 56 0 ++ field) 64 (omega (arith, length-marked r a))))
+    (sym (take_at (r ++ 0x80 ∷ replicate a 0) (replicate 56 0 ++ field) 64
+    (omega (arith, length-marked r a))))
 
 -- the last block, where the text ends in one before it
-pub field_block : (text field : List ℕ) (z start : ℕ) → length text < start → start + 55 ≡ length text + z → length field ≡ 8
+pub field_block : (text field : List ℕ) (z start : ℕ) → length text < start → start + 55
+    ≡ length text + z → length field ≡ 8
     → replicate 56 0 ++ field ≡ take 64 (drop start (text ++ 0x80 ∷ (replicate z 0 ++ field)))
 field_block text field z start past fits eight =
     let a = start - (length text + 1) in
     let sum : z ≡ a + 56 = omega arith in
     let front = text ++ 0x80 ∷ replicate a 0 in
     let tail : length (replicate 56 0 ++ field) ≡ 64 = omega (arith, length-tail 56 field) in
-    rw (sum, zeros_split text field a 56, drop_at front (replicate 56 0 ++ field) start (omega (arith, length-marked text a)))
+    rw (
+      sum,
+      zeros_split text field a 56,
+      drop_at front (replicate 56 0 ++ field) start
+          (omega (arith, length-marked text a)),
+    )
     (sym (take_all 64 (replicate 56 0 ++ field) (omega arith)))
 
 -- a block of the text alone
@@ -84,10 +103,12 @@ text_block text x start fits =
 
 -- what is left of a padded text inside its text
 pub rest_is : (text : List ℕ) (start : ℕ) → start ≤ length text → drop start (padded_text text)
-    ≡ drop start text ++ 0x80 ∷ (replicate (zeros_after (length text)) 0 ++ bit_count_after (length text))
+    ≡ drop start text ++ 0x80 ∷
+    (replicate (zeros_after (length text)) 0 ++ bit_count_after (length text))
 rest_is text start within =
     ap (drop start) (padded_text_is text)
-    ∙ drop-append-le start text (0x80 ∷ (replicate (zeros_after (length text)) 0 ++ bit_count_after (length text))) within
+    ∙ drop-append-le start text
+    (0x80 ∷ (replicate (zeros_after (length text)) 0 ++ bit_count_after (length text))) within
 
 -- the words of a message that has a block more, and of one that has not, chosen by a number
 pub after_block_is : (h next block text : List ℕ) (index have : ℕ)

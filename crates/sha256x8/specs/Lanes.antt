@@ -1,5 +1,6 @@
 -- Several messages side by side: each word is a vector, with one lane for each message.
 use Rattle.std.specs.Prelude.{ℕ, ◌<◌, ◌^◌, List, [], ◌∷◌, map, slice_index, slice_index_or}
+use Rattle.std.specs.Borrow.{Bor}
 
 -- the words of message j
 abbrev pub lane : ℕ → List (List ℕ) → List ℕ
@@ -18,3 +19,7 @@ lane_state j x =
 -- the first eight numbers are words
 abbrev pub AreWords : List ℕ → Type 0
 AreWords h = (k : ℕ) → k < 8 → slice_index h k < 2 ^ 32
+
+-- the bytes of text j
+abbrev pub text_at : List (Bor (List ℕ)) → ℕ → List ℕ
+text_at texts j = slice_index_or (map (λ text. text.now) texts) j []

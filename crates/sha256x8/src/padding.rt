@@ -1,7 +1,10 @@
 //! The blocks of a padded message (FIPS 180-4, section 5.1.1) that follow its first block.
-ghost use Rattle.std.specs.Prelude.{◌≡◌, ◌+◌, ◌-◌, ◌*◌, ◌<◌, ◌≤◌, ◌∷◌, ◌++◌, drop, length, replicate, take};
+ghost use Rattle.std.specs.Prelude.{◌≡◌, ℕ, ◌-◌, ◌*◌, ◌<◌, ◌≤◌, ◌∷◌, ◌++◌, [], if◌then◌else◌, length, nat_lt, replicate, slice_index, slice_index_or, take};
+ghost use Rattle.sha256x8.specs.Lanes.{text_at};
 ghost use Rattle.std.specs.Int.{to_be_bytes, w64};
 ghost use Rattle.sha256x8.specs.Padded.{IsBlock, padded_text};
+
+use std::simd::u32x8;
 
 /// The length of a block in bytes.
 const BLOCK: usize = 64;
@@ -9,9 +12,9 @@ const BLOCK: usize = 64;
 /// Where the message's length in bits stands in its last block.
 const BIT_COUNT: usize = 56;
 
-/// How many blocks follow the first one of a message, where `text` does.
+// How many blocks follow the first one of a message, where `text` does.
 #[inline(always)]
-pub(crate) fn block_count(text: &[u8]) -> usize
+fn block_count(text: &[u8]) -> usize
     ensures { 64 * result ≡ length (padded_text text.now) }
 {
     (text.len() + 8) / BLOCK + 1
@@ -48,10 +51,10 @@ fn with_bit_count(mut block: [u8; 64], bit_count: u64) -> [u8; 64]
     block
 }
 
-/// Block `index` of those that follow the first one of a message, where `text` does; zeros where
-/// there are no so many.
+// Block `index` of those that follow the first one of a message, where `text` does; zeros where
+// there are not so many.
 #[inline(always)]
-pub(crate) fn padded_block(text: &[u8], index: usize) -> [u8; 64]
+fn padded_block(text: &[u8], index: usize) -> [u8; 64]
     ensures { IsBlock text.now index result }
 {
     if index >= block_count(text) {
@@ -71,4 +74,61 @@ pub(crate) fn padded_block(text: &[u8], index: usize) -> [u8; 64]
     } else {
         block
     }
+}
+
+/// Block `index` of what follows the first block of each message.
+#[inline(always)]
+pub(crate) fn padded_blocks(texts: &[&[u8]; 8], index: usize) -> [[u8; 64]; 8]
+    ensures { (j : ℕ) → j < 8
+        → IsBlock (text_at texts.now j) index (slice_index_or result j []) }
+{
+    [
+        padded_block(texts[0], index),
+        padded_block(texts[1], index),
+        padded_block(texts[2], index),
+        padded_block(texts[3], index),
+        padded_block(texts[4], index),
+        padded_block(texts[5], index),
+        padded_block(texts[6], index),
+        padded_block(texts[7], index),
+    ]
+}
+
+// 1 where `text` has a block `index` after the first one of its message, and else 0.
+#[inline(always)]
+fn has_block(text: &[u8], index: usize) -> u32
+    ensures { result ≡ (if nat_lt (64 * index) (length (padded_text text.now)) then 1 else 0) }
+{
+    u32::from(index < block_count(text))
+}
+
+/// For each text, 1 where it has a block `index` after the first one of its message, and else 0.
+#[inline(always)]
+pub(crate) fn have_block(texts: &[&[u8]; 8], index: usize) -> u32x8
+    ensures { (j : ℕ) → j < 8 → slice_index result j
+        ≡ (if nat_lt (64 * index) (length (padded_text (text_at texts.now j))) then 1 else 0) }
+{
+    u32x8::from_array([
+        has_block(texts[0], index),
+        has_block(texts[1], index),
+        has_block(texts[2], index),
+        has_block(texts[3], index),
+        has_block(texts[4], index),
+        has_block(texts[5], index),
+        has_block(texts[6], index),
+        has_block(texts[7], index),
+    ])
+}
+
+/// The greatest number of blocks after the first one of a message.
+#[inline(always)]
+pub(crate) fn greatest_count(texts: &[&[u8]; 8]) -> usize
+    ensures { (j : ℕ) → j < 8
+        → length (padded_text (text_at texts.now j)) ≤ 64 * result }
+{
+    let mut greatest = 0;
+    for text in texts {
+        greatest = greatest.max(block_count(text));
+    }
+    greatest
 }

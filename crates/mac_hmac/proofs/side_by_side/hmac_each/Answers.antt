@@ -8,4 +8,5 @@ unfolding hmac inner_block outer_block
 returns c = λ j lt.
     let text = slice_index_or (map (λ (text : Bor (List ℕ)). text.now) c.args.texts.now) j [] in
     c.nested_digest_each.ensures j lt
-    ∙ (λ i. sha256 (c.padded_each.ensures j lt i ++ sha256 (c.padded_each-2.ensures j lt i ++ text)))
+    ∙ (λ i. sha256 (c.padded_each.ensures j lt i
+    ++ sha256 (c.padded_each-2.ensures j lt i ++ text)))

@@ -5,7 +5,8 @@ use Rattle.sha256x8.proofs.block.round.Goals as goal
 pub returns : goal.returns
 returns c = λ j lt.
     let k = c.args.k in
-    let splat : slice_index (k ∷ k ∷ k ∷ k ∷ k ∷ k ∷ k ∷ k ∷ []) j ≡ k = get_or-replicate 8 j k 0 lt in
+    let splat : slice_index (k ∷ k ∷ k ∷ k ∷ k ∷ k ∷ k ∷ k ∷ []) j ≡ k =
+    get_or-replicate 8 j k 0 lt in
     rw (
       c.add-4.ensures.each j lt,
       c.add-5.ensures.each j lt,

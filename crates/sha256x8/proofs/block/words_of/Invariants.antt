@@ -4,4 +4,6 @@ use Rattle.sha256x8.specs.Lanes.{lane}
 use Rattle.sha256x8.proofs.block.words_of.Given as goal
 
 abbrev pub invariant-load : goal.invariant-load
-invariant-load l = (length l.words ≡ 16) × ((j k : ℕ) → j < 8 → k < l.i → slice_index (lane j l.words) k ≡ word_at (slice_index_or l.blocks j []) (4 * k))
+invariant-load l = (length l.words ≡ 16) ×
+    ((j k : ℕ) → j < 8 → k < l.i → slice_index (lane j l.words) k
+    ≡ word_at (slice_index_or l.blocks j []) (4 * k))

@@ -16,5 +16,7 @@ returns c = λ j lt.
     let is = ap (λ ms. sel_l ms next old) (tops_compared w32 ltb none busy) in
     ap (λ l. get_or l j 0) is
     ∙ get_or-sel_l (zip2 ltb none busy) next old j 0 (omega arith) (omega arith) (omega arith)
-    ∙ ap (λ t. cond t (get_or next j 0) (get_or old j 0)) (get_or-zip2 ltb none busy j 0 0 false (omega arith) (omega arith))
-    ∙ ap (λ (z : ℕ). cond (ltb z (get_or busy j 0)) (get_or next j 0) (get_or old j 0)) (get_or-replicate 8 j 0 0 lt)
+    ∙ ap (λ t. cond t (get_or next j 0) (get_or old j 0))
+    (get_or-zip2 ltb none busy j 0 0 false (omega arith) (omega arith))
+    ∙ ap (λ (z : ℕ). cond (ltb z (get_or busy j 0)) (get_or next j 0) (get_or old j 0))
+    (get_or-replicate 8 j 0 0 lt)

@@ -10,8 +10,15 @@ returns c =
     let low = zip2 shr x (replicate 8 10) in
     let long = splat_length shr 8 x 10 c.fits-x.0 in
     record {
-      count = xor_length 8 c.rotated.result c.rotated-2.result low c.rotated.ensures.count c.rotated-2.ensures.count long;
+      count = xor_length 8 c.rotated.result c.rotated-2.result low c.rotated.ensures.count
+          c.rotated-2.ensures.count long;
       each = λ j lt.
-          xor_lane 8 c.rotated.result c.rotated-2.result low j c.rotated.ensures.count c.rotated-2.ensures.count long lt
-          ∙ rw (c.rotated.ensures.each j lt, c.rotated-2.ensures.each j lt, splat_lane shr 8 x 10 j c.fits-x.0 lt) refl;
+          xor_lane 8 c.rotated.result c.rotated-2.result low j c.rotated.ensures.count
+          c.rotated-2.ensures.count long lt
+          ∙ rw (
+            c.rotated.ensures.each j lt,
+            c.rotated-2.ensures.each j lt,
+            splat_lane shr 8 x 10 j
+                c.fits-x.0 lt,
+          ) refl;
     }
