@@ -4,10 +4,10 @@ use crate::case::{Case, CaseFault};
 use crate::keys::table;
 use crate::token::{next_token, say_parts, say_refusal, say_written, token_of};
 use crate::verdicts::say_verdicts;
-use mac_decide::{Context, answer, attenuate, job_of, mint, satisfied, time_limit};
+use mac_decide::{Context, answer, answer_all, attenuate, job_of, mint, satisfied, time_limit};
 use mac_hmac::root_key;
 use mac_token::{Form, Token, TokenFault, write};
-use mac_wire::{Arrival, Bytes, FieldList, reply_bytes};
+use mac_wire::{Arrival, Bytes, FieldList, Reply, reply_bytes};
 use std::alloc::Global;
 
 /// Tells what a case comes to, if it is one of these kinds.
@@ -19,6 +19,7 @@ pub(crate) fn tells(case: &mut Case<'_>, kind: &str) -> bool {
         b"token" => agreement(case),
         b"length" => written_length(case),
         b"answer" => reply(case),
+        b"answers" => replies(case),
         _ => return false,
     }
     true
@@ -86,7 +87,29 @@ fn reply(case: &mut Case<'_>) {
     let Ok(reply) = answer(case.alloc, &job) else {
         return case.fail(CaseFault::Memory);
     };
-    match reply_bytes(case.alloc, &reply) {
+    say_frame(case, &reply);
+}
+
+/// The frames of the replies to payloads under a key file, worked out together.
+fn replies(case: &mut Case<'_>) {
+    let Some(table) = table(case) else {
+        return;
+    };
+    let mut jobs = Vec::new(case.alloc);
+    for payload in case.lists() {
+        let payload = Arrival::Payload(Bytes::new(payload));
+        case.keep(&mut jobs, job_of(&table, payload));
+    }
+    let Ok(replies) = answer_all(case.alloc, &jobs) else {
+        return case.fail(CaseFault::Memory);
+    };
+    for reply in replies.iter() {
+        say_frame(case, reply);
+    }
+}
+
+fn say_frame(case: &mut Case<'_>, reply: &Reply) {
+    match reply_bytes(case.alloc, reply) {
         Ok(frame) => case.digits(&frame),
         Err(_) => case.fail(CaseFault::Memory),
     }
