@@ -18,6 +18,3 @@ pub use mark::Finished;
 pub use outlet::{OPEN_SLIPS_MAX, Outlet};
 pub use ring::{RING_SLIPS_MAX, lane};
 pub use totals::{Totals, meet};
-
-#[cfg(test)]
-mod tests;

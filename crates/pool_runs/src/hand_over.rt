@@ -24,8 +24,8 @@ pub(crate) fn totals(alloc: Global, slips: u64) -> Result<Outcome, RunFault> {
 }
 
 /// A slip's whole way: into the ring, out of it, and its reply released. Whether it is the reply to
-/// the job.
-fn hand_over(
+/// the job, at the place of the job's number.
+pub(crate) fn hand_over(
     alloc: Global,
     intake: &mut Intake<Digits>,
     outlet: &mut Outlet<Digits>,
@@ -46,8 +46,15 @@ fn hand_over(
     if outlet.settle(place, answer).is_err() {
         return false;
     }
+    place == job && releases(outlet, place, job)
+}
+
+/// Whether the reply to the job goes out at this place.
+pub(crate) fn releases(outlet: &mut Outlet<Digits>, place: u64, job: u64) -> bool
+    ensures { IsSameOutlet outlet.old outlet.new }
+{
     match outlet.release() {
-        Next::Reply(_, reply) => reply == job.to_be_bytes(),
+        Next::Reply(at, reply) => at == place && reply == job.to_be_bytes(),
         _ => false,
     }
 }

@@ -44,7 +44,7 @@ where
     }
 }
 
-fn right_if(is_right: bool) -> Result<Outcome, RunFault> {
+pub(crate) fn right_if(is_right: bool) -> Result<Outcome, RunFault> {
     if is_right {
         Ok(Outcome::Right)
     } else {

@@ -1,7 +1,7 @@
 //! The runs, and what does each.
 
 use crate::fault::RunFault;
-use crate::{hammer, hand_over, rows, tickets};
+use crate::{hammer, hand_over, lanes, rows, tickets};
 use mac_pool::Tally;
 use mac_relay::Totals;
 use std::alloc::{AllocError, Global};
@@ -45,6 +45,11 @@ where
 ///
 /// ```text
 /// hand_over:SLIPS          slips through a ring, one at a time, both ends in one thread
+/// lane:full                64 slips in a ring, one that is refused, and one once there is room
+/// lane:threads             65 slips through a ring, each end in a thread
+/// lane:closed              a close with a slip open and two in the ring
+/// lane:refused             settles that the outlet's buffer refuses, and a stranger's answer
+/// lane:ends                an intake that ends first, and an outlet that does
 /// tickets:WORKERS:RUNS     runs of 64 tickets from one putter through the workers and back
 /// idle:WORKERS:MILLIS      workers that have nothing to do for so long
 /// hammer:ROUNDS            two threads, 64 desks, four workers, pauses by chance
@@ -65,6 +70,7 @@ where
     let (name, rest) = word.split_once(':').unwrap_or((word, ""));
     match name.as_bytes() {
         b"hand_over" => hand_over::totals(alloc, number(rest)?),
+        b"lane" => lanes::row(rt, alloc, rest),
         b"tickets" => {
             let (workers, runs) = numbers(rest)?;
             tickets::books(rt, alloc, workers as usize, runs)

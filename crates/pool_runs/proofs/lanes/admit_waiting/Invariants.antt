@@ -1,6 +1,6 @@
 -- The intake stays that of the same lane.
 use Rattle.mac_relay.specs.Lane.{IsSameIntake}
-use Rattle.mac_relay.proofs.tests.admit_waiting.Given as goal
+use Rattle.pool_runs.proofs.lanes.admit_waiting.Given as goal
 
 abbrev pub invariant-loop : goal.invariant-loop
-invariant-loop g l = IsSameIntake l.initial.intake l.intake
+invariant-loop l = IsSameIntake l.initial.intake l.intake

@@ -1,6 +1,6 @@
 -- The intake stays that of the same lane.
 use Rattle.mac_relay.specs.Lane.{IsSameIntake}
-use Rattle.mac_relay.proofs.tests.admit_from.Given as goal
+use Rattle.pool_runs.proofs.lanes.admit_all.Given as goal
 
 abbrev pub invariant-loop-job : goal.invariant-loop-job
-invariant-loop-job g l = IsSameIntake l.initial.intake l.intake
+invariant-loop-job l = IsSameIntake l.initial.intake l.intake
