@@ -39,7 +39,7 @@ class Copy:
     It is made once, so the tree may change meanwhile.
     """
 
-    def __init__(self, crate, room):
+    def __init__(self, crate, room, proved):
         self.kept, self.root = room / "kept" / crate, room / "tree"
         self.folder = self.root / "crates" / crate
         needed = stands_on(crate)
@@ -51,9 +51,10 @@ class Copy:
         shutil.copy(ROOT / "HANDLES", self.root)
         take_over(ROOT / "crates" / crate, self.kept, [*TEXTS, "out/incremental"])
         self.source = Source(self.kept)
+        self.proved = proved
 
     def check(self, bodies):
-        """What a check says of the crate with these bodies."""
+        """What a check says of the crate with these bodies, or of their functions alone."""
         take_over(self.kept, self.folder, [*TEXTS, "out/incremental"])
         for file in {file for body in bodies for file in body.lines}:
             lines = self.source.lines(file)
@@ -61,7 +62,15 @@ class Copy:
                 for at, new in body.lines.get(file, {}).items():
                     lines[at] = new
             (self.folder / file).write_text("\n".join(lines))
-        return Report(rt_check(self.folder))
+        return Report(rt_check(self.folder, self.only(bodies)))
+
+    def only(self, bodies):
+        """The functions whose bodies these are, if that is all that they change."""
+        functions = [it for body in bodies for it in body.functions]
+        paths = [[it for it in self.proved if function.owns(it)] for function in functions]
+        if any(it.is_alone for it in bodies) or not all(paths):
+            return []
+        return [it for found in paths for it in found if "+" not in it and "::fn::" not in it]
 
 
 def take_over(source, to, parts):
@@ -80,9 +89,10 @@ def link_or_copy(source, to):
         shutil.copy2(source, to)
 
 
-def rt_check(folder):
+def rt_check(folder, only=()):
     to = {"stdout": subprocess.PIPE, "stderr": subprocess.STDOUT, "text": True, "errors": "replace"}
-    return subprocess.run(["rt", "check", "--jobs", "1"], cwd=folder, **to).stdout
+    words = [word for path in only for word in ("--only", path)]
+    return subprocess.run(["rt", "check", "--jobs", "1", *words], cwd=folder, **to).stdout
 
 
 def stands_on(crate):
@@ -102,9 +112,9 @@ class Report:
 
     def __init__(self, said):
         self.lines = said.splitlines()
-        status = [re.match(r"fn (\S+): (?!proved$)(.*)", it) for it in self.lines]
+        status = [re.match(r"fn (\S+): (?!proved$|no holes$)(.*)", it) for it in self.lines]
         self.unproved = {it[1]: it[2] for it in status if it}
-        self.has_ended = any(it.startswith("logic=") for it in self.lines)
+        self.has_ended = any(it.startswith(("logic=", "only=")) for it in self.lines)
 
     def first_error(self):
         return next((it for it in self.lines if "error" in it), "\n".join(self.lines[-1:]))
@@ -194,11 +204,12 @@ def edits_of(crate):
 
 def try_crate(crate):
     """A verdict on each of the crate's wrong bodies."""
-    if "\nlogic=proved" not in rt_check(ROOT / "crates" / crate):
+    said = rt_check(ROOT / "crates" / crate)
+    if "\nlogic=proved" not in said:
         return [Verdict("as it stands", False, "NOT PROVED")]
-    bodies, found = [], []
+    proved, bodies, found = re.findall(r"^fn (\S+): proved$", said, re.M), [], []
     with tempfile.TemporaryDirectory(prefix="wrong-bodies-") as room:
-        copy = Copy(crate, Path(room))
+        copy = Copy(crate, Path(room), proved)
         for edit in edits_of(crate):
             try:
                 bodies.append(read_body(edit, copy.source))
