@@ -1,7 +1,9 @@
 //! Cases of `mac_hmac`.
 
 use crate::case::Case;
-use mac_hmac::{HmacState, RootKey, Sig, extend, hmac, root_key, same, start};
+use mac_hmac::{
+    HmacState, RootKey, Sig, extend, extend_each, hmac, root_key, same, start, start_each,
+};
 
 /// Tells what a case comes to, if it is one of these kinds.
 pub(crate) fn tells(case: &mut Case<'_>, kind: &str) -> bool {
@@ -46,11 +48,31 @@ fn root(case: &mut Case<'_>) {
     case.digits(&root_key(&secret).bytes());
 }
 
-/// The signature of an identifier under a root key.
+/// The signature of an identifier under a root key, which is to be the same in each of eight lanes.
 fn started(case: &mut Case<'_>) {
     let key = RootKey::from_bytes(case.digest());
     let identifier = case.bytes();
-    case.digits(&start(&key, &identifier).bytes());
+    let alone = start(&key, &identifier);
+    if is_in_each_lane(&key, &identifier, &[], &alone)
+        && is_in_each_lane(&key, &identifier, &[0; 200], &alone)
+    {
+        case.digits(&alone.bytes());
+    } else {
+        case.say("it depends on the lane");
+    }
+}
+
+/// Whether each of eight lanes gives this signature, while the others are given another text.
+fn is_in_each_lane<'a>(key: &RootKey, identifier: &'a [u8], other: &'a [u8], alone: &Sig) -> bool {
+    let keys = [*key; 8];
+    let mut agree = true;
+    for place in 0..8 {
+        let mut identifiers = [other; 8];
+        identifiers[place] = identifier;
+        let signature = start_each(&keys, &identifiers)[place];
+        agree &= same(&signature, alone);
+    }
+    agree
 }
 
 /// Whether two signatures are the same.
@@ -64,14 +86,23 @@ fn compared(case: &mut Case<'_>) {
     });
 }
 
-/// The signature of a token with these parts.
+/// The signature of a token with these parts, which is to be the same side by side.
 fn chained(case: &mut Case<'_>) {
     let key = root_key(&case.bytes());
     let identifier = case.bytes();
     let caveats = case.lists();
     let mut signature = start(&key, &identifier);
+    let mut signatures = [signature; 8];
     for caveat in caveats.iter() {
         signature = extend(signature, caveat);
+        let text = caveat.as_slice();
+        let texts = [text; 8];
+        signatures = extend_each(&signatures, &texts);
     }
-    case.digits(&signature.bytes());
+    let [first, .., last] = signatures;
+    if same(&first, &signature) && same(&last, &signature) {
+        case.digits(&signature.bytes());
+    } else {
+        case.say("it depends on the lane");
+    }
 }
