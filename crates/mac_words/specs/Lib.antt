@@ -6,3 +6,4 @@ pub mod Escaped
 pub mod ReplyText
 pub mod Inspected
 pub mod KeyLine
+pub mod Said

@@ -1,5 +1,6 @@
 -- What a token's first byte says of its form.
-use Rattle.std.specs.Prelude.{ℕ, ◌==◌, if◌then◌else◌, List, codes, slice_index}
+use Rattle.std.specs.Prelude.{ℕ, ◌==◌, if◌then◌else◌, List, codes, slice_index, Option, Some, None}
+use Rattle.std.specs.Str.{bytes_eq}
 use Rattle.mac_wire.specs.declared.request.TokenForm.{TokenForm}
 use Rattle.mac_wire.specs.declared.request.TokenForm.TheVariants as form
 use Rattle.mac_words.specs.declared.spelled.Spelling.{Spelling}
@@ -32,3 +33,11 @@ spelling_name spelled.Json = codes "version 2 JSON"
 spelling_name spelled.PacketsText = codes "base64 text of version 1 packets"
 spelling_name spelled.JsonText = codes "base64 text of version 2 JSON"
 spelling_name spelled.BinaryText = codes "base64 text of version 2 binary"
+
+-- the form that a word names
+abbrev pub form_named : List ℕ → Option TokenForm
+form_named word = if bytes_eq word (codes "v1") then Some form.V1Text
+    else if bytes_eq word (codes "v2") then Some form.V2Binary
+    else if bytes_eq word (codes "json") then Some form.V2Json
+    else if bytes_eq word (codes "v2-text") then Some form.V2Text
+    else None

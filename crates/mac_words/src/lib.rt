@@ -2,7 +2,8 @@
 //!
 //! [`mint_payload`], [`attenuate_payload`] and [`verify_payload`] make the payload that asks a
 //! request in words, [`reply_to`] answers it as a worker does, and [`append_reply_text`] prints the
-//! answer. [`inspect`] prints what any bytes spell. Nothing here reads a device.
+//! answer; [`say_mint`], [`say_attenuate`] and [`say_verify`] do all three. [`inspect`] prints what
+//! any bytes spell. Nothing here reads a device.
 #![tactic(auto)]
 
 mod caveat_lines;
@@ -14,6 +15,7 @@ mod moments;
 mod payload;
 mod refusal;
 mod reply_text;
+mod saying;
 mod spelled;
 mod token_text;
 
@@ -28,5 +30,6 @@ pub use payload::{
 };
 pub use refusal::{reason, token_refusal};
 pub use reply_text::{append_refusal, append_reply_text};
-pub use spelled::Spelling;
+pub use saying::{Said, say_attenuate, say_inspect, say_mint, say_verify};
+pub use spelled::{Spelling, form_named};
 pub use token_text::{append_token_text, token_bytes};

@@ -1,7 +1,7 @@
 //! How a token is spelled, as its first byte says.
 
 ghost use Rattle.std.specs.Prelude.{◌≡◌};
-ghost use Rattle.mac_words.specs.Spelling.{spelling_of, form_of, spelling_name};
+ghost use Rattle.mac_words.specs.Spelling.{form_named, form_of, spelling_name, spelling_of};
 
 use mac_wire::TokenForm;
 
@@ -61,5 +61,18 @@ impl Spelling {
             Spelling::BinaryText => "base64 text of version 2 binary",
             Spelling::JsonText => "base64 text of version 2 JSON",
         }
+    }
+}
+
+/// The form that a word names.
+pub fn form_named(word: &str) -> Option<TokenForm>
+    ensures { result ≡ form_named word.now }
+{
+    match word {
+        "v1" => Some(TokenForm::V1Text),
+        "v2" => Some(TokenForm::V2Binary),
+        "json" => Some(TokenForm::V2Json),
+        "v2-text" => Some(TokenForm::V2Text),
+        _ => None,
     }
 }
