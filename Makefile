@@ -1,6 +1,6 @@
 .PHONY: test wrong-bodies demo build build-runs bench load soak
 
-# Every proof from nothing, the wrong bodies, every test and program; then the pipe beside the README and the work of others.
+# Every proof from nothing, the wrong bodies, every test and program; then the program beside its pages and the work of others.
 test:
 	rt ci
 	scripts/outside.py

@@ -1,4 +1,4 @@
-"""The README's sessions with the daemon, run with bin/macaroond itself.
+"""The README's sessions, run with bin/macaroond itself.
 
 Such a session is a block marked `shell-session`. All run in one shell, in a folder of their own. A
 command that ends in `&` stays up; the next one waits until it has printed.
@@ -41,7 +41,7 @@ def faults():
         text = script(folder, [command for command, _ in found])
         run = subprocess.run(["sh", "-c", text], cwd=folder, timeout=60)
         if run.returncode != 0:
-            return [f"the README's session with the daemon ends with status {run.returncode}"], 0
+            return [f"the README's session ends with status {run.returncode}"], 0
         printed = [(folder / f"printed.{step:03}").read_text() for step in range(len(found))]
     wrong = [
         f"`{command}` prints\n{got}where the README shows\n{shown}"

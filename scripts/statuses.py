@@ -60,7 +60,7 @@ ENDINGS = {
     "second_word": (Case("", ["pipe", "x"]), bad("unexpected argument 'x' found\n")),
     "third_word": (Case("", ["pipe", "--", "x"]), bad("unexpected argument 'x' found\n")),
     "option": (Case("", ["-x"]), bad("unexpected argument '-x' found\n")),
-    "other_subcommand": (Case("", ["mint"]), bad("unrecognized subcommand 'mint'\n")),
+    "other_subcommand": (Case("", ["revoke"]), bad("unrecognized subcommand 'revoke'\n")),
     "help_subcommand": (Case("", ["help"]), bad("unrecognized subcommand 'help'\n")),
     "serve_help": (Case("", ["serve", "--help"]), Ending(0, SERVE, "")),
     "listen_help": (Case("", ["listen", "-h"]), Ending(0, LISTEN, "")),

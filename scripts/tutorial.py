@@ -1,8 +1,8 @@
-"""The shell sessions of the README, run line by line.
+"""The shell sessions of docs/FORMATS.md, run line by line.
 
 A session is a block marked `console`: a line that begins with `$ ` is a command, the lines below it are what it
 prints. The commands run in one shell, where a stand-in for bin/macaroond notes what it is asked and answers what
-the README says. So all that the README shows is there before the pipe itself is asked, in one run.
+the page says. So all that the page shows is there before the pipe itself is asked, in one run.
 """
 import os
 import pathlib
@@ -14,6 +14,7 @@ import tempfile
 from pipe_runs import Case
 
 TOP = pathlib.Path(__file__).resolve().parent.parent
+PAGE = TOP / "docs" / "FORMATS.md"
 
 # It answers as the README says at this step; a step whose output isn't shown asks what an earlier one asked.
 STAND_IN = """#!/bin/sh
@@ -32,8 +33,8 @@ done
 
 
 def steps():
-    """Each command of the README's sessions, with what it is shown to print."""
-    blocks = re.findall(r"^```console\n(.*?)^```", (TOP / "README.md").read_text(), re.MULTILINE | re.DOTALL)
+    """Each command of the page's sessions, with what it is shown to print."""
+    blocks = re.findall(r"^```console\n(.*?)^```", PAGE.read_text(), re.MULTILINE | re.DOTALL)
     parts = [part for block in blocks for part in re.split(r"^\$ ", block, flags=re.MULTILINE)[1:]]
     return [(command, shown) for command, _, shown in (part.partition("\n") for part in parts)]
 
@@ -47,7 +48,7 @@ def script(notes, commands):
 
 
 class Tutorial:
-    """The README's sessions, run over the stand-in."""
+    """The page's sessions, run over the stand-in."""
 
     def __init__(self):
         self.cases = {}
@@ -59,8 +60,8 @@ class Tutorial:
     def run(self, folder):
         found = steps()
         ask = (TOP / "examples" / "ask.py").read_text()
-        if f"```python\n{ask}```\n" not in (TOP / "README.md").read_text():
-            self.faults.append("the README shows another examples/ask.py than there is")
+        if f"```python\n{ask}```\n" not in PAGE.read_text():
+            self.faults.append("docs/FORMATS.md shows another examples/ask.py than there is")
         notes = folder / "notes"
         notes.mkdir()
         self.lay_out(folder)
@@ -69,7 +70,7 @@ class Tutorial:
         text = script(notes, [command for command, _ in found])
         run = subprocess.run(["sh", "-c", text], cwd=folder, env={**os.environ, "NOTES": str(notes)})
         if run.returncode != 0:
-            self.faults.append(f"the README's session ends with status {run.returncode}")
+            self.faults.append(f"the session of docs/FORMATS.md ends with status {run.returncode}")
             return
         for step, (command, shown) in enumerate(found):
             self.note(notes, f"{step:03}", command, shown)
@@ -86,16 +87,16 @@ class Tutorial:
     def note(self, notes, step, command, shown):
         printed = (notes / f"printed.{step}").read_text()
         if printed != shown:
-            self.faults.append(f"`{command.strip()}` prints\n{printed}where the README shows\n{shown}")
+            self.faults.append(f"`{command.strip()}` prints\n{printed}where docs/FORMATS.md shows\n{shown}")
         asked = notes / f"input.{step}"
         if asked.exists():
-            self.cases[f"readme_{step}"] = Case(asked.read_text())
-            self.shown[f"readme_{step}"] = shown
+            self.cases[f"page_{step}"] = Case(asked.read_text())
+            self.shown[f"page_{step}"] = shown
 
     def compared(self, runs):
-        """What the pipe answers otherwise than the README shows."""
+        """What the pipe answers otherwise than the page shows."""
         return self.faults + [
-            f"to\n{self.cases[name].input}the pipe answers\n{runs[name].output}where the README shows\n{shown}"
+            f"to\n{self.cases[name].input}the pipe answers\n{runs[name].output}where docs/FORMATS.md shows\n{shown}"
             for name, shown in self.shown.items()
             if runs[name].output != shown
         ]

@@ -15,7 +15,7 @@ use Rattle.clap.specs.declared.error.kind.ErrorKind.TheVariants.{InvalidSubcomma
 use Rattle.clap.proofs.OnLiterals.{clap_on_literals}
 use Rattle.clap.proofs.FaultLemmas.{fault_ends, stopped_fault}
 use Rattle.clap.proofs.WalkLemmas.{bundle_ends, walk_stopped}
-use Rattle.macaroond.specs.CommandLine.{LeadsTo, MayEnd, command_line, exit_status, names_a_daemon}
+use Rattle.macaroond.specs.CommandLine.{LeadsTo, MayEnd, command_line, exit_status, names_another}
 use Rattle.macaroond.proofs.OptionLemmas.{neither, pipe}
 
 -- ---- statuses of lists of kinds
@@ -205,11 +205,16 @@ unfolding clap_on_literals
 dashes_first [] = (refl, tt)
 dashes_first (word ∷ rest) = (refl, (refl, tt))
 
-other_first : (word : Text) (rest : List Text) → bytes_eq (codes "pipe") word ≡ false → bytes_eq (codes "serve") word ≡ false → bytes_eq (codes "listen") word ≡ false
-    → bytes_eq word (codes "--") ≡ false → Refuses (flag_status true word (long_of word)) (line_faults (word ∷ rest))
+-- the word is none of the names of subcommands
+abbrev IsNoName : Text → Type 0
+IsNoName word = (bytes_eq (codes "pipe") word ≡ false) × (bytes_eq (codes "serve") word ≡ false) × (bytes_eq (codes "listen") word ≡ false)
+    × (bytes_eq (codes "keygen") word ≡ false) × (bytes_eq (codes "mint") word ≡ false) × (bytes_eq (codes "attenuate") word ≡ false)
+    × (bytes_eq (codes "verify") word ≡ false) × (bytes_eq (codes "inspect") word ≡ false)
+
+other_first : (word : Text) (rest : List Text) → IsNoName word → bytes_eq word (codes "--") ≡ false → Refuses (flag_status true word (long_of word)) (line_faults (word ∷ rest))
 unfolding walk_fault
-other_first word rest no_pipe no_serve no_listen e =
-    let turn : turn_fault top names (walk_from nothing_held) word ≡ faults_at true top word (long_of word) = rw (no_pipe, no_serve, no_listen, e) refl in
+other_first word rest (no_pipe, no_serve, no_listen, no_keygen, no_mint, no_attenuate, no_verify, no_inspect) e =
+    let turn : turn_fault top names (walk_from nothing_held) word ≡ faults_at true top word (long_of word) = rw (no_pipe, no_serve, no_listen, no_keygen, no_mint, no_attenuate, no_verify, no_inspect, e) refl in
     let refused = subst (Refuses (flag_status true word (long_of word))) (sym turn) (word_refused true top word (long_of word)) in
     refuses_first _ _ _ (refuses_first _ (turn_fault top names (walk_from nothing_held) word) _ refused)
 
@@ -220,17 +225,33 @@ other_way a b differ = go (bytes_eq b a) refl
     go true e = let same : bytes_eq a b ≡ true = (bytes_eq-Decides a b).1 (sym ((bytes_eq-Decides b a).0 e)) in cc
     go false e = e
 
-unnamed_leads : (word : Text) (rest : List Text) → bytes_eq word (codes "pipe") ≡ false → names_a_daemon (word ∷ rest) ≡ false → Refuses (flag_status true word (long_of word)) (line_faults (word ∷ rest))
+no_name : (word : Text) (rest : List Text) → bytes_eq word (codes "pipe") ≡ false → names_another (word ∷ rest) ≡ false → IsNoName word
+no_name word rest differ unnamed =
+    let serve = neither (bytes_eq word (codes "serve")) _ unnamed in
+    let listen = neither (bytes_eq word (codes "listen")) _ serve.1 in
+    let keygen = neither (bytes_eq word (codes "keygen")) _ listen.1 in
+    let mint = neither (bytes_eq word (codes "mint")) _ keygen.1 in
+    let attenuate = neither (bytes_eq word (codes "attenuate")) _ mint.1 in
+    let verify = neither (bytes_eq word (codes "verify")) _ attenuate.1 in (
+      other_way word (codes "pipe") differ,
+      other_way word (codes "serve") serve.0,
+      other_way word (codes "listen") listen.0,
+      other_way word (codes "keygen") keygen.0,
+      other_way word (codes "mint") mint.0,
+      other_way word (codes "attenuate") attenuate.0,
+      other_way word (codes "verify") verify.0,
+      other_way word (codes "inspect") verify.1,
+    )
+
+unnamed_leads : (word : Text) (rest : List Text) → bytes_eq word (codes "pipe") ≡ false → names_another (word ∷ rest) ≡ false → Refuses (flag_status true word (long_of word)) (line_faults (word ∷ rest))
 unnamed_leads word rest differ unnamed = go (bytes_eq word (codes "--")) refl
   where
     go : (b : Bool) → bytes_eq word (codes "--") ≡ b → Refuses (flag_status true word (long_of word)) (line_faults (word ∷ rest))
     go true e = subst (λ w. Refuses (flag_status true w (long_of w)) (line_faults (w ∷ rest))) (sym ((bytes_eq-Decides word (codes "--")).0 e)) (dashes_first rest)
-    go false e =
-        let others = neither (bytes_eq word (codes "serve")) _ unnamed in
-        other_first word rest (other_way word (codes "pipe") differ) (other_way word (codes "serve") others.0) (other_way word (codes "listen") others.1) e
+    go false e = other_first word rest (no_name word rest differ unnamed) e
 
--- what all words lead to that don't name `serve` or `listen`
-pub line_leads : (words : List Text) → names_a_daemon words ≡ false → LeadsTo (of_arguments words) (line_faults words)
+-- what all words lead to that name no subcommand but `pipe`
+pub line_leads : (words : List Text) → names_another words ≡ false → LeadsTo (of_arguments words) (line_faults words)
 unfolding clap_on_literals
 line_leads [] unnamed = (refl, tt)
 line_leads (word ∷ rest) unnamed = go (bytes_eq word (codes "pipe")) refl

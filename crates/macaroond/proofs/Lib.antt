@@ -8,3 +8,4 @@ pub mod OptionWalk
 pub mod OutputLemmas
 pub mod PipeLemmas
 pub mod PlainWords
+pub mod SubcommandLemmas

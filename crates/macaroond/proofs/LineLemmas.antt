@@ -1,5 +1,5 @@
 -- A text cut at its line feeds, and the parts round its first empty line.
-use Rattle.std.proofs.Common.{◌≡◌, ℕ, suc, ◌+◌, ◌-◌, ◌==◌, true, false, List, [], ◌∷◌, ◌++◌, length, take, drop, All, refl, sym, zero-add, true≢false, arith, append_assoc, length-append}
+use Rattle.std.proofs.Common.{◌≡◌, ◌≢◌, ◌∙◌, ap, ℕ, suc, ◌+◌, ◌-◌, ◌==◌, true, false, List, [], ◌∷◌, ◌++◌, length, take, drop, All, refl, sym, zero-add, true≢false, arith, append_assoc, length-append}
 use Rattle.std.specs.List.{before_first, after_first, position_or_len}
 use Rattle.std.proofs.lemmas.List.{take_at, drop_at, take_all, drop_all}
 use Rattle.std.proofs.lemmas.Bool.{eqb-true, ne_eqb}
@@ -87,3 +87,12 @@ before_first-all full h = let place = position-all full h in take_all _ full (om
 
 pub after_first-all : (full : List (List ℕ)) → AreFull full → after_first is_empty full ≡ []
 after_first-all full h = let place = position-all full h in drop_all _ full (omega arith)
+
+-- a text with no line has no only one, nor has one with two
+pub no_line : (text : List ℕ) → lines text ≡ [] → (line : List ℕ) → lines text ≢ line ∷ []
+no_line text none line e = let bad : ◌≡◌ {A = List (List ℕ)} [] (line ∷ []) = sym none ∙ e in cc
+
+pub two_lines : (text rest first second : List ℕ) (others : List (List ℕ)) → lines text ≡ first ∷ lines rest → lines rest ≡ second ∷ others → (line : List ℕ) → lines text ≢ line ∷ []
+two_lines text rest first second others one more line e =
+    let bad : ◌≡◌ {A = List (List ℕ)} (first ∷ second ∷ others) (line ∷ []) = sym (one ∙ ap (λ ls. first ∷ ls) more) ∙ e in
+    cc

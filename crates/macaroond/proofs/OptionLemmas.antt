@@ -7,7 +7,7 @@ use Rattle.clap.specs.Kinds.{FailsBy, Kinds, or_else}
 use Rattle.clap.specs.ValueTests.{accepts}
 use Rattle.clap.specs.Walk.{Row, Rule, Text, answers_to, arg_by_id, first_of, finished, nothing_held, one_of, rows_after, settled, walk}
 use Rattle.clap.specs.Takes.{is_given}
-use Rattle.clap.specs.Simple.{HasMatchesOf, Shape, argument_words, built, built_leaf, entered, inherited, label_of, marked_built, names_of, rows_at, subcommand_of, subcommand_rows_of, with_leaf_noted}
+use Rattle.clap.specs.Simple.{App, HasMatchesOf, Shape, argument_words, built, built_leaf, entered, inherited, label_of, marked_built, names_of, rows_at, subcommand_of, subcommand_rows_of, with_leaf_noted}
 use Rattle.clap.specs.Faults.{check_fault, defaults_fault, entered_fault, fault_of, level_fault, settle_fault, walk_fault}
 use Rattle.clap.specs.declared.builder.value_parser.ValueParser.{ValueParser}
 use Rattle.clap.specs.declared.error.Error.{Error}
@@ -15,6 +15,7 @@ use Rattle.clap.specs.declared.parser.matches.ArgMatches.{ArgMatches}
 use Rattle.clap.specs.declared.builder.value_parser.ValueParser.TheVariants.{Unsigned}
 use Rattle.clap.proofs.ValueTestLemmas.{accepts-Accepts}
 use Rattle.macaroond.specs.CommandLine.{command_line, listen_command, pipe_command, serve_command}
+use Rattle.macaroond.specs.People.{IsTaskName, attenuate_command, inspect_command, keygen_command, mint_command, verify_command}
 use Rattle.macaroond.specs.Options.{HasCommand, HasListenOptions, HasServeOptions, IsGiven, IsGivenNumber, MayBeNumber}
 use Rattle.macaroond.proofs.OptionWalk.{Each, HasValue, IsKnown, first_none, leaf_rows, second_none, value_given, value_or_none}
 
@@ -124,18 +125,46 @@ listen_options words e =
 
 -- ---- the whole line
 
+-- a subcommand for people, built
+abbrev built_sub : App → Shape
+built_sub sub = built_leaf (inherited (with_leaf_noted (marked_built command_line.top)) sub.top)
+
+abbrev people : List Shape
+people = built_sub keygen_command ∷ built_sub mint_command ∷ built_sub attenuate_command ∷ built_sub verify_command ∷ built_sub inspect_command ∷ []
+
+abbrev IsPeoples : Option Shape → Type 0
+IsPeoples o = (s : Shape) × (o ≡ Some s) × IsTaskName s.name
+
+one_of_people : (t : Shape → Bool) → (find t people ≡ None) ⊎ IsPeoples (find t people)
+one_of_people t = go (t (built_sub keygen_command)) (t (built_sub mint_command)) (t (built_sub attenuate_command)) (t (built_sub verify_command)) (t (built_sub inspect_command))
+  where
+    found : Bool → Bool → Bool → Bool → Bool → Option Shape
+    found a b c d e = cond a (Some (built_sub keygen_command)) (cond b (Some (built_sub mint_command)) (cond c (Some (built_sub attenuate_command)) (cond d (Some (built_sub verify_command)) (cond e (Some (built_sub inspect_command)) None))))
+
+    go : (a b c d e : Bool) → (found a b c d e ≡ None) ⊎ IsPeoples (found a b c d e)
+    go true b c d e = inr (built_sub keygen_command, refl, inl refl)
+    go false true c d e = inr (built_sub mint_command, refl, inr (inl refl))
+    go false false true d e = inr (built_sub attenuate_command, refl, inr (inr (inl refl)))
+    go false false false true e = inr (built_sub verify_command, refl, inr (inr (inr (inl refl))))
+    go false false false false true = inr (built_sub inspect_command, refl, inr (inr (inr (inr refl))))
+    go false false false false false = inl refl
+
 -- the subcommand that a word names
 abbrev IsOne : Option Shape → Type 0
-IsOne o = (o ≡ None) ⊎ ((o ≡ Some pipe) ⊎ ((o ≡ Some serve) ⊎ (o ≡ Some listen)))
+IsOne o = (o ≡ None) ⊎ ((o ≡ Some pipe) ⊎ ((o ≡ Some serve) ⊎ ((o ≡ Some listen) ⊎ IsPeoples o)))
 
-one_of_three : (t : Shape → Bool) → IsOne (find t (pipe ∷ serve ∷ listen ∷ []))
-one_of_three t = go (t pipe) (t serve) (t listen)
+one_of_all : (t : Shape → Bool) → IsOne (find t (pipe ∷ serve ∷ listen ∷ people))
+one_of_all t = go (t pipe) (t serve) (t listen)
   where
-    go : (a b c : Bool) → IsOne (cond a (Some pipe) (cond b (Some serve) (cond c (Some listen) None)))
+    none_or_peoples : (o : Option Shape) → (o ≡ None) ⊎ IsPeoples o → IsOne o
+    none_or_peoples o (inl none) = inl none
+    none_or_peoples o (inr found) = inr (inr (inr (inr found)))
+
+    go : (a b c : Bool) → IsOne (cond a (Some pipe) (cond b (Some serve) (cond c (Some listen) (find t people))))
     go true b c = inr (inl refl)
     go false true c = inr (inr (inl refl))
-    go false false true = inr (inr (inr refl))
-    go false false false = inl refl
+    go false false true = inr (inr (inr (inl refl)))
+    go false false false = none_or_peoples (find t people) (one_of_people t)
 
 -- what comes of a level of a subcommand, and of the last check of the level above it
 abbrev Passes : Kinds → Kinds → List Row → List Text → Option Shape → Type 0
@@ -150,13 +179,14 @@ no_subcommand x y rows e =
 entered_passes : (x y : Kinds) (rows : List Row) (words : List Text) (o : Option Shape) → IsOne o → Passes x y rows words o
     → HasCommand (option_map (λ s. rows_at s words) o)
 entered_passes x y rows words o (inl none) e = absurd (no_subcommand x y rows (subst (Passes x y rows words) none e))
-entered_passes x y rows words o (inr (inl is)) e = subst (λ p. HasCommand (option_map (λ s. rows_at s words) p)) (sym is) (codes "pipe", rows_after pipe.rules [] words, refl, inl refl)
+entered_passes x y rows words o (inr (inl is)) e = subst (λ p. HasCommand (option_map (λ s. rows_at s words) p)) (sym is) (codes "pipe", rows_after pipe.rules [] words, refl, inl (inl refl))
 entered_passes x y rows words o (inr (inr (inl is))) e =
     let options = serve_options words (first_none _ _ (subst (Passes x y rows words) is e)) in
-    subst (λ p. HasCommand (option_map (λ s. rows_at s words) p)) (sym is) (codes "serve", rows_after serve.rules [] words, refl, inr (inl (refl, options)))
-entered_passes x y rows words o (inr (inr (inr is))) e =
+    subst (λ p. HasCommand (option_map (λ s. rows_at s words) p)) (sym is) (codes "serve", rows_after serve.rules [] words, refl, inl (inr (inl (refl, options))))
+entered_passes x y rows words o (inr (inr (inr (inl is)))) e =
     let options = listen_options words (first_none _ _ (subst (Passes x y rows words) is e)) in
-    subst (λ p. HasCommand (option_map (λ s. rows_at s words) p)) (sym is) (codes "listen", rows_after listen.rules [] words, refl, inr (inr (refl, options)))
+    subst (λ p. HasCommand (option_map (λ s. rows_at s words) p)) (sym is) (codes "listen", rows_after listen.rules [] words, refl, inl (inr (inr (refl, options))))
+entered_passes x y rows words o (inr (inr (inr (inr (s, is, named))))) e = subst (λ p. HasCommand (option_map (λ s. rows_at s words) p)) (sym is) (s.name, rows_after s.rules [] words, refl, inr named)
 
 pub line_passes : (words : List Text) → fault_of command_line words ≡ [] → HasCommand (subcommand_of command_line words)
 line_passes words e =
@@ -170,7 +200,7 @@ line_passes words e =
         → HasCommand (entered (built command_line) stop)
     go x y rows None none = absurd (no_subcommand x y rows none)
     go x y rows (Some p) none =
-        entered_passes x y rows p.1 (find (λ s. answers_to p.0 (label_of s)) (built command_line).subs) (one_of_three (λ s. answers_to p.0 (label_of s))) none
+        entered_passes x y rows p.1 (find (λ s. answers_to p.0 (label_of s)) (built command_line).subs) (one_of_all (λ s. answers_to p.0 (label_of s))) none
 
 -- what a parse found
 pub command_found : (words : List Text) (r : Result ArgMatches Error) → FailsBy (fault_of command_line words) r → IfOk r (HasMatchesOf command_line words)

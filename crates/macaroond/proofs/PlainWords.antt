@@ -10,7 +10,7 @@ use Rattle.std.proofs.lemmas.Str.{IsCharBoundary-after_ascii, IsUtf8-drop, byte_
 use Rattle.clap.specs.Lexer.{has_byte, long_of, long_of_rest, short_of, short_of_rest, strip_byte}
 use Rattle.clap.specs.Walk.{Text}
 use Rattle.clap.specs.Faults.{fault_of}
-use Rattle.macaroond.specs.CommandLine.{LeadsTo, command_line, names_a_daemon, status_after_pipe, status_of_arguments, status_of_word}
+use Rattle.macaroond.specs.CommandLine.{LeadsTo, command_line, names_another, status_after_pipe, status_of_arguments, status_of_word}
 use Rattle.macaroond.proofs.CommandLineLemmas.{after_pipe, flag_status, is_asked, letter_status, line_leads, long_status, of_arguments, other_way, short_status}
 
 number_other_way : (a b : ℕ) → (a == b) ≡ false → (b == a) ≡ false
@@ -164,6 +164,6 @@ arguments_are (word ∷ rest) utf8 =
     ap₂ (λ o n. if bytes_eq word (codes "pipe") then o else Some n) (words_after_pipe_are rest (All-tail IsUtf8 word rest utf8)) (word_is true word (first_word word rest utf8))
 
 -- the exit status in plain words is that of `clap`'s faults
-pub plain_status : (words : List Text) → All IsUtf8 words → names_a_daemon (drop 1 words) ≡ false → LeadsTo (status_of_arguments (drop 1 words)) (fault_of command_line words)
+pub plain_status : (words : List Text) → All IsUtf8 words → names_another (drop 1 words) ≡ false → LeadsTo (status_of_arguments (drop 1 words)) (fault_of command_line words)
 plain_status words utf8 unnamed =
     subst (λ o. LeadsTo o (fault_of command_line words)) (arguments_are (drop 1 words) (All-drop IsUtf8 1 words utf8)) (line_leads (drop 1 words) unnamed)

@@ -8,16 +8,19 @@ use Rattle.std.specs.Str.Parse.{IsNumeral, digits_value, without_leading_plus}
 use Rattle.std.specs.declared.string.String.{String}
 use Rattle.std.specs.declared.alloc.Global.{Global}
 use Rattle.clap.specs.Kinds.{IsAmong, Kinds}
-use Rattle.clap.specs.Words.{App, Row, Rule, Text, fault_of, first_of, new_app, new_rule}
-use Rattle.clap.specs.Words.{subcommand_of, with_rule, with_subcommand}
-use Rattle.clap.specs.declared.builder.value_parser.ValueParser.TheVariants.{Unsigned}
+use Rattle.clap.specs.Words.{App, Row, Text, fault_of, first_of, new_app, subcommand_of}
+use Rattle.clap.specs.Words.{with_rule, with_subcommand}
 use Rattle.clap.specs.declared.error.kind.ErrorKind.{ErrorKind}
 use Rattle.clap.specs.declared.error.kind.ErrorKind.TheVariants.{DisplayHelp, DisplayVersion}
 use Rattle.clap.specs.declared.error.kind.ErrorKind.TheVariants.{OutOfMemory}
 use Rattle.macaroond.specs.declared.choices.Choice.{Choice}
 use Rattle.macaroond.specs.declared.choices.Choice.TheVariants.{Pipe, Serve, Listen}
+use Rattle.macaroond.specs.declared.choices.Chosen.{Chosen}
+use Rattle.macaroond.specs.declared.choices.Chosen.TheVariants.{Machine, Person}
 use Rattle.macaroond.specs.declared.choices.Mode.{Mode}
 use Rattle.macaroond.specs.declared.choices.Mode.TheVariants.{Owner, Group, Everyone}
+use Rattle.macaroond.specs.Arguments.{number, option, required}
+use Rattle.macaroond.specs.People.{IsTask, with_people}
 
 -- ---- what `clap` is told
 
@@ -35,18 +38,6 @@ program = record (new_app (codes "macaroond")) {
     disable_help_subcommand = true;
   };
 }
-
--- `--NAME VALUE`
-abbrev pub option : Text → Rule
-option name = record (new_rule name) { long = Some name; value_names = 1 }
-
--- the same, where it may not be left out
-abbrev pub required : Rule → Rule
-required rule = record rule { required = true }
-
--- the same, where the value is a number from 1 to `most`
-abbrev pub number : ℕ → Rule → Rule
-number most rule = record rule { parser = Some (Unsigned 1 most) }
 
 -- a subcommand with the options `--socket` and `--keys`
 abbrev pub socket_command : Text → App
@@ -67,8 +58,8 @@ listen_command = with_rule (with_rule (with_rule (socket_command (codes "listen"
 
 -- the whole command line
 abbrev pub command_line : App
-command_line = with_subcommand (with_subcommand (with_subcommand program pipe_command.top)
-    serve_command.top) listen_command.top
+command_line = with_people (with_subcommand (with_subcommand (with_subcommand program
+    pipe_command.top) serve_command.top) listen_command.top)
 
 -- ---- what `clap` makes of the words
 
@@ -154,6 +145,11 @@ abbrev pub IsChoice : Choice → Option (Text × List Row) → Type 0
 IsChoice choice met =
     (rows : List Row) × (met ≡ Some (choice_name choice, rows)) × HasValues choice rows
 
+-- what was chosen is what the subcommand stands for, be it a machine's or a person's
+abbrev pub IsChosen : Chosen → Option (Text × List Row) → Type 0
+IsChosen (Machine choice) met = IsChoice choice met
+IsChosen (Person task) met = IsTask task met
+
 -- `--mode` was given with digits that name none
 abbrev pub HasUnknownMode : Option (Text × List Row) → Type 0
 HasUnknownMode met = (rows : List Row) × (met ≡ Some (codes "listen", rows))
@@ -194,7 +190,10 @@ status_of_arguments [] = Some 2
 status_of_arguments (word ∷ rest) = if bytes_eq word (codes "pipe") then status_after_pipe rest
     else Some (status_of_word true word)
 
--- the first of the words is `serve` or `listen`
-abbrev pub names_a_daemon : List Text → Bool
-names_a_daemon [] = false
-names_a_daemon (word ∷ rest) = bytes_eq word (codes "serve") || bytes_eq word (codes "listen")
+-- the first of the words names a subcommand other than `pipe`
+abbrev pub names_another : List Text → Bool
+names_another [] = false
+names_another (word ∷ rest) = bytes_eq word (codes "serve") || (bytes_eq word (codes "listen")
+    || (bytes_eq word (codes "keygen") || (bytes_eq word (codes "mint")
+    || (bytes_eq word (codes "attenuate") || (bytes_eq word (codes "verify")
+    || bytes_eq word (codes "inspect"))))))

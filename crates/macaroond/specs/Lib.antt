@@ -1,3 +1,4 @@
+pub mod Arguments
 pub mod Arrived
 pub mod CommandLine
 pub mod Crew
@@ -5,6 +6,7 @@ pub mod Inner
 pub mod Lines
 pub mod Options
 pub mod Output
+pub mod People
 pub mod Pipe
 pub mod PipeText
 pub mod ReplyLine

@@ -9,6 +9,7 @@ use Rattle.macaroond.specs.declared.options.OptionFault.{OptionFault}
 use Rattle.macaroond.specs.declared.options.OptionFault.TheVariants as fault
 use Rattle.macaroond.specs.CommandLine.{HasValues, IsNumber, IsNumberOrNone, choice_name}
 use Rattle.macaroond.specs.CommandLine.{mode_given}
+use Rattle.macaroond.specs.People.{IsTaskName}
 
 -- the option has a value, as text and as it is read
 abbrev pub IsGivenAs : Text → Text → List Row → Type 0
@@ -54,10 +55,10 @@ abbrev pub HasOptions : Text → List Row → Type 0
 HasOptions name rows = (name ≡ codes "pipe") ⊎ (((name ≡ codes "serve") × HasServeOptions rows)
     ⊎ ((name ≡ codes "listen") × HasListenOptions rows))
 
--- a subcommand was met, with such rows
+-- a subcommand was met, one for people or one with such rows
 abbrev pub HasCommand : Option (Text × List Row) → Type 0
-HasCommand met =
-    (name : Text) × (rows : List Row) × (met ≡ Some (name, rows)) × HasOptions name rows
+HasCommand met = (name : Text) × (rows : List Row) × (met ≡ Some (name, rows))
+    × (HasOptions name rows ⊎ IsTaskName name)
 
 -- what is made of them: the choice, or `--mode` names no mode, or memory ran out
 abbrev pub Chooses : Text → List Row → Result Choice OptionFault → Type 0

@@ -2,7 +2,18 @@
 ghost use Rattle.std.specs.Prelude.{◌≡◌, Some, None};
 ghost use Rattle.macaroond.specs.CommandLine.{mode_of, permissions};
 
-/// What a command line asks the program to do.
+use crate::people::Task;
+
+/// What a command line asks for.
+#[derive(Drop)]
+pub enum Chosen {
+    /// Answer the requests of programs.
+    Machine(Choice),
+    /// Do what a person asks.
+    Person(Task),
+}
+
+/// How the requests of programs are answered.
 #[derive(Drop)]
 pub enum Choice {
     /// Answer the requests on standard input, each by a line on standard output.

@@ -1,20 +1,24 @@
 //! The command line: what its words ask the program to do.
 //!
-//! `clap` says what a line means. It names one of the subcommands `pipe`, `serve` and `listen`, the
-//! last two with options; `--help` or `-h`, before the subcommand or after it, asks for help, and
-//! `--version` or `-V` before it for the version.
+//! `clap` says what a line means. It names one of the subcommands, `pipe`, `serve` and `listen` for
+//! programs, `keygen`, `mint`, `attenuate`, `verify` and `inspect` for people; `--help` or `-h`,
+//! before the subcommand or after it, asks for help, and `--version` or `-V` before it for the
+//! version.
 
-ghost use Rattle.std.specs.Prelude.{◌≡◌, ◌⊎◌, [], map, IfOk, IfErr, OnOk};
+ghost use Rattle.std.specs.Prelude.{◌≡◌, ◌⊎◌, [], map, IfOk, IfErr, OnOk, Some};
 ghost use Rattle.std.specs.Prelude.{string_bytes, take};
 ghost use Rattle.std.specs.Vec.Iter.{into_iter_items, into_iter_len};
-ghost use Rattle.clap.specs.Words.{FailsBy, fault_of, kind_of, subcommand_of, subcommand_rows_of};
-ghost use Rattle.macaroond.specs.CommandLine.{AsksUnknownMode, HasUnknownMode, IsChoice, MayEnd};
+ghost use Rattle.clap.specs.Words.{FailsBy, fault_of, found_of, kind_of, rows_of, subcommand_of};
+ghost use Rattle.clap.specs.Words.{subcommand_rows_of};
+ghost use Rattle.macaroond.specs.CommandLine.{AsksUnknownMode, HasUnknownMode, IsChosen, MayEnd};
 ghost use Rattle.macaroond.specs.CommandLine.{command_line, exit_status};
-ghost use Rattle.macaroond.specs.Options.{HasCommand};
+ghost use Rattle.macaroond.specs.Options.{HasCommand, HasOptions};
+ghost use Rattle.macaroond.specs.People.{IsTaskName};
 
-use crate::choices::Choice;
+use crate::choices::Chosen;
 use crate::commands::command;
 use crate::options::{OptionFault, choice_of};
+use crate::people::task_of;
 use clap::error::ErrorKind;
 use clap::{ArgMatches, Error};
 use std::alloc::{Alloc, Global};
@@ -74,10 +78,10 @@ fn gathered(alloc: Global, given: Args) -> Result<Vec<String>, (u8, String)>
 /// An error holds the exit status and the text to show: 0 with the help or the version that was
 /// asked for, 2 with what is wrong with the line, or 4 with no text where memory ran out.
 #[tactic(auto, using(crate::proofs::CommandLineLemmas::status_of_error))]
-pub fn chosen(alloc: Global, words: &[String]) -> Result<Choice, (u8, String)>
+pub fn chosen(alloc: Global, words: &[String]) -> Result<Chosen, (u8, String)>
     ensures accepted { OnOk result (fault_of command_line (map string_bytes words.now) ≡ []) }
-    ensures choice { IfOk result (λ choice.
-        IsChoice choice (subcommand_of command_line (map string_bytes words.now))) }
+    ensures choice { IfOk result (λ chosen.
+        IsChosen chosen (subcommand_of command_line (map string_bytes words.now))) }
     ensures refused { IfErr result (λ fault. (MayEnd (map string_bytes words.now) fault.0)
         ⊎ (((fault.0 ≡ BAD_LINE) × AsksUnknownMode (map string_bytes words.now))
         ⊎ (fault.0 ≡ NO_MEMORY))) }
@@ -99,10 +103,10 @@ fn matches_of<'a>(alloc: Global, words: &'a [String]) -> Result<ArgMatches<'a>, 
     command(alloc)?.try_get_matches_from(words)
 }
 
-// The choice that the subcommand of a line that `clap` takes stands for.
-fn named(alloc: Global, matches: &ArgMatches<'_>) -> Result<Choice, (u8, String)>
+// What the subcommand of a line that `clap` takes stands for.
+fn named(alloc: Global, matches: &ArgMatches<'_>) -> Result<Chosen, (u8, String)>
     requires { HasCommand (subcommand_rows_of matches.now) }
-    ensures choice { IfOk result (λ choice. IsChoice choice (subcommand_rows_of matches.now)) }
+    ensures choice { IfOk result (λ chosen. IsChosen chosen (subcommand_rows_of matches.now)) }
     ensures refused { IfErr result (λ fault.
         ((fault.0 ≡ BAD_LINE) × HasUnknownMode (subcommand_rows_of matches.now))
         ⊎ (fault.0 ≡ NO_MEMORY)) }
@@ -111,10 +115,58 @@ fn named(alloc: Global, matches: &ArgMatches<'_>) -> Result<Choice, (u8, String)
     let Some((name, options)) = matches.subcommand() else {
         unreachable!("`clap` asks for a subcommand")
     };
+    of_subcommand(alloc, name, options)
+}
+
+// What a subcommand with these options stands for.
+#[tactic(auto, using(crate::proofs::SubcommandLemmas::machine_options))]
+fn of_subcommand(
+    alloc: Global,
+    name: &str,
+    options: &ArgMatches<'_>,
+) -> Result<Chosen, (u8, String)>
+    requires { HasOptions name.now (rows_of (found_of options.now)) ⊎ IsTaskName name.now }
+    ensures choice { IfOk result (λ chosen.
+        IsChosen chosen (Some (name.now, rows_of (found_of options.now)))) }
+    ensures refused { IfErr result (λ fault. ((fault.0 ≡ BAD_LINE)
+        × HasUnknownMode (Some (name.now, rows_of (found_of options.now))))
+        ⊎ (fault.0 ≡ NO_MEMORY)) }
+    ensures memory { IfErr result (λ fault. fault.0 ≡ NO_MEMORY → string_bytes fault.1 ≡ []) }
+{
+    match name {
+        "pipe" | "serve" | "listen" => machine(alloc, name, options),
+        _ => person(alloc, name, options),
+    }
+}
+
+// The choice that a subcommand for programs stands for.
+fn machine(alloc: Global, name: &str, options: &ArgMatches<'_>) -> Result<Chosen, (u8, String)>
+    requires { HasOptions name.now (rows_of (found_of options.now)) }
+    ensures choice { IfOk result (λ chosen.
+        IsChosen chosen (Some (name.now, rows_of (found_of options.now)))) }
+    ensures refused { IfErr result (λ fault. ((fault.0 ≡ BAD_LINE)
+        × HasUnknownMode (Some (name.now, rows_of (found_of options.now))))
+        ⊎ (fault.0 ≡ NO_MEMORY)) }
+    ensures memory { IfErr result (λ fault. fault.0 ≡ NO_MEMORY → string_bytes fault.1 ≡ []) }
+{
     match choice_of(alloc, name, options) {
-        Ok(choice) => Ok(choice),
+        Ok(choice) => Ok(Chosen::Machine(choice)),
         Err(OptionFault::UnknownMode) => Err(bad_line(alloc, UNKNOWN_MODE)),
         Err(OptionFault::NoMemory) => Err(out_of_memory(alloc)),
+    }
+}
+
+// The task that a subcommand for people stands for.
+fn person(alloc: Global, name: &str, options: &ArgMatches<'_>) -> Result<Chosen, (u8, String)>
+    requires { IsTaskName name.now }
+    ensures choice { IfOk result (λ chosen.
+        IsChosen chosen (Some (name.now, rows_of (found_of options.now)))) }
+    ensures memory { IfErr result (λ fault.
+        (fault.0 ≡ NO_MEMORY) × (string_bytes fault.1 ≡ [])) }
+{
+    match task_of(alloc, name, options) {
+        Ok(task) => Ok(Chosen::Person(task)),
+        Err(_) => Err(out_of_memory(alloc)),
     }
 }
 

@@ -1,10 +1,12 @@
 //! The command line as `clap` is told it, and what its options say.
 ghost use Rattle.std.specs.Prelude.{◌≡◌, false, IfOk};
 ghost use Rattle.clap.specs.Words.{app_of, rule_of};
-ghost use Rattle.macaroond.specs.CommandLine.{command_line, listen_command, number, option};
-ghost use Rattle.macaroond.specs.CommandLine.{pipe_command, required, serve_command};
+ghost use Rattle.macaroond.specs.Arguments.{number, option, required};
+ghost use Rattle.macaroond.specs.CommandLine.{command_line, listen_command, pipe_command};
+ghost use Rattle.macaroond.specs.CommandLine.{serve_command};
 ghost use Rattle.macaroond.specs.Options.{AddsCommand};
 
+use crate::people::with_people;
 use clap::builder::ValueParser;
 use clap::{Arg, Command};
 use std::alloc::{AllocError, Global};
@@ -94,7 +96,8 @@ pub fn command<'a>(alloc: Global) -> Result<Command<'a>, AllocError>
         .disable_help_subcommand(true);
     let program = with_pipe(alloc, program)?;
     let program = with_serve(alloc, program)?;
-    with_listen(alloc, program)
+    let program = with_listen(alloc, program)?;
+    with_people(alloc, program)
 }
 
 fn with_pipe<'a>(alloc: Global, program: Command<'a>) -> Result<Command<'a>, AllocError>

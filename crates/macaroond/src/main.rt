@@ -1,4 +1,4 @@
-//! `macaroond`: answers requests to mint, to narrow and to verify macaroons.
+//! `macaroond`: mints, narrows and verifies macaroons, for programs and for people.
 //!
 //! `main` reads the command line and does what it asks for; all that is decided stands in
 //! [`chosen`] and [`pipe`].
@@ -17,10 +17,11 @@ mod input;
 pub mod laws;
 mod lines;
 mod options;
+mod people;
 mod piping;
 mod reply_line;
 
-pub use choices::{Choice, Mode};
+pub use choices::{Choice, Chosen, Mode};
 pub use command_line::{BAD_LINE, HELP_SHOWN, NO_MEMORY, chosen, words_of};
 pub use commands::{ACCEPT_MAX, IDLE_MAX, WORKERS_MAX};
 use daemon::read_keys;
@@ -28,12 +29,15 @@ pub use daemon::{Day, LIVE_MAX, Terms, accept_all, listen};
 pub use fault::PipeFault;
 pub use input::INPUT_MAX;
 use mac_wire::{ReaderSource, WriterSink};
+use people::run_task;
+pub use people::{PersonFault, Task};
 pub use piping::pipe;
 use std::alloc::{Alloc, Global};
 use std::env::Env;
 use std::fs::Files;
 use std::net::Net;
 use std::process::{ExitCode, Process};
+use std::random::RandomSource;
 use std::sync::{Arc, Wait};
 use std::thread::Threads;
 use std::time::{Clock, Duration};
@@ -41,6 +45,9 @@ use std::{io, thread};
 
 /// The exit status of a run that answered all its requests.
 pub const ANSWERED: u8 = 0;
+
+/// The exit status where a person's request is refused.
+pub const REFUSED: u8 = 1;
 
 /// The exit status where a device failed.
 pub const DEVICE_FAULT: u8 = 3;
@@ -52,43 +59,54 @@ fn main(rt: HostRuntime) -> ExitCode {
 // Does what the words of the process ask for, and gives the exit status.
 fn run<R>(rt: &R, process: Process) -> u8
 where
-    R: Env + Alloc<A = Global> + Input + Print + Eprint + Files + Net + Clock,
+    R: Env + Alloc<A = Global> + Input + Print + Eprint + Files + Net + Clock + RandomSource,
     R: Threads + Wait + Sync + Copy + Send + 'static,
     R::Reader: Send,
     R::File: Send,
 {
-    let choice = words_of(rt).and_then(|words| chosen(rt.alloc(), words.as_slice()));
-    done(rt, choice, process)
+    let chosen = words_of(rt).and_then(|words| chosen(rt.alloc(), words.as_slice()));
+    done(rt, chosen, process)
 }
 
 // Does what was chosen, and gives the exit status; what was refused is shown and not done.
-fn done<R>(rt: &R, choice: Result<Choice, (u8, String)>, process: Process) -> u8
+fn done<R>(rt: &R, chosen: Result<Chosen, (u8, String)>, process: Process) -> u8
+where
+    R: Alloc<A = Global> + Input + Print + Eprint + Files + Net + Clock + RandomSource,
+    R: Threads + Wait + Sync + Copy + Send + 'static,
+    R::Reader: Send,
+    R::File: Send,
+    ensures { IfErr chosen (λ refusal. IsShown refusal.0 result) }
+{
+    match chosen {
+        Ok(Chosen::Machine(choice)) => answered(rt, choice, process),
+        Ok(Chosen::Person(task)) => run_task(rt, &task),
+        Err((status, text)) => show(rt, status, text.as_str()),
+    }
+}
+
+// Answers the requests of programs, and gives the exit status.
+fn answered<R>(rt: &R, choice: Choice, process: Process) -> u8
 where
     R: Alloc<A = Global> + Input + Print + Eprint + Files + Net + Clock,
     R: Threads + Wait + Sync + Copy + Send + 'static,
     R::Reader: Send,
     R::File: Send,
-    ensures { IfErr choice (λ refusal. IsShown refusal.0 result) }
 {
     match choice {
-        Ok(Choice::Pipe) => run_pipe(rt),
-        Ok(
-            Choice::Serve {
-                socket,
-                keys,
-                workers,
-                accept,
-            },
-        ) => run_serve(rt, socket.as_str(), keys.as_str(), workers, accept),
-        Ok(
-            Choice::Listen {
-                socket,
-                keys,
-                workers,
-                mode,
-                idle,
-            },
-        ) => {
+        Choice::Pipe => run_pipe(rt),
+        Choice::Serve {
+            socket,
+            keys,
+            workers,
+            accept,
+        } => run_serve(rt, socket.as_str(), keys.as_str(), workers, accept),
+        Choice::Listen {
+            socket,
+            keys,
+            workers,
+            mode,
+            idle,
+        } => {
             let terms = Terms {
                 path: socket.as_str(),
                 mode,
@@ -97,7 +115,6 @@ where
             };
             run_listen(rt, keys.as_str(), terms, process)
         }
-        Err((status, text)) => show(rt, status, text.as_str()),
     }
 }
 

@@ -1,7 +1,20 @@
-use Rattle.std.proofs.Common.{map, ap, subst, IfOk, string_bytes}
+use Rattle.std.proofs.Common.{map, ap, refl, subst, IfOk, string_bytes}
+use Rattle.std.proofs.lemmas.Result.{IfOk-weaker}
 use Rattle.clap.specs.Words.{App, FailsBy, HasMatchesOf, fault_of, is_simple_and_free}
 use Rattle.macaroond.proofs.OptionLemmas.{command_found}
 use Rattle.macaroond.proofs.command_line.matches_of.Goals as goal
+
+pub returns-clause-faults : goal.returns-clause-faults
+returns-clause-faults c =
+    let words = map string_bytes c.args.words.now in
+    let same = c.in_ok-command.ensures in
+    subst (λ (a : App). FailsBy (fault_of a words) c.try_get_matches_from.result) same (c.try_get_matches_from.ensures.kinds (ap is_simple_and_free same))
+
+pub returns-clause-rows : goal.returns-clause-rows
+returns-clause-rows c =
+    let words = map string_bytes c.args.words.now in
+    let r = c.try_get_matches_from.result in
+    IfOk-weaker r _ _ (λ m has. (has refl).1) (subst (λ (a : App). IfOk r (HasMatchesOf a words)) c.in_ok-command.ensures c.try_get_matches_from.ensures.matches)
 
 pub returns-clause-options : goal.returns-clause-options
 returns-clause-options c =

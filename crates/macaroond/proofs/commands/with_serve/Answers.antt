@@ -1,7 +1,8 @@
 use Rattle.std.proofs.Common.{rules, ◌≡◌, ◌∙◌, ap, ap₂, codes, false}
 use Rattle.std.proofs.lemmas.Result.{IfOk-weaker}
 use Rattle.clap.specs.Words.{App, app_of, new_app, rule_of, with_rule, with_subcommand}
-use Rattle.macaroond.specs.CommandLine.{number, option, required, serve_command, socket_command}
+use Rattle.macaroond.specs.Arguments.{number, option, required}
+use Rattle.macaroond.specs.CommandLine.{serve_command, socket_command}
 use Rattle.macaroond.proofs.commands.with_serve.Goals as goal
 
 pub returns : goal.returns

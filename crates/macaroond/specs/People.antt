@@ -1,0 +1,198 @@
+-- What people ask of the program, and what they are told.
+use Rattle.std.specs.Prelude.{◌≡◌, ◌≢◌, ◌⊎◌, ℕ, Bool, List, [], Option, Some, None, codes, string_bytes, true, false}
+use Rattle.std.specs.Prelude.{if◌then◌else◌, option_map, unwrap_or, Result, Ok, Err}
+use Rattle.std.specs.declared.alloc.Global.{Global}
+use Rattle.std.specs.declared.string.String.{String}
+use Rattle.clap.specs.Words.{App, Row, Rule, Text, all_of, first_of, new_app, new_rule, with_rule}
+use Rattle.clap.specs.Words.{with_subcommand}
+use Rattle.clap.specs.declared.builder.action.ArgAction.TheVariants.{Append}
+use Rattle.clap.specs.declared.builder.value_parser.ValueParser.TheVariants.{NonEmptyString}
+use Rattle.mac_keys.specs.Table.{Keys, table_of}
+use Rattle.mac_wire.specs.Request.{Asked, mint, attenuate, verify}
+use Rattle.mac_wire.specs.declared.request.TokenForm.{TokenForm}
+use Rattle.mac_words.specs.Moment.{IsMoment}
+use Rattle.mac_words.specs.Payload.{texts_of}
+use Rattle.mac_words.specs.Said.{Says, mint_form, next_form}
+use Rattle.mac_words.specs.Spelling.{form_named}
+use Rattle.mac_words.specs.declared.fault.FieldFault.TheVariants as field
+use Rattle.mac_words.specs.declared.fault.TextFault.TheVariants as text
+use Rattle.mac_words.specs.declared.key_lines.NameFault.TheVariants as name
+use Rattle.mac_words.specs.declared.saying.Said.{Said}
+use Rattle.macaroond.specs.Arguments.{option, required}
+use Rattle.macaroond.specs.declared.people.fault.PersonFault.{PersonFault}
+use Rattle.macaroond.specs.declared.people.fault.PersonFault.TheVariants as fault
+use Rattle.macaroond.specs.declared.people.asking.AttenuateWords.{AttenuateWords}
+use Rattle.macaroond.specs.declared.people.asking.MintWords.{MintWords}
+use Rattle.macaroond.specs.declared.people.asking.VerifyWords.{VerifyWords}
+use Rattle.macaroond.specs.declared.people.asking.Task.{Task}
+use Rattle.macaroond.specs.declared.people.asking.Task.TheVariants.{Keygen, Mint, Attenuate, Verify}
+use Rattle.macaroond.specs.declared.people.asking.Task.TheVariants.{Inspect}
+
+-- ---- what `clap` is told
+
+-- a word that stands without a name
+abbrev pub word : Text → Rule
+word name = record (new_rule name) { value_names = 1 }
+
+-- an option that may be given often, and not as the empty text
+abbrev pub repeated : Rule → Rule
+repeated rule = record rule { action = Some Append; parser = Some NonEmptyString }
+
+-- the subcommand `keygen`, with one word
+abbrev pub keygen_command : App
+keygen_command = with_rule (new_app (codes "keygen")) (required (word (codes "name")))
+
+-- a subcommand with the options `--keys` and `--key`
+abbrev pub with_key : App → App
+with_key app = with_rule (with_rule app (required (option (codes "keys"))))
+    (required (option (codes "key")))
+
+-- the subcommand `mint`, with six options
+abbrev pub mint_command : App
+mint_command = with_rule (with_rule (with_rule (with_rule (with_key (new_app (codes "mint")))
+    (option (codes "location"))) (required (option (codes "identifier"))))
+    (repeated (option (codes "caveat")))) (option (codes "form"))
+
+-- the subcommand `attenuate`, with two options and a word
+abbrev pub attenuate_command : App
+attenuate_command = with_rule (with_rule (with_rule (new_app (codes "attenuate"))
+    (required (repeated (option (codes "caveat"))))) (option (codes "form")))
+    (required (word (codes "token")))
+
+-- the subcommand `verify`, with four options and a word
+abbrev pub verify_command : App
+verify_command = with_rule (with_rule (with_rule (with_key (new_app (codes "verify")))
+    (repeated (option (codes "fact")))) (option (codes "at"))) (required (word (codes "token")))
+
+-- the subcommand `inspect`, with one word
+abbrev pub inspect_command : App
+inspect_command = with_rule (new_app (codes "inspect")) (required (word (codes "token")))
+
+-- a program with the subcommands for people
+abbrev pub with_people : App → App
+with_people program = with_subcommand (with_subcommand (with_subcommand (with_subcommand
+    (with_subcommand program keygen_command.top) mint_command.top) attenuate_command.top)
+    verify_command.top) inspect_command.top
+
+-- ---- what the task says of the words
+
+-- the text of an argument, empty where it was left out
+abbrev pub text_given : Option Text → Text
+text_given given = unwrap_or given []
+
+-- the texts of an option that may be given often
+abbrev pub texts_given : Option (List Text) → List Text
+texts_given given = unwrap_or given []
+
+abbrev pub IsGivenText : String Global → Text → List Row → Type 0
+IsGivenText text id rows = string_bytes text ≡ text_given (first_of id rows)
+
+abbrev pub IsOptionalText : Option (String Global) → Text → List Row → Type 0
+IsOptionalText text id rows = option_map string_bytes text ≡ first_of id rows
+
+abbrev pub AreGivenTexts : List (String Global) → Text → List Row → Type 0
+AreGivenTexts texts id rows = texts_of texts ≡ texts_given (all_of id rows)
+
+abbrev pub HasMint : MintWords → List Row → Type 0
+HasMint words rows = IsGivenText words.keys (codes "keys") rows
+    × IsGivenText words.key (codes "key") rows
+    × IsGivenText words.location (codes "location") rows
+    × IsGivenText words.identifier (codes "identifier") rows
+    × AreGivenTexts words.caveats.items (codes "caveat") rows
+    × IsOptionalText words.form (codes "form") rows
+
+abbrev pub HasAttenuate : AttenuateWords → List Row → Type 0
+HasAttenuate words rows = IsGivenText words.token (codes "token") rows
+    × AreGivenTexts words.caveats.items (codes "caveat") rows
+    × IsOptionalText words.form (codes "form") rows
+
+abbrev pub HasVerify : VerifyWords → List Row → Type 0
+HasVerify words rows = IsGivenText words.keys (codes "keys") rows
+    × IsGivenText words.key (codes "key") rows
+    × IsGivenText words.token (codes "token") rows
+    × AreGivenTexts words.facts.items (codes "fact") rows
+    × IsOptionalText words.at (codes "at") rows
+
+-- the task has the values of a subcommand's arguments
+abbrev pub HasTask : Task → List Row → Type 0
+HasTask (Keygen name) rows = IsGivenText name (codes "name") rows
+HasTask (Mint words) rows = HasMint words rows
+HasTask (Attenuate words) rows = HasAttenuate words rows
+HasTask (Verify words) rows = HasVerify words rows
+HasTask (Inspect token) rows = IsGivenText token (codes "token") rows
+
+-- the subcommand that the task stands for
+abbrev pub task_name : Task → Text
+task_name (Keygen name) = codes "keygen"
+task_name (Mint words) = codes "mint"
+task_name (Attenuate words) = codes "attenuate"
+task_name (Verify words) = codes "verify"
+task_name (Inspect token) = codes "inspect"
+
+-- the task is the one that a subcommand of this name, with these arguments, stands for
+abbrev pub IsTask : Task → Option (Text × List Row) → Type 0
+IsTask task met = (rows : List Row) × (met ≡ Some (task_name task, rows)) × HasTask task rows
+
+-- the names of the subcommands for people
+abbrev pub IsTaskName : Text → Type 0
+IsTaskName name = (name ≡ codes "keygen") ⊎ ((name ≡ codes "mint") ⊎ ((name ≡ codes "attenuate")
+    ⊎ ((name ≡ codes "verify") ⊎ (name ≡ codes "inspect"))))
+
+-- ---- what the words ask
+
+abbrev pub mint_asked : Option TokenForm → MintWords → Asked
+mint_asked form words = mint (mint_form form) (string_bytes words.key)
+    (string_bytes words.location) (string_bytes words.identifier) (texts_of words.caveats.items)
+
+abbrev pub attenuate_asked : Option TokenForm → List ℕ → AttenuateWords → Asked
+attenuate_asked form token words =
+    attenuate (next_form form token) token (texts_of words.caveats.items)
+
+abbrev pub verify_asked : List ℕ → ℕ → VerifyWords → Asked
+verify_asked token moment words =
+    verify (string_bytes words.key) token moment (texts_of words.facts.items)
+
+-- what is said of a request about these bytes of a token, as `mac_words` says it
+abbrev pub SaysWords : Keys → List ℕ → Asked → Result Said PersonFault → Type 0
+SaysWords table token request (Ok said) = Says table token request (Ok said)
+SaysWords table token request (Err (fault.Words why)) = Says table token request (Err why)
+SaysWords table token request (Err _) = ⊥
+
+-- the same under no keys
+abbrev pub SaysWordsAlone : List ℕ → Asked → Result Said PersonFault → Type 0
+SaysWordsAlone token request result =
+    (table : Keys) → table_of [] ≡ Ok table → SaysWords table token request result
+
+-- the form that a word names, if there is a word
+abbrev pub GivesForm : Option (List ℕ) → Result (Option TokenForm) PersonFault → Type 0
+GivesForm None result = result ≡ Ok None
+GivesForm (Some given) (Ok form) = (form ≡ form_named given) × (form ≢ None)
+GivesForm (Some given) (Err why) = (why ≡ fault.Form) × (form_named given ≡ None)
+
+-- the moment that a word names, or that it names none, or that memory ran out
+abbrev pub GivesMoment : List ℕ → Result ℕ PersonFault → Type 0
+GivesMoment given (Ok n) = IsMoment given n
+GivesMoment given (Err why) =
+    (why ≡ fault.Memory) ⊎ ((why ≡ fault.Moment) × ((n : ℕ) → ¬ (IsMoment given n)))
+
+-- ---- how a run ends
+
+-- want of memory; words that say nothing; a file or a device
+abbrev pub person_status : PersonFault → ℕ
+person_status fault.Memory = 4
+person_status (fault.Words field.Memory) = 4
+person_status (fault.Name name.Memory) = 4
+person_status (fault.Token text.Memory) = 4
+person_status (fault.Words _) = 2
+person_status (fault.Name _) = 2
+person_status (fault.Token _) = 2
+person_status fault.Form = 2
+person_status fault.Moment = 2
+person_status _ = 3
+
+abbrev pub said_status : Bool → ℕ
+said_status is_refusal = if is_refusal then 1 else 0
+
+-- what was said ends with its own status, or with that of a device where it can't be printed
+abbrev pub IsToldSo : Bool → ℕ → Type 0
+IsToldSo is_refusal status = (status ≡ said_status is_refusal) ⊎ (status ≡ 3)

@@ -1,0 +1,189 @@
+//! Doing what a person asks.
+ghost use Rattle.std.specs.Prelude.{◌≡◌, []};
+ghost use Rattle.macaroond.specs.People.{IsToldSo, SaysWords, SaysWordsAlone, attenuate_asked};
+ghost use Rattle.macaroond.specs.People.{mint_asked, person_status, said_status, verify_asked};
+
+use super::asking::{AttenuateWords, MintWords, VerifyWords};
+use super::given::{form_of, keys_of, moment_at, new_secret, token_of};
+use super::{PersonFault, Task};
+use crate::{ANSWERED, DEVICE_FAULT, REFUSED};
+use mac_keys::KeyTable;
+use mac_wire::{TokenForm, WriterSink, send_all};
+use mac_words::{Said, key_line, say_attenuate, say_inspect, say_mint, say_verify};
+use std::alloc::{Alloc, Global};
+use std::fs::Files;
+use std::io;
+use std::random::RandomSource;
+use std::time::Clock;
+
+/// Does what a person asks, tells what comes of it, and gives the exit status.
+pub fn run_task<R>(rt: &R, task: &Task) -> u8
+where
+    R: Alloc<A = Global> + Input + Print + Eprint + Files + Clock + RandomSource + Sync,
+    R::Reader: Send,
+    R::File: Send,
+{
+    match said_of(rt, task) {
+        Ok(said) => tell_said(rt, task, &said),
+        Err(fault) => tell_person(rt, fault),
+    }
+}
+
+// What is said to the person.
+fn said_of<'a, R>(rt: &R, task: &'a Task) -> Result<Said, PersonFault<'a>>
+where
+    R: Alloc<A = Global> + Input + Files + Clock + RandomSource,
+    R::Reader: Send,
+    R::File: Send,
+{
+    match task {
+        Task::Keygen { name } => keygen(rt, name.as_str()),
+        Task::Mint(words) => mint(rt, words),
+        Task::Attenuate(words) => attenuate(rt, words),
+        Task::Verify(words) => verify(rt, words),
+        Task::Inspect { token } => inspect(rt, token.as_str()),
+    }
+}
+
+fn keygen<'a, R>(rt: &R, name: &str) -> Result<Said, PersonFault<'a>>
+where
+    R: Alloc<A = Global> + RandomSource,
+{
+    let secret = new_secret(rt)?;
+    let text = key_line(rt.alloc(), name, &secret)?;
+    Ok(Said {
+        text,
+        is_refusal: false,
+    })
+}
+
+fn mint<'a, R>(rt: &R, words: &'a MintWords) -> Result<Said, PersonFault<'a>>
+where
+    R: Alloc<A = Global> + Files,
+    R::File: Send,
+{
+    let form = form_of(&words.form)?;
+    let table = keys_of(rt, words.keys.as_str())?;
+    mint_under(rt.alloc(), &table, form, words)
+}
+
+fn attenuate<'a, R>(rt: &R, words: &'a AttenuateWords) -> Result<Said, PersonFault<'a>>
+where
+    R: Alloc<A = Global> + Input,
+    R::Reader: Send,
+{
+    let form = form_of(&words.form)?;
+    let token = token_of(rt, words.token.as_str())?;
+    attenuate_bytes(rt.alloc(), form, token.as_slice(), words)
+}
+
+fn verify<'a, R>(rt: &R, words: &'a VerifyWords) -> Result<Said, PersonFault<'a>>
+where
+    R: Alloc<A = Global> + Input + Files + Clock,
+    R::Reader: Send,
+    R::File: Send,
+{
+    let moment = moment_at(rt, &words.at)?;
+    let table = keys_of(rt, words.keys.as_str())?;
+    let token = token_of(rt, words.token.as_str())?;
+    verify_under(rt.alloc(), &table, moment, token.as_slice(), words)
+}
+
+fn inspect<'a, R>(rt: &R, token: &str) -> Result<Said, PersonFault<'a>>
+where
+    R: Alloc<A = Global> + Input,
+    R::Reader: Send,
+{
+    let token = token_of(rt, token)?;
+    Ok(say_inspect(rt.alloc(), token.as_slice())?)
+}
+
+// What is said of the words of a mint under the keys of a table.
+fn mint_under<'a>(
+    alloc: Global,
+    table: &KeyTable,
+    form: Option<TokenForm>,
+    words: &MintWords,
+) -> Result<Said, PersonFault<'a>>
+    ensures { SaysWords table.now [] (mint_asked form words.now) result }
+{
+    Ok(say_mint(
+        alloc,
+        table,
+        form,
+        words.key.as_str(),
+        words.location.as_str(),
+        words.identifier.as_str(),
+        words.caveats.as_slice(),
+    )?)
+}
+
+// What is said of the words of an attenuate about these bytes of a token.
+fn attenuate_bytes<'a>(
+    alloc: Global,
+    form: Option<TokenForm>,
+    token: &[u8],
+    words: &AttenuateWords,
+) -> Result<Said, PersonFault<'a>>
+    ensures { SaysWordsAlone token.now (attenuate_asked form token.now words.now) result }
+{
+    Ok(say_attenuate(alloc, form, token, words.caveats.as_slice())?)
+}
+
+// What is said of the words of a verify about these bytes of a token, under the keys of a table.
+fn verify_under<'a>(
+    alloc: Global,
+    table: &KeyTable,
+    moment: u64,
+    token: &[u8],
+    words: &VerifyWords,
+) -> Result<Said, PersonFault<'a>>
+    ensures { SaysWords table.now token.now (verify_asked token.now moment words.now) result }
+{
+    Ok(say_verify(
+        alloc,
+        table,
+        words.key.as_str(),
+        token,
+        moment,
+        words.facts.as_slice(),
+    )?)
+}
+
+// Tells what is said, and gives the exit status. A refusal goes to standard error, so that nobody
+// takes it for a token, but for that of a verify, which is its answer.
+fn tell_said<R: Print + Eprint + Sync>(rt: &R, task: &Task, said: &Said) -> u8
+    ensures { IsToldSo said.now.is_refusal result }
+{
+    if said.is_refusal && !matches!(task, Task::Verify(_)) {
+        if let Ok(text) = str::from_utf8(said.text.as_slice()) {
+            let _ = eprint!(rt; "{text}");
+        }
+        return REFUSED;
+    }
+    match send_all(&mut WriterSink::new(io::writer(rt)), said.text.as_slice()) {
+        Ok(()) => said_status(said.is_refusal),
+        Err(_) => tell_device(rt),
+    }
+}
+
+fn said_status(is_refusal: bool) -> u8
+    ensures { result ≡ said_status is_refusal }
+{
+    if is_refusal { REFUSED } else { ANSWERED }
+}
+
+fn tell_device<R: Eprint>(rt: &R) -> u8
+    ensures { result ≡ DEVICE_FAULT }
+{
+    let _ = eprintln!(rt; "error: standard output can't be written");
+    DEVICE_FAULT
+}
+
+// Names a fault on standard error, and gives the exit status.
+fn tell_person<R: Eprint>(rt: &R, fault: PersonFault<'_>) -> u8
+    ensures { result ≡ person_status fault.entry }
+{
+    let _ = eprintln!(rt; "error: {fault}");
+    fault.status()
+}

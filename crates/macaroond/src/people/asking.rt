@@ -1,0 +1,188 @@
+//! What a person asks of the program, in the words of the command line.
+ghost use Rattle.std.specs.Prelude.{◌≡◌, codes, map, option_map, string_bytes, IfOk};
+ghost use Rattle.clap.specs.Words.{all_of, first_of, found_of, rows_of};
+ghost use Rattle.mac_words.specs.Payload.{texts_of};
+ghost use Rattle.macaroond.specs.People.{HasAttenuate, HasMint, HasTask, HasVerify, IsTaskName};
+ghost use Rattle.macaroond.specs.People.{task_name, text_given, texts_given};
+
+use clap::ArgMatches;
+use std::alloc::{AllocError, Global};
+
+/// What a person asks of the program, in the words of the command line.
+#[derive(Drop)]
+pub enum Task {
+    /// Print a key line with a new secret.
+    Keygen {
+        /// The name of the key.
+        name: String,
+    },
+    /// Print a new token.
+    Mint(MintWords),
+    /// Print a token with further caveats.
+    Attenuate(AttenuateWords),
+    /// Tell whether a key grants a token.
+    Verify(VerifyWords),
+    /// Tell what a token says.
+    Inspect {
+        /// The token.
+        token: String,
+    },
+}
+
+/// The words of a mint.
+#[derive(Drop)]
+pub struct MintWords {
+    /// The path of the key file.
+    pub keys: String,
+    /// The name of the key.
+    pub key: String,
+    /// The token's location.
+    pub location: String,
+    /// The token's identifier.
+    pub identifier: String,
+    /// The token's caveats, in order.
+    pub caveats: Vec<String>,
+    /// The form of the token.
+    pub form: Option<String>,
+}
+
+/// The words of an attenuate.
+#[derive(Drop)]
+pub struct AttenuateWords {
+    /// The token.
+    pub token: String,
+    /// The further caveats, in order.
+    pub caveats: Vec<String>,
+    /// The form of the new token.
+    pub form: Option<String>,
+}
+
+/// The words of a verify.
+#[derive(Drop)]
+pub struct VerifyWords {
+    /// The path of the key file.
+    pub keys: String,
+    /// The name of the key.
+    pub key: String,
+    /// The token.
+    pub token: String,
+    /// What is known of the request.
+    pub facts: Vec<String>,
+    /// The moment of the request.
+    pub at: Option<String>,
+}
+
+/// The task that a subcommand with these options stands for. An argument that was left out is the
+/// empty text; `clap` takes no line that leaves out one that it asks for.
+pub fn task_of(alloc: Global, name: &str, options: &ArgMatches<'_>) -> Result<Task, AllocError>
+    requires { IsTaskName name.now }
+    ensures { IfOk result (λ task. (task_name task ≡ name.now)
+        × HasTask task (rows_of (found_of options.now))) }
+{
+    match name {
+        "keygen" => keygen_of(alloc, options),
+        "mint" => Ok(Task::Mint(mint_of(alloc, options)?)),
+        "attenuate" => Ok(Task::Attenuate(attenuate_of(alloc, options)?)),
+        "verify" => Ok(Task::Verify(verify_of(alloc, options)?)),
+        "inspect" => inspect_of(alloc, options),
+        _ => unreachable!("the subcommand is one of those above"),
+    }
+}
+
+fn keygen_of(alloc: Global, options: &ArgMatches<'_>) -> Result<Task, AllocError>
+    ensures { IfOk result (λ task. (task_name task ≡ codes "keygen")
+        × HasTask task (rows_of (found_of options.now))) }
+{
+    let name = text_of(alloc, options, "name")?;
+    Ok(Task::Keygen { name })
+}
+
+fn inspect_of(alloc: Global, options: &ArgMatches<'_>) -> Result<Task, AllocError>
+    ensures { IfOk result (λ task. (task_name task ≡ codes "inspect")
+        × HasTask task (rows_of (found_of options.now))) }
+{
+    let token = text_of(alloc, options, "token")?;
+    Ok(Task::Inspect { token })
+}
+
+fn mint_of(alloc: Global, options: &ArgMatches<'_>) -> Result<MintWords, AllocError>
+    ensures { IfOk result (λ words. HasMint words (rows_of (found_of options.now))) }
+{
+    Ok(MintWords {
+        keys: text_of(alloc, options, "keys")?,
+        key: text_of(alloc, options, "key")?,
+        location: text_of(alloc, options, "location")?,
+        identifier: text_of(alloc, options, "identifier")?,
+        caveats: texts_of(alloc, options, "caveat")?,
+        form: optional_text_of(alloc, options, "form")?,
+    })
+}
+
+fn attenuate_of(alloc: Global, options: &ArgMatches<'_>) -> Result<AttenuateWords, AllocError>
+    ensures { IfOk result (λ words. HasAttenuate words (rows_of (found_of options.now))) }
+{
+    Ok(AttenuateWords {
+        token: text_of(alloc, options, "token")?,
+        caveats: texts_of(alloc, options, "caveat")?,
+        form: optional_text_of(alloc, options, "form")?,
+    })
+}
+
+fn verify_of(alloc: Global, options: &ArgMatches<'_>) -> Result<VerifyWords, AllocError>
+    ensures { IfOk result (λ words. HasVerify words (rows_of (found_of options.now))) }
+{
+    Ok(VerifyWords {
+        keys: text_of(alloc, options, "keys")?,
+        key: text_of(alloc, options, "key")?,
+        token: text_of(alloc, options, "token")?,
+        facts: texts_of(alloc, options, "fact")?,
+        at: optional_text_of(alloc, options, "at")?,
+    })
+}
+
+// The value of an argument, or the empty text.
+fn text_of(alloc: Global, options: &ArgMatches<'_>, name: &str) -> Result<String, AllocError>
+    ensures { IfOk result (λ text. string_bytes text
+        ≡ text_given (first_of name.now (rows_of (found_of options.now)))) }
+{
+    match options.get_str(name) {
+        Some(text) => String::from_str(alloc, text),
+        None => Ok(String::new(alloc)),
+    }
+}
+
+// The value of an option that may be left out.
+fn optional_text_of(
+    alloc: Global,
+    options: &ArgMatches<'_>,
+    name: &str,
+) -> Result<Option<String>, AllocError>
+    ensures { IfOk result (λ text. option_map string_bytes text
+        ≡ first_of name.now (rows_of (found_of options.now))) }
+{
+    match options.get_str(name) {
+        Some(text) => Ok(Some(String::from_str(alloc, text)?)),
+        None => Ok(None),
+    }
+}
+
+// The values of an option that may be given often, in order.
+fn texts_of(alloc: Global, options: &ArgMatches<'_>, name: &str) -> Result<Vec<String>, AllocError>
+    ensures { IfOk result (λ texts. texts_of texts.items
+        ≡ texts_given (all_of name.now (rows_of (found_of options.now)))) }
+{
+    match options.get_strs(name) {
+        Some(texts) => copies(alloc, texts),
+        None => Ok(Vec::new(alloc)),
+    }
+}
+
+fn copies(alloc: Global, texts: &[&str]) -> Result<Vec<String>, AllocError>
+    ensures { IfOk result (λ copies. texts_of copies.items ≡ map (λ text. text.now) texts.now) }
+{
+    let mut copies = Vec::new(alloc);
+    for text in texts {
+        copies.push(String::from_str(alloc, text)?)?;
+    }
+    Ok(copies)
+}

@@ -1,0 +1,108 @@
+//! Why a person gets no answer.
+ghost use Rattle.std.specs.Prelude.{◌≡◌};
+ghost use Rattle.macaroond.specs.People.{person_status};
+ghost use Rattle.macaroond.specs.declared.people.fault.PersonFault.TheVariants as fault;
+
+use mac_keys::LineFault;
+use mac_words::{FieldFault, NameFault, TextFault};
+use std::alloc::AllocError;
+use thiserror::Error;
+
+/// Why a person gets no answer. The text is what the program prints behind `error: `.
+#[derive(Clone, Copy, Debug, Error)]
+pub enum PersonFault<'a> {
+    /// No request carries the words.
+    #[error("{0}")]
+    Words(FieldFault),
+    /// No key has the name.
+    #[error("{0}")]
+    Name(NameFault),
+    /// The token is written badly.
+    #[error("{0}")]
+    Token(TextFault),
+    /// The form of the new token has another name.
+    #[error("the form of a token is v1, v2, json or v2-text")]
+    Form,
+    /// The moment is none.
+    #[error("the moment is neither seconds since 1970 nor a time as 2026-01-31T12:00:00Z")]
+    Moment,
+    /// A line of the key file, counted from 1, and what is wrong with it.
+    #[error("{path}: line {line}: {kind}")]
+    KeyLine {
+        path: &'a str,
+        line: u64,
+        kind: LineFault,
+    },
+    /// The key file.
+    #[error("{path}: the key file can't be read, or is longer than 16777216 bytes")]
+    KeyFile {
+        path: &'a str,
+    },
+    /// Standard input.
+    #[error("standard input can't be read, or is longer than 16777216 bytes")]
+    Input,
+    /// Standard input has another number of lines than one.
+    #[error("standard input has to be one line, the token")]
+    Lines,
+    /// The clock.
+    #[error("the clock can't be read")]
+    Clock,
+    /// The system's random bytes.
+    #[error("the system gives no random bytes")]
+    Random,
+    /// Memory ran out.
+    #[error("memory ran out")]
+    Memory,
+}
+
+impl<'a> PersonFault<'a> {
+    /// The exit status of a run that ended so.
+    pub fn status(self) -> u8
+        ensures { result ≡ person_status self.entry }
+    {
+        match self {
+            PersonFault::Memory
+            | PersonFault::Words(FieldFault::Memory)
+            | PersonFault::Name(NameFault::Memory)
+            | PersonFault::Token(TextFault::Memory) => 4,
+            PersonFault::Words(_)
+            | PersonFault::Name(_)
+            | PersonFault::Token(_)
+            | PersonFault::Form
+            | PersonFault::Moment => 2,
+            _ => 3,
+        }
+    }
+}
+
+impl<'a> From<AllocError> for PersonFault<'a> {
+    ghost from_gives = { λ _ told. told ≡ fault.Memory };
+
+    fn from(_refused: AllocError) -> PersonFault<'a> {
+        PersonFault::Memory
+    }
+}
+
+impl<'a> From<FieldFault> for PersonFault<'a> {
+    ghost from_gives = { λ why told. told ≡ fault.Words why };
+
+    fn from(why: FieldFault) -> PersonFault<'a> {
+        PersonFault::Words(why)
+    }
+}
+
+impl<'a> From<NameFault> for PersonFault<'a> {
+    ghost from_gives = { λ why told. told ≡ fault.Name why };
+
+    fn from(why: NameFault) -> PersonFault<'a> {
+        PersonFault::Name(why)
+    }
+}
+
+impl<'a> From<TextFault> for PersonFault<'a> {
+    ghost from_gives = { λ why told. told ≡ fault.Token why };
+
+    fn from(why: TextFault) -> PersonFault<'a> {
+        PersonFault::Token(why)
+    }
+}

@@ -1,0 +1,122 @@
+//! What the words of a person name.
+ghost use Rattle.std.specs.Prelude.{◌≡◌, ◌≢◌, [], ◌∷◌, ℕ, List, option_map, string_bytes};
+ghost use Rattle.std.specs.Prelude.{IfSome, MatchOption};
+ghost use Rattle.macaroond.specs.Lines.{lines};
+ghost use Rattle.macaroond.specs.People.{GivesForm, GivesMoment};
+
+use super::PersonFault;
+use crate::daemon::read_keys;
+use crate::fault::PipeFault;
+use crate::input::read_input;
+use crate::lines::next_line;
+use mac_keys::KeyTable;
+use mac_wire::{ReaderSource, TokenForm};
+use mac_words::{form_named, moment, token_bytes};
+use std::alloc::{Alloc, Global};
+use std::fs::Files;
+use std::random::RandomSource;
+use std::time::{Clock, SystemTime, UNIX_EPOCH};
+
+/// The word for a token that is read from standard input.
+const STANDARD_INPUT: &str = "-";
+
+/// The keys of a file.
+pub(super) fn keys_of<'a, R>(rt: &R, path: &'a str) -> Result<KeyTable, PersonFault<'a>>
+where
+    R: Files + Alloc<A = Global>,
+    R::File: Send,
+{
+    match read_keys(rt, path) {
+        Ok(table) => Ok(table),
+        Err(PipeFault::Keys { line, kind }) => Err(PersonFault::KeyLine { path, line, kind }),
+        Err(PipeFault::Device | PipeFault::TooLong) => Err(PersonFault::KeyFile { path }),
+        Err(PipeFault::Memory) => Err(PersonFault::Memory),
+    }
+}
+
+/// The bytes of a token: those of the word, or of the one line of standard input.
+pub(super) fn token_of<'a, R>(rt: &R, word: &str) -> Result<Vec<u8>, PersonFault<'a>>
+where
+    R: Input + Alloc<A = Global>,
+    R::Reader: Send,
+{
+    if word != STANDARD_INPUT {
+        return Ok(token_bytes(rt.alloc(), word.as_bytes())?);
+    }
+    let input = match read_input(rt.alloc(), &mut ReaderSource::new(rt.reader())) {
+        Ok(input) => input,
+        Err(PipeFault::Memory) => return Err(PersonFault::Memory),
+        Err(_) => return Err(PersonFault::Input),
+    };
+    match only_line(input.as_slice()) {
+        Some(line) => Ok(token_bytes(rt.alloc(), line)?),
+        None => Err(PersonFault::Lines),
+    }
+}
+
+// The one line of a text.
+#[tactic(auto, using(crate::proofs::LineLemmas::no_line, crate::proofs::LineLemmas::two_lines))]
+fn only_line(text: &[u8]) -> Option<&[u8]>
+    ensures { MatchOption result ((line : List ℕ) → lines text.now ≢ line ∷ [])
+        (λ line. lines text.now ≡ line.now ∷ []) }
+{
+    let (line, behind) = next_line(text)?;
+    match next_line(behind) {
+        Some(_) => None,
+        None => Some(line),
+    }
+}
+
+/// The form that a word names, if there is a word.
+pub(super) fn form_of<'a>(word: &Option<String>) -> Result<Option<TokenForm>, PersonFault<'a>>
+    ensures { GivesForm (option_map string_bytes word.now) result }
+{
+    let Some(word) = word else {
+        return Ok(None);
+    };
+    match form_named(word.as_str()) {
+        Some(form) => Ok(Some(form)),
+        None => Err(PersonFault::Form),
+    }
+}
+
+/// The moment that a word names; without a word the present.
+pub(super) fn moment_at<'a, R>(rt: &R, word: &Option<String>) -> Result<u64, PersonFault<'a>>
+where
+    R: Alloc<A = Global> + Clock,
+    ensures { IfSome word.now (λ word. GivesMoment (string_bytes word) result) }
+{
+    match word {
+        Some(word) => moment_of(rt.alloc(), word.as_str()),
+        None => present(rt),
+    }
+}
+
+fn moment_of<'a>(alloc: Global, word: &str) -> Result<u64, PersonFault<'a>>
+    ensures { GivesMoment word.now result }
+{
+    match moment(alloc, word)? {
+        Some(second) => Ok(second),
+        None => Err(PersonFault::Moment),
+    }
+}
+
+// The second of the system's clock.
+fn present<'a, R: Clock>(rt: &R) -> Result<u64, PersonFault<'a>> {
+    let Ok(now) = SystemTime::now(rt) else {
+        return Err(PersonFault::Clock);
+    };
+    match now.duration_since(UNIX_EPOCH) {
+        Ok(since) => Ok(since.as_secs()),
+        Err(_) => Err(PersonFault::Clock),
+    }
+}
+
+/// 32 random bytes of the system.
+pub(super) fn new_secret<'a, R: RandomSource>(rt: &R) -> Result<[u8; 32], PersonFault<'a>> {
+    let mut secret = [0u8; 32];
+    match rt.fill_bytes(&mut secret) {
+        Ok(()) => Ok(secret),
+        Err(_) => Err(PersonFault::Random),
+    }
+}

@@ -1,0 +1,265 @@
+//! The subcommands for people, as `clap` is told them.
+ghost use Rattle.std.specs.Prelude.{◌≡◌, false, true, IfOk};
+ghost use Rattle.clap.specs.Words.{app_of, new_app, rule_of, with_rule};
+ghost use Rattle.clap.specs.Words.{with_subcommand};
+ghost use Rattle.macaroond.specs.Arguments.{option, required};
+ghost use Rattle.macaroond.specs.People.{attenuate_command, inspect_command, keygen_command};
+ghost use Rattle.macaroond.specs.People.{mint_command, repeated, verify_command, with_key};
+ghost use Rattle.macaroond.specs.People.{with_people, word};
+
+use clap::builder::ValueParser;
+use clap::{Arg, ArgAction, Command};
+use std::alloc::{AllocError, Global};
+
+/// What the help of `keygen` says below its options.
+const KEYGEN_HELP: &str = "\
+Prints a line of a key file, `key NAME SECRET`: the secret is 32 random bytes of the system, in
+hexadecimal. NAME has 1 to 64 letters, digits, dots, underscores or dashes. Whoever has the line
+can mint tokens under the key.
+
+Example:
+  macaroond keygen bank >> keys
+
+Exit status:
+  0  the line was printed
+  2  a bad command line
+  3  the system gives no random bytes, or standard output failed
+  4  memory ran out";
+
+/// What the help of `mint` says below its options.
+const MINT_HELP: &str = "\
+Prints a new token, one of form v2 as `hex:` and its digits. A refusal is told on standard error.
+
+Example:
+  macaroond mint --keys keys --key bank --identifier alice --caveat 'time < 2030-01-01T00:00'
+
+Exit status:
+  0  the token was printed
+  1  refused: the key file has no such key, or a limit is passed
+  2  a bad command line
+  3  the key file or standard output failed, or a key line has a fault
+  4  memory ran out";
+
+/// What the help of `attenuate` says below its options.
+const ATTENUATE_HELP: &str = "\
+Prints the token with the caveats behind its own: one that is granted in fewer cases. No key is
+needed for it. TOKEN is the token's text, `hex:` and its digits, or - for one line of standard
+input. A refusal is told on standard error.
+
+Example:
+  macaroond attenuate --caveat 'account = 3735928559' \"$token\"
+
+Exit status:
+  0  the token was printed
+  1  refused: the token is none, or a limit is passed
+  2  a bad command line
+  3  standard input or standard output failed
+  4  memory ran out";
+
+/// What the help of `verify` says below its options.
+const VERIFY_HELP: &str = "\
+Prints `granted`, or `refused`, the number of the reason and the reason. A caveat holds where it is
+one of the facts, or a time limit `time < 2030-01-01T00:00` that isn't over. TOKEN is the token's
+text, `hex:` and its digits, or - for one line of standard input. MOMENT is a number of seconds
+since 1970, or a time as 2026-01-31T12:00:00Z.
+
+Example:
+  macaroond verify --keys keys --key bank --fact 'account = 3735928559' \"$token\"
+
+Exit status:
+  0  granted
+  1  refused
+  2  a bad command line
+  3  the key file, standard input, the clock or standard output failed, or a key line has a fault
+  4  memory ran out";
+
+/// What the help of `inspect` says below its options.
+const INSPECT_HELP: &str = "\
+Prints what the token says: its form, location, identifier, caveats and signature. No key is
+needed for it, and nothing is verified. Bytes that aren't printable ASCII, and the backslash, are
+printed as \\x and two digits. TOKEN is the token's text, `hex:` and its digits, or - for one line
+of standard input.
+
+Example:
+  macaroond inspect \"$token\"
+
+Exit status:
+  0  the token was told
+  1  it is no token; standard error says why
+  2  a bad command line
+  3  standard input or standard output failed
+  4  memory ran out";
+
+const KEYS_HELP: &str = "The file of key lines";
+
+const KEY_HELP: &str = "The name of the key";
+
+const TOKEN_HELP: &str = "The token, or - for a line of standard input";
+
+const CAVEAT_HELP: &str = "A caveat; may be given often";
+
+const FACT_HELP: &str = "What is known of the request; may be given often";
+
+const MINT_FORM_HELP: &str = "The form: v1, v2, json or v2-text [default: v2-text]";
+
+const NEXT_FORM_HELP: &str = "The form: v1, v2, json or v2-text [default: that of the token]";
+
+/// Adds the subcommands for people.
+pub(crate) fn with_people<'a>(
+    alloc: Global,
+    program: Command<'a>,
+) -> Result<Command<'a>, AllocError>
+    ensures { IfOk result (λ whole. app_of whole ≡ with_people (app_of program.entry)) }
+{
+    let program = added(program, keygen(alloc)?)?;
+    let program = added(program, mint(alloc)?)?;
+    let program = added(program, attenuate(alloc)?)?;
+    let program = added(program, verify(alloc)?)?;
+    added(program, inspect(alloc)?)
+}
+
+fn keygen<'a>(alloc: Global) -> Result<Command<'a>, AllocError>
+    ensures { IfOk result (λ whole. app_of whole ≡ keygen_command) }
+{
+    let command = subcommand(
+        alloc,
+        "keygen",
+        "Prints a key line with a new secret",
+        KEYGEN_HELP,
+    );
+    with_arg(command, word(alloc, "name", "NAME", "The name of the key"))
+}
+
+fn mint<'a>(alloc: Global) -> Result<Command<'a>, AllocError>
+    ensures { IfOk result (λ whole. app_of whole ≡ mint_command) }
+{
+    let command = subcommand(alloc, "mint", "Prints a new token", MINT_HELP);
+    let command = with_key(alloc, command)?;
+    let location = valued(
+        alloc,
+        "location",
+        "TEXT",
+        "Where the token is for [default: empty]",
+    );
+    let command = with_arg(command, location)?;
+    let identifier = asked(alloc, "identifier", "TEXT", "What the token is about");
+    let command = with_arg(command, identifier)?;
+    let command = with_arg(command, repeated(alloc, "caveat", CAVEAT_HELP))?;
+    with_arg(command, valued(alloc, "form", "FORM", MINT_FORM_HELP))
+}
+
+fn attenuate<'a>(alloc: Global) -> Result<Command<'a>, AllocError>
+    ensures { IfOk result (λ whole. app_of whole ≡ attenuate_command) }
+{
+    let command = subcommand(
+        alloc,
+        "attenuate",
+        "Prints a token with further caveats",
+        ATTENUATE_HELP,
+    );
+    let caveats = repeated(alloc, "caveat", CAVEAT_HELP).required(true);
+    let command = with_arg(command, caveats)?;
+    let command = with_arg(command, valued(alloc, "form", "FORM", NEXT_FORM_HELP))?;
+    with_arg(command, word(alloc, "token", "TOKEN", TOKEN_HELP))
+}
+
+fn verify<'a>(alloc: Global) -> Result<Command<'a>, AllocError>
+    ensures { IfOk result (λ whole. app_of whole ≡ verify_command) }
+{
+    let command = subcommand(
+        alloc,
+        "verify",
+        "Tells whether a key grants a token",
+        VERIFY_HELP,
+    );
+    let command = with_key(alloc, command)?;
+    let command = with_arg(command, repeated(alloc, "fact", FACT_HELP))?;
+    let at = valued(
+        alloc,
+        "at",
+        "MOMENT",
+        "The moment of the request [default: now]",
+    );
+    let command = with_arg(command, at)?;
+    with_arg(command, word(alloc, "token", "TOKEN", TOKEN_HELP))
+}
+
+fn inspect<'a>(alloc: Global) -> Result<Command<'a>, AllocError>
+    ensures { IfOk result (λ whole. app_of whole ≡ inspect_command) }
+{
+    let command = subcommand(alloc, "inspect", "Tells what a token says", INSPECT_HELP);
+    with_arg(command, word(alloc, "token", "TOKEN", TOKEN_HELP))
+}
+
+// The program with one more subcommand.
+fn added<'a>(program: Command<'a>, command: Command<'a>) -> Result<Command<'a>, AllocError>
+    requires { (app_of command).top.is_plain ≡ true }
+    ensures { IfOk result (λ whole.
+        app_of whole ≡ with_subcommand (app_of program.entry) (app_of command.entry).top) }
+{
+    program.subcommand(command)
+}
+
+// A subcommand without its arguments.
+fn subcommand<'a>(alloc: Global, name: &'a str, about: &'a str, help: &'a str) -> Command<'a>
+    ensures { app_of result ≡ new_app name.entry.now }
+{
+    Command::new(alloc, name).about(about).after_help(help)
+}
+
+// The subcommand with the options `--keys` and `--key`.
+fn with_key<'a>(alloc: Global, command: Command<'a>) -> Result<Command<'a>, AllocError>
+    ensures { IfOk result (λ whole. app_of whole ≡ with_key (app_of command.entry)) }
+{
+    let command = with_arg(command, asked(alloc, "keys", "FILE", KEYS_HELP))?;
+    with_arg(command, asked(alloc, "key", "NAME", KEY_HELP))
+}
+
+// The subcommand with one more argument.
+fn with_arg<'a>(command: Command<'a>, arg: Arg<'a>) -> Result<Command<'a>, AllocError>
+    requires { arg.global ≡ false }
+    ensures { IfOk result (λ whole.
+        app_of whole ≡ with_rule (app_of command.entry) (rule_of arg.entry)) }
+{
+    command.arg(arg)
+}
+
+// An option that may be given often, and not as the empty text.
+fn repeated<'a>(alloc: Global, name: &'a str, help: &'a str) -> Arg<'a>
+    ensures rule { rule_of result ≡ repeated (option name.entry.now) }
+    ensures local { result.global ≡ false }
+{
+    valued(alloc, name, "TEXT", help)
+        .action(ArgAction::Append)
+        .value_parser(ValueParser::NonEmptyString)
+}
+
+// An option that has to be given.
+fn asked<'a>(alloc: Global, name: &'a str, value: &'a str, help: &'a str) -> Arg<'a>
+    ensures rule { rule_of result ≡ required (option name.entry.now) }
+    ensures local { result.global ≡ false }
+{
+    valued(alloc, name, value, help).required(true)
+}
+
+// An option that takes a value.
+fn valued<'a>(alloc: Global, name: &'a str, value: &'a str, help: &'a str) -> Arg<'a>
+    ensures rule { rule_of result ≡ option name.entry.now }
+    ensures local { result.global ≡ false }
+{
+    Arg::new(alloc, name)
+        .long(name)
+        .value_name(value)
+        .help(help)
+}
+
+// A word that has to be given, without a name.
+fn word<'a>(alloc: Global, name: &'a str, value: &'a str, help: &'a str) -> Arg<'a>
+    ensures rule { rule_of result ≡ required (word name.entry.now) }
+    ensures local { result.global ≡ false }
+{
+    Arg::new(alloc, name)
+        .value_name(value)
+        .required(true)
+        .help(help)
+}
