@@ -1,5 +1,7 @@
 //! Cases of `mac_decide`.
 
+ghost use Rattle.mac_wire.specs.Reply.{IsReply};
+
 use crate::case::{Case, CaseFault};
 use crate::keys::table;
 use crate::token::{next_token, say_parts, say_refusal, say_written, token_of};
@@ -90,7 +92,7 @@ fn reply(case: &mut Case<'_>) {
     say_frame(case, &reply);
 }
 
-/// The frames of the replies to payloads under a key file, worked out together.
+/// The frames of the replies to payloads under a key file, worked out together and each alone.
 fn replies(case: &mut Case<'_>) {
     let Some(table) = table(case) else {
         return;
@@ -103,12 +105,18 @@ fn replies(case: &mut Case<'_>) {
     let Ok(replies) = answer_all(case.alloc, &jobs) else {
         return case.fail(CaseFault::Memory);
     };
-    for reply in replies.iter() {
-        say_frame(case, reply);
+    for (job, reply) in jobs.iter().zip(replies.iter()) {
+        match answer(case.alloc, job) {
+            Ok(alone) if alone == *reply => say_frame(case, &alone),
+            Ok(_) => case.say("another reply"),
+            Err(_) => case.fail(CaseFault::Memory),
+        }
     }
 }
 
-fn say_frame(case: &mut Case<'_>, reply: &Reply) {
+fn say_frame(case: &mut Case<'_>, reply: &Reply)
+    requires { IsReply reply.now }
+{
     match reply_bytes(case.alloc, reply) {
         Ok(frame) => case.digits(&frame),
         Err(_) => case.fail(CaseFault::Memory),
