@@ -132,7 +132,8 @@ fn look_waiting(mut outlet: Outlet<Digits>) -> (bool, Outlet<Digits>)
     (false, outlet)
 }
 
-/// A close while one job is open and two are in the ring: all are dropped, and the ring still fills.
+/// A close while one job is open and two are in the ring: all are dropped, and the ring still
+/// fills.
 fn closed(alloc: Global) -> Result<Outcome, RunFault> {
     let (mut intake, mut outlet) = lane::<Digits>(alloc)?;
     let are_in = admits(&mut intake, 0, 3);
