@@ -1,6 +1,6 @@
 -- What is known of the replies to a run of jobs while their verifies are hashed side by side (this
 -- project's own).
-use Rattle.std.specs.Prelude.{◌≡◌, ℕ, ◌≤◌, List, [], ◌∷◌, length, slice_get, slice_index_or, replicate, Some}
+use Rattle.std.specs.Prelude.{◌≡◌, ℕ, ◌<◌, List, [], ◌∷◌, slice_get, slice_index, slice_index_or, replicate, Some}
 use Rattle.mac_hmac.specs.Chain.{extended}
 use Rattle.mac_wire.specs.declared.reply.Reply.{Reply}
 use Rattle.mac_decide.specs.Answer.{reply_of, verdict_reply}
@@ -33,15 +33,10 @@ abbrev pub signature_of : Prepared → List ℕ
 signature_of (Told reply) = replicate 32 0
 signature_of (Pending p) = p.signature
 
--- no part of the run has more than that many texts left
-abbrev pub HasLeft : ℕ → List Prepared → Type 0
-HasLeft most run =
-    (place : ℕ) (prepared : Prepared) → slice_get run place ≡ Some prepared
-    → length (left_of prepared) ≤ most
-
--- where a part of the run has a text left, its place has the signature after that text
-abbrev pub AreNext : List Prepared → List (List ℕ) → Type 0
-AreNext run signatures =
-    (place : ℕ) (prepared : Prepared) (text : List ℕ) (rest : List (List ℕ))
-    → slice_get run place ≡ Some prepared → left_of prepared ≡ text ∷ rest
-    → slice_index_or signatures place [] ≡ extended (signature_of prepared) (text ∷ [])
+-- where the place of a lane has a text left, the lane has the signature after that text
+abbrev pub AreNext : List Prepared → List ℕ → List (List ℕ) → Type 0
+AreNext run places signatures =
+    (lane : ℕ) (prepared : Prepared) (text : List ℕ) (rest : List (List ℕ))
+    → lane < 8 → slice_get run (slice_index places lane) ≡ Some prepared
+    → left_of prepared ≡ text ∷ rest
+    → slice_index_or signatures lane [] ≡ extended (signature_of prepared) (text ∷ [])

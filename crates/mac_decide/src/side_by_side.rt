@@ -1,27 +1,36 @@
 //! The replies to a run of jobs, whose verifies are hashed side by side.
 
-ghost use Rattle.std.specs.Prelude.{◌≡◌, ◌≤◌, ◌<◌, ◌+◌, ◌++◌, ℕ, List, [], ◌∷◌, IfOk, IfSome, Ok, drop, length, map, slice_get, Some, get_or};
+ghost use Rattle.std.specs.Prelude.{◌≡◌, ◌++◌, ◌∷◌, ℕ, List, [], IfOk, IfSome, Ok, drop, length, map, slice_get, Some, get_or};
 ghost use Rattle.mac_hmac.specs.Chain.{extended};
 ghost use Rattle.mac_token.specs.Read.{carried_of, read_of};
 ghost use Rattle.mac_wire.specs.Request.{asked as asked_of};
 ghost use Rattle.mac_decide.specs.Answer as answers;
 ghost use Rattle.mac_decide.specs.Reading.{verdict_of};
-ghost use Rattle.mac_decide.specs.Prepared.{AreNext, HasLeft, comes_to, left_of, reply_to_job, signature_of, verify_reply};
+ghost use Rattle.mac_decide.specs.Prepared.{AreNext, comes_to, left_of, reply_to_job, signature_of, verify_reply};
 
 use crate::context::Context;
 use crate::job::Job;
 use crate::pending::Pending;
 use crate::reply::{answer, verdict_reply};
 use mac_hmac::{RootKey, Sig, extend, extend_each};
-use mac_token::{TokenView, bare};
+use mac_token::{CAVEATS_MAX, TokenView, bare};
 use mac_wire::{Arrival, NoMemory, Reply, Request, parse_request};
 use std::alloc::Global;
 
-/// How many verifies are hashed side by side.
+/// How many jobs make a run, and are worked on together.
+const RUN: usize = 32;
+
+/// How many texts are folded on side by side.
 const LANES: usize = 8;
 
 /// From how many on that costs less than one after the other.
 const FEWEST: usize = 4;
+
+/// The place of a lane that has nothing to do, which no run has.
+const NOWHERE: usize = RUN;
+
+/// How many numbers of texts a token may have left: none, or those of its caveats and one more.
+const LEVELS: usize = CAVEATS_MAX + 2;
 
 /// What is known of a reply before its signature is computed.
 #[derive(Drop)]
@@ -87,11 +96,22 @@ impl<'a> Prepared<'a> {
         }
     }
 
-    /// The reply, once nothing is left.
-    fn into_reply(self) -> Reply
-        requires { left_of self ≡ [] }
+    /// Folds on every text that is left, one after the other.
+    fn finish(&mut self)
+        ensures reply { comes_to self.new ≡ comes_to self.old }
+        ensures done { left_of self.new ≡ [] }
+    {
+        for _ in 0..self.left() {
+            let signature = self.grown();
+            self.fold(signature);
+        }
+    }
+
+    /// The reply.
+    fn into_reply(mut self) -> Reply
         ensures { result ≡ comes_to self.entry }
     {
+        self.finish();
         match self {
             Prepared::Told(reply) => reply,
             Prepared::Pending(pending) => verdict_reply(pending.verdict()),
@@ -99,21 +119,20 @@ impl<'a> Prepared<'a> {
     }
 }
 
-/// The replies to the jobs, in order. The signatures of up to eight verifies, of tokens that are
-/// read where they lie, are computed side by side.
+/// The replies to the jobs, in order. The signatures of verifies, of tokens that are read where
+/// they lie, are computed up to eight side by side.
 pub fn answer_all(alloc: Global, jobs: &[Job]) -> Result<Vec<Reply>, NoMemory>
     ensures { IfOk result (λ replies. replies.items ≡ map reply_to_job jobs.now) }
 {
     let mut replies = Vec::with_capacity(alloc, jobs.len())?;
-    for run in jobs.chunks(LANES) {
+    for run in jobs.chunks(RUN) {
         answer_run(alloc, run, &mut replies)?;
     }
     Ok(replies)
 }
 
-/// Puts the replies to at most eight jobs behind those that are there.
+/// Puts the replies to the jobs of a run behind those that are there.
 fn answer_run(alloc: Global, jobs: &[Job], replies: &mut Vec<Reply>) -> Result<(), NoMemory>
-    requires { length jobs.now ≤ LANES }
     ensures { IfOk result (λ _. replies.new.items
         ≡ replies.old.items ++ map reply_to_job jobs.now) }
 {
@@ -221,80 +240,115 @@ fn pending_view<'a>(
     }
 }
 
-/// Folds on every text that is left, one of each verify at a time.
+/// Folds texts on, up to eight side by side, as long as enough of the run have one left.
 fn walk(run: &mut [Prepared<'_>])
-    requires { length run.old ≤ LANES }
-    ensures replies { map comes_to run.new ≡ map comes_to run.old }
-    ensures done { HasLeft 0 run.new }
+    ensures { map comes_to run.new ≡ map comes_to run.old }
 {
-    let most = most_left(run);
-    for _ in 0..most {
-        let signatures = if busy(run) < FEWEST {
-            alone(run)
-        } else {
-            together(run)
+    for _ in 0..texts_left(run) {
+        let Some(places) = chosen(run) else {
+            return;
         };
-        fold_all(run, &signatures);
+        let signatures = together(run, &places);
+        fold_all(run, &places, &signatures);
     }
 }
 
-/// The greatest number of texts that a verify has left.
-fn most_left(run: &[Prepared<'_>]) -> usize
-    ensures { HasLeft result run.now }
-{
-    let mut most = 0;
+/// How many texts the whole run has left.
+fn texts_left(run: &[Prepared<'_>]) -> usize {
+    let mut texts: usize = 0;
     for prepared in run {
-        most = most.max(prepared.left());
+        texts = texts.saturating_add(prepared.left());
     }
-    most
+    texts
 }
 
-/// How many verifies have a text left.
-fn busy(run: &[Prepared<'_>]) -> usize {
-    run.iter().filter(|prepared| prepared.left() > 0).count()
-}
-
-/// The signatures after one more text of each verify, one after the other.
-fn alone(run: &[Prepared<'_>]) -> [Sig; LANES]
-    requires { length run.now ≤ LANES }
-    ensures { AreNext run.now result }
-{
-    let mut signatures = [Sig::from_bytes([0; 32]); LANES];
+/// The places whose next texts are folded on, in order: the eight with the most left. None where
+/// side by side doesn't pay.
+fn chosen(run: &[Prepared<'_>]) -> Option<[usize; LANES]> {
+    let mut bar = Bar::of(&tally(run));
+    let mut places = [NOWHERE; LANES];
+    let mut busy = 0;
     for place in 0..run.len() {
-        signatures[place] = run[place].grown();
+        if busy < LANES && bar.admits(run[place].left()) {
+            places[busy] = place;
+            busy += 1;
+        }
     }
-    signatures
+    if busy < FEWEST {
+        return None;
+    }
+    Some(places)
 }
 
-/// The same, side by side.
-fn together(run: &[Prepared<'_>]) -> [Sig; LANES]
-    requires { length run.now ≤ LANES }
-    ensures { AreNext run.now result }
+/// Who is chosen: those with more texts left than the level, and so many of those at it.
+#[derive(Drop)]
+struct Bar {
+    level: usize,
+    spare: usize,
+}
+
+impl Bar {
+    /// The bar that as many get over as there are lanes, or all that have a text left.
+    fn of(tally: &[u8; LEVELS]) -> Bar {
+        let mut spare = LANES;
+        for level in (1..LEVELS).rev() {
+            let count = tally[level] as usize;
+            if count > spare {
+                return Bar { level, spare };
+            }
+            spare -= count;
+        }
+        Bar { level: 0, spare: 0 }
+    }
+
+    /// Whether a place with so many texts left gets over it.
+    fn admits(&mut self, left: usize) -> bool {
+        if left == self.level && self.spare > 0 {
+            self.spare -= 1;
+            return true;
+        }
+        left > self.level
+    }
+}
+
+/// How many of the run have each number of texts left.
+fn tally(run: &[Prepared<'_>]) -> [u8; LEVELS] {
+    let mut tally: [u8; LEVELS] = [0; LEVELS];
+    for prepared in run {
+        let level = prepared.left().min(LEVELS - 1);
+        tally[level] = tally[level].saturating_add(1);
+    }
+    tally
+}
+
+/// The signatures after the next texts at these places, side by side.
+fn together(run: &[Prepared<'_>], places: &[usize; LANES]) -> [Sig; LANES]
+    ensures { AreNext run.now places.now result }
 {
     let signatures = [
-        signature_at(run, 0),
-        signature_at(run, 1),
-        signature_at(run, 2),
-        signature_at(run, 3),
-        signature_at(run, 4),
-        signature_at(run, 5),
-        signature_at(run, 6),
-        signature_at(run, 7),
+        signature_at(run, places[0]),
+        signature_at(run, places[1]),
+        signature_at(run, places[2]),
+        signature_at(run, places[3]),
+        signature_at(run, places[4]),
+        signature_at(run, places[5]),
+        signature_at(run, places[6]),
+        signature_at(run, places[7]),
     ];
     let texts = [
-        text_at(run, 0),
-        text_at(run, 1),
-        text_at(run, 2),
-        text_at(run, 3),
-        text_at(run, 4),
-        text_at(run, 5),
-        text_at(run, 6),
-        text_at(run, 7),
+        text_at(run, places[0]),
+        text_at(run, places[1]),
+        text_at(run, places[2]),
+        text_at(run, places[3]),
+        text_at(run, places[4]),
+        text_at(run, places[5]),
+        text_at(run, places[6]),
+        text_at(run, places[7]),
     ];
     extend_each(&signatures, &texts)
 }
 
-/// The signature so far at a place of the run; zeros where the run is shorter.
+/// The signature so far at a place of the run; zeros where the run has no such place.
 fn signature_at(run: &[Prepared<'_>], place: usize) -> Sig
     ensures { (prepared : Prepared) → slice_get run.now place ≡ Some prepared
         → result ≡ signature_of prepared }
@@ -305,7 +359,7 @@ fn signature_at(run: &[Prepared<'_>], place: usize) -> Sig
     }
 }
 
-/// The next text at a place of the run; no bytes where the run is shorter.
+/// The next text at a place of the run; no bytes where the run has no such place.
 fn text_at<'a>(run: &[Prepared<'a>], place: usize) -> &'a [u8]
     ensures { (prepared : Prepared) → slice_get run.now place ≡ Some prepared
         → result.now ≡ get_or (left_of prepared) 0 [] }
@@ -316,15 +370,18 @@ fn text_at<'a>(run: &[Prepared<'a>], place: usize) -> &'a [u8]
     }
 }
 
-/// Takes the signatures after one more text of each verify.
-fn fold_all(run: &mut [Prepared<'_>], signatures: &[Sig; LANES])
-    requires few { length run.old ≤ LANES }
-    requires next { AreNext run.old signatures.now }
-    ensures replies { map comes_to run.new ≡ map comes_to run.old }
-    ensures left { (most : ℕ) → HasLeft (most + 1) run.old → HasLeft most run.new }
-    ensures count { length run.new ≡ length run.old }
+/// Takes the signatures after the next texts at these places. A place that isn't behind those
+/// before it is passed over, so that no text is folded on twice.
+fn fold_all(run: &mut [Prepared<'_>], places: &[usize; LANES], signatures: &[Sig; LANES])
+    requires { AreNext run.old places.now signatures.now }
+    ensures { map comes_to run.new ≡ map comes_to run.old }
 {
-    for place in 0..run.len() {
-        run[place].fold(signatures[place]);
+    let mut next = 0;
+    for lane in 0..LANES {
+        let place = places[lane];
+        if next <= place && place < run.len() {
+            run[place].fold(signatures[lane]);
+            next = place + 1;
+        }
     }
 }

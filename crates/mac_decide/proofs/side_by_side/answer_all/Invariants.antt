@@ -6,5 +6,5 @@ use Rattle.mac_decide.proofs.side_by_side.answer_all.Given as goal
 abbrev pub invariant-loop-run : goal.invariant-loop-run
 invariant-loop-run l = record {
   replies : l.replies.items ++ map reply_to_job l.run-iterator.rest.now ≡ map reply_to_job l.jobs;
-  size : l.run-iterator.size ≡ 8;
+  size : l.run-iterator.size ≡ 32;
 }

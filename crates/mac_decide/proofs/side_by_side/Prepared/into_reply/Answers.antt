@@ -9,4 +9,4 @@ pub returns-in-Pending : goal.returns-in-Pending
 returns-in-Pending c =
     let p = c.in-Pending.pending in
     let same = one_verdict p.key p.token p.context c.verdict.result (verdict_of p.key p.token p.context) c.verdict.ensures (verdict_of-is p.key p.token p.context) in
-    c.verdict_reply.ensures.value ∙ ap verdict_reply same ∙ ap comes_to (sym c.in-Pending.is)
+    c.verdict_reply.ensures.value ∙ ap verdict_reply same ∙ ap comes_to (sym c.in-Pending.is) ∙ c.finish.ensures.reply
