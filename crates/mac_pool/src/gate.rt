@@ -30,4 +30,4 @@ impl Gate for NoGate {
 }
 
 /// The most tickets of a worker's turn.
-pub const TURN_MAX: usize = 8;
+pub const TURN_MAX: usize = 32;

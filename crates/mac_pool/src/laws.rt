@@ -14,10 +14,10 @@ pub fn a_line_has_8192_tickets()
     ensures puts { PUTS_MAX ≡ 2 ^ 55 }
 {}
 
-/// A pool has up to 16 workers, which take up to 8 tickets at a time.
+/// A pool has up to 16 workers, which take up to 32 tickets at a time.
 pub fn a_pool_has_16_workers()
     ensures workers { WORKERS_MAX ≡ 16 }
-    ensures turn { TURN_MAX ≡ 8 }
+    ensures turn { TURN_MAX ≡ 32 }
 {}
 
 /// A mailbox holds 128 posts.

@@ -12,6 +12,7 @@ use crate::fault::PutFault;
 use crate::ticket::Ticket;
 use crossbeam_queue::protocol::Free;
 use crossbeam_queue::{Pass, RuledArrayQueue};
+use crossbeam_utils::CachePadded;
 use mac_lane::{NoMemory, Service};
 use std::alloc::Global;
 use std::marker::Model;
@@ -41,7 +42,7 @@ pub type Seat<S> = Pass<Ticket<S>, Account<<S as Service>::Job>>;
 #[derive(Drop)]
 pub struct Line<S: Service> {
     queue: Queue<S>,
-    tickets: Bell,
+    tickets: CachePadded<Bell>,
     workers: AtomicU64,
     is_closed: AtomicBool,
 }
@@ -127,7 +128,7 @@ impl<S: Service> Line<S> {
         let passes = passes_of(alloc, &queue, seat)?;
         let line = Line {
             queue,
-            tickets: Bell::new(),
+            tickets: CachePadded::new(Bell::new()),
             workers: AtomicU64::new(0),
             is_closed: AtomicBool::new(false),
         };

@@ -9,6 +9,7 @@ use crate::fault::PutFault;
 use crate::post::Post;
 use crossbeam_queue::protocol::{Free, Lesson, Outcome, Protocol};
 use crossbeam_queue::{Pass, RuledArrayQueue};
+use crossbeam_utils::CachePadded;
 use mac_lane::{NoMemory, Service};
 use std::alloc::Global;
 use std::collections::LinkedList;
@@ -53,10 +54,10 @@ pub(crate) type MailPass<S> = Pass<Post<S>, Taken<S>>;
 #[derive(Drop)]
 pub struct Mailbox<S: Service> {
     queue: RuledArrayQueue<Post<S>, Taken<S>, Told>,
-    posts: Bell,
+    posts: CachePadded<Bell>,
     // Who waits for posts waits for the one at this place, or for one before it.
-    due: AtomicU64,
-    room: Bell,
+    due: CachePadded<AtomicU64>,
+    room: CachePadded<Bell>,
     is_closed: AtomicBool,
 }
 
@@ -78,9 +79,9 @@ impl<S: Service> Mailbox<S> {
         let (queue, pass) = RuledArrayQueue::ruled(alloc, MAIL_MAX)?;
         let mail = Mailbox {
             queue,
-            posts: Bell::new(),
-            due: AtomicU64::new(u64::MAX),
-            room: Bell::new(),
+            posts: CachePadded::new(Bell::new()),
+            due: CachePadded::new(AtomicU64::new(u64::MAX)),
+            room: CachePadded::new(Bell::new()),
             is_closed: AtomicBool::new(false),
         };
         Ok((mail, pass))
