@@ -11,7 +11,7 @@ use Rattle.mac_wire.specs.declared.arrival.Arrival.TheVariants.{Payload}
 use Rattle.mac_wire.specs.declared.reply.Reply.{Reply}
 use Rattle.mac_wire.specs.declared.reply.Reply.TheVariants as reply
 use Rattle.mac_wire.proofs.Asking.{request_of-asks, key_name_of-asks}
-use Rattle.mac_decide.specs.Answer.{told, verdict_reply, request_reply, reply_of, answer_of, Answers, IsGranted}
+use Rattle.mac_decide.specs.Answer.{told, verdict_reply, request_reply, reply_of, answer_of, IsGranted}
 use Rattle.mac_decide.specs.Reading.{verdict_of}
 use Rattle.mac_decide.specs.declared.context.Context.{Context}
 use Rattle.mac_decide.specs.declared.verdict.Verdict.{Verdict}
@@ -57,7 +57,7 @@ answer-granted table payload name bytes moment facts asks =
     rw named (reply-granted payload name bytes moment facts (map.get table name) asks)
 
 -- the reply that a call gives
-pub result-granted : {E : Type 0} (result : Result Reply E) (arrival : Arrival) (key : Option (List ℕ)) → Answers result (reply_of arrival key) → (payload name bytes : List ℕ) (moment : ℕ) (facts : List (List ℕ)) → arrival ≡ Payload payload → Asks payload (verify name bytes moment facts) → IfOk result (λ r. (r ≡ reply.Granted) ↔ IsGranted key bytes (record { moment = moment; facts = facts }))
+pub result-granted : {E : Type 0} (result : Result Reply E) (arrival : Arrival) (key : Option (List ℕ)) → IfOk result (λ r. r ≡ reply_of arrival key) → (payload name bytes : List ℕ) (moment : ℕ) (facts : List (List ℕ)) → arrival ≡ Payload payload → Asks payload (verify name bytes moment facts) → IfOk result (λ r. (r ≡ reply.Granted) ↔ IsGranted key bytes (record { moment = moment; facts = facts }))
 result-granted (Ok r) arrival key is payload name bytes moment facts same asks =
-    rw (is.0, same) (reply-granted payload name bytes moment facts key asks)
+    rw (is, same) (reply-granted payload name bytes moment facts key asks)
 result-granted (Err e) arrival key is payload name bytes moment facts same asks = tt

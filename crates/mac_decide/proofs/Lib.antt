@@ -11,5 +11,6 @@ pub mod SendableLemmas
 pub mod CarriedLemmas
 pub mod WorldLemmas
 pub mod VerifiedLemmas
-pub mod PendingLemmas
+pub mod FoldingLemmas
+pub mod SigningLemmas
 pub mod PreparedLemmas

@@ -6,7 +6,7 @@ use Rattle.mac_lane.proofs.Staffed.{slice_get-set_other}
 use Rattle.mac_hmac.specs.Chain.{extended}
 use Rattle.mac_wire.specs.declared.reply.Reply.{Reply}
 use Rattle.mac_decide.specs.Prepared.{AreNext, comes_to, left_of, signature_of}
-use Rattle.mac_decide.specs.declared.side_by_side.Prepared.{Prepared}
+use Rattle.mac_decide.specs.declared.prepared.Prepared.{Prepared}
 
 -- the signature at a place that wasn't passed
 pub next-here : (initial run : List Prepared) (places : List ℕ) (signatures : List (List ℕ)) (lane next : ℕ) (d : Prepared) (e : List ℕ) → AreNext initial places signatures

@@ -1,5 +1,5 @@
 -- Each reply of the definition can be sent.
-use Rattle.std.proofs.Common.{◌≡◌, ℕ, ◌<◌, ◌≤◌, ◌^◌, List, length, Option, Some, None, IsSomeAnd, Result, Ok, Err, Bool, true, false, if◌then◌else◌, arith, refl}
+use Rattle.std.proofs.Common.{◌≡◌, ℕ, ◌<◌, ◌≤◌, ◌^◌, List, length, Option, Some, None, IsSomeAnd, Result, Ok, Err, IfOk, Bool, true, false, if◌then◌else◌, arith, refl}
 use Rattle.std.specs.Prelude.{nat_lt, nat_le}
 use Rattle.std.specs.List.{list_all, slice_get}
 use Rattle.std.proofs.lemmas.Bool.{ltb-false, leb-true}
@@ -119,3 +119,8 @@ pub reply-sent : (arrival : Arrival) (key : Option (List ℕ)) → IsReply (repl
 unfolding reply_of
 reply-sent Oversize key = refused-sent refusal.FrameTooLong
 reply-sent (Payload payload) key = asked-sent (request_of payload) key
+
+-- the reply that a call gives
+pub result-sent : {E : Type 0} (result : Result Reply E) (arrival : Arrival) (key : Option (List ℕ)) → IfOk result (λ r. r ≡ reply_of arrival key) → IfOk result IsReply
+result-sent (Ok r) arrival key is = rw is (reply-sent arrival key)
+result-sent (Err e) arrival key is = tt

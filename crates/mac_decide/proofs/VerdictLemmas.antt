@@ -1,5 +1,5 @@
 -- The verdict as a function is the verdict, and there is one.
-use Rattle.std.proofs.Common.{◌≡◌, ◌↔◌, inl, inr, ℕ, suc, ◌+◌, ◌<◌, ℤ, List, [], ◌∷◌, take, length, get_or, Option, Some, None, IsSomeAnd, Bool, true, false, if◌then◌else◌, arith, refl, sym, ap, ◌∙◌}
+use Rattle.std.proofs.Common.{◌≡◌, ◌↔◌, inl, inr, ℕ, suc, ◌+◌, ◌<◌, ℤ, List, [], ◌∷◌, take, length, get_or, Option, Some, None, IsSomeAnd, MatchOption, Bool, true, false, if◌then◌else◌, arith, refl, sym, ap, ◌∙◌}
 use Rattle.std.specs.List.{list_any, All, slice_get}
 use Rattle.std.specs.Str.{bytes_eq}
 use Rattle.std.specs.Cmp.Lexicographic.{nat_list_eq_equiv}
@@ -16,8 +16,9 @@ use Rattle.mac_decide.specs.declared.context.Context.{Context}
 use Rattle.mac_decide.specs.declared.verdict.Verdict.{Verdict}
 use Rattle.mac_decide.specs.declared.verdict.Verdict.TheVariants.{Granted, BadSignature, Unsatisfied}
 use Rattle.mac_decide.specs.Reading.{limit_of, is_below, is_satisfied, caveats_verdict, verdict_of}
-use Rattle.mac_decide.specs.Minted.{Minted}
-use Rattle.mac_decide.specs.Verdict.{IsBefore, Satisfied, IsFirstUnsatisfied, IsVerdict}
+use Rattle.mac_decide.specs.Minted.{Minted, minted}
+use Rattle.mac_decide.specs.Prepared.{verdict_by}
+use Rattle.mac_decide.specs.Verdict.{IsBefore, Satisfied, IsFirstUnsatisfied, IsVerdict, Concludes}
 use Rattle.mac_decide.proofs.ReadingLemmas.{or-cases, or-left, or-right, limit_of-exact}
 
 -- a limit that is read and that the moment is below
@@ -120,3 +121,27 @@ one_verdict key t x BadSignature (Unsatisfied j) p q = absurd (p q.0)
 one_verdict key t x (Unsatisfied i) Granted p q = absurd (none-unsatisfied (λ c. Satisfied c x) t.caveats i _ refl q.satisfied p.1.here)
 one_verdict key t x (Unsatisfied i) BadSignature p q = absurd (q p.0)
 one_verdict key t x (Unsatisfied i) (Unsatisfied j) p q = ap Unsatisfied (one_first x t.caveats i j p.1 q.1)
+
+-- what is concluded from a signature and a walk over all caveats is the verdict by that signature
+satisfied-verdict : (t : TokenParts) (x : Context) (v : Verdict) → IsVerdict [] (minted [] t.location t.identifier t.caveats) x v → v ≡ caveats_verdict x 0 t.caveats
+satisfied-verdict t x v is =
+    let u = minted [] t.location t.identifier t.caveats in
+    one_verdict [] u x v (caveats_verdict x 0 t.caveats) is (minted-verdict [] u x _ refl (caveats_verdict-is x 0 t.caveats))
+
+pub concluded-verdict : (signature : List ℕ) (t : TokenParts) (x : Context) (found : Option ℕ) (v : Verdict)
+    → MatchOption found (All (λ c. Satisfied c x) t.caveats) (IsFirstUnsatisfied t.caveats x) → Concludes signature t.sig found v → v ≡ verdict_by signature t x
+concluded-verdict signature t x found Granted each (same, none) =
+    rw ((bytes_eq-Decides t.sig signature).1 (sym same)) (satisfied-verdict t x Granted (record { minted = refl; satisfied = rw none at each }))
+concluded-verdict signature t x found BadSignature each other =
+    other_signature (bytes_eq t.sig signature) refl
+  where
+    other_signature : (b : Bool) → bytes_eq t.sig signature ≡ b → BadSignature ≡ (if b then caveats_verdict x 0 t.caveats else BadSignature)
+    other_signature true test = absurd (other (sym ((bytes_eq-Decides t.sig signature).0 test)))
+    other_signature false test = refl
+concluded-verdict signature t x found (Unsatisfied index) each (same, some) =
+    rw ((bytes_eq-Decides t.sig signature).1 (sym same)) (satisfied-verdict t x (Unsatisfied index) (refl, rw some at each))
+
+-- the verdict under a key is that by the signature which it gives
+pub verdict_of-by : (key : List ℕ) (t : TokenParts) (x : Context) → verdict_by (chain key t.identifier t.caveats) t x ≡ verdict_of key t x
+unfolding verdict_of
+verdict_of-by key t x = refl

@@ -1,5 +1,5 @@
 -- The reply to each arrival (this project's own).
-use Rattle.std.specs.Prelude.{◌≡◌, ℕ, List, Option, Some, None, option_and_then, Result, Ok, Err, IfOk}
+use Rattle.std.specs.Prelude.{◌≡◌, ℕ, List, Option, Some, None, option_and_then, Result, Ok, Err}
 use Rattle.std.specs.FinMap as map
 use Rattle.mac_keys.specs.Table.{Keys}
 use Rattle.mac_token.specs.RawToken.{TokenParts}
@@ -11,7 +11,6 @@ use Rattle.mac_token.specs.declared.form.Form.TheVariants as forms
 use Rattle.mac_token.specs.declared.fault.TokenRefusal.{TokenRefusal}
 use Rattle.mac_token.specs.declared.fault.TokenRefusal.TheVariants as token
 use Rattle.mac_wire.specs.Reading.{request_of, key_name_of}
-use Rattle.mac_wire.specs.Reply.{IsReply}
 use Rattle.mac_wire.specs.Request.{Asked, mint, attenuate, verify}
 use Rattle.mac_wire.specs.declared.arrival.Arrival.{Arrival}
 use Rattle.mac_wire.specs.declared.arrival.Arrival.TheVariants as arrival
@@ -87,10 +86,6 @@ asked_reply (Some request) key = request_reply request key
 unfoldable pub reply_of : Arrival → Option (List ℕ) → Reply
 reply_of arrival.Oversize key = refused refusal.FrameTooLong
 reply_of (arrival.Payload payload) key = asked_reply (request_of payload) key
-
--- this reply was given, and it can be sent, unless memory ran out
-abbrev pub Answers : {E : Type 0} → Result Reply E → Reply → Type 0
-Answers result wanted = IfOk result (λ given. (given ≡ wanted) × IsReply given)
 
 -- only a payload is read and answered with memory
 abbrev pub TakesMemory : Arrival → Type 0

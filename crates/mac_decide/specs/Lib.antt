@@ -1,7 +1,7 @@
 pub mod Answer
 pub mod Calendar
+pub mod Folding
 pub mod Minted
-pub mod Pending
 pub mod Prepared
 pub mod Reading
 pub mod SameJobs

@@ -1,37 +1,51 @@
--- What is known of the replies to a run of jobs while their verifies are hashed side by side (this
+-- What is known of the replies to a run of jobs while their texts are hashed side by side (this
 -- project's own).
-use Rattle.std.specs.Prelude.{◌≡◌, ℕ, ◌<◌, List, [], ◌∷◌, slice_get, slice_index, slice_index_or, replicate, Some}
+use Rattle.std.specs.Prelude.{◌≡◌, ℕ, ◌<◌, List, [], ◌∷◌, slice_get, slice_index, slice_index_or, replicate, Some, if◌then◌else◌}
+use Rattle.std.specs.Str.{bytes_eq}
 use Rattle.mac_hmac.specs.Chain.{extended}
+use Rattle.mac_token.specs.Push.{with_sig}
+use Rattle.mac_token.specs.RawToken.{TokenParts}
 use Rattle.mac_wire.specs.declared.reply.Reply.{Reply}
-use Rattle.mac_decide.specs.Answer.{reply_of, verdict_reply}
-use Rattle.mac_decide.specs.Pending.{Progress}
-use Rattle.mac_decide.specs.Reading.{verdict_of}
+use Rattle.mac_decide.specs.Answer.{reply_of, verdict_reply, written_reply}
+use Rattle.mac_decide.specs.Folding.{end_of}
+use Rattle.mac_decide.specs.Reading.{caveats_verdict}
+use Rattle.mac_decide.specs.declared.context.Context.{Context}
 use Rattle.mac_decide.specs.declared.job.Job.{Job}
-use Rattle.mac_decide.specs.declared.side_by_side.Prepared.{Prepared}
-use Rattle.mac_decide.specs.declared.side_by_side.Prepared.TheVariants.{Told, Pending}
+use Rattle.mac_decide.specs.declared.prepared.Prepared.{Prepared}
+use Rattle.mac_decide.specs.declared.prepared.Prepared.TheVariants.{Told, Pending}
+use Rattle.mac_decide.specs.declared.prepared.Purpose.{Purpose}
+use Rattle.mac_decide.specs.declared.prepared.Purpose.TheVariants as purpose
+use Rattle.mac_decide.specs.declared.verdict.Verdict.{Verdict as PlainVerdict}
+use Rattle.mac_decide.specs.declared.verdict.Verdict.TheVariants.{BadSignature}
 
 -- the reply to a job
 abbrev pub reply_to_job : Job → Reply
 reply_to_job job = reply_of job.arrival job.key
 
--- the reply that a verify comes to
-abbrev pub verify_reply : Progress → Reply
-verify_reply p = verdict_reply (verdict_of p.key p.token p.context)
+-- the verdict on a token, by the signature that its key gives
+abbrev pub verdict_by : List ℕ → TokenParts → Context → PlainVerdict
+verdict_by signature t x =
+    if bytes_eq t.sig signature then caveats_verdict x 0 t.caveats else BadSignature
+
+-- the reply, once the signature is there
+abbrev pub reply_by : Purpose → List ℕ → Reply
+reply_by (purpose.Verdict t x) signature = verdict_reply (verdict_by signature t x)
+reply_by (purpose.Token form t) signature = written_reply form (with_sig t signature)
 
 -- the reply that comes of what was prepared
 abbrev pub comes_to : Prepared → Reply
 comes_to (Told reply) = reply
-comes_to (Pending p) = verify_reply p
+comes_to (Pending p purpose) = reply_by purpose (end_of p)
 
 -- the texts that are still to be folded on
 abbrev pub left_of : Prepared → List (List ℕ)
 left_of (Told reply) = []
-left_of (Pending p) = p.left
+left_of (Pending p purpose) = p.left
 
 -- the signature so far, if there is one
 abbrev pub signature_of : Prepared → List ℕ
 signature_of (Told reply) = replicate 32 0
-signature_of (Pending p) = p.signature
+signature_of (Pending p purpose) = p.signature
 
 -- where the place of a lane has a text left, the lane has the signature after that text
 abbrev pub AreNext : List Prepared → List ℕ → List (List ℕ) → Type 0

@@ -6,11 +6,13 @@
 #![tactic(auto)]
 
 mod context;
+mod folding;
 mod job;
 pub mod laws;
 mod macaroons;
 mod minting;
-mod pending;
+mod prepared;
+mod preparing;
 mod reply;
 mod side_by_side;
 mod time;

@@ -1,20 +1,15 @@
-//! The replies to a run of jobs, whose verifies are hashed side by side.
+//! The replies to a run of jobs, whose texts are hashed side by side.
 
-ghost use Rattle.std.specs.Prelude.{◌≡◌, ◌++◌, ◌∷◌, ℕ, List, [], IfOk, IfSome, Ok, drop, length, map, slice_get, Some, get_or};
-ghost use Rattle.mac_hmac.specs.Chain.{extended};
-ghost use Rattle.mac_token.specs.Read.{carried_of, read_of};
-ghost use Rattle.mac_wire.specs.Request.{asked as asked_of};
-ghost use Rattle.mac_decide.specs.Answer as answers;
-ghost use Rattle.mac_decide.specs.Reading.{verdict_of};
-ghost use Rattle.mac_decide.specs.Prepared.{AreNext, comes_to, left_of, reply_to_job, signature_of, verify_reply};
+ghost use Rattle.std.specs.Prelude.{◌≡◌, ◌++◌, [], IfOk, length, map, slice_get, Some, get_or};
+ghost use Rattle.mac_decide.specs.Prepared.{AreNext, comes_to, left_of, reply_to_job, signature_of};
 
-use crate::context::Context;
 use crate::job::Job;
-use crate::pending::Pending;
-use crate::reply::{answer, verdict_reply};
-use mac_hmac::{RootKey, Sig, extend, extend_each};
-use mac_token::{CAVEATS_MAX, TokenView, bare};
-use mac_wire::{Arrival, NoMemory, Reply, Request, parse_request};
+use crate::prepared::Prepared;
+use crate::preparing::prepare;
+use crate::reply::refused;
+use mac_hmac::{Sig, extend_each};
+use mac_token::CAVEATS_MAX;
+use mac_wire::{Arrival, NoMemory, Refusal, Reply};
 use std::alloc::Global;
 
 /// How many jobs make a run, and are worked on together.
@@ -32,95 +27,8 @@ const NOWHERE: usize = RUN;
 /// How many numbers of texts a token may have left: none, or those of its caveats and one more.
 const LEVELS: usize = CAVEATS_MAX + 2;
 
-/// What is known of a reply before its signature is computed.
-#[derive(Drop)]
-enum Prepared<'a> {
-    /// The reply.
-    Told(Reply),
-    /// The verify whose verdict it tells.
-    Pending(Pending<'a>),
-}
-
-impl<'a> Prepared<'a> {
-    /// How many texts are still to be folded on.
-    fn left(&self) -> usize
-        ensures { result ≡ length (left_of self.now) }
-    {
-        match self {
-            Prepared::Told(_) => 0,
-            Prepared::Pending(pending) => pending.left(),
-        }
-    }
-
-    /// The text that is to be folded on next; no bytes where none is left.
-    fn text(&self) -> &'a [u8]
-        ensures { result.now ≡ get_or (left_of self.now) 0 [] }
-    {
-        match self {
-            Prepared::Told(_) => &[],
-            Prepared::Pending(pending) => pending.text(),
-        }
-    }
-
-    /// The signature so far; zeros where there is none.
-    fn signature(&self) -> Sig
-        ensures { result ≡ signature_of self.now }
-    {
-        match self {
-            Prepared::Told(_) => Sig::from_bytes([0; 32]),
-            Prepared::Pending(pending) => pending.signature(),
-        }
-    }
-
-    /// The signature after the next text, where one is left.
-    fn grown(&self) -> Sig
-        ensures { (text : List ℕ) (rest : List (List ℕ)) → left_of self.now ≡ text ∷ rest
-            → result ≡ extended (signature_of self.now) (text ∷ []) }
-    {
-        if self.left() == 0 {
-            return self.signature();
-        }
-        extend(self.signature(), self.text())
-    }
-
-    /// Takes the signature after the next text.
-    fn fold(&mut self, signature: Sig)
-        requires { (text : List ℕ) (rest : List (List ℕ)) → left_of self.old ≡ text ∷ rest
-            → signature ≡ extended (signature_of self.old) (text ∷ []) }
-        ensures reply { comes_to self.new ≡ comes_to self.old }
-        ensures left { left_of self.new ≡ drop 1 (left_of self.old) }
-    {
-        match self {
-            Prepared::Told(_) => {}
-            Prepared::Pending(pending) => pending.fold(signature),
-        }
-    }
-
-    /// Folds on every text that is left, one after the other.
-    fn finish(&mut self)
-        ensures reply { comes_to self.new ≡ comes_to self.old }
-        ensures done { left_of self.new ≡ [] }
-    {
-        for _ in 0..self.left() {
-            let signature = self.grown();
-            self.fold(signature);
-        }
-    }
-
-    /// The reply.
-    fn into_reply(mut self) -> Reply
-        ensures { result ≡ comes_to self.entry }
-    {
-        self.finish();
-        match self {
-            Prepared::Told(reply) => reply,
-            Prepared::Pending(pending) => verdict_reply(pending.verdict()),
-        }
-    }
-}
-
-/// The replies to the jobs, in order. The signatures of verifies, of tokens that are read where
-/// they lie, are computed up to eight side by side.
+/// The replies to the jobs, in order. Signatures are computed up to eight side by side: those that
+/// verifies compare, but for tokens in JSON, and those of tokens that are minted or attenuated.
 pub fn answer_all(alloc: Global, jobs: &[Job]) -> Result<Vec<Reply>, NoMemory>
     ensures { IfOk result (λ replies. replies.items ≡ map reply_to_job jobs.now) }
 {
@@ -140,7 +48,7 @@ fn answer_run(alloc: Global, jobs: &[Job], replies: &mut Vec<Reply>) -> Result<(
     let mut run = prepare_all(&mut rooms, alloc, jobs)?;
     walk(&mut run);
     for prepared in run {
-        replies.push(prepared.into_reply())?;
+        replies.push(prepared.into_reply(alloc)?)?;
     }
     Ok(())
 }
@@ -166,77 +74,23 @@ fn prepare_all<'a>(
 {
     let mut run = Vec::with_capacity(alloc, jobs.len())?;
     for (room, job) in rooms.iter_mut().zip(jobs) {
-        run.push(prepare(room, alloc, job)?)?;
+        run.push(prepare_job(room, alloc, job)?)?;
     }
     Ok(run)
 }
 
-/// Works on a job up to the first hash, where it is a verify of a token that is read where it lies,
-/// and to its end where it is anything else.
-fn prepare<'a>(room: &'a mut Vec<u8>, alloc: Global, job: &'a Job) -> Result<Prepared<'a>, NoMemory>
-    ensures { IfOk result (λ prepared. comes_to prepared ≡ reply_to_job job.now) }
-{
-    match pending(room, alloc, job) {
-        Some(pending) => Ok(Prepared::Pending(pending)),
-        None => Ok(Prepared::Told(answer(alloc, job)?)),
-    }
-}
-
-/// The verify that the job asks for, where its token is read where it lies.
+/// What the reply to a job waits for.
 #[tactic(auto, unfolding(crate::specs::Answer::reply_of))]
-fn pending<'a>(room: &'a mut Vec<u8>, alloc: Global, job: &'a Job) -> Option<Pending<'a>>
-    ensures { IfSome result (λ p. verify_reply p ≡ reply_to_job job.now) }
-{
-    match &job.arrival {
-        Arrival::Payload(payload) => {
-            pending_request(room, alloc, parse_request(payload.as_slice())?, job.key?)
-        }
-        Arrival::Oversize => None,
-    }
-}
-
-fn pending_request<'a>(
+fn prepare_job<'a>(
     room: &'a mut Vec<u8>,
     alloc: Global,
-    request: Request<'a>,
-    key: RootKey,
-) -> Option<Pending<'a>>
-    ensures { IfSome result (λ p.
-        verify_reply p ≡ answers.request_reply (asked_of request.entry) (Some key)) }
+    job: &'a Job,
+) -> Result<Prepared<'a>, NoMemory>
+    ensures { IfOk result (λ prepared. comes_to prepared ≡ reply_to_job job.now) }
 {
-    match request {
-        Request::Verify {
-            token,
-            moment,
-            facts,
-            ..
-        } => {
-            match bare(room, alloc, token) {
-                Ok(bytes) => pending_view(key, token, bytes, Context { moment, facts }),
-                Err(_) => None,
-            }
-        }
-        Request::Mint { .. } | Request::Attenuate { .. } => None,
-    }
-}
-
-/// The same, where these are the bytes that the token carries.
-fn pending_view<'a>(
-    key: RootKey,
-    token: &[u8],
-    bytes: &'a [u8],
-    context: Context<'a>,
-) -> Option<Pending<'a>>
-    requires { carried_of token.now ≡ Ok bytes.now }
-    ensures { IfSome result (λ p. verify_reply p ≡ answers.told (read_of token.now)
-        (λ t. answers.verdict_reply (verdict_of key t context.entry))) }
-{
-    match bytes {
-        [b'{', ..] => None,
-        _ => match TokenView::of(bytes) {
-            Ok(token) => Some(Pending::new(key, token, context)),
-            Err(_) => None,
-        },
+    match &job.arrival {
+        Arrival::Payload(payload) => prepare(room, alloc, payload.as_slice(), job.key),
+        Arrival::Oversize => Ok(Prepared::Told(refused(Refusal::FrameTooLong))),
     }
 }
 

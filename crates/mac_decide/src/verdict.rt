@@ -1,6 +1,7 @@
 //! Whether a key grants a token.
 
 ghost use Rattle.std.specs.Prelude.{◌≡◌, All, MatchOption};
+ghost use Rattle.mac_decide.specs.Prepared.{verdict_by};
 ghost use Rattle.mac_decide.specs.Verdict.{Satisfied, IsFirstUnsatisfied, IsVerdict, Concludes};
 
 use crate::context::{Context, satisfied};
@@ -48,8 +49,16 @@ pub fn verify_view(key: &RootKey, token: &TokenView<'_>, context: &Context<'_>) 
     conclusion(chain.sig(), Sig::from_bytes(token.sig()), found)
 }
 
+/// The verdict by the signature that the key gives the token.
+pub(crate) fn verdict_by(signature: Sig, token: &TokenView<'_>, context: &Context<'_>) -> Verdict
+    ensures { result ≡ verdict_by signature token.now context.now }
+{
+    let found = unsatisfied_caveat(token, context);
+    conclusion(signature, Sig::from_bytes(token.sig()), found)
+}
+
 /// The index of the first caveat that isn't satisfied.
-pub(crate) fn unsatisfied_caveat(token: &TokenView<'_>, context: &Context<'_>) -> Option<u16>
+fn unsatisfied_caveat(token: &TokenView<'_>, context: &Context<'_>) -> Option<u16>
     ensures { MatchOption result (All (λ caveat. Satisfied caveat context.now) token.now.caveats)
         (IsFirstUnsatisfied token.now.caveats context.now) }
 {
@@ -66,7 +75,7 @@ pub(crate) fn unsatisfied_caveat(token: &TokenView<'_>, context: &Context<'_>) -
 
 /// The verdict at the end of a walk: whether the key's signature is the one that the token tells,
 /// then the caveat that was found.
-pub(crate) fn conclusion(signature: Sig, told: Sig, unsatisfied: Option<u16>) -> Verdict
+fn conclusion(signature: Sig, told: Sig, unsatisfied: Option<u16>) -> Verdict
     ensures { Concludes signature told unsatisfied result }
 {
     if !same(&signature, &told) {

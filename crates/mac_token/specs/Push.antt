@@ -1,4 +1,4 @@
--- Caveats added to a token.
+-- Caveats added to a token, and another signature.
 use Rattle.std.specs.Prelude.{◌≡◌, ℕ, List, ◌++◌, Result, Ok, Err}
 use Rattle.mac_token.specs.declared.fault.TokenFault.{TokenFault}
 use Rattle.mac_token.specs.declared.fault.TokenFault.TheVariants.{Refused, Memory}
@@ -8,6 +8,10 @@ use Rattle.mac_token.specs.Limits.{IsWithinLimits, token_or_limit}
 -- the token with these caveats behind its own, and this signature
 abbrev pub with_caveats : TokenParts → List (List ℕ) → List ℕ → TokenParts
 with_caveats t caveats sig = token_parts t.location t.identifier (t.caveats ++ caveats) sig
+
+-- the token with this signature
+abbrev pub with_sig : TokenParts → List ℕ → TokenParts
+with_sig t sig = token_parts t.location t.identifier t.caveats sig
 
 -- the longer token is refused for this reason; or memory was, for a token within the limits
 abbrev pub IsPushFault : TokenParts → TokenFault → Type 0

@@ -25,7 +25,7 @@ pub use fault::{NoMemory, TokenFault, TokenRefusal};
 pub use form::Form;
 pub use limits::{CAVEAT_MAX, CAVEATS_MAX, IDENTIFIER_MAX, LOCATION_MAX, TOKEN_MAX};
 pub use raw::{RawCaveat, RawToken};
-pub use reading::{bare, read, read_raw};
+pub use reading::{bare, read, read_bare, read_raw};
 pub use token::{Token, is_within};
 pub use view::{TokenView, Walk};
 pub use writing::write;

@@ -15,7 +15,7 @@ ghost use Rattle.mac_token.specs.RawToken.{byte_lists};
 ghost use Rattle.std.specs.List.{list_any};
 ghost use Rattle.mac_token.specs.Answers.{Answers, Ends};
 ghost use Rattle.mac_token.specs.Base64Reading.{base64_bytes};
-ghost use Rattle.mac_token.specs.Read.{Carried, IsInBound, Read, ReadRaw, calls_for_bare, bare_of, or_transport, carried_of, raw_read_of, token_of, read_of};
+ghost use Rattle.mac_token.specs.Read.{Carried, IsInBound, Read, ReadRaw, calls_for_bare, bare_of, or_malformed, or_transport, carried_of, raw_read_of, token_of, token_of_read, read_of};
 ghost use Rattle.mac_token.specs.Reads as reads;
 ghost use Rattle.mac_token.specs.Room.{Holds};
 ghost use Rattle.std.specs.Borrow.{sem};
@@ -25,6 +25,7 @@ use crate::limits::TOKEN_MAX;
 use crate::raw::{RawCaveat, RawToken};
 use crate::raw_view::RawView;
 use crate::token::Token;
+use crate::view::TokenView;
 use crate::{base64_text, v2_json};
 use std::alloc::Global;
 
@@ -147,6 +148,19 @@ fn token(alloc: Global, raw: RawToken) -> Result<Token, TokenFault>
     Ok(Token::new(location, identifier, caveats, sig)?)
 }
 
+/// The token that the bytes of a bare form spell, those that `bare` answers; read without what it
+/// has done. The first refusal that applies is that of `read` past the transport.
+pub fn read_bare(alloc: Global, bytes: &[u8]) -> Result<Token, TokenFault>
+    ensures { Answers (λ token. token) result (token_of_read (or_malformed (bare_of bytes.now))) }
+{
+    if let [b'{', ..] = bytes {
+        let raw = spelled(alloc, bytes)?;
+        return token(alloc, raw);
+    }
+    let view = TokenView::of(bytes)?;
+    view.copied(alloc)
+}
+
 /// The token that the bytes spell, within the limits. Time and memory are linear in the bytes. The
 /// first refusal that applies: those of `read_raw`; `ThirdParty` where a caveat has a verifier's
 /// id; `CaveatLocation` where one has a location; `Limit` where a part passes its limit.
@@ -155,6 +169,7 @@ pub fn read(alloc: Global, bytes: &[u8]) -> Result<Token, TokenFault>
     ensures meaning { Ends (λ token. token) result (Read bytes.now) }
     ensures memory { result ≡ Err TokenFault.Memory → IsInBound bytes.now }
 {
-    let raw = read_raw(alloc, bytes)?;
-    token(alloc, raw)
+    let mut room = Vec::new(alloc);
+    let bare = bare(&mut room, alloc, bytes)?;
+    read_bare(alloc, bare)
 }

@@ -1,14 +1,18 @@
 //! A token of first-party caveats, within the limits, read where it lies: nothing is copied.
 
-ghost use Rattle.std.specs.Prelude.{◌≡◌, length, map};
+ghost use Rattle.std.specs.Prelude.{◌≡◌, IfOk, Ok, length, map};
 ghost use Rattle.std.specs.Iterator.{YieldsFirstRef, item_count};
+ghost use Rattle.mac_token.specs.Answers.{Answers};
 ghost use Rattle.mac_token.specs.Limits.{IsWithinLimits};
+ghost use Rattle.mac_token.specs.RawToken.{byte_lists};
 ghost use Rattle.mac_token.specs.Read.{bare_of, or_malformed, token_of_read};
 ghost use Rattle.mac_token.specs.Spells.{BeginsWith};
 
-use crate::fault::TokenRefusal;
+use crate::fault::{NoMemory, TokenFault, TokenRefusal};
 use crate::raw_view::RawView;
+use crate::token::Token;
 use crate::version::Version;
+use std::alloc::Global;
 use std::marker::Model;
 
 /// A token that lies in its bytes, in V1 packets or V2 binary. Contracts see it as a `TokenParts`.
@@ -50,6 +54,27 @@ impl<'a> TokenView<'a> {
             return Err(TokenRefusal::Limit);
         }
         Ok(TokenView { raw })
+    }
+
+    /// A copy of the token.
+    pub fn copied(&self, alloc: Global) -> Result<Token, TokenFault>
+        ensures { Answers (λ token. token) result (Ok self.now) }
+    {
+        let location = String::from_str(alloc, self.location())?;
+        let identifier = Vec::from_slice(alloc, self.identifier())?;
+        let caveats = self.caveat_copies(alloc)?;
+        Ok(Token::new(location, identifier, caveats, self.sig())?)
+    }
+
+    fn caveat_copies(&self, alloc: Global) -> Result<Vec<Vec<u8>>, NoMemory>
+        ensures value { IfOk result (λ list. byte_lists list.items ≡ self.now.caveats) }
+        ensures within { IsWithinLimits self.now }
+    {
+        let mut list = Vec::with_capacity(alloc, self.caveats())?;
+        for caveat in self.walk() {
+            list.push(Vec::from_slice(alloc, caveat)?)?;
+        }
+        Ok(list)
     }
 
     /// The location, a hint that nothing signs.

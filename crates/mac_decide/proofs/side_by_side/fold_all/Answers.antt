@@ -17,7 +17,7 @@ loop-lane-preserved c =
     elim c.if-next-place.branch [
       | then-next-place+then-place-run w ↦ rw (w.run-is, w.next-is) (record {
         count = length-set _ _ _ ∙ c.loop-lane.invariant.count;
-        replies = map-set_same comes_to c.loop-lane.run _ w.fold.new.self w.index-run-place.result w.fold.ensures.reply ∙ c.loop-lane.invariant.replies;
+        replies = map-set_same comes_to c.loop-lane.run _ w.fold.new.self w.index-run-place.result w.fold.ensures ∙ c.loop-lane.invariant.replies;
         ahead = still-ahead c.loop-lane.run c.args.run.now c.loop-lane.next _ w.fold.new.self (omega (arith, w.if-next-place.true)) c.loop-lane.invariant.ahead;
       })
       | else-next-place w ↦ rw (w.run-is, w.next-is) c.loop-lane.invariant

@@ -1,0 +1,27 @@
+-- Texts that are folded onto a signature one by one (this project's own).
+use Rattle.std.specs.Prelude.{ℕ, List, [], ◌∷◌, Option, Some, None}
+use Rattle.mac_hmac.specs.Chain.{extended}
+use Rattle.mac_decide.specs.declared.folding.Rest.{Rest}
+use Rattle.mac_decide.specs.declared.folding.Rest.TheVariants.{Caveats, Fields}
+
+-- a signature so far, and the texts that are still to be folded onto it
+pub record Progress : Type 0 where
+  pub signature : List ℕ
+  pub left : List (List ℕ)
+
+abbrev pub progress : List ℕ → List (List ℕ) → Progress
+progress signature left = record { signature = signature; left = left }
+
+-- the signature after all of them
+abbrev pub end_of : Progress → List ℕ
+end_of p = extended p.signature p.left
+
+-- the texts that are left: the next one, if there is one, and those behind it
+abbrev pub texts_left : Option (List ℕ) → List (List ℕ) → List (List ℕ)
+texts_left None rest = []
+texts_left (Some text) rest = text ∷ rest
+
+-- the texts behind the next one, wherever they lie
+abbrev pub rest_of : Rest → List (List ℕ)
+rest_of (Caveats texts) = texts
+rest_of (Fields texts) = texts

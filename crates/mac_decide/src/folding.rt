@@ -1,0 +1,141 @@
+//! Texts that are folded onto a signature one by one, so that several signatures can be computed
+//! side by side.
+
+ghost use Rattle.std.specs.Prelude.{◌≡◌, ◌∷◌, ℕ, List, [], drop, length, get_or, option_map};
+ghost use Rattle.mac_hmac.specs.Chain.{extended};
+ghost use Rattle.mac_decide.specs.Folding.{end_of, progress, rest_of, texts_left};
+
+use mac_hmac::{RootKey, Sig, extend};
+use mac_token::{TokenView, Walk};
+use mac_wire::FieldList;
+use std::marker::Model;
+
+/// The texts behind the next one, where they lie.
+#[derive(Drop)]
+enum Rest<'a> {
+    Caveats(Walk<'a>),
+    Fields(FieldList<'a>),
+}
+
+impl<'a> Rest<'a> {
+    /// The first of them, which is taken away.
+    fn next(&mut self) -> Option<&'a [u8]>
+        ensures { texts_left (option_map (λ text. text.now) result) (rest_of self.new)
+            ≡ rest_of self.old }
+    {
+        match self {
+            Rest::Caveats(texts) => texts.next(),
+            Rest::Fields(texts) => texts.next(),
+        }
+    }
+}
+
+/// A signature so far, and the texts that are still to be folded onto it: how many, the next one,
+/// and those behind it. Contracts see the signature and the list of texts.
+#[derive(Drop)]
+pub struct Folding<'a> {
+    signature: Sig,
+    left: usize,
+    next: Option<&'a [u8]>,
+    rest: Rest<'a>,
+}
+
+impl<'a> Model for Folding<'a> {
+    ghost use Rattle.std.specs.Prelude.{◌≡◌, length, option_map};
+    ghost use Rattle.mac_decide.specs.Folding.{Progress, progress, texts_left, rest_of};
+
+    ghost Value = { Progress };
+
+    ghost view = { λ f. progress f.signature
+        (texts_left (option_map (λ text. text.now) f.next) (rest_of f.rest)) };
+
+    ghost invariant = { λ f. f.left
+        ≡ length (texts_left (option_map (λ text. text.now) f.next) (rest_of f.rest)) };
+}
+
+impl<'a> Folding<'a> {
+    /// The chain that the key gives a token: its identifier, and then its caveats.
+    pub fn of_token(key: RootKey, token: &TokenView<'a>) -> Folding<'a>
+        ensures { result ≡ progress key (token.now.identifier ∷ token.now.caveats) }
+    {
+        Folding {
+            signature: Sig::from_bytes(key.bytes()),
+            left: token.caveats() + 1,
+            next: Some(token.identifier()),
+            rest: Rest::Caveats(token.walk()),
+        }
+    }
+
+    /// The same of a token that is minted.
+    pub fn of_mint(key: RootKey, identifier: &'a [u8], caveats: FieldList<'a>) -> Folding<'a>
+        ensures { result ≡ progress key (identifier.now ∷ caveats.entry) }
+    {
+        Folding {
+            signature: Sig::from_bytes(key.bytes()),
+            left: caveats.len() + 1,
+            next: Some(identifier),
+            rest: Rest::Fields(caveats),
+        }
+    }
+
+    /// Caveats onto the signature that a token has.
+    pub fn of_caveats(signature: Sig, caveats: FieldList<'a>) -> Folding<'a>
+        ensures { result ≡ progress signature caveats.entry }
+    {
+        let left = caveats.len();
+        let mut rest = Rest::Fields(caveats);
+        let next = rest.next();
+        Folding {
+            signature,
+            left,
+            next,
+            rest,
+        }
+    }
+
+    /// How many texts are still to be folded on.
+    pub fn left(&self) -> usize
+        ensures { result ≡ length self.now.left }
+    {
+        self.left
+    }
+
+    /// The signature so far; before a token's identifier is folded on, the key.
+    pub fn signature(&self) -> Sig
+        ensures { result ≡ self.now.signature }
+    {
+        self.signature
+    }
+
+    /// The text that is to be folded on next; no bytes where none is left.
+    pub fn text(&self) -> &'a [u8]
+        ensures { result.now ≡ get_or self.now.left 0 [] }
+    {
+        self.next.unwrap_or(&[])
+    }
+
+    /// Takes the signature after the next text. Where none is left, nothing changes.
+    pub fn fold(&mut self, signature: Sig)
+        requires { (text : List ℕ) (rest : List (List ℕ)) → self.old.left ≡ text ∷ rest
+            → signature ≡ extended self.old.signature (text ∷ []) }
+        ensures end { end_of self.new ≡ end_of self.old }
+        ensures left { self.new.left ≡ drop 1 self.old.left }
+    {
+        if self.left > 0 {
+            self.signature = signature;
+            self.next = self.rest.next();
+            self.left -= 1;
+        }
+    }
+
+    /// The signature after all texts, folded on one after the other.
+    pub fn finish(mut self) -> Sig
+        ensures { result ≡ end_of self.entry }
+    {
+        for _ in 0..self.left() {
+            let signature = extend(self.signature(), self.text());
+            self.fold(signature);
+        }
+        self.signature()
+    }
+}

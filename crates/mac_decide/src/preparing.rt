@@ -1,0 +1,236 @@
+//! A job, up to what its reply waits for.
+
+ghost use Rattle.std.specs.Prelude.{◌≡◌, IfOk, ℕ, List};
+ghost use Rattle.mac_token.specs.Answers.{Answers as IsMade};
+ghost use Rattle.mac_token.specs.Limits.{token_or_limit};
+ghost use Rattle.mac_token.specs.Push.{with_sig};
+ghost use Rattle.mac_token.specs.RawToken.{TokenParts, byte_lists};
+ghost use Rattle.mac_token.specs.Read.{bare_of, carried_of, or_malformed, read_of, token_of_read};
+ghost use Rattle.mac_token.specs.Spells.{BeginsWith};
+ghost use Rattle.mac_wire.specs.Reading.{request_of};
+ghost use Rattle.mac_wire.specs.Request.{asked as asked_of};
+ghost use Rattle.mac_decide.specs.Answer as answers;
+ghost use Rattle.mac_decide.specs.Folding.{end_of};
+ghost use Rattle.mac_decide.specs.Minted.{add, minted};
+ghost use Rattle.mac_decide.specs.Prepared.{comes_to};
+ghost use Rattle.mac_decide.specs.Reading.{verdict_of};
+
+use crate::context::Context;
+use crate::folding::Folding;
+use crate::minting::token_of_parts;
+use crate::prepared::{Prepared, Purpose};
+use crate::reply::{refusal_of, refused, verdict_reply};
+use crate::verdict::verify;
+use mac_hmac::{RootKey, Sig};
+use mac_token::{Token, TokenFault, TokenView, bare, read, read_bare};
+use mac_wire::{FieldList, NoMemory, Refusal, Request, TokenForm, parse_request};
+use std::alloc::{AllocError, Global};
+
+fn told(reason: Refusal) -> Prepared<'static>
+    ensures { comes_to result ≡ answers.refused reason }
+{
+    Prepared::Told(refused(reason))
+}
+
+/// What the reply to a payload waits for. The room is for a token that comes as base64 text.
+pub fn prepare<'a>(
+    room: &'a mut Vec<u8>,
+    alloc: Global,
+    payload: &'a [u8],
+    key: Option<RootKey>,
+) -> Result<Prepared<'a>, NoMemory>
+    ensures { IfOk result (λ p.
+        comes_to p ≡ answers.asked_reply (request_of payload.now) key) }
+{
+    match parse_request(payload) {
+        Some(request) => prepare_request(room, alloc, request, key),
+        None => Ok(told(Refusal::BadRequest)),
+    }
+}
+
+fn prepare_request<'a>(
+    room: &'a mut Vec<u8>,
+    alloc: Global,
+    request: Request<'a>,
+    key: Option<RootKey>,
+) -> Result<Prepared<'a>, NoMemory>
+    ensures { IfOk result (λ p.
+        comes_to p ≡ answers.request_reply (asked_of request.entry) key) }
+{
+    match request {
+        Request::Mint {
+            form,
+            location,
+            identifier,
+            caveats,
+            ..
+        } => match key {
+            Some(key) => prepare_mint(alloc, form, key, location, identifier, caveats),
+            None => Ok(told(Refusal::UnknownKey)),
+        },
+        Request::Attenuate {
+            form,
+            token,
+            caveats,
+        } => prepare_attenuate(alloc, form, token, caveats),
+        Request::Verify {
+            token,
+            moment,
+            facts,
+            ..
+        } => match key {
+            Some(key) => prepare_verify(room, alloc, key, token, Context { moment, facts }),
+            None => Ok(told(Refusal::UnknownKey)),
+        },
+    }
+}
+
+/// The fields as lists of their own.
+fn copies(alloc: Global, fields: &FieldList<'_>) -> Result<Vec<Vec<u8>>, NoMemory>
+    ensures { IfOk result (λ lists. byte_lists lists.items ≡ fields.now) }
+{
+    let mut lists = Vec::with_capacity(alloc, fields.len())?;
+    for field in fields.walk() {
+        lists.push(Vec::from_slice(alloc, field)?)?;
+    }
+    Ok(lists)
+}
+
+fn prepare_mint<'a>(
+    alloc: Global,
+    form: TokenForm,
+    key: RootKey,
+    location: &str,
+    identifier: &'a [u8],
+    caveats: FieldList<'a>,
+) -> Result<Prepared<'a>, NoMemory>
+    ensures { IfOk result (λ p. comes_to p ≡ answers.token_reply form
+        (minted key location.now identifier.now caveats.entry)) }
+{
+    let lists = copies(alloc, &caveats)?;
+    let made = token_of_parts(alloc, location, identifier, lists, [0; 32]);
+    let folding = Folding::of_mint(key, identifier, caveats);
+    to_sign(form, made, folding)
+}
+
+fn prepare_attenuate<'a>(
+    alloc: Global,
+    form: TokenForm,
+    token: &[u8],
+    caveats: FieldList<'a>,
+) -> Result<Prepared<'a>, NoMemory>
+    ensures { IfOk result (λ p. comes_to p ≡ answers.told (read_of token.now)
+        (λ t. answers.token_reply form (add t caveats.entry))) }
+{
+    match read(alloc, token) {
+        Ok(token) => prepare_narrowed(alloc, form, token, caveats),
+        Err(TokenFault::Refused(reason)) => Ok(told(refusal_of(reason))),
+        Err(TokenFault::Memory) => Err(AllocError),
+    }
+}
+
+fn prepare_narrowed<'a>(
+    alloc: Global,
+    form: TokenForm,
+    token: Token,
+    caveats: FieldList<'a>,
+) -> Result<Prepared<'a>, NoMemory>
+    ensures { IfOk result (λ p. comes_to p ≡ answers.token_reply form
+        (add token caveats.entry)) }
+{
+    let lists = copies(alloc, &caveats)?;
+    let signature = Sig::from_bytes(token.sig());
+    to_sign(
+        form,
+        token.append(lists),
+        Folding::of_caveats(signature, caveats),
+    )
+}
+
+/// A token that has yet to be signed, or why there is none.
+fn to_sign<'a>(
+    form: TokenForm,
+    made: Result<Token, TokenFault>,
+    folding: Folding<'a>,
+) -> Result<Prepared<'a>, NoMemory>
+    ensures { (t : TokenParts) → IsMade (λ token. token) made (token_or_limit t)
+        → IfOk result (λ p. comes_to p
+        ≡ answers.token_reply form (with_sig t (end_of folding.entry))) }
+{
+    match made {
+        Ok(token) => {
+            let purpose = Purpose::Token { form, token };
+            Ok(Prepared::Pending { folding, purpose })
+        }
+        Err(TokenFault::Refused(reason)) => Ok(told(refusal_of(reason))),
+        Err(TokenFault::Memory) => Err(AllocError),
+    }
+}
+
+fn prepare_verify<'a>(
+    room: &'a mut Vec<u8>,
+    alloc: Global,
+    key: RootKey,
+    token: &'a [u8],
+    context: Context<'a>,
+) -> Result<Prepared<'a>, NoMemory>
+    ensures { IfOk result (λ p. comes_to p ≡ answers.told (read_of token.now)
+        (λ t. answers.verdict_reply (verdict_of key t context.entry))) }
+{
+    match bare(room, alloc, token) {
+        Ok(bytes) => prepare_carried(alloc, key, token, bytes, context),
+        Err(TokenFault::Refused(reason)) => Ok(told(refusal_of(reason))),
+        Err(TokenFault::Memory) => Err(AllocError),
+    }
+}
+
+/// The same, where these are the bytes that the token carries. Only JSON is read with memory.
+fn prepare_carried<'a>(
+    alloc: Global,
+    key: RootKey,
+    token: &[u8],
+    bytes: &'a [u8],
+    context: Context<'a>,
+) -> Result<Prepared<'a>, NoMemory>
+    requires { carried_of token.now ≡ Ok bytes.now }
+    ensures { IfOk result (λ p. comes_to p ≡ answers.told (read_of token.now)
+        (λ t. answers.verdict_reply (verdict_of key t context.entry))) }
+{
+    match bytes {
+        [b'{', ..] => prepare_json(alloc, key, bytes, &context),
+        _ => Ok(prepare_view(key, bytes, context)),
+    }
+}
+
+fn prepare_view<'a>(key: RootKey, bytes: &'a [u8], context: Context<'a>) -> Prepared<'a>
+    requires { ¬ BeginsWith 123 bytes.now }
+    ensures { comes_to result ≡ answers.told (token_of_read (or_malformed (bare_of bytes.now)))
+        (λ t. answers.verdict_reply (verdict_of key t context.entry)) }
+{
+    match TokenView::of(bytes) {
+        Ok(token) => {
+            let folding = Folding::of_token(key, &token);
+            let purpose = Purpose::Verdict { token, context };
+            Prepared::Pending { folding, purpose }
+        }
+        Err(reason) => told(refusal_of(reason)),
+    }
+}
+
+/// A verify of a token in JSON, whose parts lie in no bytes, is answered at once.
+fn prepare_json(
+    alloc: Global,
+    key: RootKey,
+    bytes: &[u8],
+    context: &Context<'_>,
+) -> Result<Prepared<'static>, NoMemory>
+    ensures { IfOk result (λ p. comes_to p
+        ≡ answers.told (token_of_read (or_malformed (bare_of bytes.now)))
+        (λ t. answers.verdict_reply (verdict_of key t context.now))) }
+{
+    match read_bare(alloc, bytes) {
+        Ok(token) => Ok(Prepared::Told(verdict_reply(verify(&key, &token, context)))),
+        Err(TokenFault::Refused(reason)) => Ok(told(refusal_of(reason))),
+        Err(TokenFault::Memory) => Err(AllocError),
+    }
+}
