@@ -58,9 +58,10 @@ impl<'a> Folding<'a> {
     pub fn of_token(key: RootKey, token: &TokenView<'a>) -> Folding<'a>
         ensures { result ≡ progress key (token.now.identifier ∷ token.now.caveats) }
     {
+        let left = token.caveats() + 1;
         Folding {
             signature: Sig::from_bytes(key.bytes()),
-            left: token.caveats() + 1,
+            left,
             next: Some(token.identifier()),
             rest: Rest::Caveats(token.walk()),
         }
@@ -70,9 +71,10 @@ impl<'a> Folding<'a> {
     pub fn of_mint(key: RootKey, identifier: &'a [u8], caveats: FieldList<'a>) -> Folding<'a>
         ensures { result ≡ progress key (identifier.now ∷ caveats.entry) }
     {
+        let left = caveats.len() + 1;
         Folding {
             signature: Sig::from_bytes(key.bytes()),
-            left: caveats.len() + 1,
+            left,
             next: Some(identifier),
             rest: Rest::Fields(caveats),
         }
