@@ -1,8 +1,8 @@
 -- Texts that are folded onto a signature one by one (this project's own).
 use Rattle.std.specs.Prelude.{ℕ, List, [], ◌∷◌, Option, Some, None}
 use Rattle.mac_hmac.specs.Chain.{extended}
-use Rattle.mac_decide.specs.declared.folding.Rest.{Rest}
-use Rattle.mac_decide.specs.declared.folding.Rest.TheVariants.{Caveats, Fields}
+use Rattle.mac_decide.specs.declared.folding.Texts.{Texts}
+use Rattle.mac_decide.specs.declared.folding.Texts.TheVariants.{Caveats, Fields}
 
 -- a signature so far, and the texts that are still to be folded onto it
 pub record Progress : Type 0 where
@@ -21,7 +21,7 @@ abbrev pub texts_left : Option (List ℕ) → List (List ℕ) → List (List ℕ
 texts_left None rest = []
 texts_left (Some text) rest = text ∷ rest
 
--- the texts behind the next one, wherever they lie
-abbrev pub rest_of : Rest → List (List ℕ)
-rest_of (Caveats texts) = texts
-rest_of (Fields texts) = texts
+-- texts, wherever they lie
+abbrev pub texts_of : Texts → List (List ℕ)
+texts_of (Caveats texts) = texts
+texts_of (Fields texts) = texts

@@ -3,29 +3,29 @@
 
 ghost use Rattle.std.specs.Prelude.{◌≡◌, ◌∷◌, ℕ, List, [], drop, length, get_or, option_map};
 ghost use Rattle.mac_hmac.specs.Chain.{extended};
-ghost use Rattle.mac_decide.specs.Folding.{end_of, progress, rest_of, texts_left};
+ghost use Rattle.mac_decide.specs.Folding.{end_of, progress, texts_of, texts_left};
 
 use mac_hmac::{RootKey, Sig, extend};
 use mac_token::{TokenView, Walk};
 use mac_wire::FieldList;
 use std::marker::Model;
 
-/// The texts behind the next one, where they lie.
+/// Texts, where they lie: the caveats of a token, or the fields of a request's list.
 #[derive(Drop)]
-enum Rest<'a> {
+pub enum Texts<'a> {
     Caveats(Walk<'a>),
     Fields(FieldList<'a>),
 }
 
-impl<'a> Rest<'a> {
+impl<'a> Texts<'a> {
     /// The first of them, which is taken away.
-    fn next(&mut self) -> Option<&'a [u8]>
-        ensures { texts_left (option_map (λ text. text.now) result) (rest_of self.new)
-            ≡ rest_of self.old }
+    pub fn next(&mut self) -> Option<&'a [u8]>
+        ensures { texts_left (option_map (λ text. text.now) result) (texts_of self.new)
+            ≡ texts_of self.old }
     {
         match self {
-            Rest::Caveats(texts) => texts.next(),
-            Rest::Fields(texts) => texts.next(),
+            Texts::Caveats(texts) => texts.next(),
+            Texts::Fields(texts) => texts.next(),
         }
     }
 }
@@ -37,20 +37,20 @@ pub struct Folding<'a> {
     signature: Sig,
     left: usize,
     next: Option<&'a [u8]>,
-    rest: Rest<'a>,
+    rest: Texts<'a>,
 }
 
 impl<'a> Model for Folding<'a> {
     ghost use Rattle.std.specs.Prelude.{◌≡◌, length, option_map};
-    ghost use Rattle.mac_decide.specs.Folding.{Progress, progress, texts_left, rest_of};
+    ghost use Rattle.mac_decide.specs.Folding.{Progress, progress, texts_left, texts_of};
 
     ghost Value = { Progress };
 
     ghost view = { λ f. progress f.signature
-        (texts_left (option_map (λ text. text.now) f.next) (rest_of f.rest)) };
+        (texts_left (option_map (λ text. text.now) f.next) (texts_of f.rest)) };
 
     ghost invariant = { λ f. f.left
-        ≡ length (texts_left (option_map (λ text. text.now) f.next) (rest_of f.rest)) };
+        ≡ length (texts_left (option_map (λ text. text.now) f.next) (texts_of f.rest)) };
 }
 
 impl<'a> Folding<'a> {
@@ -63,7 +63,7 @@ impl<'a> Folding<'a> {
             signature: Sig::from_bytes(key.bytes()),
             left,
             next: Some(token.identifier()),
-            rest: Rest::Caveats(token.walk()),
+            rest: Texts::Caveats(token.walk()),
         }
     }
 
@@ -76,7 +76,7 @@ impl<'a> Folding<'a> {
             signature: Sig::from_bytes(key.bytes()),
             left,
             next: Some(identifier),
-            rest: Rest::Fields(caveats),
+            rest: Texts::Fields(caveats),
         }
     }
 
@@ -85,7 +85,7 @@ impl<'a> Folding<'a> {
         ensures { result ≡ progress signature caveats.entry }
     {
         let left = caveats.len();
-        let mut rest = Rest::Fields(caveats);
+        let mut rest = Texts::Fields(caveats);
         let next = rest.next();
         Folding {
             signature,

@@ -1,28 +1,28 @@
 //! A job, up to what its reply waits for.
 
-ghost use Rattle.std.specs.Prelude.{◌≡◌, IfOk, ℕ, List};
+ghost use Rattle.std.specs.Prelude.{◌≡◌, ◌++◌, IfOk};
 ghost use Rattle.mac_token.specs.Answers.{Answers as IsMade};
 ghost use Rattle.mac_token.specs.Limits.{token_or_limit};
 ghost use Rattle.mac_token.specs.Push.{with_sig};
 ghost use Rattle.mac_token.specs.RawToken.{TokenParts, byte_lists};
-ghost use Rattle.mac_token.specs.Read.{bare_of, carried_of, or_malformed, read_of, token_of_read};
+ghost use Rattle.mac_token.specs.Read.{bare_of, or_malformed, read_of, token_of_read};
 ghost use Rattle.mac_token.specs.Spells.{BeginsWith};
 ghost use Rattle.mac_wire.specs.Reading.{request_of};
 ghost use Rattle.mac_wire.specs.Request.{asked as asked_of};
 ghost use Rattle.mac_decide.specs.Answer as answers;
-ghost use Rattle.mac_decide.specs.Folding.{end_of};
+ghost use Rattle.mac_decide.specs.Folding.{end_of, texts_of};
 ghost use Rattle.mac_decide.specs.Minted.{add, minted};
 ghost use Rattle.mac_decide.specs.Prepared.{comes_to};
 ghost use Rattle.mac_decide.specs.Reading.{verdict_of};
 
 use crate::context::Context;
-use crate::folding::Folding;
+use crate::folding::{Folding, Texts};
 use crate::minting::token_of_parts;
 use crate::prepared::{Prepared, Purpose};
 use crate::reply::{refusal_of, refused, verdict_reply};
 use crate::verdict::verify;
 use mac_hmac::{RootKey, Sig};
-use mac_token::{Token, TokenFault, TokenView, bare, read, read_bare};
+use mac_token::{Token, TokenFault, TokenView, bare, read_bare};
 use mac_wire::{FieldList, NoMemory, Refusal, Request, TokenForm, parse_request};
 use std::alloc::{AllocError, Global};
 
@@ -85,15 +85,15 @@ fn prepare_request<'a>(
     }
 }
 
-/// The fields as lists of their own.
-fn copies(alloc: Global, fields: &FieldList<'_>) -> Result<Vec<Vec<u8>>, NoMemory>
-    ensures { IfOk result (λ lists. byte_lists lists.items ≡ fields.now) }
+/// Puts copies of the texts behind the lists that are there.
+fn copy(lists: &mut Vec<Vec<u8>>, alloc: Global, mut texts: Texts<'_>) -> Result<(), NoMemory>
+    ensures { IfOk result (λ _. byte_lists lists.new.items
+        ≡ byte_lists lists.old.items ++ texts_of texts.entry) }
 {
-    let mut lists = Vec::with_capacity(alloc, fields.len())?;
-    for field in fields.walk() {
-        lists.push(Vec::from_slice(alloc, field)?)?;
+    while let Some(text) = texts.next() {
+        lists.push(Vec::from_slice(alloc, text)?)?;
     }
-    Ok(lists)
+    Ok(())
 }
 
 fn prepare_mint<'a>(
@@ -107,7 +107,8 @@ fn prepare_mint<'a>(
     ensures { IfOk result (λ p. comes_to p ≡ answers.token_reply form
         (minted key location.now identifier.now caveats.entry)) }
 {
-    let lists = copies(alloc, &caveats)?;
+    let mut lists = Vec::with_capacity(alloc, caveats.len())?;
+    copy(&mut lists, alloc, Texts::Fields(caveats.walk()))?;
     let made = token_of_parts(alloc, location, identifier, lists, [0; 32]);
     let folding = Folding::of_mint(key, identifier, caveats);
     to_sign(form, made, folding)
@@ -122,29 +123,82 @@ fn prepare_attenuate<'a>(
     ensures { IfOk result (λ p. comes_to p ≡ answers.told (read_of token.now)
         (λ t. answers.token_reply form (add t caveats.entry))) }
 {
-    match read(alloc, token) {
-        Ok(token) => prepare_narrowed(alloc, form, token, caveats),
+    let mut room = Vec::new(alloc);
+    match bare(&mut room, alloc, token) {
+        Ok(bytes) => prepare_narrowed(alloc, form, bytes, caveats),
         Err(TokenFault::Refused(reason)) => Ok(told(refusal_of(reason))),
         Err(TokenFault::Memory) => Err(AllocError),
     }
 }
 
+/// The same, where these are the bytes that the token carries.
 fn prepare_narrowed<'a>(
+    alloc: Global,
+    form: TokenForm,
+    bytes: &[u8],
+    caveats: FieldList<'a>,
+) -> Result<Prepared<'a>, NoMemory>
+    ensures { IfOk result (λ p. comes_to p
+        ≡ answers.told (token_of_read (or_malformed (bare_of bytes.now)))
+        (λ t. answers.token_reply form (add t caveats.entry))) }
+{
+    if let [b'{', ..] = bytes {
+        return narrowed_json(alloc, form, bytes, caveats);
+    }
+    match TokenView::of(bytes) {
+        Ok(token) => narrowed_view(alloc, form, &token, caveats),
+        Err(reason) => Ok(told(refusal_of(reason))),
+    }
+}
+
+fn narrowed_view<'a>(
+    alloc: Global,
+    form: TokenForm,
+    token: &TokenView<'_>,
+    caveats: FieldList<'a>,
+) -> Result<Prepared<'a>, NoMemory>
+    ensures { IfOk result (λ p. comes_to p
+        ≡ answers.token_reply form (add token.now caveats.entry)) }
+{
+    let mut lists = Vec::with_capacity(alloc, token.caveats() + caveats.len())?;
+    copy(&mut lists, alloc, Texts::Caveats(token.walk()))?;
+    copy(&mut lists, alloc, Texts::Fields(caveats.walk()))?;
+    let made = token_of_parts(alloc, token.location(), token.identifier(), lists, [0; 32]);
+    let folding = Folding::of_caveats(Sig::from_bytes(token.sig()), caveats);
+    to_sign(form, made, folding)
+}
+
+fn narrowed_json<'a>(
+    alloc: Global,
+    form: TokenForm,
+    bytes: &[u8],
+    caveats: FieldList<'a>,
+) -> Result<Prepared<'a>, NoMemory>
+    ensures { IfOk result (λ p. comes_to p
+        ≡ answers.told (token_of_read (or_malformed (bare_of bytes.now)))
+        (λ t. answers.token_reply form (add t caveats.entry))) }
+{
+    match read_bare(alloc, bytes) {
+        Ok(token) => narrowed_token(alloc, form, token, caveats),
+        Err(TokenFault::Refused(reason)) => Ok(told(refusal_of(reason))),
+        Err(TokenFault::Memory) => Err(AllocError),
+    }
+}
+
+fn narrowed_token<'a>(
     alloc: Global,
     form: TokenForm,
     token: Token,
     caveats: FieldList<'a>,
 ) -> Result<Prepared<'a>, NoMemory>
-    ensures { IfOk result (λ p. comes_to p ≡ answers.token_reply form
-        (add token caveats.entry)) }
+    ensures { IfOk result (λ p. comes_to p
+        ≡ answers.token_reply form (add token caveats.entry)) }
 {
-    let lists = copies(alloc, &caveats)?;
+    let mut lists = Vec::with_capacity(alloc, caveats.len())?;
+    copy(&mut lists, alloc, Texts::Fields(caveats.walk()))?;
     let signature = Sig::from_bytes(token.sig());
-    to_sign(
-        form,
-        token.append(lists),
-        Folding::of_caveats(signature, caveats),
-    )
+    let made = token.append(lists);
+    to_sign(form, made, Folding::of_caveats(signature, caveats))
 }
 
 /// A token that has yet to be signed, or why there is none.
@@ -178,22 +232,21 @@ fn prepare_verify<'a>(
         (λ t. answers.verdict_reply (verdict_of key t context.entry))) }
 {
     match bare(room, alloc, token) {
-        Ok(bytes) => prepare_carried(alloc, key, token, bytes, context),
+        Ok(bytes) => prepare_bare(alloc, key, bytes, context),
         Err(TokenFault::Refused(reason)) => Ok(told(refusal_of(reason))),
         Err(TokenFault::Memory) => Err(AllocError),
     }
 }
 
 /// The same, where these are the bytes that the token carries. Only JSON is read with memory.
-fn prepare_carried<'a>(
+fn prepare_bare<'a>(
     alloc: Global,
     key: RootKey,
-    token: &[u8],
     bytes: &'a [u8],
     context: Context<'a>,
 ) -> Result<Prepared<'a>, NoMemory>
-    requires { carried_of token.now ≡ Ok bytes.now }
-    ensures { IfOk result (λ p. comes_to p ≡ answers.told (read_of token.now)
+    ensures { IfOk result (λ p. comes_to p
+        ≡ answers.told (token_of_read (or_malformed (bare_of bytes.now)))
         (λ t. answers.verdict_reply (verdict_of key t context.entry))) }
 {
     match bytes {

@@ -8,7 +8,6 @@ use crate::prepared::Prepared;
 use crate::preparing::prepare;
 use crate::reply::refused;
 use mac_hmac::{Sig, extend_each};
-use mac_token::CAVEATS_MAX;
 use mac_wire::{Arrival, NoMemory, Refusal, Reply};
 use std::alloc::Global;
 
@@ -24,8 +23,8 @@ const FEWEST: usize = 4;
 /// The place of a lane that has nothing to do, which no run has.
 const NOWHERE: usize = RUN;
 
-/// How many numbers of texts a token may have left: none, or those of its caveats and one more.
-const LEVELS: usize = CAVEATS_MAX + 2;
+/// How many numbers of texts left are told apart. The last stands for all above it too.
+const LEVELS: usize = 32;
 
 /// The replies to the jobs, in order. Signatures are computed up to eight side by side: those that
 /// verifies compare, but for tokens in JSON, and those of tokens that are minted or attenuated.
@@ -165,7 +164,7 @@ impl Bar {
     }
 }
 
-/// How many of the run have each number of texts left.
+/// How many of the run have each number of texts left, up to the last that is told apart.
 fn tally(run: &[Prepared<'_>]) -> [u8; LEVELS] {
     let mut tally: [u8; LEVELS] = [0; LEVELS];
     for prepared in run {

@@ -1,8 +1,11 @@
 use Rattle.std.proofs.Common.{◌≡◌, sym, ap, ◌∙◌}
 use Rattle.mac_decide.specs.Answer.{refused, refusal_of, told, verdict_reply}
 use Rattle.mac_decide.specs.Reading.{verdict_of}
-use Rattle.mac_decide.proofs.VerifiedLemmas.{read_of-refused}
+use Rattle.mac_decide.proofs.VerifiedLemmas.{read_of-carried, read_of-refused}
 use Rattle.mac_decide.proofs.preparing.prepare_verify.Goals as goal
+
+pub returns-in-Ok : goal.returns-in-Ok
+returns-in-Ok c = rw (read_of-carried c.args.token.now c.in-Ok.bytes.now c.in-Ok.ensures.answer) c.prepare_bare.ensures
 
 pub returns-in-Err-Refused : goal.returns-in-Err-Refused
 returns-in-Err-Refused c =
