@@ -6,10 +6,10 @@ ghost use Rattle.mac_wire.specs.Device.{CountsFault, PassesFront};
 ghost use Rattle.mac_wire.specs.Streams.{reader_of};
 
 use crate::device::{DeviceFault, Source};
-use std::io::Read;
+use std::io::{ErrorKind, Read};
 
-/// A source over a reader, whose first read of nothing into a buffer with room is the end. What the
-/// bytes were, it doesn't tell.
+/// A source over a reader, whose first read of nothing into a buffer with room is the end. A read
+/// that a signal broke off is made again. What the bytes were, it doesn't tell.
 #[derive(Drop)]
 pub struct ReaderSource<R> {
     reader: R,
@@ -63,21 +63,32 @@ impl<R: Read + Send> Source for ReaderSource<R> {
         if self.has_ended {
             return Ok(0);
         }
-        match self.reader.read(buf) {
-            Ok(count) => {
-                if count == 0 && !buf.is_empty() {
-                    self.has_ended = true;
-                }
-                Ok(count)
-            }
-            Err(_) => {
-                self.faults += 1;
-                Err(DeviceFault)
-            }
+        let Ok(count) = read_past_signals(&mut self.reader, buf) else {
+            self.faults += 1;
+            return Err(DeviceFault);
+        };
+        if count == 0 && !buf.is_empty() {
+            self.has_ended = true;
         }
+        Ok(count)
     }
 
     fn faults(&self) -> u64 {
         self.faults
     }
+}
+
+/// Reads, and reads again where a signal broke that off.
+fn read_past_signals<R: Read>(reader: &mut R, buf: &mut [u8]) -> Result<usize, DeviceFault>
+    ensures bytes { ReadConsumes (R.remaining reader.old) (R.remaining reader.new) result buf.new }
+    ensures bound { IfOk result (λ n. n ≤ length buf.new) }
+{
+    for _ in 0..u64::MAX {
+        match reader.read(buf) {
+            Ok(count) => return Ok(count),
+            Err(fault) if fault.kind() == ErrorKind::Interrupted => {}
+            Err(_) => return Err(DeviceFault),
+        }
+    }
+    Err(DeviceFault)
 }

@@ -6,10 +6,10 @@ ghost use Rattle.mac_wire.specs.Device.{CountsFault};
 ghost use Rattle.mac_wire.specs.Streams.{writer_of};
 
 use crate::device::{DeviceFault, Sink};
-use std::io::Write;
+use std::io::{ErrorKind, Write};
 
-/// A sink over a writer. A writer that takes none of some bytes has failed. What the bytes were, it
-/// doesn't tell.
+/// A sink over a writer. A writer that takes none of some bytes has failed; a write that a signal
+/// broke off is made again. What the bytes were, it doesn't tell.
 #[derive(Drop)]
 pub struct WriterSink<W> {
     writer: W,
@@ -49,7 +49,7 @@ impl<W: Write + Send> Sink for WriterSink<W> {
         if buf.is_empty() {
             return Ok(0);
         }
-        match self.writer.write(buf) {
+        match write_past_signals(&mut self.writer, buf) {
             Ok(count) if count > 0 => Ok(count),
             Ok(_) | Err(_) => {
                 self.faults += 1;
@@ -61,4 +61,19 @@ impl<W: Write + Send> Sink for WriterSink<W> {
     fn faults(&self) -> u64 {
         self.faults
     }
+}
+
+/// Writes, and writes again where a signal broke that off.
+fn write_past_signals<W: Write>(writer: &mut W, buf: &[u8]) -> Result<usize, DeviceFault>
+    ensures bytes { WriteAppends (W.contents writer.old) (W.contents writer.new) result buf.now }
+    ensures bound { IfOk result (λ n. n ≤ length buf.now) }
+{
+    for _ in 0..u64::MAX {
+        match writer.write(buf) {
+            Ok(count) => return Ok(count),
+            Err(fault) if fault.kind() == ErrorKind::Interrupted => {}
+            Err(_) => return Err(DeviceFault),
+        }
+    }
+    Err(DeviceFault)
 }
