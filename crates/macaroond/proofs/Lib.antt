@@ -1,5 +1,6 @@
 pub mod CommandLineLemmas
 pub mod CrewLemmas
+pub mod DeskLemmas
 pub mod KeyText
 pub mod LineLemmas
 pub mod OptionLemmas

@@ -1,15 +1,18 @@
 //! One connection, in threads of its own.
-ghost use Rattle.std.specs.Prelude.{◌≡◌, IfSome};
+ghost use Rattle.std.specs.Prelude.{◌≡◌, IfErr, IfOk};
+ghost use Rattle.mac_pool.specs.Pass.{IsSamePass};
 
 use mac_decide::Macaroons;
 use mac_keys::KeyTable;
 use mac_pool::Desk;
 use mac_serve::{ServeFault, serve};
-use mac_wire::{DeviceFault, ReaderSource, Sink, WriterSink};
+use mac_wire::{DeviceFault, NoMemory, ReaderSource, Sink, WriterSink};
 use std::alloc::Global;
 use std::net::Shutdown;
 use std::os::unix::net::UnixStream;
 use std::snapshot::Snapshot;
+use std::sync::atomic::AtomicBool;
+use std::sync::atomic::Ordering::SeqCst;
 use std::sync::{Arc, Wait};
 use std::thread;
 use std::thread::{Promise, PromisedHandle, Threads};
@@ -23,25 +26,28 @@ pub struct Ended {
     pub desk: Desk<Macaroons>,
 }
 
-/// The desk comes back to the line that it was made for.
+/// The desk comes back with the pass that it was made with.
 #[derive(Drop)]
-pub struct SameLine(Snapshot<Desk<Macaroons>>);
+pub struct SamePass(Snapshot<Desk<Macaroons>>);
 
-impl Promise<Ended> for SameLine {
-    ghost use Rattle.std.specs.Prelude.{◌≡◌};
+impl Promise<Ended> for SamePass {
+    ghost use Rattle.mac_pool.specs.Pass.{IsSamePass};
 
-    ghost kept_by = { λ p ended. ended.desk.putter.line ≡ p.0.value.putter.line };
+    ghost kept_by = { λ p ended. IsSamePass p.0.value.putter ended.desk.putter };
 }
 
 /// A connection that is served in a thread.
-pub type Connection = PromisedHandle<Ended, SameLine>;
+pub type Connection = PromisedHandle<Ended, SamePass>;
+
+// Whether a connection's thread was refused.
+type Flag = Arc<AtomicBool, Global>;
 
 /// Who is told that a connection has ended, in its thread.
 pub trait Watch: Send + Drop {
     fn ended(self, fault: Option<ServeFault>);
 }
 
-/// Serves a stream in a thread, if the system gives one.
+/// Serves a stream in a thread. Without memory or a thread for it, the desk comes back.
 pub fn connected<R, W>(
     rt: R,
     alloc: Global,
@@ -49,22 +55,48 @@ pub fn connected<R, W>(
     keys: Arc<KeyTable, Global>,
     desk: Desk<Macaroons>,
     watch: W,
-) -> Option<Connection>
+) -> Result<Connection, Desk<Macaroons>>
 where
     R: Threads + Wait + Sync + Copy + Send + 'static,
     W: Watch + 'static,
-    ensures { IfSome result (λ connection.
-        connection.promise.0.value.putter.line ≡ desk.putter.line) }
+    ensures connection { IfOk result (λ connection.
+        connection.promise.0.value.putter ≡ desk.putter) }
+    ensures back { IfErr result (λ back. IsSamePass desk.putter back.putter) }
 {
-    let promise = SameLine(Snapshot::of(&desk));
+    let Ok((refusal, heard)) = refusal(alloc) else {
+        return Err(desk);
+    };
+    let promise = SamePass(Snapshot::of(&desk));
     let work = move || -> Ended
-        ensures { result.desk.putter.line ≡ desk.putter.line }
+        ensures { IsSamePass desk.putter result.desk.putter }
     {
-        let ended = served(&rt, alloc, &stream, &keys, desk);
+        let own = desk;
+        if heard.load(SeqCst) {
+            return Ended {
+                fault: Some(ServeFault::NoMemory),
+                desk: own,
+            };
+        }
+        let ended = served(&rt, alloc, &stream, &keys, own);
         watch.ended(ended.fault);
         ended
     };
-    thread::spawn_with(&rt, promise, work).ok()
+    match thread::spawn_with(&rt, promise, work) {
+        Ok(connection) => Ok(connection),
+        Err(back) => {
+            // The work holds the desk, and gives it back at once here.
+            refusal.store(true, SeqCst);
+            let work = back.value;
+            Err(work().desk)
+        }
+    }
+}
+
+/// A flag that tells a thread's work that no thread was given, with two handles on it.
+fn refusal(alloc: Global) -> Result<(Flag, Flag), NoMemory> {
+    let flag = Arc::new(alloc, AtomicBool::new(false))?;
+    let other = Arc::try_clone(&flag)?;
+    Ok((flag, other))
 }
 
 // Serves a stream to its end.
@@ -75,7 +107,7 @@ fn served<R: Threads + Wait + Sync>(
     keys: &KeyTable,
     desk: Desk<Macaroons>,
 ) -> Ended
-    ensures { result.desk.putter.line ≡ desk.putter.line }
+    ensures { IsSamePass desk.putter result.desk.putter }
 {
     let mut source = ReaderSource::new(stream);
     let mut sink = Outgoing::new(stream);

@@ -1,6 +1,6 @@
 //! The pool of a daemon, and its live connections.
-ghost use Rattle.std.specs.Prelude.{◌≡◌, ◌<◌, IfOk, length};
-ghost use Rattle.macaroond.specs.Crew.{AreFree, EachBerth};
+ghost use Rattle.std.specs.Prelude.{◌≡◌, ◌<◌, IfOk, false, length};
+ghost use Rattle.macaroond.specs.Crew.{AreFree, EachBerth, KeepsHome};
 ghost use Rattle.macaroond.specs.declared.daemon.crew.TheConstants.{LIVE_MAX};
 
 use super::connection::{Connection, Watch, connected};
@@ -60,7 +60,8 @@ impl Crew {
         self.berths[berth].is_none()
     }
 
-    /// Serves a stream from a free berth. Without a desk, a thread or memory it is dropped.
+    /// Serves a stream from a free berth. Without a desk, a thread or memory it is dropped, and no
+    /// desk is lost.
     pub fn take_on<R, W>(
         &mut self,
         rt: R,
@@ -74,6 +75,7 @@ impl Crew {
         R: Threads + Wait + Sync + Copy + Send + 'static,
         W: Watch + 'static,
         requires { berth < LIVE_MAX }
+        ensures { result ≡ false → KeepsHome self.old.pool.passes self.new.pool.passes }
     {
         let Ok(keys) = Arc::try_clone(keys) else {
             return false;
@@ -81,11 +83,16 @@ impl Crew {
         let Ok(desk) = self.pool.desk(alloc) else {
             return false;
         };
-        let Some(connection) = connected(rt, alloc, stream, keys, desk, watch) else {
-            return false;
-        };
-        self.berths[berth] = Some(connection);
-        true
+        match connected(rt, alloc, stream, keys, desk, watch) {
+            Ok(connection) => {
+                self.berths[berth] = Some(connection);
+                true
+            }
+            Err(desk) => {
+                self.pool.home(desk);
+                false
+            }
+        }
     }
 
     /// Waits for the connection of a berth, if there is one, and frees the berth.
