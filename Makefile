@@ -1,4 +1,4 @@
-.PHONY: test wrong-bodies demo build build-runs bench load soak
+.PHONY: test wrong-bodies demo build build-runs faults bench load soak
 
 # Every proof from nothing, the wrong bodies, every test and program; then the program beside its pages and the work of others.
 test:
@@ -25,12 +25,21 @@ build:
 	mkdir -p bin
 	cp crates/macaroond/out/macaroond crates/hash_blocks/out/hash_blocks bin/
 
-# The same for bin/pool_runs, which drives the ring and the pool, and bin/serve_runs, which drives serve over memory.
+# The same for bin/pool_runs, which drives the ring and the pool, bin/serve_runs, which drives serve over memory,
+# bin/refused_runs, which makes single calls, and bin/conformance.
 build-runs:
 	cd crates/pool_runs && rt run > /dev/null
 	cd crates/serve_runs && rt run > /dev/null
+	cd crates/refused_runs && rt run > /dev/null
+	cd crates/conformance && rt run > /dev/null < stdin
 	mkdir -p bin
 	cp crates/pool_runs/out/pool_runs crates/serve_runs/out/serve_runs bin/
+	cp crates/refused_runs/out/refused_runs crates/conformance/out/conformance bin/
+
+# Each request for memory refused in turn, and each call of a device failed, of the programs and the daemon. After
+# make build build-runs, and with a C compiler.
+faults:
+	scripts/faults.py
 
 # Requests a second, beside what their hashing costs; what serve, the ring and the pool cost. After make build build-runs.
 bench:

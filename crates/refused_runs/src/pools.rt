@@ -1,0 +1,157 @@
+//! Calls of `mac_pool`.
+
+ghost use Rattle.std.specs.Prelude.{◌≡◌};
+
+use crate::answers::{is_sent, opened};
+use crate::outcome::{Outcome, Refused, made_if, once_more, stood_if};
+use crate::posts::next_post;
+use crate::samples::mint_job;
+use mac_decide::Macaroons;
+use mac_pool::{Desk, DeskFault, Gate, Line, NoGate, Pool, PoolFault, Post, Putter};
+use std::alloc::Global;
+use std::sync::{Arc, Wait};
+use std::thread::Threads;
+
+/// How many workers a pool is to start.
+const WORKERS: usize = 3;
+
+pub(crate) fn makes_lines(alloc: Global) -> Outcome {
+    once_more(is_line(alloc), is_line(alloc))
+}
+
+fn is_line(alloc: Global) -> Option<bool> {
+    let (_line, passes) = Line::<Macaroons>::new(alloc).ok()?;
+    Some(passes.len() == 80)
+}
+
+/// Whether the pool ends with so many tickets put and claimed: no desk is out then.
+fn ends<R: Threads + Wait, G: Gate>(rt: &R, pool: Pool<Macaroons, G>, tickets: u64) -> bool {
+    match pool.stop(rt) {
+        Ok(tally) => tally.put == tickets && tally.claimed == tickets && tally.left == 0,
+        Err(_) => false,
+    }
+}
+
+pub(crate) fn makes_by_hand<R: Threads + Wait>(rt: &R, alloc: Global) -> Outcome {
+    once_more(is_by_hand(rt, alloc), is_by_hand(rt, alloc))
+}
+
+fn is_by_hand<R: Threads + Wait>(rt: &R, alloc: Global) -> Option<bool> {
+    let pool = Pool::by_hand(alloc).ok()?;
+    Some(ends(rt, pool, 0))
+}
+
+/// Each worker has a handle on the gate: where none is left, no other handle is.
+pub(crate) fn starts<R>(rt: &R, alloc: Global) -> Result<Outcome, Refused>
+where
+    R: Threads + Wait + Copy + Send + 'static,
+{
+    let mut gate = Arc::new(alloc, NoGate)?;
+    let first = is_started(rt, alloc, &gate);
+    let is_alone = Arc::get_mut(&mut gate).is_some();
+    let outcome = once_more(first, is_started(rt, alloc, &gate));
+    Ok(if is_alone { outcome } else { Outcome::Wrong })
+}
+
+fn is_started<R>(rt: &R, alloc: Global, gate: &Arc<NoGate, Global>) -> Option<bool>
+where
+    R: Threads + Wait + Copy + Send + 'static,
+{
+    let gate = Arc::try_clone(gate).ok()?;
+    match Pool::<Macaroons, NoGate>::start(rt, alloc, WORKERS, gate) {
+        Ok(pool) => Some(ends(rt, pool, 0)),
+        Err(PoolFault::NoMemory | PoolFault::NoThread) => None,
+        Err(PoolFault::Count) => Some(false),
+    }
+}
+
+/// No desk is out after the refusal; then there is one, and it comes home.
+pub(crate) fn desks<R: Threads + Wait>(rt: &R, alloc: Global) -> Result<Outcome, Refused> {
+    let Ok(mut pool) = Pool::<Macaroons, NoGate>::by_hand(alloc) else {
+        return Err(Refused);
+    };
+    match pool.desk(alloc) {
+        Ok(desk) => {
+            pool.home(desk);
+            Ok(made_if(ends(rt, pool, 0)))
+        }
+        Err(DeskFault::NoMemory) => Ok(stood_if(gives_a_desk(rt, alloc, pool))),
+        Err(DeskFault::AllOut) => Ok(Outcome::Wrong),
+    }
+}
+
+fn gives_a_desk<R: Threads + Wait>(
+    rt: &R,
+    alloc: Global,
+    mut pool: Pool<Macaroons, NoGate>,
+) -> bool {
+    let Ok(desk) = pool.desk(alloc) else {
+        return false;
+    };
+    pool.home(desk);
+    ends(rt, pool, 0)
+}
+
+/// One worker posts at two places: where memory is refused to it, one post is `Failed`, and the
+/// other ticket is claimed and answered.
+pub(crate) fn works<R>(rt: &R, alloc: Global) -> Result<Outcome, Refused>
+where
+    R: Threads + Wait + Copy + Send + 'static,
+{
+    let gate = Arc::new(alloc, NoGate)?;
+    let Ok(mut pool) = Pool::start(rt, alloc, 1, gate) else {
+        return Err(Refused);
+    };
+    let Ok(mut desk) = pool.desk(alloc) else {
+        return Err(Refused);
+    };
+    let exchanged = exchange(rt, alloc, &mut desk);
+    pool.home(desk);
+    let outcome = exchanged?;
+    Ok(if ends(rt, pool, 2) {
+        outcome
+    } else {
+        Outcome::Wrong
+    })
+}
+
+/// Puts two jobs and takes their posts.
+fn exchange<R: Wait>(rt: &R, alloc: Global, desk: &mut Desk<Macaroons>) -> Result<Outcome, Refused>
+    ensures { desk.new.putter.line ≡ desk.old.putter.line }
+{
+    put(rt, alloc, &mut desk.putter, 0)?;
+    put(rt, alloc, &mut desk.putter, 1)?;
+    let first = is_answered(alloc, 0, next_post(rt, &mut desk.taker))?;
+    let second = is_answered(alloc, 1, next_post(rt, &mut desk.taker))?;
+    Ok(match (first, second) {
+        (Some(true), Some(true)) => Outcome::Made,
+        (Some(true), None) | (None, Some(true)) => Outcome::Stood,
+        _ => Outcome::Wrong,
+    })
+}
+
+fn put<R: Wait>(
+    rt: &R,
+    alloc: Global,
+    putter: &mut Putter<Macaroons>,
+    place: u64,
+) -> Result<(), Refused>
+    ensures { putter.new.line ≡ putter.old.line }
+{
+    match putter.put(rt, place, mint_job(alloc)?) {
+        Ok(()) => Ok(()),
+        Err(_) => Err(Refused),
+    }
+}
+
+/// Whether the post has the answer of this place; `None` where it tells want of memory there.
+fn is_answered(alloc: Global, place: u64, post: Post<Macaroons>) -> Result<Option<bool>, Refused> {
+    match post {
+        Post::Answered(at, answer) => {
+            let mut buffer = opened(alloc)?;
+            Ok(Some(at == place && is_sent(&mut buffer, answer)))
+        }
+        Post::Failed(at) if at == place => Ok(None),
+        Post::Failed(_) => Ok(Some(false)),
+    }
+}
