@@ -133,7 +133,7 @@ def listening(folder):
     path = folder + "/listening"
     words = ["listen", "--socket", path, "--keys", KEYS, "--workers", "2"]
     with daemon(*words, "--mode", "660") as run:
-        yield "what listen prints", run.first, f"listening at {path}: 2 keys, 2 workers\n"
+        yield "what listen prints", run.first, f"listening at {path}: 2 names, 2 workers\n"
         yield "the mode", stat.filemode(os.stat(path).st_mode), "srw-rw----"
         yield "nothing beside the socket", os.listdir(folder), ["listening"]
         with connected(path) as stream:
@@ -142,7 +142,7 @@ def listening(folder):
         due = (3, "", f"{path}: somebody listens there\nfault 3\n")
         yield "a path that is listened on", (taken.returncode, taken.stdout, taken.stderr), due
     with daemon(*words, "--idle", "1") as run:
-        yield "a path that was left is taken over", run.first, f"listening at {path}: 2 keys, 2 workers\n"
+        yield "a path that was left is taken over", run.first, f"listening at {path}: 2 names, 2 workers\n"
         yield "the owner's mode", stat.filemode(os.stat(path).st_mode), "srw-------"
         begin = time.monotonic()
         with connected(path) as stream:

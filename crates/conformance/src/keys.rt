@@ -1,7 +1,7 @@
 //! Cases of `mac_keys`.
 
 use crate::case::{Case, CaseFault};
-use mac_keys::{KeyFault, KeyTable};
+use mac_keys::{KeyFault, KeyTable, Keys};
 
 /// Tells what a case comes to, if it is one of these kinds.
 pub(crate) fn tells(case: &mut Case<'_>, kind: &str) -> bool {
@@ -29,15 +29,23 @@ fn names(case: &mut Case<'_>) {
     }
 }
 
-/// The root key that a key file gives a name, or that it gives none.
+/// The root keys that a key file gives a name, or that it gives none.
 fn found(case: &mut Case<'_>) {
     let Some(table) = table(case) else {
         return;
     };
     let name = case.bytes();
     match table.find(&name) {
-        Some(key) => case.digits(&key.bytes()),
+        Some(keys) => say_keys(case, keys),
         None => case.say("no key"),
+    }
+}
+
+fn say_keys(case: &mut Case<'_>, keys: &Keys) {
+    case.digits(&keys.first.bytes());
+    if let Some(second) = keys.second {
+        case.say(" then ");
+        case.digits(&second.bytes());
     }
 }
 

@@ -31,7 +31,7 @@ pub(crate) fn outcome(alloc: Global, line: &str) -> Result<String, AllocError> {
 /// chain SECRET IDENTIFIER CAVEAT,..: the signature of such a token
 /// same SIGNATURE SIGNATURE: `same` or `another`
 /// keys FILE: the number of names, or the fault
-/// key FILE NAME: the root key of the name
+/// key FILE NAME: the root keys of the name
 /// frames STREAM: the arrivals and the ending, however it is cut in two
 /// feeds PIECE,..: what each piece gives, and the ending
 /// replies REPLY,..: the frames of replies

@@ -1,8 +1,9 @@
-//! What a key says of a token, and of the token with a part of it changed.
+//! What keys say of a token, and of the token with a part of it changed.
 
 use crate::case::{Case, CaseFault};
 use mac_decide::{Context, Verdict, verify};
 use mac_hmac::RootKey;
+use mac_keys::Keys;
 use mac_token::{RawCaveat, RawToken, Token, read_raw};
 use mac_wire::FieldList;
 
@@ -51,10 +52,22 @@ fn say_verdict(case: &mut Case<'_>, key: &RootKey, bytes: &[u8], facts: &str, pa
     }
 }
 
-/// Appends the verdict on a token at the moment 0.
+/// Appends the verdict on a token at the moment 0, which the key gives alone and behind another.
 fn say_of(case: &mut Case<'_>, key: &RootKey, token: &Token, facts: FieldList<'_>) {
     let context = Context { moment: 0, facts };
-    match verify(key, token, &context) {
+    let alone = Keys {
+        first: *key,
+        second: None,
+    };
+    let keys = Keys {
+        first: RootKey::from_bytes([0; 32]),
+        second: Some(*key),
+    };
+    let verdict = verify(&alone, token, &context);
+    if verify(&keys, token, &context) != verdict {
+        return case.say("another verdict");
+    }
+    match verdict {
         Verdict::Granted => case.say("granted"),
         Verdict::BadSignature => case.say("bad signature"),
         Verdict::Unsatisfied(index) => {

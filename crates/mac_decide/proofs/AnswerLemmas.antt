@@ -1,7 +1,8 @@
 -- When a verify is granted.
 use Rattle.std.proofs.Common.{◌≡◌, ◌↔◌, ℕ, List, Option, Some, None, Result, Ok, Err, IfOk, refl}
 use Rattle.std.specs.FinMap as map
-use Rattle.mac_keys.specs.Table.{Keys}
+use Rattle.mac_keys.specs.Table.{Table, listed}
+use Rattle.mac_keys.specs.declared.keys.Keys.{Keys}
 use Rattle.mac_token.specs.RawToken.{TokenParts}
 use Rattle.mac_token.specs.Read.{read_of}
 use Rattle.mac_token.specs.declared.fault.TokenRefusal.{TokenRefusal}
@@ -25,39 +26,39 @@ granted-verdict BadSignature e = absurd (cc)
 granted-verdict (Unsatisfied index) e = absurd (cc)
 
 -- what is granted was read and accepted
-granted-read : (key : List ℕ) (bytes : List ℕ) (x : Context) (r : Result TokenParts TokenRefusal) → read_of bytes ≡ r → told r (λ t. verdict_reply (verdict_of key t x)) ≡ reply.Granted → IsGranted (Some key) bytes x
-granted-read key bytes x (Ok t) read e =
-    let verdict : verdict_of key t x ≡ Granted = granted-verdict (verdict_of key t x) e in
-    record { named = key; has_key = refl; token = t; is_read = read; accepted = rw verdict at (verdict_of-is key t x) }
-granted-read key bytes x (Err f) read e = absurd (cc)
+granted-read : (keys : Keys) (bytes : List ℕ) (x : Context) (r : Result TokenParts TokenRefusal) → read_of bytes ≡ r → told r (λ t. verdict_reply (verdict_of (listed keys) t x)) ≡ reply.Granted → IsGranted (Some keys) bytes x
+granted-read keys bytes x (Ok t) read e =
+    let verdict : verdict_of (listed keys) t x ≡ Granted = granted-verdict (verdict_of (listed keys) t x) e in
+    record { named = keys; has_keys = refl; token = t; is_read = read; accepted = rw verdict at (verdict_of-is (listed keys) t x) }
+granted-read keys bytes x (Err f) read e = absurd (cc)
 
-pub granted-request : (name bytes : List ℕ) (moment : ℕ) (facts : List (List ℕ)) (key : Option (List ℕ)) → request_reply (verify name bytes moment facts) key ≡ reply.Granted → IsGranted key bytes (record { moment = moment; facts = facts })
+pub granted-request : (name bytes : List ℕ) (moment : ℕ) (facts : List (List ℕ)) (keys : Option Keys) → request_reply (verify name bytes moment facts) keys ≡ reply.Granted → IsGranted keys bytes (record { moment = moment; facts = facts })
 granted-request name bytes moment facts None e = absurd (cc)
-granted-request name bytes moment facts (Some key) e = granted-read key bytes (record { moment = moment; facts = facts }) (read_of bytes) refl e
+granted-request name bytes moment facts (Some keys) e = granted-read keys bytes (record { moment = moment; facts = facts }) (read_of bytes) refl e
 
 -- what is accepted is granted
-pub request-granted : (name bytes : List ℕ) (moment : ℕ) (facts : List (List ℕ)) (key : Option (List ℕ)) → IsGranted key bytes (record { moment = moment; facts = facts }) → request_reply (verify name bytes moment facts) key ≡ reply.Granted
-request-granted name bytes moment facts key g =
+pub request-granted : (name bytes : List ℕ) (moment : ℕ) (facts : List (List ℕ)) (keys : Option Keys) → IsGranted keys bytes (record { moment = moment; facts = facts }) → request_reply (verify name bytes moment facts) keys ≡ reply.Granted
+request-granted name bytes moment facts keys g =
     let x : Context = record { moment = moment; facts = facts } in
-    let verdict = one_verdict g.named g.token x (verdict_of g.named g.token x) Granted (verdict_of-is g.named g.token x) g.accepted in
-    rw (g.has_key, g.is_read, verdict)
+    let verdict = one_verdict (listed g.named) g.token x (verdict_of (listed g.named) g.token x) Granted (verdict_of-is (listed g.named) g.token x) g.accepted in
+    rw (g.has_keys, g.is_read, verdict)
 
--- a verify is granted exactly where the key that it names grants its token
-pub reply-granted : (payload name bytes : List ℕ) (moment : ℕ) (facts : List (List ℕ)) (key : Option (List ℕ)) → Asks payload (verify name bytes moment facts) → (reply_of (Payload payload) key ≡ reply.Granted) ↔ IsGranted key bytes (record { moment = moment; facts = facts })
+-- a verify is granted exactly where the keys that it names grant its token
+pub reply-granted : (payload name bytes : List ℕ) (moment : ℕ) (facts : List (List ℕ)) (keys : Option Keys) → Asks payload (verify name bytes moment facts) → (reply_of (Payload payload) keys ≡ reply.Granted) ↔ IsGranted keys bytes (record { moment = moment; facts = facts })
 unfolding reply_of
-reply-granted payload name bytes moment facts key asks =
+reply-granted payload name bytes moment facts keys asks =
     let request = request_of-asks payload (verify name bytes moment facts) asks in
-    rw request (granted-request name bytes moment facts key, request-granted name bytes moment facts key)
+    rw request (granted-request name bytes moment facts keys, request-granted name bytes moment facts keys)
 
 -- the same under a table
-pub answer-granted : (table : Keys) (payload name bytes : List ℕ) (moment : ℕ) (facts : List (List ℕ)) → Asks payload (verify name bytes moment facts) → (answer_of table (Payload payload) ≡ reply.Granted) ↔ IsGranted (map.get table name) bytes (record { moment = moment; facts = facts })
+pub answer-granted : (table : Table) (payload name bytes : List ℕ) (moment : ℕ) (facts : List (List ℕ)) → Asks payload (verify name bytes moment facts) → (answer_of table (Payload payload) ≡ reply.Granted) ↔ IsGranted (map.get table name) bytes (record { moment = moment; facts = facts })
 unfolding answer_of
 answer-granted table payload name bytes moment facts asks =
     let named = key_name_of-asks payload (verify name bytes moment facts) asks in
     rw named (reply-granted payload name bytes moment facts (map.get table name) asks)
 
 -- the reply that a call gives
-pub result-granted : {E : Type 0} (result : Result Reply E) (arrival : Arrival) (key : Option (List ℕ)) → IfOk result (λ r. r ≡ reply_of arrival key) → (payload name bytes : List ℕ) (moment : ℕ) (facts : List (List ℕ)) → arrival ≡ Payload payload → Asks payload (verify name bytes moment facts) → IfOk result (λ r. (r ≡ reply.Granted) ↔ IsGranted key bytes (record { moment = moment; facts = facts }))
-result-granted (Ok r) arrival key is payload name bytes moment facts same asks =
-    rw (is, same) (reply-granted payload name bytes moment facts key asks)
-result-granted (Err e) arrival key is payload name bytes moment facts same asks = tt
+pub result-granted : {E : Type 0} (result : Result Reply E) (arrival : Arrival) (keys : Option Keys) → IfOk result (λ r. r ≡ reply_of arrival keys) → (payload name bytes : List ℕ) (moment : ℕ) (facts : List (List ℕ)) → arrival ≡ Payload payload → Asks payload (verify name bytes moment facts) → IfOk result (λ r. (r ≡ reply.Granted) ↔ IsGranted keys bytes (record { moment = moment; facts = facts }))
+result-granted (Ok r) arrival keys is payload name bytes moment facts same asks =
+    rw (is, same) (reply-granted payload name bytes moment facts keys asks)
+result-granted (Err e) arrival keys is payload name bytes moment facts same asks = tt

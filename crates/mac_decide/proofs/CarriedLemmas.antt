@@ -10,7 +10,8 @@ use Rattle.std.proofs.lemmas.List.Elements.{All-nil, All-cons, All-append}
 use Rattle.mac_hmac.specs.Hmac.{hmac}
 use Rattle.mac_hmac.specs.Chain.{extended}
 use Rattle.mac_hmac.proofs.DigestLemmas.{hmac-length, hmac-bytes}
-use Rattle.mac_keys.specs.Table.{Keys}
+use Rattle.mac_keys.specs.Table.{Table, listed}
+use Rattle.mac_keys.specs.declared.keys.Keys.{Keys}
 use Rattle.mac_token.specs.Limits.{is_within, token_or_limit}
 use Rattle.mac_token.specs.RawToken.{TokenParts, IsToken}
 use Rattle.mac_token.specs.Read.{read_of}
@@ -137,36 +138,36 @@ added-token t caveats is each = record {
 same-token : (t u : TokenParts) → ◌≡◌ {A = Result TokenParts TokenRefusal} (Ok t) (Ok u) → t ≡ u
 same-token t u e = cc
 
-same-key : (key other : List ℕ) → Some key ≡ Some other → key ≡ other
-same-key key other e = cc
+same-keys : (keys other : Keys) → Some keys ≡ Some other → keys ≡ other
+same-keys keys other e = cc
 
--- a mint that is answered with bytes had a key
-mint-key : (form : TokenForm) (name location identifier : List ℕ) (caveats : List (List ℕ)) (bytes : List ℕ) (found : Option (List ℕ)) → request_reply (mint form name location identifier caveats) found ≡ reply.Token bytes
-    → (key : List ℕ) × (found ≡ Some key) × (token_reply form (minted key location identifier caveats) ≡ reply.Token bytes)
-mint-key form name location identifier caveats bytes None e = absurd (cc)
-mint-key form name location identifier caveats bytes (Some key) e = (key, refl, e)
+-- a mint that is answered with bytes had keys
+mint-keys : (form : TokenForm) (name location identifier : List ℕ) (caveats : List (List ℕ)) (bytes : List ℕ) (found : Option Keys) → request_reply (mint form name location identifier caveats) found ≡ reply.Token bytes
+    → (keys : Keys) × (found ≡ Some keys) × (token_reply form (minted keys.first location identifier caveats) ≡ reply.Token bytes)
+mint-keys form name location identifier caveats bytes None e = absurd (cc)
+mint-keys form name location identifier caveats bytes (Some keys) e = (keys, refl, e)
 
 -- the reply to what a payload asks
-answer_of-asked : (table : Keys) (payload : List ℕ) (asked : Asked) → Asks payload asked → answer_of table (Payload payload) ≡ request_reply asked (option_and_then (λ name. map.get table name) (key_of asked))
+answer_of-asked : (table : Table) (payload : List ℕ) (asked : Asked) → Asks payload asked → answer_of table (Payload payload) ≡ request_reply asked (option_and_then (λ name. map.get table name) (key_of asked))
 unfolding answer_of reply_of
 answer_of-asked table payload asked asks = rw (request_of-asks payload asked asks, key_name_of-asks payload asked asks) refl
 
-pub mint-carried : (table : Keys) (payload name location identifier bytes : List ℕ) (form : TokenForm) (caveats : List (List ℕ)) → IsBytes payload → Asks payload (mint form name location identifier caveats) → answer_of table (Payload payload) ≡ reply.Token bytes
-    → (key : List ℕ) × (map.get table name ≡ Some key) × (read_of bytes ≡ Ok (minted key location identifier caveats))
+pub mint-carried : (table : Table) (payload name location identifier bytes : List ℕ) (form : TokenForm) (caveats : List (List ℕ)) → IsBytes payload → Asks payload (mint form name location identifier caveats) → answer_of table (Payload payload) ≡ reply.Token bytes
+    → (keys : Keys) × (map.get table name ≡ Some keys) × (read_of bytes ≡ Ok (minted keys.first location identifier caveats))
 mint-carried table payload name location identifier bytes form caveats are asks e =
     let asked = mint form name location identifier caveats in
-    let (key, found, told) = mint-key form name location identifier caveats bytes (map.get table name) (sym (answer_of-asked table payload asked asks) ∙ e) in
+    let (keys, found, told) = mint-keys form name location identifier caveats bytes (map.get table name) (sym (answer_of-asked table payload asked asks) ∙ e) in
     let parts = mint-bytes form name location identifier caveats (subst IsBytes asks.is_payload are) in
     let text : IsUtf8 location = asks.is_request.2 in
-    (key, found, token_reply-read form (minted key location identifier caveats) bytes (minted-token key location identifier caveats text parts.0 parts.1 parts.2) told)
+    (keys, found, token_reply-read form (minted keys.first location identifier caveats) bytes (minted-token keys.first location identifier caveats text parts.0 parts.1 parts.2) told)
 
 -- an attenuate that is answered with bytes was handed a token
-pub attenuate-handed : (table : Keys) (payload old bytes : List ℕ) (form : TokenForm) (caveats : List (List ℕ)) → Asks payload (attenuate form old caveats) → answer_of table (Payload payload) ≡ reply.Token bytes
+pub attenuate-handed : (table : Table) (payload old bytes : List ℕ) (form : TokenForm) (caveats : List (List ℕ)) → Asks payload (attenuate form old caveats) → answer_of table (Payload payload) ≡ reply.Token bytes
     → (t : TokenParts) × (read_of old ≡ Ok t) × (token_reply form (add t caveats) ≡ reply.Token bytes)
 attenuate-handed table payload old bytes form caveats asks e =
     told-bytes (read_of old) (λ t. token_reply form (add t caveats)) bytes (sym (answer_of-asked table payload (attenuate form old caveats) asks) ∙ e)
 
-pub attenuate-carried : (table : Keys) (payload old bytes : List ℕ) (form : TokenForm) (caveats : List (List ℕ)) (t : TokenParts) → IsToken t → IsBytes payload → Asks payload (attenuate form old caveats) → read_of old ≡ Ok t → answer_of table (Payload payload) ≡ reply.Token bytes
+pub attenuate-carried : (table : Table) (payload old bytes : List ℕ) (form : TokenForm) (caveats : List (List ℕ)) (t : TokenParts) → IsToken t → IsBytes payload → Asks payload (attenuate form old caveats) → read_of old ≡ Ok t → answer_of table (Payload payload) ≡ reply.Token bytes
     → read_of bytes ≡ Ok (add t caveats)
 attenuate-carried table payload old bytes form caveats t is are asks read e =
     let (u, found, told) = attenuate-handed table payload old bytes form caveats asks e in
@@ -176,30 +177,30 @@ attenuate-carried table payload old bytes form caveats t is are asks read e =
 
 -- ---- the headline, from bytes to bytes
 
-granted-both : (key : List ℕ) (t : TokenParts) (old new : List ℕ) (x : Context) (caveats : List (List ℕ)) → Minted key t → read_of old ≡ Ok t → read_of new ≡ Ok (add t caveats) → IsGranted (Some key) new x → IsGranted (Some key) old x × All (λ c. Satisfied c x) caveats
-granted-both key t old new x caveats minted before after g =
-    let named : key ≡ g.named = same-key key g.named g.has_key in
+granted-both : (keys : Keys) (t : TokenParts) (old new : List ℕ) (x : Context) (caveats : List (List ℕ)) → Minted (listed keys) t → read_of old ≡ Ok t → read_of new ≡ Ok (add t caveats) → IsGranted (Some keys) new x → IsGranted (Some keys) old x × All (λ c. Satisfied c x) caveats
+granted-both keys t old new x caveats minted before after g =
+    let named : keys ≡ g.named = same-keys keys g.named g.has_keys in
     let token : add t caveats ≡ g.token = same-token (add t caveats) g.token (sym after ∙ g.is_read) in
-    let accepted : Accepts key (add t caveats) x = subst (λ k. Accepts k (add t caveats) x) (sym named) (subst (λ u. Accepts g.named u x) (sym token) g.accepted) in
-    let both = (Accepts-add key t caveats x minted).0 accepted in
-    (record { named = key; has_key = refl; token = t; is_read = before; accepted = both.0 }, both.1)
+    let accepted : Accepts (listed keys) (add t caveats) x = subst (λ k. Accepts (listed k) (add t caveats) x) (sym named) (subst (λ u. Accepts (listed g.named) u x) (sym token) g.accepted) in
+    let both = (Accepts-add (listed keys) t caveats x minted).0 accepted in
+    (record { named = keys; has_keys = refl; token = t; is_read = before; accepted = both.0 }, both.1)
 
-granted-again : (key : List ℕ) (t : TokenParts) (old new : List ℕ) (x : Context) (caveats : List (List ℕ)) → Minted key t → read_of old ≡ Ok t → read_of new ≡ Ok (add t caveats) → IsGranted (Some key) old x → All (λ c. Satisfied c x) caveats → IsGranted (Some key) new x
-granted-again key t old new x caveats minted before after g each =
-    let named : key ≡ g.named = same-key key g.named g.has_key in
+granted-again : (keys : Keys) (t : TokenParts) (old new : List ℕ) (x : Context) (caveats : List (List ℕ)) → Minted (listed keys) t → read_of old ≡ Ok t → read_of new ≡ Ok (add t caveats) → IsGranted (Some keys) old x → All (λ c. Satisfied c x) caveats → IsGranted (Some keys) new x
+granted-again keys t old new x caveats minted before after g each =
+    let named : keys ≡ g.named = same-keys keys g.named g.has_keys in
     let token : t ≡ g.token = same-token t g.token (sym before ∙ g.is_read) in
-    let accepted : Accepts key t x = subst (λ k. Accepts k t x) (sym named) (subst (λ u. Accepts g.named u x) (sym token) g.accepted) in
-    record { named = key; has_key = refl; token = add t caveats; is_read = after; accepted = (Accepts-add key t caveats x minted).1 (accepted, each) }
+    let accepted : Accepts (listed keys) t x = subst (λ k. Accepts (listed k) t x) (sym named) (subst (λ u. Accepts (listed g.named) u x) (sym token) g.accepted) in
+    record { named = keys; has_keys = refl; token = add t caveats; is_read = after; accepted = (Accepts-add (listed keys) t caveats x minted).1 (accepted, each) }
 
-pub granted-carried : (table : Keys) (name key : List ℕ) (t : TokenParts) (old new before after : List ℕ) (moment : ℕ) (facts caveats : List (List ℕ)) → map.get table name ≡ Some key → Minted key t → read_of old ≡ Ok t → read_of new ≡ Ok (add t caveats)
+pub granted-carried : (table : Table) (name : List ℕ) (keys : Keys) (t : TokenParts) (old new before after : List ℕ) (moment : ℕ) (facts caveats : List (List ℕ)) → map.get table name ≡ Some keys → Minted (listed keys) t → read_of old ≡ Ok t → read_of new ≡ Ok (add t caveats)
     → Asks before (verify name old moment facts) → Asks after (verify name new moment facts)
     → (answer_of table (Payload after) ≡ reply.Granted) ↔ ((answer_of table (Payload before) ≡ reply.Granted) × All (λ c. Satisfied c (record { moment = moment; facts = facts })) caveats)
-granted-carried table name key t old new before after moment facts caveats found minted read_before read_after asks_before asks_after =
+granted-carried table name keys t old new before after moment facts caveats found minted read_before read_after asks_before asks_after =
     let x : Context = record { moment = moment; facts = facts } in
     let is_before = answer-granted table before name old moment facts asks_before in
     let is_after = answer-granted table after name new moment facts asks_after in
-    let under : (bytes : List ℕ) → IsGranted (map.get table name) bytes x → IsGranted (Some key) bytes x = λ bytes g. subst (λ k. IsGranted k bytes x) found g in
-    let back : (bytes : List ℕ) → IsGranted (Some key) bytes x → IsGranted (map.get table name) bytes x = λ bytes g. subst (λ k. IsGranted k bytes x) (sym found) g in (
-      (λ granted. let both = granted-both key t old new x caveats minted read_before read_after (under new (is_after.0 granted)) in (is_before.1 (back old both.0), both.1)),
-      (λ (granted, each). is_after.1 (back new (granted-again key t old new x caveats minted read_before read_after (under old (is_before.0 granted)) each))),
+    let under : (bytes : List ℕ) → IsGranted (map.get table name) bytes x → IsGranted (Some keys) bytes x = λ bytes g. subst (λ k. IsGranted k bytes x) found g in
+    let back : (bytes : List ℕ) → IsGranted (Some keys) bytes x → IsGranted (map.get table name) bytes x = λ bytes g. subst (λ k. IsGranted k bytes x) (sym found) g in (
+      (λ granted. let both = granted-both keys t old new x caveats minted read_before read_after (under new (is_after.0 granted)) in (is_before.1 (back old both.0), both.1)),
+      (λ (granted, each). is_after.1 (back new (granted-again keys t old new x caveats minted read_before read_after (under old (is_before.0 granted)) each))),
     )

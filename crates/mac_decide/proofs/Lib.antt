@@ -1,4 +1,5 @@
 pub mod DateLemmas
+pub mod KeysLemmas
 pub mod LimitLemmas
 pub mod SatisfiedLemmas
 pub mod WalkLemmas

@@ -4,6 +4,8 @@ use Rattle.std.specs.Prelude.{nat_lt, nat_le}
 use Rattle.std.specs.List.{list_all, slice_get}
 use Rattle.std.proofs.lemmas.Bool.{ltb-false, leb-true}
 use Rattle.std.proofs.lemmas.Option.{slice_get_within}
+use Rattle.mac_keys.specs.Keys.{listed}
+use Rattle.mac_keys.specs.declared.keys.Keys.{Keys}
 use Rattle.mac_token.specs.Limits.{is_within, token_or_limit}
 use Rattle.mac_token.specs.RawToken.{RawParts, TokenParts}
 use Rattle.mac_token.specs.Read.{parts_of, raw_read_of, token_of, token_of_read, read_of}
@@ -89,9 +91,9 @@ index-within : (P : List ℕ → Type 0) (caveats : List (List ℕ)) (n : ℕ) (
 index-within P caveats n None e here = absurd here
 index-within P caveats n (Some c) e here = slice_get_within caveats n c e
 
-pub index-small : (key : List ℕ) (t : TokenParts) (x : Context) (n : ℕ) → is_within t ≡ true → verdict_of key t x ≡ Unsatisfied n → n < 2 ^ 16
-index-small key t x n fits e =
-    let is : IsVerdict key t x (Unsatisfied n) = rw e at (verdict_of-is key t x) in
+pub index-small : (keys : List (List ℕ)) (t : TokenParts) (x : Context) (n : ℕ) → is_within t ≡ true → verdict_of keys t x ≡ Unsatisfied n → n < 2 ^ 16
+index-small keys t x n fits e =
+    let is : IsVerdict keys t x (Unsatisfied n) = rw e at (verdict_of-is keys t x) in
     let below : n < length t.caveats = index-within (λ c. ¬ (Satisfied c x)) t.caveats n _ refl is.1.here in
     omega (arith, few-caveats t fits)
 
@@ -100,27 +102,27 @@ verdict-sent Granted small = tt
 verdict-sent BadSignature small = refused-sent refusal.BadSignature
 verdict-sent (Unsatisfied n) small = small n refl
 
-pub request-sent : (request : Asked) (key : Option (List ℕ)) → IsReply (request_reply request key)
+pub request-sent : (request : Asked) (keys : Option Keys) → IsReply (request_reply request keys)
 request-sent (mint form name location identifier caveats) None = refused-sent refusal.UnknownKey
-request-sent (mint form name location identifier caveats) (Some key) = token-sent form (minted key location identifier caveats)
-request-sent (attenuate form token caveats) key = told-sent (read_of token) (λ t. token_reply form (add t caveats)) (λ t e. token-sent form (add t caveats))
+request-sent (mint form name location identifier caveats) (Some keys) = token-sent form (minted keys.first location identifier caveats)
+request-sent (attenuate form token caveats) keys = told-sent (read_of token) (λ t. token_reply form (add t caveats)) (λ t e. token-sent form (add t caveats))
 request-sent (verify name token moment facts) None = refused-sent refusal.UnknownKey
-request-sent (verify name token moment facts) (Some key) =
+request-sent (verify name token moment facts) (Some keys) =
     let x : Context = record { moment = moment; facts = facts } in
-    told-sent (read_of token) (λ t. verdict_reply (verdict_of key t x))
-    (λ t e. verdict-sent (verdict_of key t x) (λ n told. index-small key t x n (read_of-within token t e) told))
+    told-sent (read_of token) (λ t. verdict_reply (verdict_of (listed keys) t x))
+    (λ t e. verdict-sent (verdict_of (listed keys) t x) (λ n told. index-small (listed keys) t x n (read_of-within token t e) told))
 
-asked-sent : (asked : Option Asked) (key : Option (List ℕ)) → IsReply (asked_reply asked key)
-asked-sent None key = refused-sent refusal.BadRequest
-asked-sent (Some request) key = request-sent request key
+asked-sent : (asked : Option Asked) (keys : Option Keys) → IsReply (asked_reply asked keys)
+asked-sent None keys = refused-sent refusal.BadRequest
+asked-sent (Some request) keys = request-sent request keys
 
 -- each reply can be sent
-pub reply-sent : (arrival : Arrival) (key : Option (List ℕ)) → IsReply (reply_of arrival key)
+pub reply-sent : (arrival : Arrival) (keys : Option Keys) → IsReply (reply_of arrival keys)
 unfolding reply_of
-reply-sent Oversize key = refused-sent refusal.FrameTooLong
-reply-sent (Payload payload) key = asked-sent (request_of payload) key
+reply-sent Oversize keys = refused-sent refusal.FrameTooLong
+reply-sent (Payload payload) keys = asked-sent (request_of payload) keys
 
 -- the reply that a call gives
-pub result-sent : {E : Type 0} (result : Result Reply E) (arrival : Arrival) (key : Option (List ℕ)) → IfOk result (λ r. r ≡ reply_of arrival key) → IfOk result IsReply
-result-sent (Ok r) arrival key is = rw is (reply-sent arrival key)
-result-sent (Err e) arrival key is = tt
+pub result-sent : {E : Type 0} (result : Result Reply E) (arrival : Arrival) (keys : Option Keys) → IfOk result (λ r. r ≡ reply_of arrival keys) → IfOk result IsReply
+result-sent (Ok r) arrival keys is = rw is (reply-sent arrival keys)
+result-sent (Err e) arrival keys is = tt

@@ -1,6 +1,7 @@
 -- The verdict as a function is the verdict, and there is one.
-use Rattle.std.proofs.Common.{◌≡◌, ◌↔◌, inl, inr, ℕ, suc, ◌+◌, ◌<◌, ℤ, List, [], ◌∷◌, take, length, get_or, Option, Some, None, IsSomeAnd, MatchOption, Bool, true, false, if◌then◌else◌, arith, refl, sym, ap, ◌∙◌}
+use Rattle.std.proofs.Common.{◌≡◌, ◌↔◌, inl, inr, ℕ, suc, ◌+◌, ◌<◌, ℤ, List, [], ◌∷◌, take, length, get_or, Option, Some, None, IsSomeAnd, MatchOption, ◌⊎◌, Bool, true, false, if◌then◌else◌, arith, refl, sym, ap, ◌∙◌}
 use Rattle.std.specs.List.{list_any, All, slice_get}
+use Rattle.std.specs.Option.{option_to_list}
 use Rattle.std.specs.Str.{bytes_eq}
 use Rattle.std.specs.Cmp.Lexicographic.{nat_list_eq_equiv}
 use Rattle.std.proofs.lemmas.Bool.{false≢true, cases_order}
@@ -15,10 +16,12 @@ use Rattle.mac_token.specs.RawToken.{TokenParts}
 use Rattle.mac_decide.specs.declared.context.Context.{Context}
 use Rattle.mac_decide.specs.declared.verdict.Verdict.{Verdict}
 use Rattle.mac_decide.specs.declared.verdict.Verdict.TheVariants.{Granted, BadSignature, Unsatisfied}
-use Rattle.mac_decide.specs.Reading.{limit_of, is_below, is_satisfied, caveats_verdict, verdict_of}
-use Rattle.mac_decide.specs.Minted.{Minted, minted}
-use Rattle.mac_decide.specs.Prepared.{verdict_by}
-use Rattle.mac_decide.specs.Verdict.{IsBefore, Satisfied, IsFirstUnsatisfied, IsVerdict, Concludes}
+use Rattle.mac_decide.specs.Reading.{limit_of, is_below, is_satisfied, caveats_verdict, is_minted, verdict_of}
+use Rattle.mac_decide.specs.Minted.{Signs, Minted, minted}
+use Rattle.mac_decide.specs.Prepared.{is_given, verdict_by}
+use Rattle.mac_decide.specs.Verdict.{IsBefore, Satisfied, IsFirstUnsatisfied, IsVerdict, found_verdict}
+use Rattle.mac_decide.proofs.WalkLemmas.{found-verdict}
+use Rattle.mac_decide.proofs.KeysLemmas.{Any-here, Any-later, Any-cases, Any-none}
 use Rattle.mac_decide.proofs.ReadingLemmas.{or-cases, or-left, or-right, limit_of-exact}
 
 -- a limit that is read and that the moment is below
@@ -68,21 +71,38 @@ caveats_verdict-is x index [] = All-nil (λ c. Satisfied c x)
 caveats_verdict-is x index (caveat ∷ caveats) =
     step-verdict x index caveat caveats (is_satisfied caveat x) (caveats_verdict x (index + 1) caveats) refl (caveats_verdict-is x (index + 1) caveats)
 
--- where the key gives the signature, the verdict is that on the caveats
-pub minted-verdict : (key : List ℕ) (t : TokenParts) (x : Context) (v : Verdict) → Minted key t → IsCaveatsVerdict x 0 t.caveats v → IsVerdict key t x v
-minted-verdict key t x Granted minted each = record { minted = minted; satisfied = each }
-minted-verdict key t x BadSignature minted none = absurd none
-minted-verdict key t x (Unsatisfied n) minted (k, same, first) =
+-- where a key gives the signature, the verdict is that on the caveats
+pub minted-verdict : (keys : List (List ℕ)) (t : TokenParts) (x : Context) (v : Verdict) → Minted keys t → IsCaveatsVerdict x 0 t.caveats v → IsVerdict keys t x v
+minted-verdict keys t x Granted minted each = record { minted = minted; satisfied = each }
+minted-verdict keys t x BadSignature minted none = absurd none
+minted-verdict keys t x (Unsatisfied n) minted (k, same, first) =
     let index : n ≡ k = omega arith in (minted, rw index first)
 
-pub tested-verdict : (key : List ℕ) (t : TokenParts) (x : Context) (b : Bool) → bytes_eq t.sig (chain key t.identifier t.caveats) ≡ b → IsVerdict key t x (if b then caveats_verdict x 0 t.caveats else BadSignature)
-tested-verdict key t x true e = minted-verdict key t x _ ((bytes_eq-Decides _ _).0 e) (caveats_verdict-is x 0 t.caveats)
-tested-verdict key t x false e = λ minted. false≢true (sym e ∙ (bytes_eq-Decides _ _).1 minted)
+-- the test of the keys is the statement
+minted-tested : (keys : List (List ℕ)) (t : TokenParts) → is_minted keys t ≡ true → Minted keys t
+minted-tested [] t e = absurd (false≢true e)
+minted-tested (key ∷ keys) t e =
+    elim (or-cases (bytes_eq t.sig (chain key t.identifier t.caveats)) (is_minted keys t) e) [
+      | inl signs ↦ Any-here key keys ((bytes_eq-Decides _ _).0 signs)
+      | inr later ↦ Any-later key keys (minted-tested keys t later)
+    ]
+
+tested-minted : (keys : List (List ℕ)) (t : TokenParts) → Minted keys t → is_minted keys t ≡ true
+tested-minted [] t minted = absurd (Any-none minted)
+tested-minted (key ∷ keys) t minted =
+    elim (Any-cases key keys minted) [
+      | inl signs ↦ or-left _ _ ((bytes_eq-Decides t.sig (chain key t.identifier t.caveats)).1 signs)
+      | inr later ↦ or-right _ _ (tested-minted keys t later)
+    ]
+
+pub tested-verdict : (keys : List (List ℕ)) (t : TokenParts) (x : Context) (b : Bool) → is_minted keys t ≡ b → IsVerdict keys t x (if b then caveats_verdict x 0 t.caveats else BadSignature)
+tested-verdict keys t x true e = minted-verdict keys t x _ (minted-tested keys t e) (caveats_verdict-is x 0 t.caveats)
+tested-verdict keys t x false e = λ minted. false≢true (sym e ∙ tested-minted keys t minted)
 
 -- the function gives the verdict
-pub verdict_of-is : (key : List ℕ) (t : TokenParts) (x : Context) → IsVerdict key t x (verdict_of key t x)
+pub verdict_of-is : (keys : List (List ℕ)) (t : TokenParts) (x : Context) → IsVerdict keys t x (verdict_of keys t x)
 unfolding verdict_of
-verdict_of-is key t x = tested-verdict key t x _ refl
+verdict_of-is keys t x = tested-verdict keys t x _ refl
 
 -- where each is satisfied, none is unsatisfied
 pub none-unsatisfied : (P : List ℕ → Type 0) (caveats : List (List ℕ)) (i : ℕ) (o : Option (List ℕ)) → slice_get caveats i ≡ o → All P caveats → ¬ (IsSomeAnd o (λ c. ¬ (P c)))
@@ -111,37 +131,66 @@ one_first x caveats i j p q = elim (cases_order i j) [
 ]
 
 -- there is one verdict
-pub one_verdict : (key : List ℕ) (t : TokenParts) (x : Context) (v w : Verdict) → IsVerdict key t x v → IsVerdict key t x w → v ≡ w
-one_verdict key t x Granted Granted p q = refl
-one_verdict key t x Granted BadSignature p q = absurd (q p.minted)
-one_verdict key t x Granted (Unsatisfied j) p q = absurd (none-unsatisfied (λ c. Satisfied c x) t.caveats j _ refl p.satisfied q.1.here)
-one_verdict key t x BadSignature Granted p q = absurd (p q.minted)
-one_verdict key t x BadSignature BadSignature p q = refl
-one_verdict key t x BadSignature (Unsatisfied j) p q = absurd (p q.0)
-one_verdict key t x (Unsatisfied i) Granted p q = absurd (none-unsatisfied (λ c. Satisfied c x) t.caveats i _ refl q.satisfied p.1.here)
-one_verdict key t x (Unsatisfied i) BadSignature p q = absurd (q p.0)
-one_verdict key t x (Unsatisfied i) (Unsatisfied j) p q = ap Unsatisfied (one_first x t.caveats i j p.1 q.1)
+pub one_verdict : (keys : List (List ℕ)) (t : TokenParts) (x : Context) (v w : Verdict) → IsVerdict keys t x v → IsVerdict keys t x w → v ≡ w
+one_verdict keys t x Granted Granted p q = refl
+one_verdict keys t x Granted BadSignature p q = absurd (q p.minted)
+one_verdict keys t x Granted (Unsatisfied j) p q = absurd (none-unsatisfied (λ c. Satisfied c x) t.caveats j _ refl p.satisfied q.1.here)
+one_verdict keys t x BadSignature Granted p q = absurd (p q.minted)
+one_verdict keys t x BadSignature BadSignature p q = refl
+one_verdict keys t x BadSignature (Unsatisfied j) p q = absurd (p q.0)
+one_verdict keys t x (Unsatisfied i) Granted p q = absurd (none-unsatisfied (λ c. Satisfied c x) t.caveats i _ refl q.satisfied p.1.here)
+one_verdict keys t x (Unsatisfied i) BadSignature p q = absurd (q p.0)
+one_verdict keys t x (Unsatisfied i) (Unsatisfied j) p q = ap Unsatisfied (one_first x t.caveats i j p.1 q.1)
 
--- what is concluded from a signature and a walk over all caveats is the verdict by that signature
-satisfied-verdict : (t : TokenParts) (x : Context) (v : Verdict) → IsVerdict [] (minted [] t.location t.identifier t.caveats) x v → v ≡ caveats_verdict x 0 t.caveats
-satisfied-verdict t x v is =
+-- what a walk over all caveats finds is the verdict on them
+pub found-caveats : (t : TokenParts) (x : Context) (found : Option ℕ) → MatchOption found (All (λ c. Satisfied c x) t.caveats) (IsFirstUnsatisfied t.caveats x) → found_verdict found ≡ caveats_verdict x 0 t.caveats
+found-caveats t x found each =
     let u = minted [] t.location t.identifier t.caveats in
-    one_verdict [] u x v (caveats_verdict x 0 t.caveats) is (minted-verdict [] u x _ refl (caveats_verdict-is x 0 t.caveats))
+    let signed : Minted ([] ∷ []) u = Any-here [] [] refl in
+    one_verdict ([] ∷ []) u x (found_verdict found) (caveats_verdict x 0 t.caveats)
+    (found-verdict ([] ∷ []) u x found signed each) (minted-verdict ([] ∷ []) u x _ signed (caveats_verdict-is x 0 t.caveats))
 
-pub concluded-verdict : (signature : List ℕ) (t : TokenParts) (x : Context) (found : Option ℕ) (v : Verdict)
-    → MatchOption found (All (λ c. Satisfied c x) t.caveats) (IsFirstUnsatisfied t.caveats x) → Concludes signature t.sig found v → v ≡ verdict_by signature t x
-concluded-verdict signature t x found Granted each (same, none) =
-    rw ((bytes_eq-Decides t.sig signature).1 (sym same)) (satisfied-verdict t x Granted (record { minted = refl; satisfied = rw none at each }))
-concluded-verdict signature t x found BadSignature each other =
-    other_signature (bytes_eq t.sig signature) refl
+-- the test of a signature and a second key is the statement
+given-test : (signature : List ℕ) (second : Option (List ℕ)) (t : TokenParts) → (is_given signature second t ≡ true) ↔ ((t.sig ≡ signature) ⊎ IsSomeAnd second (λ key. Signs key t))
+given-test signature None t = (
+  (λ e. elim (or-cases (bytes_eq t.sig signature) false e) [
+    | inl same ↦ inl ((bytes_eq-Decides t.sig signature).0 same)
+    | inr wrong ↦ absurd (false≢true wrong)
+  ]),
+  (λ h. elim h [
+    | inl same ↦ or-left _ _ ((bytes_eq-Decides t.sig signature).1 same)
+    | inr none ↦ absurd none
+  ]),
+)
+given-test signature (Some key) t = (
+  (λ e. elim (or-cases (bytes_eq t.sig signature) (is_minted (key ∷ []) t) e) [
+    | inl same ↦ inl ((bytes_eq-Decides t.sig signature).0 same)
+    | inr later ↦ elim (Any-cases key [] (minted-tested (key ∷ []) t later)) [
+      | inl signs ↦ inr signs
+      | inr none ↦ absurd (Any-none none)
+    ]
+  ]),
+  (λ h. elim h [
+    | inl same ↦ or-left _ _ ((bytes_eq-Decides t.sig signature).1 same)
+    | inr signs ↦ or-right _ _ (tested-minted (key ∷ []) t (Any-here key [] signs))
+  ]),
+)
+
+-- the verdict where the signature is given, and where it isn't
+pub given-verdict : (signature : List ℕ) (second : Option (List ℕ)) (t : TokenParts) (x : Context) (found : Option ℕ) → (t.sig ≡ signature) ⊎ IsSomeAnd second (λ key. Signs key t)
+    → MatchOption found (All (λ c. Satisfied c x) t.caveats) (IsFirstUnsatisfied t.caveats x) → found_verdict found ≡ verdict_by signature second t x
+given-verdict signature second t x found given each =
+    rw ((given-test signature second t).1 given) (found-caveats t x found each)
+
+pub other-verdict : (signature : List ℕ) (second : Option (List ℕ)) (t : TokenParts) (x : Context) → ¬ ((t.sig ≡ signature) ⊎ IsSomeAnd second (λ key. Signs key t)) → BadSignature ≡ verdict_by signature second t x
+other-verdict signature second t x other =
+    by_test (is_given signature second t) refl
   where
-    other_signature : (b : Bool) → bytes_eq t.sig signature ≡ b → BadSignature ≡ (if b then caveats_verdict x 0 t.caveats else BadSignature)
-    other_signature true test = absurd (other (sym ((bytes_eq-Decides t.sig signature).0 test)))
-    other_signature false test = refl
-concluded-verdict signature t x found (Unsatisfied index) each (same, some) =
-    rw ((bytes_eq-Decides t.sig signature).1 (sym same)) (satisfied-verdict t x (Unsatisfied index) (refl, rw some at each))
+    by_test : (b : Bool) → is_given signature second t ≡ b → BadSignature ≡ (if b then caveats_verdict x 0 t.caveats else BadSignature)
+    by_test true test = absurd (other ((given-test signature second t).0 test))
+    by_test false test = refl
 
--- the verdict under a key is that by the signature which it gives
-pub verdict_of-by : (key : List ℕ) (t : TokenParts) (x : Context) → verdict_by (chain key t.identifier t.caveats) t x ≡ verdict_of key t x
+-- the verdict under keys is that by the signature which the first gives
+pub verdict_of-by : (first : List ℕ) (second : Option (List ℕ)) (t : TokenParts) (x : Context) → verdict_by (chain first t.identifier t.caveats) second t x ≡ verdict_of (first ∷ option_to_list second) t x
 unfolding verdict_of
-verdict_of-by key t x = refl
+verdict_of-by first second t x = refl

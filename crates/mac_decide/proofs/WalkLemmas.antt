@@ -8,9 +8,8 @@ use Rattle.mac_hmac.specs.Chain.{chain, extended}
 use Rattle.mac_hmac.proofs.ChainLemmas.{extended-append}
 use Rattle.mac_decide.specs.declared.context.Context.{Context}
 use Rattle.mac_token.specs.RawToken.{TokenParts, byte_lists}
-use Rattle.mac_decide.specs.Verdict.{Satisfied, IsFirstUnsatisfied, IsVerdict, Concludes}
-use Rattle.mac_decide.specs.declared.verdict.Verdict.{Verdict}
-use Rattle.mac_decide.specs.declared.verdict.Verdict.TheVariants.{Granted, BadSignature, Unsatisfied}
+use Rattle.mac_decide.specs.Minted.{Minted}
+use Rattle.mac_decide.specs.Verdict.{Satisfied, IsFirstUnsatisfied, IsVerdict, found_verdict}
 
 -- the caveats up to one, and that one
 pub take-next : (caveats : List (List ℕ)) (i : ℕ) (caveat : List ℕ) → slice_get caveats i ≡ Some caveat → take (i + 1) caveats ≡ take i caveats ++ caveat ∷ []
@@ -53,24 +52,17 @@ found-next x caveats i index caveat (Some n) new here numbered before step = rw 
 found-next x caveats i index caveat None None here numbered before step = satisfied-next x caveats i caveat here before step
 found-next x caveats i index caveat None (Some n) here numbered before (same, none) = rw (same, numbered) (first-here x caveats i caveat here before none)
 
--- what the signature and a walk over all caveats come to is the verdict
-pub decided : (key : List ℕ) (t : TokenParts) (x : Context) (signature : List ℕ) (found : Option ℕ) (v : Verdict) → signature ≡ chain key t.identifier t.caveats
-    → MatchOption found (All (λ c. Satisfied c x) t.caveats) (IsFirstUnsatisfied t.caveats x) → Concludes signature t.sig found v → IsVerdict key t x v
-decided key t x signature found Granted chained each (same, none) = record { minted = sym same ∙ chained; satisfied = rw none at each }
-decided key t x signature found BadSignature chained each other = λ minted. other (chained ∙ sym minted)
-decided key t x signature found (Unsatisfied index) chained each (same, some) = (sym same ∙ chained, rw some at each)
+-- where a key gives the signature, what a walk over all caveats finds is the verdict
+pub found-verdict : (keys : List (List ℕ)) (t : TokenParts) (x : Context) (found : Option ℕ) → Minted keys t
+    → MatchOption found (All (λ c. Satisfied c x) t.caveats) (IsFirstUnsatisfied t.caveats x) → IsVerdict keys t x (found_verdict found)
+found-verdict keys t x None minted each = record { minted = minted; satisfied = each }
+found-verdict keys t x (Some index) minted first = (minted, first)
 
 -- what was found among the caveats up to their end was found among all
 pub found-all : (x : Context) (caveats : List (List ℕ)) (i : ℕ) (found : Option ℕ) → length caveats ≤ i
     → MatchOption found (All (λ c. Satisfied c x) (take i caveats)) (IsFirstUnsatisfied caveats x)
     → MatchOption found (All (λ c. Satisfied c x) caveats) (IsFirstUnsatisfied caveats x)
 found-all x caveats i found end each = rw (take_all i caveats end) at each
-
--- what a walk comes to is the verdict
-pub concluded : (key : List ℕ) (t : TokenParts) (x : Context) (i : ℕ) (signature : List ℕ) (found : Option ℕ) (v : Verdict) → length t.caveats ≤ i → signature ≡ chain key t.identifier (take i t.caveats)
-    → MatchOption found (All (λ c. Satisfied c x) (take i t.caveats)) (IsFirstUnsatisfied t.caveats x) → Concludes signature t.sig found v → IsVerdict key t x v
-concluded key t x i signature found v end chained each =
-    decided key t x signature found v (chained ∙ ap (chain key t.identifier) (take_all i t.caveats end)) (found-all x t.caveats i found end each)
 
 -- the first of the caveats from an index on
 first_dropped : (caveats : List (List ℕ)) (i : ℕ) (caveat : List ℕ) (rest : List (List ℕ)) → drop i caveats ≡ caveat ∷ rest → (slice_get caveats i ≡ Some caveat) × (drop (suc i) caveats ≡ rest)

@@ -1,7 +1,7 @@
 -- What leaves the world of macaroons.
 use Rattle.std.proofs.Common.{◌≡◌, ℕ, List, [], ◌∷◌, map, Some, refl, ap, subst, ◌∙◌}
 use Rattle.std.specs.Prelude.{slice_get}
-use Rattle.mac_keys.specs.Table.{Keys}
+use Rattle.mac_keys.specs.Table.{Table}
 use Rattle.mac_lane.specs.History.{IsBeginningOf, reached}
 use Rattle.mac_lane.specs.State.{Connection}
 use Rattle.mac_lane.specs.declared.event.Event.{Event}
@@ -17,12 +17,12 @@ abbrev reply_to : Job → Reply
 reply_to job = reply_of job.arrival job.key
 
 -- the replies to the jobs of arrivals are the arrivals' answers
-replies-answers : (table : Keys) (arrivals : List Arrival) → map reply_to (map (job_under table) arrivals) ≡ map (answer_of table) arrivals
+replies-answers : (table : Table) (arrivals : List Arrival) → map reply_to (map (job_under table) arrivals) ≡ map (answer_of table) arrivals
 unfolding answer_of
 replies-answers table [] = refl
 replies-answers table (arrival ∷ arrivals) = ap (λ replies. answer_of table arrival ∷ replies) (replies-answers table arrivals)
 
-pub world-answers : {Which : Type 0} (table : Keys) (connections workers number : ℕ) (events : List (Event Which Job Reply)) (link : Connection Job Reply) (arrivals : List Arrival)
+pub world-answers : {Which : Type 0} (table : Table) (connections workers number : ℕ) (events : List (Event Which Job Reply)) (link : Connection Job Reply) (arrivals : List Arrival)
     → slice_get (reached reply_to connections workers events).connections number ≡ Some link → link.arrived ≡ map (job_under table) arrivals
     → IsBeginningOf link.sent (map (answer_of table) arrivals)
 world-answers table connections workers number events link arrivals known arrived =

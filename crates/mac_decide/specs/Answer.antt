@@ -1,7 +1,8 @@
 -- The reply to each arrival (this project's own).
 use Rattle.std.specs.Prelude.{◌≡◌, ℕ, List, Option, Some, None, option_and_then, Result, Ok, Err}
 use Rattle.std.specs.FinMap as map
-use Rattle.mac_keys.specs.Table.{Keys}
+use Rattle.mac_keys.specs.Table.{Table, listed}
+use Rattle.mac_keys.specs.declared.keys.Keys.{Keys}
 use Rattle.mac_token.specs.RawToken.{TokenParts}
 use Rattle.mac_token.specs.Limits.{token_or_limit}
 use Rattle.mac_token.specs.Read.{read_of}
@@ -65,47 +66,48 @@ verdict_reply verdict.Granted = reply.Granted
 verdict_reply verdict.BadSignature = refused refusal.BadSignature
 verdict_reply (verdict.Unsatisfied index) = reply.Unsatisfied index
 
--- the reply to a request, under the key that its name has
-abbrev pub request_reply : Asked → Option (List ℕ) → Reply
+-- the reply to a request, under the keys that its name has: the first mints, and a verify takes
+-- either
+abbrev pub request_reply : Asked → Option Keys → Reply
 request_reply (mint form name location identifier caveats) None = refused refusal.UnknownKey
-request_reply (mint form name location identifier caveats) (Some key) =
-    token_reply form (minted key location identifier caveats)
-request_reply (attenuate form token caveats) key =
+request_reply (mint form name location identifier caveats) (Some keys) =
+    token_reply form (minted keys.first location identifier caveats)
+request_reply (attenuate form token caveats) keys =
     told (read_of token) (λ t. token_reply form (add t caveats))
 request_reply (verify name token moment facts) None = refused refusal.UnknownKey
-request_reply (verify name token moment facts) (Some key) =
+request_reply (verify name token moment facts) (Some keys) =
     let context : Context = record { moment = moment; facts = facts } in
-    told (read_of token) (λ t. verdict_reply (verdict_of key t context))
+    told (read_of token) (λ t. verdict_reply (verdict_of (listed keys) t context))
 
 -- the reply to what a payload asks, if it asks something
-abbrev pub asked_reply : Option Asked → Option (List ℕ) → Reply
-asked_reply None key = refused refusal.BadRequest
-asked_reply (Some request) key = request_reply request key
+abbrev pub asked_reply : Option Asked → Option Keys → Reply
+asked_reply None keys = refused refusal.BadRequest
+asked_reply (Some request) keys = request_reply request keys
 
--- the reply to an arrival, under the key that its name has
-unfoldable pub reply_of : Arrival → Option (List ℕ) → Reply
-reply_of arrival.Oversize key = refused refusal.FrameTooLong
-reply_of (arrival.Payload payload) key = asked_reply (request_of payload) key
+-- the reply to an arrival, under the keys that its name has
+unfoldable pub reply_of : Arrival → Option Keys → Reply
+reply_of arrival.Oversize keys = refused refusal.FrameTooLong
+reply_of (arrival.Payload payload) keys = asked_reply (request_of payload) keys
 
 -- only a payload is read and answered with memory
 abbrev pub TakesMemory : Arrival → Type 0
 TakesMemory arrival.Oversize = ⊥
 TakesMemory (arrival.Payload payload) = Unit {0}
 
--- the key, if there is one, grants the token that the bytes spell
-pub record IsGranted (key : Option (List ℕ)) (bytes : List ℕ) (x : Context) : Type 0 where
-  pub named : List ℕ
-  pub has_key : key ≡ Some named
+-- the keys, if there are any, grant the token that the bytes spell
+pub record IsGranted (keys : Option Keys) (bytes : List ℕ) (x : Context) : Type 0 where
+  pub named : Keys
+  pub has_keys : keys ≡ Some named
   pub token : TokenParts
   pub is_read : read_of bytes ≡ Ok token
-  pub accepted : Accepts named token x
+  pub accepted : Accepts (listed named) token x
 
--- the key that a table has for the name in an arrival's front
-abbrev pub key_for : Keys → Arrival → Option (List ℕ)
-key_for table arrival.Oversize = None
-key_for table (arrival.Payload payload) =
+-- the keys that a table has for the name in an arrival's front
+abbrev pub keys_for : Table → Arrival → Option Keys
+keys_for table arrival.Oversize = None
+keys_for table (arrival.Payload payload) =
     option_and_then (λ name. map.get table name) (key_name_of payload)
 
 -- the answer to an arrival under a table
-unfoldable pub answer_of : Keys → Arrival → Reply
-answer_of table a = reply_of a (key_for table a)
+unfoldable pub answer_of : Table → Arrival → Reply
+answer_of table a = reply_of a (keys_for table a)

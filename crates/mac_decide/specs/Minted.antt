@@ -1,12 +1,16 @@
 -- Tokens made under a key, and narrowed without it (NDSS 2014).
-use Rattle.std.specs.Prelude.{◌≡◌, ℕ, List}
+use Rattle.std.specs.Prelude.{◌≡◌, ℕ, List, Any}
 use Rattle.mac_hmac.specs.Chain.{chain, extended}
 use Rattle.mac_token.specs.RawToken.{TokenParts, token_parts}
 use Rattle.mac_token.specs.Push.{with_caveats}
 
 -- the key's chain over the identifier and the caveats gives the signature
-abbrev pub Minted : List ℕ → TokenParts → Type 0
-Minted key t = t.sig ≡ chain key t.identifier t.caveats
+abbrev pub Signs : List ℕ → TokenParts → Type 0
+Signs key t = t.sig ≡ chain key t.identifier t.caveats
+
+-- the chain of one of the keys gives it
+abbrev pub Minted : List (List ℕ) → TokenParts → Type 0
+Minted keys t = Any (λ key. Signs key t) keys
 
 -- the token of these parts under the key
 abbrev pub minted : List ℕ → List ℕ → List ℕ → List (List ℕ) → TokenParts

@@ -1,6 +1,6 @@
 -- What is known of the replies to a run of jobs while their texts are hashed side by side (this
 -- project's own).
-use Rattle.std.specs.Prelude.{◌≡◌, ℕ, ◌<◌, List, [], ◌∷◌, slice_get, slice_index, slice_index_or, replicate, Some, if◌then◌else◌}
+use Rattle.std.specs.Prelude.{◌≡◌, ℕ, ◌<◌, List, [], ◌∷◌, slice_get, slice_index, slice_index_or, replicate, Option, Some, option_to_list, Bool, ◌||◌, if◌then◌else◌}
 use Rattle.std.specs.Str.{bytes_eq}
 use Rattle.mac_hmac.specs.Chain.{extended}
 use Rattle.mac_token.specs.Push.{with_sig}
@@ -8,7 +8,7 @@ use Rattle.mac_token.specs.RawToken.{TokenParts}
 use Rattle.mac_wire.specs.declared.reply.Reply.{Reply}
 use Rattle.mac_decide.specs.Answer.{reply_of, verdict_reply, written_reply}
 use Rattle.mac_decide.specs.Folding.{end_of}
-use Rattle.mac_decide.specs.Reading.{caveats_verdict}
+use Rattle.mac_decide.specs.Reading.{caveats_verdict, is_minted}
 use Rattle.mac_decide.specs.declared.context.Context.{Context}
 use Rattle.mac_decide.specs.declared.job.Job.{Job}
 use Rattle.mac_decide.specs.declared.prepared.Prepared.{Prepared}
@@ -22,14 +22,18 @@ use Rattle.mac_decide.specs.declared.verdict.Verdict.TheVariants.{BadSignature}
 abbrev pub reply_to_job : Job → Reply
 reply_to_job job = reply_of job.arrival job.key
 
--- the verdict on a token, by the signature that its key gives
-abbrev pub verdict_by : List ℕ → TokenParts → Context → PlainVerdict
-verdict_by signature t x =
-    if bytes_eq t.sig signature then caveats_verdict x 0 t.caveats else BadSignature
+-- whether the token has this signature, or the one that the second key gives it
+abbrev pub is_given : List ℕ → Option (List ℕ) → TokenParts → Bool
+is_given signature second t = bytes_eq t.sig signature || is_minted (option_to_list second) t
+
+-- the verdict on a token, by the signature that the first key gives it
+abbrev pub verdict_by : List ℕ → Option (List ℕ) → TokenParts → Context → PlainVerdict
+verdict_by signature second t x =
+    if is_given signature second t then caveats_verdict x 0 t.caveats else BadSignature
 
 -- the reply, once the signature is there
 abbrev pub reply_by : Purpose → List ℕ → Reply
-reply_by (purpose.Verdict t x) signature = verdict_reply (verdict_by signature t x)
+reply_by (purpose.Verdict second t x) signature = verdict_reply (verdict_by signature second t x)
 reply_by (purpose.Token form t) signature = written_reply form (with_sig t signature)
 
 -- the reply that comes of what was prepared

@@ -78,8 +78,10 @@ caveats_verdict x index [] = Granted
 caveats_verdict x index (caveat ∷ caveats) =
     if is_satisfied caveat x then caveats_verdict x (index + 1) caveats else Unsatisfied index
 
+-- whether the chain of one of the keys gives the signature
+abbrev pub is_minted : List (List ℕ) → TokenParts → Bool
+is_minted keys t = list_any (λ key. bytes_eq t.sig (chain key t.identifier t.caveats)) keys
+
 -- the verdict on a token
-unfoldable pub verdict_of : List ℕ → TokenParts → Context → Verdict
-verdict_of key t x =
-    if bytes_eq t.sig (chain key t.identifier t.caveats) then caveats_verdict x 0 t.caveats
-    else BadSignature
+unfoldable pub verdict_of : List (List ℕ) → TokenParts → Context → Verdict
+verdict_of keys t x = if is_minted keys t then caveats_verdict x 0 t.caveats else BadSignature

@@ -1,8 +1,9 @@
 -- Jobs that are found equal hold the same.
-use Rattle.std.specs.Prelude.{◌≡◌, refl, ℕ, List, Option, Some, None, Bool, true, false, ◌&&◌}
+use Rattle.std.specs.Prelude.{◌≡◌, refl, ℕ, List, Some, None, Bool, true, false, ◌&&◌}
 use Rattle.std.specs.Option.{option_eq}
 use Rattle.std.proofs.Common.{ap, sym, ◌∙◌}
 use Rattle.std.proofs.lemmas.Bool.{and_parts, false≢true}
+use Rattle.mac_keys.specs.declared.keys.Keys.{Keys}
 use Rattle.mac_wire.specs.declared.arrival.Arrival.{Arrival}
 use Rattle.mac_wire.specs.declared.arrival.Arrival.TheVariants.{Payload, Oversize}
 use Rattle.mac_decide.specs.declared.job.Job.{Job}
@@ -22,23 +23,31 @@ same_arrivals test tells Oversize (Payload q) e =
     absurd (false≢true (sym (tells.payload_last q) ∙ e))
 same_arrivals test tells Oversize Oversize e = refl
 
--- a test of keys tells them apart
-abbrev pub TellsKeys : (List ℕ → List ℕ → Bool) → Type 0
-TellsKeys test = (k l : List ℕ) → test k l ≡ true → k ≡ l
+-- a test that is met by what is equal alone
+abbrev pub TellsApart : {X : Type 0} → (X → X → Bool) → Type 0
+TellsApart {X} test = (a b : X) → test a b ≡ true → a ≡ b
 
-same_keys : (test : List ℕ → List ℕ → Bool) → TellsKeys test → (a b : Option (List ℕ))
-    → option_eq test a b ≡ true → a ≡ b
-same_keys test tells (Some k) (Some l) e = ap Some (tells k l e)
-same_keys test tells (Some k) None e = absurd (false≢true e)
-same_keys test tells None (Some l) e = absurd (false≢true e)
-same_keys test tells None None e = refl
+same_options : {X : Type 0} (test : X → X → Bool) → TellsApart test → TellsApart (option_eq test)
+same_options test tells (Some k) (Some l) e = ap Some (tells k l e)
+same_options test tells (Some k) None e = absurd (false≢true e)
+same_options test tells None (Some l) e = absurd (false≢true e)
+same_options test tells None None e = refl
+
+-- keys whose first and second are found equal are the same
+pub same_keys : (test : List ℕ → List ℕ → Bool) → TellsApart test → (k l : Keys)
+    → (test k.first l.first && option_eq test k.second l.second) ≡ true → k ≡ l
+same_keys test tells k l e =
+    let both = and_parts (test k.first l.first) (option_eq test k.second l.second) e in
+    let first = tells k.first l.first both.0 in
+    let second = same_options test tells k.second l.second both.1 in
+    λ i. record { first = first i; second = second i }
 
 -- jobs whose arrivals and keys are found equal are the same
-pub same_jobs : (arrivals : Arrival → Arrival → Bool) (keys : List ℕ → List ℕ → Bool)
-    → Tells arrivals → TellsKeys keys → (a b : Job)
+pub same_jobs : (arrivals : Arrival → Arrival → Bool) (keys : Keys → Keys → Bool)
+    → Tells arrivals → TellsApart keys → (a b : Job)
     → (arrivals a.arrival b.arrival && option_eq keys a.key b.key) ≡ true → a ≡ b
 same_jobs arrivals keys tells keys_tell a b e =
     let both = and_parts (arrivals a.arrival b.arrival) (option_eq keys a.key b.key) e in
     let arrival = same_arrivals arrivals tells a.arrival b.arrival both.0 in
-    let key = same_keys keys keys_tell a.key b.key both.1 in
+    let key = same_options keys keys_tell a.key b.key both.1 in
     λ i. record { arrival = arrival i; key = key i }

@@ -1,5 +1,6 @@
--- What a key accepts (NDSS 2014): the chain of signatures, and caveats that hold in a context.
-use Rattle.std.specs.Prelude.{◌≡◌, ◌⊎◌, ℕ, ℤ, pos, ◌<ℤ◌, List, take, slice_get, Option, Some, None, IsSomeAnd, Contains, All}
+-- What a name's keys accept (NDSS 2014): the chain of signatures, and caveats that hold in a
+-- context.
+use Rattle.std.specs.Prelude.{◌⊎◌, ℕ, ℤ, pos, ◌<ℤ◌, List, take, slice_get, Option, Some, None, IsSomeAnd, Contains, All}
 use Rattle.mac_token.specs.RawToken.{TokenParts}
 use Rattle.mac_decide.specs.Minted.{Minted}
 use Rattle.mac_decide.specs.Time.{IsTimeLimit}
@@ -15,9 +16,10 @@ IsBefore moment caveat = (limit : ℤ) × IsTimeLimit caveat limit × (pos momen
 abbrev pub Satisfied : List ℕ → Context → Type 0
 Satisfied caveat x = Contains x.facts caveat ⊎ IsBefore x.moment caveat
 
--- the key grants the token in the context: it gives the signature, and each caveat is satisfied
-pub record Accepts (key : List ℕ) (t : TokenParts) (x : Context) : Type 0 where
-  pub minted : Minted key t
+-- the keys grant the token in the context: one of them gives the signature, and each caveat is
+-- satisfied
+pub record Accepts (keys : List (List ℕ)) (t : TokenParts) (x : Context) : Type 0 where
+  pub minted : Minted keys t
   pub satisfied : All (λ caveat. Satisfied caveat x) t.caveats
 
 -- the caveat at the index isn't satisfied, and each before it is
@@ -26,14 +28,12 @@ pub record IsFirstUnsatisfied (caveats : List (List ℕ)) (x : Context) (index :
   pub here : IsSomeAnd (slice_get caveats index) (λ caveat. ¬ (Satisfied caveat x))
 
 -- the verdict on a token: the signature is looked at first, then the caveats in order
-abbrev pub IsVerdict : List ℕ → TokenParts → Context → Verdict → Type 0
-IsVerdict key t x Granted = Accepts key t x
-IsVerdict key t x BadSignature = ¬ (Minted key t)
-IsVerdict key t x (Unsatisfied index) = Minted key t × IsFirstUnsatisfied t.caveats x index
+abbrev pub IsVerdict : List (List ℕ) → TokenParts → Context → Verdict → Type 0
+IsVerdict keys t x Granted = Accepts keys t x
+IsVerdict keys t x BadSignature = ¬ (Minted keys t)
+IsVerdict keys t x (Unsatisfied index) = Minted keys t × IsFirstUnsatisfied t.caveats x index
 
--- the verdict at the end of a walk over the caveats: by the signature that the key gives and the
--- one that the token tells, then by the first caveat that was found unsatisfied
-abbrev pub Concludes : (signature told : List ℕ) → Option ℕ → Verdict → Type 0
-Concludes signature told found Granted = (signature ≡ told) × (found ≡ None)
-Concludes signature told found BadSignature = ¬ (signature ≡ told)
-Concludes signature told found (Unsatisfied index) = (signature ≡ told) × (found ≡ Some index)
+-- the verdict where a key gives the signature, by the first caveat that was found unsatisfied
+abbrev pub found_verdict : Option ℕ → Verdict
+found_verdict None = Granted
+found_verdict (Some index) = Unsatisfied index

@@ -1,7 +1,7 @@
-//! The decision: which caveats are satisfied, which tokens a key grants, and the answer to each
-//! arrival.
+//! The decision: which caveats are satisfied, which tokens a name's keys grant, and the answer to
+//! each arrival.
 //!
-//! [`job_of`] takes an arrival with the key that it names, and [`answer`] gives its reply, by
+//! [`job_of`] takes an arrival with the keys that it names, and [`answer`] gives its reply, by
 //! [`mint`], [`attenuate`] and [`verify`] or [`verify_view`].
 #![tactic(auto)]
 
@@ -17,6 +17,7 @@ mod reply;
 mod side_by_side;
 mod time;
 mod verdict;
+mod verdict_view;
 
 pub use context::{Context, satisfied};
 pub use job::{Job, job_of};
@@ -25,4 +26,5 @@ pub use minting::{attenuate, mint};
 pub use reply::answer;
 pub use side_by_side::answer_all;
 pub use time::time_limit;
-pub use verdict::{Verdict, verify, verify_view};
+pub use verdict::{Verdict, verify};
+pub use verdict_view::verify_view;

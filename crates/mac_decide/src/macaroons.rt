@@ -3,12 +3,13 @@
 ghost use Rattle.std.specs.Prelude.{refl};
 ghost use Rattle.std.proofs.lemmas.Slice.Eq.{bytes_eq-Decides};
 ghost use Rattle.mac_decide.specs.Answer.{reply_of};
-ghost use Rattle.mac_decide.specs.SameJobs.{same_jobs};
+ghost use Rattle.mac_decide.specs.SameJobs.{same_jobs, same_keys};
 
 use crate::job::Job;
 use crate::reply::answer;
 use crate::side_by_side::answer_all;
 use mac_hmac::RootKey;
+use mac_keys::Keys;
 use mac_lane::Service;
 use mac_wire::{Arrival, NoMemory, Reply};
 use std::alloc::Global;
@@ -39,11 +40,11 @@ impl Service for Macaroons {
         })
     }
 
-    ghost equal_jobs = { same_jobs ⟦<Arrival as PartialEq>⟧.eq ⟦<RootKey as PartialEq>⟧.eq
+    ghost equal_jobs = { same_jobs ⟦<Arrival as PartialEq>⟧.eq ⟦<Keys as PartialEq>⟧.eq
         (record {
           payloads = λ p q. (bytes_eq-Decides p q).0;
           payload_first = λ p. refl;
           payload_last = λ p. refl;
         })
-        (λ k l. (bytes_eq-Decides k l).0) };
+        (same_keys ⟦<RootKey as PartialEq>⟧.eq (λ k l. (bytes_eq-Decides k l).0)) };
 }

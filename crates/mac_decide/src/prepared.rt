@@ -7,8 +7,8 @@ ghost use Rattle.mac_decide.specs.Prepared.{comes_to, left_of, reply_by, signatu
 use crate::context::Context;
 use crate::folding::Folding;
 use crate::reply::{verdict_reply, written_reply};
-use crate::verdict::verdict_by;
-use mac_hmac::Sig;
+use crate::verdict_view::verdict_by;
+use mac_hmac::{RootKey, Sig};
 use mac_token::{Token, TokenView};
 use mac_wire::{NoMemory, Reply, TokenForm};
 use std::alloc::Global;
@@ -16,8 +16,9 @@ use std::alloc::Global;
 /// What a signature is computed for.
 #[derive(Drop)]
 pub enum Purpose<'a> {
-    /// The verdict on a token, whose key gives the signature.
+    /// The verdict on a token, to which the name's first key gives the signature.
     Verdict {
+        second: Option<RootKey>,
         token: TokenView<'a>,
         context: Context<'a>,
     },
@@ -34,9 +35,11 @@ impl<'a> Purpose<'a> {
         ensures { IfOk result (λ r. r ≡ reply_by self.entry signature) }
     {
         match self {
-            Purpose::Verdict { token, context } => {
-                Ok(verdict_reply(verdict_by(signature, &token, &context)))
-            }
+            Purpose::Verdict {
+                second,
+                token,
+                context,
+            } => Ok(verdict_reply(verdict_by(signature, second, &token, &context))),
             Purpose::Token { form, token } => {
                 let token = token.signed(signature.bytes());
                 written_reply(alloc, form, &token)

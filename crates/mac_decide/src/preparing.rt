@@ -1,6 +1,7 @@
 //! A job, up to what its reply waits for.
 
 ghost use Rattle.std.specs.Prelude.{◌≡◌, ◌++◌, IfOk};
+ghost use Rattle.mac_keys.specs.Keys.{listed};
 ghost use Rattle.mac_token.specs.Answers.{Answers as IsMade};
 ghost use Rattle.mac_token.specs.Limits.{token_or_limit};
 ghost use Rattle.mac_token.specs.Push.{with_sig};
@@ -22,6 +23,7 @@ use crate::prepared::{Prepared, Purpose};
 use crate::reply::{refusal_of, refused, verdict_reply};
 use crate::verdict::verify;
 use mac_hmac::{RootKey, Sig};
+use mac_keys::Keys;
 use mac_token::{Token, TokenFault, TokenView, bare, read_bare};
 use mac_wire::{FieldList, NoMemory, Refusal, Request, TokenForm, parse_request};
 use std::alloc::{AllocError, Global};
@@ -37,13 +39,13 @@ pub fn prepare<'a>(
     room: &'a mut Vec<u8>,
     alloc: Global,
     payload: &'a [u8],
-    key: Option<RootKey>,
+    keys: Option<Keys>,
 ) -> Result<Prepared<'a>, NoMemory>
     ensures { IfOk result (λ p.
-        comes_to p ≡ answers.asked_reply (request_of payload.now) key) }
+        comes_to p ≡ answers.asked_reply (request_of payload.now) keys) }
 {
     match parse_request(payload) {
-        Some(request) => prepare_request(room, alloc, request, key),
+        Some(request) => prepare_request(room, alloc, request, keys),
         None => Ok(told(Refusal::BadRequest)),
     }
 }
@@ -52,10 +54,10 @@ fn prepare_request<'a>(
     room: &'a mut Vec<u8>,
     alloc: Global,
     request: Request<'a>,
-    key: Option<RootKey>,
+    keys: Option<Keys>,
 ) -> Result<Prepared<'a>, NoMemory>
     ensures { IfOk result (λ p.
-        comes_to p ≡ answers.request_reply (asked_of request.entry) key) }
+        comes_to p ≡ answers.request_reply (asked_of request.entry) keys) }
 {
     match request {
         Request::Mint {
@@ -64,8 +66,8 @@ fn prepare_request<'a>(
             identifier,
             caveats,
             ..
-        } => match key {
-            Some(key) => prepare_mint(alloc, form, key, location, identifier, caveats),
+        } => match keys {
+            Some(keys) => prepare_mint(alloc, form, keys.first, location, identifier, caveats),
             None => Ok(told(Refusal::UnknownKey)),
         },
         Request::Attenuate {
@@ -78,8 +80,8 @@ fn prepare_request<'a>(
             moment,
             facts,
             ..
-        } => match key {
-            Some(key) => prepare_verify(room, alloc, key, token, Context { moment, facts }),
+        } => match keys {
+            Some(keys) => prepare_verify(room, alloc, keys, token, Context { moment, facts }),
             None => Ok(told(Refusal::UnknownKey)),
         },
     }
@@ -224,15 +226,15 @@ fn to_sign<'a>(
 fn prepare_verify<'a>(
     room: &'a mut Vec<u8>,
     alloc: Global,
-    key: RootKey,
+    keys: Keys,
     token: &'a [u8],
     context: Context<'a>,
 ) -> Result<Prepared<'a>, NoMemory>
     ensures { IfOk result (λ p. comes_to p ≡ answers.told (read_of token.now)
-        (λ t. answers.verdict_reply (verdict_of key t context.entry))) }
+        (λ t. answers.verdict_reply (verdict_of (listed keys) t context.entry))) }
 {
     match bare(room, alloc, token) {
-        Ok(bytes) => prepare_bare(alloc, key, bytes, context),
+        Ok(bytes) => prepare_bare(alloc, keys, bytes, context),
         Err(TokenFault::Refused(reason)) => Ok(told(refusal_of(reason))),
         Err(TokenFault::Memory) => Err(AllocError),
     }
@@ -241,29 +243,33 @@ fn prepare_verify<'a>(
 /// The same, where these are the bytes that the token carries. Only JSON is read with memory.
 fn prepare_bare<'a>(
     alloc: Global,
-    key: RootKey,
+    keys: Keys,
     bytes: &'a [u8],
     context: Context<'a>,
 ) -> Result<Prepared<'a>, NoMemory>
     ensures { IfOk result (λ p. comes_to p
         ≡ answers.told (token_of_read (or_malformed (bare_of bytes.now)))
-        (λ t. answers.verdict_reply (verdict_of key t context.entry))) }
+        (λ t. answers.verdict_reply (verdict_of (listed keys) t context.entry))) }
 {
     match bytes {
-        [b'{', ..] => prepare_json(alloc, key, bytes, &context),
-        _ => Ok(prepare_view(key, bytes, context)),
+        [b'{', ..] => prepare_json(alloc, keys, bytes, &context),
+        _ => Ok(prepare_view(keys, bytes, context)),
     }
 }
 
-fn prepare_view<'a>(key: RootKey, bytes: &'a [u8], context: Context<'a>) -> Prepared<'a>
+fn prepare_view<'a>(keys: Keys, bytes: &'a [u8], context: Context<'a>) -> Prepared<'a>
     requires { ¬ BeginsWith 123 bytes.now }
     ensures { comes_to result ≡ answers.told (token_of_read (or_malformed (bare_of bytes.now)))
-        (λ t. answers.verdict_reply (verdict_of key t context.entry)) }
+        (λ t. answers.verdict_reply (verdict_of (listed keys) t context.entry)) }
 {
     match TokenView::of(bytes) {
         Ok(token) => {
-            let folding = Folding::of_token(key, &token);
-            let purpose = Purpose::Verdict { token, context };
+            let folding = Folding::of_token(keys.first, &token);
+            let purpose = Purpose::Verdict {
+                second: keys.second,
+                token,
+                context,
+            };
             Prepared::Pending { folding, purpose }
         }
         Err(reason) => told(refusal_of(reason)),
@@ -273,16 +279,16 @@ fn prepare_view<'a>(key: RootKey, bytes: &'a [u8], context: Context<'a>) -> Prep
 /// A verify of a token in JSON, whose parts lie in no bytes, is answered at once.
 fn prepare_json(
     alloc: Global,
-    key: RootKey,
+    keys: Keys,
     bytes: &[u8],
     context: &Context<'_>,
 ) -> Result<Prepared<'static>, NoMemory>
     ensures { IfOk result (λ p. comes_to p
         ≡ answers.told (token_of_read (or_malformed (bare_of bytes.now)))
-        (λ t. answers.verdict_reply (verdict_of key t context.now))) }
+        (λ t. answers.verdict_reply (verdict_of (listed keys) t context.now))) }
 {
     match read_bare(alloc, bytes) {
-        Ok(token) => Ok(Prepared::Told(verdict_reply(verify(&key, &token, context)))),
+        Ok(token) => Ok(Prepared::Told(verdict_reply(verify(&keys, &token, context)))),
         Err(TokenFault::Refused(reason)) => Ok(told(refusal_of(reason))),
         Err(TokenFault::Memory) => Err(AllocError),
     }

@@ -8,7 +8,7 @@ ghost use Rattle.mac_decide.specs.Answer as answers;
 use crate::job::Job;
 use crate::preparing::prepare;
 use crate::verdict::Verdict;
-use mac_hmac::RootKey;
+use mac_keys::Keys;
 use mac_token::{Form, Token, TokenFault, TokenRefusal, write};
 use mac_wire::{Arrival, Bytes, NoMemory, Refusal, Reply, TokenForm};
 use std::alloc::{AllocError, Global};
@@ -19,7 +19,7 @@ pub fn answer(alloc: Global, job: &Job) -> Result<Reply, NoMemory>
     ensures sendable { IfOk result IsReply }
     ensures memory { OnErr result (answers.TakesMemory job.now.arrival) }
 
-    // The headline: a verify is granted exactly where its key is there and accepts its token.
+    // The headline: a verify is granted exactly where its keys are there and accept its token.
     ensures granted { (payload name token : List ℕ) (moment : ℕ) (facts : List (List ℕ))
         → job.now.arrival ≡ Arrival.Payload payload → Asks payload (verify name token moment facts)
         → IfOk result (λ r. (r ≡ Reply.Granted)
@@ -29,14 +29,14 @@ pub fn answer(alloc: Global, job: &Job) -> Result<Reply, NoMemory>
 }
 
 #[tactic(auto, unfolding(crate::specs::Answer::reply_of))]
-fn arrival_reply(alloc: Global, arrival: &Arrival, key: Option<RootKey>) -> Result<Reply, NoMemory>
-    ensures reply { IfOk result (λ r. r ≡ answers.reply_of arrival.now key) }
+fn arrival_reply(alloc: Global, arrival: &Arrival, keys: Option<Keys>) -> Result<Reply, NoMemory>
+    ensures reply { IfOk result (λ r. r ≡ answers.reply_of arrival.now keys) }
     ensures memory { OnErr result (answers.TakesMemory arrival.now) }
 {
     match arrival {
         Arrival::Payload(payload) => {
             let mut room = Vec::new(alloc);
-            prepare(&mut room, alloc, payload.as_slice(), key)?.into_reply(alloc)
+            prepare(&mut room, alloc, payload.as_slice(), keys)?.into_reply(alloc)
         }
         Arrival::Oversize => Ok(refused(Refusal::FrameTooLong)),
     }

@@ -1,186 +1,286 @@
 -- What is wrong with a line because of those above it.
-use Rattle.std.proofs.Common.{◌≡◌, ◌↔◌, ℕ, zero, suc, ◌+◌, ◌<◌, ◌≤◌, nat_le, Bool, true, false, cond, List, [], ◌∷◌, length, take, get_or, Option, Some, None, Result, Ok, Err, refl, sym, ap, subst, ◌∙◌, arith}
-use Rattle.std.proofs.lemmas.List.{take_more, take_all}
-use Rattle.std.proofs.lemmas.List.Sums.{count_by_more_yes, count_by_more_no}
-use Rattle.std.proofs.lemmas.Option.{slice_get-get_or}
+use Rattle.std.proofs.Common.{◌≡◌, ◌↔◌, inl, inr, ℕ, zero, suc, ◌+◌, ◌≤◌, nat_le, Bool, true, false, cond, ◌||◌, List, [], ◌∷◌, ◌++◌, length, take, get_or, Option, Some, None, Result, Ok, Err, refl, sym, ap, subst, ◌∙◌, arith}
+use Rattle.std.proofs.lemmas.List.{take_more, take_all, append-nil}
+use Rattle.std.proofs.lemmas.List.Elements.{filter_map-append}
+use Rattle.std.proofs.lemmas.Bool.{false≢true}
 use Rattle.std.proofs.lemmas.Bool.Decides.{nat_tests}
-use Rattle.std.specs.Prelude.{count_by}
+use Rattle.std.proofs.lemmas.Slice.Eq.{bytes_eq-Decides}
 use Rattle.std.specs.Option.{is_some}
-use Rattle.std.specs.List.{Any, cons_option}
+use Rattle.std.specs.List.{Any, cons_option, filter_map, list_any}
 use Rattle.std.specs.Ordering.{eq_by_cmp}
+use Rattle.std.specs.Str.{bytes_eq}
 use Rattle.std.specs.Cmp.Lexicographic.{nat_list_cmp_total}
 use Rattle.std.specs.FinMap as map
-use Rattle.std.specs.FinMap.Entries.{find}
+use Rattle.std.specs.FinSet as set
 use Rattle.mac_hmac.specs.Chain.{root_of}
 use Rattle.mac_keys.specs.declared.fault.LineFault.{LineFault}
 use Rattle.mac_keys.specs.declared.fault.LineFault.TheVariants.{BadName, BadHex, EmptySecret, Twice, TooMany, BadLine}
+use Rattle.mac_keys.specs.declared.keys.Keys.{Keys}
 use Rattle.mac_keys.specs.declared.table.TheConstants.{NAMES_MAX}
 use Rattle.mac_keys.specs.Line.{Given, line_of}
-use Rattle.mac_keys.specs.Table.{Keys, entry_said, keys_of, fault_of_name, fault_below}
-use Rattle.mac_keys.specs.Taken.{keys_with}
-use Rattle.mac_keys.specs.Meaning.{GivesKey, GivesName, AreFaultlessAbove, is_key_line, IsTwice, IsTooMany}
-use Rattle.mac_keys.proofs.Names.{order}
-use Rattle.mac_keys.proofs.Lines.{keys_of-push}
-use Rattle.mac_keys.proofs.KeyMeaning.{entries, any_from_find, found_here}
-use Rattle.mac_keys.proofs.FaultLemmas.{fault_of_name-twice, fault_of_name-full}
+use Rattle.mac_keys.specs.Table.{Table, key_said, keys_given, first_two, keys_of, fault_of_keys, fault_below}
+use Rattle.mac_keys.specs.Taken.{keys_with, table_with}
+use Rattle.mac_keys.specs.Meaning.{GivesName, TwoOf, name_said, names_given, IsTwice, IsTooMany}
+use Rattle.mac_keys.proofs.Names.{order, order-IsAntisymmetric}
+use Rattle.mac_keys.proofs.KeyMeaning.{tests_alike, has, is_some-first_two, get-keys_of, keys_of-push, any_here, any_later, said_first}
+use Rattle.mac_keys.proofs.FaultLemmas.{fault_of_keys-full}
 use Rattle.mac_keys.proofs.Spelling.{Spells-from_line, line_of-spelled}
 use Rattle.mac_keys.proofs.Refused.{HasFault, HasFault-from_line, line_of-fault}
 
--- ---- the fault below some keys
+-- ---- the fault below a table
 
--- the line gives a name a secret, and the keys have the name or not
-pub record GivesBelow (keys : Keys) (line : List ℕ) (known : Bool) : Type 0 where
+-- whether these are two keys
+abbrev are_two : Option Keys → Bool
+are_two None = false
+are_two (Some keys) = is_some keys.second
+
+-- the line gives a secret to a name that has two keys
+pub record GivesThird (table : Table) (line : List ℕ) : Type 0 where
   pub given : Given
   pub said : line_of line ≡ Ok (Some given)
-  pub is_known : map.contains_key keys given.name ≡ known
+  pub known : are_two (map.get table given.name) ≡ true
 
--- what a fault of a line says below the keys of those above it
-abbrev pub HasFaultBelow : Keys → List ℕ → LineFault → Type 0
-HasFaultBelow keys line Twice = GivesBelow keys line true
-HasFaultBelow keys line TooMany = GivesBelow keys line false × (NAMES_MAX ≤ map.len keys)
-HasFaultBelow keys line BadLine = HasFault line BadLine
-HasFaultBelow keys line BadName = HasFault line BadName
-HasFaultBelow keys line EmptySecret = HasFault line EmptySecret
-HasFaultBelow keys line BadHex = HasFault line BadHex
+-- the line gives a secret to a name that has none
+pub record GivesFirst (table : Table) (line : List ℕ) : Type 0 where
+  pub given : Given
+  pub said : line_of line ≡ Ok (Some given)
+  pub new : map.get table given.name ≡ None
 
-of_itself : (keys : Keys) (line : List ℕ) (fault : LineFault) → HasFault line fault → HasFaultBelow keys line fault
-of_itself keys line Twice has = absurd has
-of_itself keys line TooMany has = absurd has
-of_itself keys line BadLine has = has
-of_itself keys line BadName has = has
-of_itself keys line EmptySecret has = has
-of_itself keys line BadHex has = has
+-- what a fault of a line says below the table that those above it make
+abbrev pub HasFaultBelow : Table → List ℕ → LineFault → Type 0
+HasFaultBelow table line Twice = GivesThird table line
+HasFaultBelow table line TooMany = GivesFirst table line × (NAMES_MAX ≤ map.len table)
+HasFaultBelow table line BadLine = HasFault line BadLine
+HasFaultBelow table line BadName = HasFault line BadName
+HasFaultBelow table line EmptySecret = HasFault line EmptySecret
+HasFaultBelow table line BadHex = HasFault line BadHex
 
-of_keys : (keys : Keys) (line : List ℕ) (fault : LineFault) (g : Given) → line_of line ≡ Ok (Some g) → fault_of_name keys g.name ≡ Some fault → HasFaultBelow keys line fault
-of_keys keys line fault g said e =
-    elim (map.contains_key keys g.name) as (λ b. map.contains_key keys g.name ≡ b → cond b (Some Twice) (cond (nat_le NAMES_MAX (map.len keys)) (Some TooMany) None) ≡ Some fault → HasFaultBelow keys line fault) [
-      | true ↦ λ known found.
-          let same : Twice ≡ fault = cc in
-          subst (λ (f : LineFault). HasFaultBelow keys line f) same (record { given = g; said = said; is_known = known })
-      | false ↦ λ new found.
-          elim (nat_le NAMES_MAX (map.len keys)) as (λ b. nat_le NAMES_MAX (map.len keys) ≡ b → cond b (Some TooMany) None ≡ Some fault → HasFaultBelow keys line fault) [
-            | true ↦ λ full found.
-                let same : TooMany ≡ fault = cc in
-                subst (λ (f : LineFault). HasFaultBelow keys line f) same (record { given = g; said = said; is_known = new }, grind (arith, nat_tests))
-            | false ↦ λ room found. cc
-          ] refl found
+of_itself : (table : Table) (line : List ℕ) (fault : LineFault) → HasFault line fault → HasFaultBelow table line fault
+of_itself table line Twice has = absurd has
+of_itself table line TooMany has = absurd has
+of_itself table line BadLine has = has
+of_itself table line BadName has = has
+of_itself table line EmptySecret has = has
+of_itself table line BadHex has = has
+
+of_first : (table : Table) (line : List ℕ) (fault : LineFault) → GivesFirst table line → cond (nat_le NAMES_MAX (map.len table)) (Some TooMany) None ≡ Some fault → HasFaultBelow table line fault
+of_first table line fault first e =
+    elim (nat_le NAMES_MAX (map.len table)) as (λ b. nat_le NAMES_MAX (map.len table) ≡ b → cond b (Some TooMany) None ≡ Some fault → HasFaultBelow table line fault) [
+      | true ↦ λ full found.
+          let same : TooMany ≡ fault = cc in
+          subst (λ (f : LineFault). HasFaultBelow table line f) same (first, grind (arith, nat_tests))
+      | false ↦ λ room found. cc
     ] refl e
 
-found_below : (keys : Keys) (line : List ℕ) (fault : LineFault) (said : Result (Option Given) LineFault) → line_of line ≡ said → fault_below keys said ≡ Some fault → HasFaultBelow keys line fault
-found_below keys line fault (Err other) is e =
+of_third : (table : Table) (line : List ℕ) (fault : LineFault) (g : Given) (two : Bool) → line_of line ≡ Ok (Some g) → are_two (map.get table g.name) ≡ two → cond two (Some Twice) None ≡ Some fault
+    → HasFaultBelow table line fault
+of_third table line fault g true said known e =
+    let same : Twice ≡ fault = cc in
+    subst (λ (f : LineFault). HasFaultBelow table line f) same (record { given = g; said = said; known = known })
+of_third table line fault g false said known e = cc
+
+of_keys : (table : Table) (line : List ℕ) (fault : LineFault) (g : Given) (keys : Option Keys) → line_of line ≡ Ok (Some g) → map.get table g.name ≡ keys → fault_of_keys (map.len table) keys ≡ Some fault
+    → HasFaultBelow table line fault
+of_keys table line fault g None said new e = of_first table line fault (record { given = g; said = said; new = new }) e
+of_keys table line fault g (Some keys) said known e = of_third table line fault g (is_some keys.second) said (ap are_two known) e
+
+found_below : (table : Table) (line : List ℕ) (fault : LineFault) (said : Result (Option Given) LineFault) → line_of line ≡ said → fault_below table said ≡ Some fault → HasFaultBelow table line fault
+found_below table line fault (Err other) is e =
     let same : other ≡ fault = cc in
-    subst (λ (f : LineFault). HasFaultBelow keys line f) same (of_itself keys line other (HasFault-from_line line other is))
-found_below keys line fault (Ok None) is e = cc
-found_below keys line fault (Ok (Some g)) is e = of_keys keys line fault g is e
+    subst (λ (f : LineFault). HasFaultBelow table line f) same (of_itself table line other (HasFault-from_line line other is))
+found_below table line fault (Ok None) is e = cc
+found_below table line fault (Ok (Some g)) is e = of_keys table line fault g (map.get table g.name) is refl e
 
-itself : (keys : Keys) (line : List ℕ) (fault : LineFault) → HasFault line fault → fault_below keys (line_of line) ≡ Some fault
-itself keys line fault has = ap (fault_below keys) (line_of-fault line fault has)
+itself : (table : Table) (line : List ℕ) (fault : LineFault) → HasFault line fault → fault_below table (line_of line) ≡ Some fault
+itself table line fault has = ap (fault_below table) (line_of-fault line fault has)
 
-fault_below-is : (keys : Keys) (line : List ℕ) (fault : LineFault) → HasFaultBelow keys line fault → fault_below keys (line_of line) ≡ Some fault
-fault_below-is keys line Twice has = ap (fault_below keys) has.said ∙ fault_of_name-twice keys has.given.name has.is_known
-fault_below-is keys line TooMany has = ap (fault_below keys) has.0.said ∙ fault_of_name-full keys has.0.given.name has.0.is_known has.1
-fault_below-is keys line BadLine has = itself keys line BadLine has
-fault_below-is keys line BadName has = itself keys line BadName has
-fault_below-is keys line EmptySecret has = itself keys line EmptySecret has
-fault_below-is keys line BadHex has = itself keys line BadHex has
+told_twice : (table : Table) (keys : Option Keys) → are_two keys ≡ true → fault_of_keys (map.len table) keys ≡ Some Twice
+told_twice table None two = absurd (false≢true two)
+told_twice table (Some keys) two = ap (λ b. cond b (Some Twice) None) two
 
-pub has_fault_below : (keys : Keys) (line : List ℕ) (fault : LineFault) → (fault_below keys (line_of line) ≡ Some fault) ↔ HasFaultBelow keys line fault
-has_fault_below keys line fault = (found_below keys line fault (line_of line) refl, fault_below-is keys line fault)
+fault_below-is : (table : Table) (line : List ℕ) (fault : LineFault) → HasFaultBelow table line fault → fault_below table (line_of line) ≡ Some fault
+fault_below-is table line Twice has = ap (fault_below table) has.said ∙ told_twice table (map.get table has.given.name) has.known
+fault_below-is table line TooMany has =
+    ap (fault_below table) has.0.said
+    ∙ ap (fault_of_keys (map.len table)) has.0.new
+    ∙ fault_of_keys-full (map.len table) has.1
+fault_below-is table line BadLine has = itself table line BadLine has
+fault_below-is table line BadName has = itself table line BadName has
+fault_below-is table line EmptySecret has = itself table line EmptySecret has
+fault_below-is table line BadHex has = itself table line BadHex has
 
--- ---- the keys have the names that the lines give
+pub has_fault_below : (table : Table) (line : List ℕ) (fault : LineFault) → (fault_below table (line_of line) ≡ Some fault) ↔ HasFaultBelow table line fault
+has_fault_below table line fault = (found_below table line fault (line_of line) refl, fault_below-is table line fault)
 
-named : (name key line : List ℕ) → GivesKey name key line → GivesName name line
-named name key line gives = (gives.secret, Spells-from_line line _ gives.said)
+-- ---- the names that the lines give secrets once, and twice
 
-any_named : (name key : List ℕ) (lines : List (List ℕ)) → Any (GivesKey name key) lines → Any (GivesName name) lines
-any_named name key lines (k, line, within, is, gives) = (k, line, within, is, named name key line gives)
+named_here : (name line : List ℕ) (g : Given) → line_of line ≡ Ok (Some g) → bytes_eq g.name name ≡ true → GivesName name line
+named_here name line g said same = (
+  g.secret,
+  Spells-from_line line _ (said ∙ ap (λ n. Ok (Some (record { name = n; secret = g.secret }))) ((bytes_eq-Decides g.name name).0 same)),
+)
 
-named_from_key : (name : List ℕ) (lines : List (List ℕ)) (found : Option (List ℕ)) → find order name (entries lines) ≡ found → is_some found ≡ true → Any (GivesName name) lines
-named_from_key name lines None is e = cc
-named_from_key name lines (Some key) is e = any_named name key lines (any_from_find name key lines is)
+said_by : (name line : List ℕ) (given : GivesName name line) → line_of line ≡ Ok (Some (record { name = name; secret = given.0 }))
+said_by name line given = line_of-spelled line _ given.1
 
-still_found : (name : List ℕ) (e : Option (List ℕ × List ℕ)) (rest : List (List ℕ × List ℕ)) → is_some (find order name rest) ≡ true → is_some (find order name (cons_option e rest)) ≡ true
-still_found name None rest found = found
-still_found name (Some e) rest found =
-    elim (eq_by_cmp order name e.0) as (λ b. is_some (cond b (Some e.1) (find order name rest)) ≡ true) [
+has_more : (o : Option (List ℕ)) (keys : List (List ℕ)) → has keys ≡ true → has (cons_option o keys) ≡ true
+has_more None keys some = some
+has_more (Some key) keys some = refl
+
+-- a key that a line gives
+any_from_said : (name line : List ℕ) (lines : List (List ℕ)) → (has (keys_given name lines) ≡ true → Any (GivesName name) lines) → (said : Result (Option Given) LineFault) → line_of line ≡ said
+    → has (cons_option (key_said name said) (keys_given name lines)) ≡ true → Any (GivesName name) (line ∷ lines)
+any_from_said name line lines below (Ok None) is some = any_later _ line lines (below some)
+any_from_said name line lines below (Err fault) is some = any_later _ line lines (below some)
+any_from_said name line lines below (Ok (Some g)) is some =
+    elim (bytes_eq g.name name) as (λ b. bytes_eq g.name name ≡ b → has (cons_option (cond b (Some (root_of g.secret)) None) (keys_given name lines)) ≡ true → Any (GivesName name) (line ∷ lines)) [
+      | true ↦ λ same found. any_here _ line lines (named_here name line g is same)
+      | false ↦ λ apart found. any_later _ line lines (below found)
+    ] refl some
+
+any_named : (name : List ℕ) (lines : List (List ℕ)) → has (keys_given name lines) ≡ true → Any (GivesName name) lines
+any_named name [] some = absurd (false≢true some)
+any_named name (line ∷ lines) some = any_from_said name line lines (any_named name lines) (line_of line) refl some
+
+has_named : (name : List ℕ) (lines : List (List ℕ)) → Any (GivesName name) lines → has (keys_given name lines) ≡ true
+has_named name [] (k, line, within, is, given) = absurd (omega arith)
+has_named name (first ∷ lines) (zero, line, within, is, given) =
+    ap has (said_first name given.0 first (keys_given name lines) (ap line_of is ∙ said_by name line given))
+has_named name (first ∷ lines) (suc k, line, within, is, given) =
+    has_more (key_said name (line_of first)) (keys_given name lines) (has_named name lines (k, line, omega arith, is, given))
+
+-- two keys that lines give
+has_two : List (List ℕ) → Bool
+has_two [] = false
+has_two (key ∷ keys) = has keys
+
+are_two-first_two : (keys : List (List ℕ)) → are_two (first_two keys) ≡ has_two keys
+unfolding has_two
+are_two-first_two [] = refl
+are_two-first_two (first ∷ []) = refl
+are_two-first_two (first ∷ second ∷ others) = refl
+
+one_of_two : (keys : List (List ℕ)) → has_two keys ≡ true → has keys ≡ true
+unfolding has_two
+one_of_two [] two = two
+one_of_two (key ∷ keys) two = refl
+
+two_more : (o : Option (List ℕ)) (keys : List (List ℕ)) → has_two keys ≡ true → has_two (cons_option o keys) ≡ true
+unfolding has_two
+two_more None keys two = two
+two_more (Some key) keys two = one_of_two keys two
+
+two_from_said : (name line : List ℕ) (lines : List (List ℕ)) → (has_two (keys_given name lines) ≡ true → TwoOf (GivesName name) lines) → (said : Result (Option Given) LineFault) → line_of line ≡ said
+    → has_two (cons_option (key_said name said) (keys_given name lines)) ≡ true → TwoOf (GivesName name) (line ∷ lines)
+unfolding has_two
+two_from_said name line lines below (Ok None) is two = inr (below two)
+two_from_said name line lines below (Err fault) is two = inr (below two)
+two_from_said name line lines below (Ok (Some g)) is two =
+    elim (bytes_eq g.name name) as (λ b. bytes_eq g.name name ≡ b → has_two (cons_option (cond b (Some (root_of g.secret)) None) (keys_given name lines)) ≡ true → TwoOf (GivesName name) (line ∷ lines)) [
+      | true ↦ λ same found. inl (named_here name line g is same, any_named name lines found)
+      | false ↦ λ apart found. inr (below found)
+    ] refl two
+
+two_named : (name : List ℕ) (lines : List (List ℕ)) → has_two (keys_given name lines) ≡ true → TwoOf (GivesName name) lines
+unfolding has_two
+two_named name [] two = absurd (false≢true two)
+two_named name (line ∷ lines) two = two_from_said name line lines (two_named name lines) (line_of line) refl two
+
+has_two_named : (name : List ℕ) (lines : List (List ℕ)) → TwoOf (GivesName name) lines → has_two (keys_given name lines) ≡ true
+unfolding has_two
+has_two_named name [] none = absurd none
+has_two_named name (line ∷ lines) (inl (given, any)) =
+    ap has_two (said_first name given.0 line (keys_given name lines) (said_by name line given)) ∙ has_named name lines any
+has_two_named name (line ∷ lines) (inr two) =
+    two_more (key_said name (line_of line)) (keys_given name lines) (has_two_named name lines two)
+
+-- ---- what the table has of a name
+
+none_of : (keys : Option Keys) → is_some keys ≡ false → keys ≡ None
+none_of None none = refl
+none_of (Some keys) none = absurd (false≢true (sym none))
+
+new_unnamed : (name : List ℕ) (lines : List (List ℕ)) → (map.get (keys_of lines) name ≡ None) ↔ (¬ Any (GivesName name) lines)
+new_unnamed name lines =
+    let test : is_some (map.get (keys_of lines) name) ≡ has (keys_given name lines) = ap is_some (get-keys_of lines name) ∙ is_some-first_two (keys_given name lines) in (
+      λ new any. absurd (false≢true (ap is_some (sym new) ∙ test ∙ has_named name lines any)),
+      λ unnamed. none_of _ (elim (has (keys_given name lines)) as (λ b. has (keys_given name lines) ≡ b → is_some (map.get (keys_of lines) name) ≡ false) [
+        | true ↦ λ some. absurd (unnamed (any_named name lines some))
+        | false ↦ λ none. test ∙ none
+      ] refl),
+    )
+
+two_known : (name : List ℕ) (lines : List (List ℕ)) → (are_two (map.get (keys_of lines) name) ≡ true) ↔ TwoOf (GivesName name) lines
+two_known name lines =
+    let test : are_two (map.get (keys_of lines) name) ≡ has_two (keys_given name lines) = ap are_two (get-keys_of lines name) ∙ are_two-first_two (keys_given name lines) in (
+      λ known. two_named name lines (sym test ∙ known),
+      λ two. test ∙ has_two_named name lines two,
+    )
+
+-- ---- the table has as many names as the lines give secrets
+
+names_of : List (List ℕ) → List (List ℕ)
+names_of lines = filter_map (λ line. name_said (line_of line)) lines
+
+same_names : (name : List ℕ) (lines : List (List ℕ)) (said : Result (Option Given) LineFault) → has (keys_given name lines) ≡ list_any (eq_by_cmp order name) (names_of lines)
+    → has (cons_option (key_said name said) (keys_given name lines)) ≡ list_any (eq_by_cmp order name) (cons_option (name_said said) (names_of lines))
+unfolding names_of
+same_names name lines (Ok None) below = below
+same_names name lines (Err fault) below = below
+same_names name lines (Ok (Some g)) below =
+    elim (bytes_eq g.name name) as (λ b. has (cons_option (cond b (Some (root_of g.secret)) None) (keys_given name lines)) ≡ (b || list_any (eq_by_cmp order name) (names_of lines))) [
       | true ↦ refl
-      | false ↦ found
+      | false ↦ below
     ]
+    ∙ ap (λ b. b || list_any (eq_by_cmp order name) (names_of lines)) (sym (tests_alike name g.name))
 
-key_from_named : (name : List ℕ) (lines : List (List ℕ)) → Any (GivesName name) lines → is_some (find order name (entries lines)) ≡ true
-key_from_named name [] (k, line, within, is, given) = absurd (omega arith)
-key_from_named name (first ∷ lines) (zero, line, within, is, given) =
-    ap (λ said. is_some (find order name (cons_option (entry_said said) (entries lines)))) (ap line_of is ∙ line_of-spelled line _ given.1)
-    ∙ ap is_some (found_here name (root_of given.0) (entries lines))
-key_from_named name (first ∷ lines) (suc k, line, within, is, given) =
-    still_found name (entry_said (line_of first)) (entries lines) (key_from_named name lines (k, line, omega arith, is, given))
+has_name : (name : List ℕ) (lines : List (List ℕ)) → has (keys_given name lines) ≡ list_any (eq_by_cmp order name) (names_of lines)
+unfolding names_of
+has_name name [] = refl
+has_name name (line ∷ lines) = same_names name lines (line_of line) (has_name name lines)
 
-contains_key-entries : (name : List ℕ) (lines : List (List ℕ)) → map.contains_key (keys_of lines) name ≡ is_some (find order name (entries lines))
-contains_key-entries name lines = ap is_some (map.get-from_entries nat_list_cmp_total (entries lines) name)
+contains_name : (name : List ℕ) (lines : List (List ℕ)) → is_some (map.get (keys_of lines) name) ≡ set.contains (names_given lines) name
+unfolding names_of
+contains_name name lines =
+    ap is_some (get-keys_of lines name)
+    ∙ is_some-first_two (keys_given name lines)
+    ∙ has_name name lines
+    ∙ sym (set.contains-from_list nat_list_cmp_total (names_of lines) name)
 
-known_named : (name : List ℕ) (lines : List (List ℕ)) → (map.contains_key (keys_of lines) name ≡ true) ↔ Any (GivesName name) lines
-known_named name lines = (
-  λ known. named_from_key name lines (find order name (entries lines)) refl (sym (contains_key-entries name lines) ∙ known),
-  λ any. contains_key-entries name lines ∙ key_from_named name lines any,
-)
+one_counted : (above : List (List ℕ)) (said : Result (Option Given) LineFault) → map.len (keys_of above) ≡ set.len (names_given above)
+    → map.len (table_with (keys_of above) said) ≡ set.len (set.from_list {R = order} (names_of above ++ cons_option (name_said said) []))
+unfolding names_of
+one_counted above (Ok None) below = below ∙ ap (λ ns. set.len (set.from_list {R = order} ns)) (sym (append-nil (names_of above)))
+one_counted above (Err fault) below = below ∙ ap (λ ns. set.len (set.from_list {R = order} ns)) (sym (append-nil (names_of above)))
+one_counted above (Ok (Some g)) below =
+    map.len-insert nat_list_cmp_total (keys_of above) g.name (keys_with (map.get (keys_of above) g.name) (root_of g.secret))
+    ∙ ap (λ b. cond b (map.len (keys_of above)) (map.len (keys_of above) + 1)) (contains_name g.name above)
+    ∙ ap (λ n. cond (set.contains (names_given above) g.name) n (n + 1)) below
+    ∙ sym (set.len-insert nat_list_cmp_total (names_given above) g.name)
+    ∙ ap set.len (sym (set.from_list_push nat_list_cmp_total order-IsAntisymmetric (names_of above) g.name))
 
-new_unnamed : (name : List ℕ) (lines : List (List ℕ)) → (map.contains_key (keys_of lines) name ≡ false) ↔ (¬ Any (GivesName name) lines)
-new_unnamed name lines = (
-  λ new any. let known = (known_named name lines).1 any in cc,
-  λ none. elim (map.contains_key (keys_of lines) name) as (λ b. map.contains_key (keys_of lines) name ≡ b → b ≡ false) [
-    | true ↦ λ known. absurd (none ((known_named name lines).0 known))
-    | false ↦ λ new. refl
-  ] refl,
-)
+one_more : (above : List (List ℕ)) (line : List ℕ) → map.len (keys_of above) ≡ set.len (names_given above) → map.len (keys_of (above ++ line ∷ [])) ≡ set.len (names_given (above ++ line ∷ []))
+unfolding names_of
+one_more above line below =
+    ap map.len (keys_of-push above line)
+    ∙ one_counted above (line_of line) below
+    ∙ ap (λ ns. set.len (set.from_list {R = order} ns)) (sym (filter_map-append (λ l. name_said (line_of l)) above (line ∷ [])))
 
--- ---- the keys are as many as the lines that give one
+counted_within : (lines : List (List ℕ)) (n : ℕ) → n ≤ length lines → map.len (keys_of (take n lines)) ≡ set.len (names_given (take n lines))
+counted_within lines zero h = map.len-empty order Keys ∙ sym (set.len-empty order)
+counted_within lines (suc n) h =
+    let next : take (suc n) lines ≡ take n lines ++ get_or lines n [] ∷ [] =
+    ap (λ k. take k lines) (let e : suc n ≡ n + 1 = omega arith in e) ∙ take_more lines n [] (omega arith) in
+    ap (λ ls. map.len (keys_of ls)) next
+    ∙ one_more (take n lines) (get_or lines n []) (counted_within lines n (omega arith))
+    ∙ ap (λ ls. set.len (names_given ls)) (sym next)
 
-added : (keys : Keys) (said : Result (Option Given) LineFault) → fault_below keys said ≡ None → map.len (keys_with keys said) ≡ map.len keys + cond (is_some (entry_said said)) 1 0
-added keys (Ok None) none = omega arith
-added keys (Ok (Some g)) none =
-    map.len-insert nat_list_cmp_total keys g.name (root_of g.secret)
-    ∙ ap (λ b. cond b (map.len keys) (map.len keys + 1)) (new_key (map.contains_key keys g.name) (nat_le NAMES_MAX (map.len keys)) none)
-  where
-    new_key : (known full : Bool) → cond known (Some Twice) (cond full (Some TooMany) None) ≡ None → known ≡ false
-    new_key true full e = cc
-    new_key false full e = refl
-added keys (Err fault) none = cc
-
-one_counted : (lines : List (List ℕ)) (n : ℕ) (line : List ℕ) (within : n < length lines) → get_or lines n [] ≡ line
-    → count_by is_key_line (take (n + 1) lines) ≡ count_by is_key_line (take n lines) + cond (is_key_line line) 1 0
-one_counted lines n line within is =
-    elim (is_key_line line) as (λ b. is_key_line line ≡ b → count_by is_key_line (take (n + 1) lines) ≡ count_by is_key_line (take n lines) + cond b 1 0) [
-      | true ↦ λ key. count_by_more_yes is_key_line lines n [] within (ap is_key_line is ∙ key)
-      | false ↦ λ other. count_by_more_no is_key_line lines n [] within (ap is_key_line is ∙ other) ∙ omega arith
-    ] refl
-
-counted_within : (lines : List (List ℕ)) (n : ℕ) → n ≤ length lines → AreFaultlessAbove lines n → map.len (keys_of (take n lines)) ≡ count_by is_key_line (take n lines)
-counted_within lines zero h faultless = map.len-empty order (List ℕ)
-counted_within lines (suc n) h faultless =
-    let within : n < length lines = omega arith in
-    let line : List ℕ = get_or lines n [] in
-    let none : fault_below (keys_of (take n lines)) (line_of line) ≡ None = faultless n line (omega arith) (slice_get-get_or lines n [] within) in
-    let next : suc n ≡ n + 1 = omega arith in
-    let above : AreFaultlessAbove lines n = λ higher other less there. faultless higher other (omega arith) there in
-    ap (λ k. map.len (keys_of (take k lines))) next
-    ∙ ap (λ ls. map.len (keys_of ls)) (take_more lines n [] within)
-    ∙ ap map.len (keys_of-push (take n lines) line none)
-    ∙ added (keys_of (take n lines)) (line_of line) none
-    ∙ ap (λ k. k + cond (is_key_line line) 1 0) (counted_within lines n (omega arith) above)
-    ∙ sym (one_counted lines n line within refl)
-    ∙ ap (λ k. count_by is_key_line (take k lines)) (sym next)
-
-pub len-keys_of : (lines : List (List ℕ)) (n : ℕ) → AreFaultlessAbove lines n → map.len (keys_of (take n lines)) ≡ count_by is_key_line (take n lines)
-len-keys_of lines n faultless =
-    elim (nat_le n (length lines)) as (λ b. nat_le n (length lines) ≡ b → map.len (keys_of (take n lines)) ≡ count_by is_key_line (take n lines)) [
-      | true ↦ λ few. counted_within lines n (grind (arith, nat_tests)) faultless
-      | false ↦ λ many.
-          let past : length lines < n = grind (arith, nat_tests) in
-          let all : take n lines ≡ take (length lines) lines = take_all n lines (omega arith) ∙ sym (take_all (length lines) lines (omega arith)) in
-          ap (λ ls. map.len (keys_of ls)) all
-          ∙ counted_within lines (length lines) (omega arith) (λ higher other less there. faultless higher other (omega arith) there)
-          ∙ ap (count_by is_key_line) (sym all)
-    ] refl
+pub len-keys_of : (lines : List (List ℕ)) → map.len (keys_of lines) ≡ set.len (names_given lines)
+len-keys_of lines =
+    let all : take (length lines) lines ≡ lines = take_all (length lines) lines (omega arith) in
+    ap (λ ls. map.len (keys_of ls)) (sym all)
+    ∙ counted_within lines (length lines) (omega arith)
+    ∙ ap (λ ls. set.len (names_given ls)) all
 
 -- ---- the two faults in words
 
@@ -189,38 +289,38 @@ named_so line g said = (g.secret, Spells-from_line line g said)
 
 pub IsTwice-from_fault : (above : List (List ℕ)) (line : List ℕ) → fault_below (keys_of above) (line_of line) ≡ Some Twice → IsTwice above line
 IsTwice-from_fault above line e =
-    let has = (has_fault_below (keys_of above) line Twice).0 e in
+    let third = (has_fault_below (keys_of above) line Twice).0 e in
     record {
-      name = has.given.name;
-      given = named_so line has.given has.said;
-      known = (known_named has.given.name above).0 has.is_known;
+      name = third.given.name;
+      given = named_so line third.given third.said;
+      known = (two_known third.given.name above).0 third.known;
     }
 
 pub fault_from_IsTwice : (above : List (List ℕ)) (line : List ℕ) → IsTwice above line → fault_below (keys_of above) (line_of line) ≡ Some Twice
 fault_from_IsTwice above line t =
     (has_fault_below (keys_of above) line Twice).1 (record {
       given = record { name = t.name; secret = t.given.0 };
-      said = line_of-spelled line _ t.given.1;
-      is_known = (known_named t.name above).1 t.known;
+      said = said_by t.name line t.given;
+      known = (two_known t.name above).1 t.known;
     })
 
-pub IsTooMany-from_fault : (lines : List (List ℕ)) (place : ℕ) (line : List ℕ) → AreFaultlessAbove lines place → fault_below (keys_of (take place lines)) (line_of line) ≡ Some TooMany → IsTooMany (take place lines) line
-IsTooMany-from_fault lines place line faultless e =
-    let (has, full) = (has_fault_below (keys_of (take place lines)) line TooMany).0 e in
+pub IsTooMany-from_fault : (above : List (List ℕ)) (line : List ℕ) → fault_below (keys_of above) (line_of line) ≡ Some TooMany → IsTooMany above line
+IsTooMany-from_fault above line e =
+    let (first, full) = (has_fault_below (keys_of above) line TooMany).0 e in
     record {
-      name = has.given.name;
-      given = named_so line has.given has.said;
-      new = (new_unnamed has.given.name (take place lines)).0 has.is_known;
-      full = subst (λ (n : ℕ). NAMES_MAX ≤ n) (len-keys_of lines place faultless) full;
+      name = first.given.name;
+      given = named_so line first.given first.said;
+      new = (new_unnamed first.given.name above).0 first.new;
+      full = subst (λ (n : ℕ). NAMES_MAX ≤ n) (len-keys_of above) full;
     }
 
-pub fault_from_IsTooMany : (lines : List (List ℕ)) (place : ℕ) (line : List ℕ) → AreFaultlessAbove lines place → IsTooMany (take place lines) line → fault_below (keys_of (take place lines)) (line_of line) ≡ Some TooMany
-fault_from_IsTooMany lines place line faultless t =
-    (has_fault_below (keys_of (take place lines)) line TooMany).1 (
+pub fault_from_IsTooMany : (above : List (List ℕ)) (line : List ℕ) → IsTooMany above line → fault_below (keys_of above) (line_of line) ≡ Some TooMany
+fault_from_IsTooMany above line t =
+    (has_fault_below (keys_of above) line TooMany).1 (
       record {
         given = record { name = t.name; secret = t.given.0 };
-        said = line_of-spelled line _ t.given.1;
-        is_known = (new_unnamed t.name (take place lines)).1 t.new;
+        said = said_by t.name line t.given;
+        new = (new_unnamed t.name above).1 t.new;
       },
-      subst (λ (n : ℕ). NAMES_MAX ≤ n) (sym (len-keys_of lines place faultless)) t.full,
+      subst (λ (n : ℕ). NAMES_MAX ≤ n) (sym (len-keys_of above)) t.full,
     )

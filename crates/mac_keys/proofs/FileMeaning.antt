@@ -2,7 +2,7 @@
 use Rattle.std.proofs.Common.{◌≡◌, ◌≢◌, ℕ, ◌+◌, List, [], ◌∷◌, Option, Some, None, Ok, Err, option_map, refl, sym, ap, ◌∙◌, zero-add}
 use Rattle.mac_keys.specs.declared.fault.LineFault.{LineFault}
 use Rattle.mac_keys.specs.declared.fault.KeyFault.TheVariants as faults
-use Rattle.mac_keys.specs.Table.{Keys, keys_of, keys_or_first, fault_at, faults_of}
+use Rattle.mac_keys.specs.Table.{Table, keys_of, table_or_first, fault_at, faults_of}
 use Rattle.mac_keys.specs.Meaning.{fault_in_place, AreFaultless, IsFirstFault}
 use Rattle.mac_keys.proofs.Numbered.{each_None, results-none, first_of, results-first}
 
@@ -34,21 +34,21 @@ none_from_AreFaultless lines faultless =
     results-none (fault_at lines) 0 lines (λ place line there.
     fault_at-zero_add lines place line ∙ ap (option_map {U = ℕ × LineFault} (λ fault. (place + 1, fault))) (faultless place line there))
 
-of_keys_or_first : (keys made : Keys) (found : List (ℕ × LineFault)) → keys_or_first made found ≡ Ok keys → (found ≡ []) × (keys ≡ made)
-of_keys_or_first keys made [] e = (refl, cc)
-of_keys_or_first keys made (first ∷ others) e = cc
+of_table_or_first : (table made : Table) (found : List (ℕ × LineFault)) → table_or_first made found ≡ Ok table → (found ≡ []) × (table ≡ made)
+of_table_or_first table made [] e = (refl, cc)
+of_table_or_first table made (first ∷ others) e = cc
 
-pub faultless_made : (lines : List (List ℕ)) (keys : Keys) → keys_or_first (keys_of lines) (faults_of lines) ≡ Ok keys → AreFaultless lines × (keys ≡ keys_of lines)
-faultless_made lines keys e =
-    let made = of_keys_or_first keys (keys_of lines) (faults_of lines) e in
+pub faultless_made : (lines : List (List ℕ)) (table : Table) → table_or_first (keys_of lines) (faults_of lines) ≡ Ok table → AreFaultless lines × (table ≡ keys_of lines)
+faultless_made lines table e =
+    let made = of_table_or_first table (keys_of lines) (faults_of lines) e in
     (AreFaultless-from_none lines made.0, made.1)
 
-pub made_of_faultless : (lines : List (List ℕ)) (keys : Keys) → AreFaultless lines × (keys ≡ keys_of lines) → keys_or_first (keys_of lines) (faults_of lines) ≡ Ok keys
-made_of_faultless lines keys (faultless, made) = ap (keys_or_first (keys_of lines)) (none_from_AreFaultless lines faultless) ∙ ap Ok (sym made)
+pub made_of_faultless : (lines : List (List ℕ)) (table : Table) → AreFaultless lines × (table ≡ keys_of lines) → table_or_first (keys_of lines) (faults_of lines) ≡ Ok table
+made_of_faultless lines table (faultless, made) = ap (table_or_first (keys_of lines)) (none_from_AreFaultless lines faultless) ∙ ap Ok (sym made)
 
 -- ---- the first fault
 
-of_first : (made : Keys) (found : List (ℕ × LineFault)) (number : ℕ) (fault : LineFault) → keys_or_first made found ≡ Err (faults.Line number fault)
+of_first : (made : Table) (found : List (ℕ × LineFault)) (number : ℕ) (fault : LineFault) → table_or_first made found ≡ Err (faults.Line number fault)
     → (others : List (ℕ × LineFault)) × (found ≡ (number, fault) ∷ others)
 of_first made [] number fault e = cc
 of_first made (first ∷ others) number fault e =
@@ -56,7 +56,7 @@ of_first made (first ∷ others) number fault e =
     let kind : first.1 ≡ fault = cc in
     (others, ap (λ n. (n, first.1) ∷ others) same ∙ ap (λ k. (number, k) ∷ others) kind)
 
-pub first_told : (lines : List (List ℕ)) (number : ℕ) (fault : LineFault) → keys_or_first (keys_of lines) (faults_of lines) ≡ Err (faults.Line number fault) → IsFirstFault lines number fault
+pub first_told : (lines : List (List ℕ)) (number : ℕ) (fault : LineFault) → table_or_first (keys_of lines) (faults_of lines) ≡ Err (faults.Line number fault) → IsFirstFault lines number fault
 first_told lines number fault e =
     let (others, found) = of_first (keys_of lines) (faults_of lines) number fault e in
     let (place, line, first) = first_of (fault_at lines) 0 lines (number, fault) others found in
@@ -71,7 +71,7 @@ first_told lines number fault e =
       numbered = ap (λ p. p.0) same;
     }
 
-pub told_first : (lines : List (List ℕ)) (number : ℕ) (fault : LineFault) → IsFirstFault lines number fault → keys_or_first (keys_of lines) (faults_of lines) ≡ Err (faults.Line number fault)
+pub told_first : (lines : List (List ℕ)) (number : ℕ) (fault : LineFault) → IsFirstFault lines number fault → table_or_first (keys_of lines) (faults_of lines) ≡ Err (faults.Line number fault)
 told_first lines number fault first =
     let at : ℕ → Option LineFault → Option (ℕ × LineFault) = λ place. option_map {U = ℕ × LineFault} (λ fault. (place + 1, fault)) in
     let (others, is) = results-first (fault_at lines) 0 lines (first.place + 1, fault) first.place first.line (record {
@@ -79,12 +79,12 @@ told_first lines number fault first =
       gives = fault_at-zero_add lines first.place first.line ∙ ap (at first.place) first.found;
       before = λ higher other less there. fault_at-zero_add lines higher other ∙ ap (at higher) (first.above higher other less there);
     }) in
-    ap (keys_or_first (keys_of lines)) is
+    ap (table_or_first (keys_of lines)) is
     ∙ ap (λ n. Err (faults.Line n fault)) (sym first.numbered)
 
-not_memory : (made : Keys) (found : List (ℕ × LineFault)) → keys_or_first made found ≢ Err faults.Memory
+not_memory : (made : Table) (found : List (ℕ × LineFault)) → table_or_first made found ≢ Err faults.Memory
 not_memory made [] e = cc
 not_memory made (first ∷ others) e = cc
 
-pub no_memory_told : (lines : List (List ℕ)) → keys_or_first (keys_of lines) (faults_of lines) ≢ Err faults.Memory
+pub no_memory_told : (lines : List (List ℕ)) → table_or_first (keys_of lines) (faults_of lines) ≢ Err faults.Memory
 no_memory_told lines = not_memory (keys_of lines) (faults_of lines)

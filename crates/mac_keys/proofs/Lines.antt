@@ -1,50 +1,22 @@
 -- The lines of a key file, read one after another.
-use Rattle.std.proofs.Common.{◌≡◌, ◌⊎◌, inl, inr, ℕ, ◌+◌, ◌<◌, cond, nat_le, true, false, List, [], ◌∷◌, ◌++◌, length, take, drop, get_or, Option, Some, None, Result, Ok, Err, option_map, refl, sym, ap, subst, ◌∙◌, arith, zero-add}
-use Rattle.std.proofs.lemmas.List.{append-nil, take_more, drop_more, take_all, take-append-drop}
+use Rattle.std.proofs.Common.{◌≡◌, ◌⊎◌, inl, inr, ℕ, ◌+◌, ◌<◌, true, false, List, [], ◌∷◌, ◌++◌, length, take, drop, get_or, Option, Some, None, Ok, Err, option_map, refl, sym, ap, subst, ◌∙◌, arith, zero-add}
+use Rattle.std.proofs.lemmas.List.{take_more, drop_more, take_all, take-append-drop}
 use Rattle.std.proofs.lemmas.List.Elements.{filter_map-append}
 use Rattle.std.proofs.lemmas.Option.{slice_get-get_or}
 use Rattle.std.proofs.lemmas.Bool.Decides.{nat_tests}
 use Rattle.std.proofs.lemmas.List.FromFn.{length-enumerate_from, get_or-enumerate_from}
-use Rattle.std.specs.Option.{is_some}
 use Rattle.std.specs.Prelude.{nat_lt, IsErrOf}
 use Rattle.std.specs.List.{filter_map, cons_option, enumerate_from, slice_get}
-use Rattle.std.specs.Cmp.Lexicographic.{nat_list_cmp_total}
-use Rattle.std.specs.FinMap as map
-use Rattle.mac_hmac.specs.Chain.{root_of}
 use Rattle.mac_keys.specs.declared.fault.LineFault.{LineFault}
-use Rattle.mac_keys.specs.declared.fault.LineFault.TheVariants.{Twice, TooMany}
 use Rattle.mac_keys.specs.declared.fault.KeyFault.{KeyFault}
 use Rattle.mac_keys.specs.declared.fault.KeyFault.TheVariants as faults
-use Rattle.mac_keys.specs.declared.table.TheConstants.{NAMES_MAX}
-use Rattle.mac_keys.specs.Line.{Given, line_of}
-use Rattle.mac_keys.specs.Table.{Keys, entry_said, keys_of, keys_or_first, fault_of_name, fault_below, fault_at, faults_of}
+use Rattle.mac_keys.specs.Line.{line_of}
+use Rattle.mac_keys.specs.Table.{Table, keys_of, table_or_first, fault_below, fault_at, faults_of}
 use Rattle.mac_keys.specs.declared.line.Refusal.{Refusal}
 use Rattle.mac_keys.specs.declared.line.Refusal.TheVariants.{Line, Memory}
-use Rattle.mac_keys.specs.Taken.{keys_with, IsFor, fault_of_line}
+use Rattle.mac_keys.specs.Taken.{table_with, IsFor, fault_of_line}
 use Rattle.mac_keys.specs.Meaning.{fault_in_place, AreFaultlessAbove, HasPairs, TakeMemory}
-use Rattle.mac_keys.proofs.Names.{order, order-IsAntisymmetric}
-
--- a name that has no fault has no key
-pub new_name : (keys : Keys) (name : List ℕ) → fault_of_name keys name ≡ None → map.get keys name ≡ None
-new_name keys name none =
-    elim (map.get keys name) as (λ found. cond (is_some found) (Some Twice) (cond (nat_le NAMES_MAX (map.len keys)) (Some TooMany) None) ≡ None → found ≡ None) [
-      | None ↦ λ _. refl
-      | Some key ↦ λ e. cc
-    ] none
-
-with_said : (entries : List (List ℕ × List ℕ)) (said : Result (Option Given) LineFault) → fault_below (map.from_entries entries) said ≡ None
-    → map.from_entries {R = order} (entries ++ filter_map (λ s. entry_said s) (said ∷ [])) ≡ keys_with (map.from_entries entries) said
-with_said entries (Ok None) none = ap map.from_entries (append-nil entries)
-with_said entries (Ok (Some g)) none =
-    map.from_entries_push nat_list_cmp_total order-IsAntisymmetric entries g.name (root_of g.secret)
-    (sym (map.get-from_entries nat_list_cmp_total entries g.name) ∙ new_name _ g.name none)
-with_said entries (Err fault) none = cc
-
--- one more line, without a fault, adds what it gives
-pub keys_of-push : (above : List (List ℕ)) (line : List ℕ) → fault_below (keys_of above) (line_of line) ≡ None → keys_of (above ++ line ∷ []) ≡ keys_with (keys_of above) (line_of line)
-keys_of-push above line none =
-    ap map.from_entries (filter_map-append (λ l. entry_said (line_of l)) above (line ∷ []))
-    ∙ with_said (filter_map (λ l. entry_said (line_of l)) above) (line_of line) none
+use Rattle.mac_keys.proofs.KeyMeaning.{keys_of-push}
 
 -- what is known of the line that a reader has come to
 pub record Turn (lines : List (List ℕ)) (n : ℕ) (index : ℕ) (line : List ℕ) : Type 0 where
@@ -70,14 +42,14 @@ turn lines n index line t =
       whole = sym (take-append-drop n numbered) ∙ ap (λ rest. take n numbered ++ rest) (drop_more numbered n (index, line) t.0 ∙ ap (λ p. p ∷ drop (n + 1) numbered) there);
     }
 
--- the first n lines have no fault, and give these keys
-pub record SoFar (lines : List (List ℕ)) (n : ℕ) (keys : Keys) : Type 0 where
-  pub given : keys ≡ keys_of (take n lines)
+-- the first n lines have no fault, and give this table
+pub record SoFar (lines : List (List ℕ)) (n : ℕ) (table : Table) : Type 0 where
+  pub given : table ≡ keys_of (take n lines)
   pub faultless : filter_map (fault_at lines) (take n (enumerate_from 0 lines)) ≡ []
   pub above : AreFaultlessAbove lines n
 
-pub SoFar-none : (lines : List (List ℕ)) (keys : Keys) → keys ≡ keys_of (take 0 lines) → SoFar lines 0 keys
-SoFar-none lines keys given = record {
+pub SoFar-none : (lines : List (List ℕ)) (table : Table) → table ≡ keys_of (take 0 lines) → SoFar lines 0 table
+SoFar-none lines table given = record {
   given = given;
   faultless = refl;
   above = λ higher other less there. absurd (omega arith);
@@ -95,20 +67,20 @@ further lines n line above here none higher other less there =
           ap (λ k. fault_in_place lines k other) last ∙ ap (fault_in_place lines n) (let e : other ≡ line = cc in e) ∙ none
     ] refl
 
--- what is wrong with the line, among the lines and below the keys so far
-same_fault : (lines : List (List ℕ)) (n : ℕ) (line : List ℕ) (keys : Keys) (found : Option LineFault) → SoFar lines n keys → fault_below keys (line_of line) ≡ found → fault_below (keys_of (take n lines)) (line_of line) ≡ found
-same_fault lines n line keys found so_far e = ap (λ k. fault_below k (line_of line)) (sym so_far.given) ∙ e
+-- what is wrong with the line, among the lines and below the table so far
+same_fault : (lines : List (List ℕ)) (n : ℕ) (line : List ℕ) (table : Table) (found : Option LineFault) → SoFar lines n table → fault_below table (line_of line) ≡ found → fault_below (keys_of (take n lines)) (line_of line) ≡ found
+same_fault lines n line table found so_far e = ap (λ k. fault_below k (line_of line)) (sym so_far.given) ∙ e
 
 -- a line without a fault is taken
-pub SoFar-push : (lines : List (List ℕ)) (n m index : ℕ) (line : List ℕ) (keys after : Keys) → Turn lines n index line → SoFar lines n keys → m ≡ n + 1
-    → (fault_below keys (line_of line) ≡ None) × (after ≡ keys_with keys (line_of line)) → SoFar lines m after
-SoFar-push lines n m index line keys after t so_far next taken =
-    let none = same_fault lines n line keys None so_far taken.0 in
+pub SoFar-push : (lines : List (List ℕ)) (n m index : ℕ) (line : List ℕ) (table after : Table) → Turn lines n index line → SoFar lines n table → m ≡ n + 1
+    → (fault_below table (line_of line) ≡ None) × (after ≡ table_with table (line_of line)) → SoFar lines m after
+SoFar-push lines n m index line table after t so_far next taken =
+    let none = same_fault lines n line table None so_far taken.0 in
     record {
       given =
           taken.1
-          ∙ ap (λ k. keys_with k (line_of line)) so_far.given
-          ∙ sym (keys_of-push (take n lines) line none)
+          ∙ ap (λ k. table_with k (line_of line)) so_far.given
+          ∙ sym (keys_of-push (take n lines) line)
           ∙ ap keys_of (sym t.before)
           ∙ ap (λ k. keys_of (take k lines)) (sym next);
       faultless =
@@ -123,29 +95,29 @@ SoFar-push lines n m index line keys after t so_far next taken =
     }
 
 -- the first line with a fault gives the first fault
-first_fault : (lines : List (List ℕ)) (n index : ℕ) (line : List ℕ) (keys : Keys) (fault : LineFault) → Turn lines n index line → SoFar lines n keys
-    → fault_below keys (line_of line) ≡ Some fault → keys_or_first (keys_of lines) (faults_of lines) ≡ Err (faults.Line (n + 1) fault)
-first_fault lines n index line keys fault t so_far e =
+first_fault : (lines : List (List ℕ)) (n index : ℕ) (line : List ℕ) (table : Table) (fault : LineFault) → Turn lines n index line → SoFar lines n table
+    → fault_below table (line_of line) ≡ Some fault → table_or_first (keys_of lines) (faults_of lines) ≡ Err (faults.Line (n + 1) fault)
+first_fault lines n index line table fault t so_far e =
     let later = drop (n + 1) (enumerate_from 0 lines) in
-    ap (λ numbered. keys_or_first (keys_of lines) (filter_map (fault_at lines) numbered)) t.whole
-    ∙ ap (keys_or_first (keys_of lines)) (
+    ap (λ numbered. table_or_first (keys_of lines) (filter_map (fault_at lines) numbered)) t.whole
+    ∙ ap (table_or_first (keys_of lines)) (
     filter_map-append (fault_at lines) (take n (enumerate_from 0 lines)) ((n, line) ∷ later)
     ∙ ap (λ front. front ++ filter_map (fault_at lines) ((n, line) ∷ later)) so_far.faultless
-    ∙ ap (λ found. cons_option (option_map {U = ℕ × LineFault} (λ f. (n + 1, f)) found) (filter_map (fault_at lines) later)) (same_fault lines n line keys (Some fault) so_far e))
+    ∙ ap (λ found. cons_option (option_map {U = ℕ × LineFault} (λ f. (n + 1, f)) found) (filter_map (fault_at lines) later)) (same_fault lines n line table (Some fault) so_far e))
 
 -- a line that is refused gives the first fault, or memory ran out
-pub SoFar-refused : (lines : List (List ℕ)) (n index : ℕ) (line : List ℕ) (keys : Keys) (refusal : Refusal) (told : KeyFault) → Turn lines n index line → SoFar lines n keys
-    → IsFor (fault_below keys (line_of line)) refusal → told ≡ fault_of_line index refusal
-    → (told ≡ faults.Memory) ⊎ (keys_or_first (keys_of lines) (faults_of lines) ≡ Err told)
-SoFar-refused lines n index line keys (Line fault) told t so_far e named =
-    inr (first_fault lines n index line keys fault t so_far e ∙ ap (λ i. Err (faults.Line (i + 1) fault)) (sym t.place) ∙ ap Err (sym named))
-SoFar-refused lines n index line keys Memory told t so_far e named = inl named
+pub SoFar-refused : (lines : List (List ℕ)) (n index : ℕ) (line : List ℕ) (table : Table) (refusal : Refusal) (told : KeyFault) → Turn lines n index line → SoFar lines n table
+    → IsFor (fault_below table (line_of line)) refusal → told ≡ fault_of_line index refusal
+    → (told ≡ faults.Memory) ⊎ (table_or_first (keys_of lines) (faults_of lines) ≡ Err told)
+SoFar-refused lines n index line table (Line fault) told t so_far e named =
+    inr (first_fault lines n index line table fault t so_far e ∙ ap (λ i. Err (faults.Line (i + 1) fault)) (sym t.place) ∙ ap Err (sym named))
+SoFar-refused lines n index line table Memory told t so_far e named = inl named
 
 -- a line that is refused for want of memory takes some
-pub TakeMemory-refused : (lines : List (List ℕ)) (n index : ℕ) (line : List ℕ) (keys : Keys) (refusal : Refusal) (told : KeyFault) → Turn lines n index line → SoFar lines n keys
-    → (IsErrOf {T = Unit {0}} (Err refusal) Memory → HasPairs line) → told ≡ fault_of_line index refusal → IsErrOf {T = Keys} (Err told) faults.Memory → TakeMemory lines
-TakeMemory-refused lines n index line keys (Line fault) told t so_far memory is e = let no : told ≡ faults.Memory = cc in cc
-TakeMemory-refused lines n index line keys Memory told t so_far memory is e = record {
+pub TakeMemory-refused : (lines : List (List ℕ)) (n index : ℕ) (line : List ℕ) (table : Table) (refusal : Refusal) (told : KeyFault) → Turn lines n index line → SoFar lines n table
+    → (IsErrOf {T = Unit {0}} (Err refusal) Memory → HasPairs line) → told ≡ fault_of_line index refusal → IsErrOf {T = Table} (Err told) faults.Memory → TakeMemory lines
+TakeMemory-refused lines n index line table (Line fault) told t so_far memory is e = let no : told ≡ faults.Memory = cc in cc
+TakeMemory-refused lines n index line table Memory told t so_far memory is e = record {
   place = n;
   line = line;
   there = t.there;
@@ -154,8 +126,8 @@ TakeMemory-refused lines n index line keys Memory told t so_far memory is e = re
 }
 
 -- at the end of the lines there is no fault
-pub SoFar-all : (lines : List (List ℕ)) (n : ℕ) (keys : Keys) → SoFar lines n keys → n ≡ length (enumerate_from 0 lines) → keys_or_first (keys_of lines) (faults_of lines) ≡ Ok keys
-SoFar-all lines n keys so_far all =
-    ap (keys_or_first (keys_of lines)) (ap (filter_map (fault_at lines)) (sym (take_all n (enumerate_from 0 lines) (omega arith))) ∙ so_far.faultless)
+pub SoFar-all : (lines : List (List ℕ)) (n : ℕ) (table : Table) → SoFar lines n table → n ≡ length (enumerate_from 0 lines) → table_or_first (keys_of lines) (faults_of lines) ≡ Ok table
+SoFar-all lines n table so_far all =
+    ap (table_or_first (keys_of lines)) (ap (filter_map (fault_at lines)) (sym (take_all n (enumerate_from 0 lines) (omega arith))) ∙ so_far.faultless)
     ∙ ap (λ ls. Ok (keys_of ls)) (sym (take_all n lines (omega (arith, length-enumerate_from 0 lines))))
     ∙ ap Ok (sym so_far.given)

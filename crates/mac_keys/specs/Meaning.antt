@@ -1,13 +1,18 @@
 -- What a key file means, in words that take the lines one by one: what the crate's laws say.
-use Rattle.std.specs.Prelude.{◌≡◌, ◌≢◌, ℕ, ◌+◌, ◌<◌, ◌≤◌, ◌%◌, ◌++◌, Bool, List, [], ◌∷◌, length, take, codes, count_by, IsTrue, Option, Some, None, Ok}
-use Rattle.std.specs.Option.{is_some}
-use Rattle.std.specs.List.{slice_get, Any, Contains}
+use Rattle.std.specs.Prelude.{◌≡◌, ◌≢◌, ◌⊎◌, ℕ, ◌+◌, ◌<◌, ◌≤◌, ◌%◌, ◌++◌, List, [], ◌∷◌, length, take, codes, IsTrue, Option, Some, None, option_map, Result, Ok, Err}
+use Rattle.std.specs.Option.{option_map_or}
+use Rattle.std.specs.List.{slice_get, filter_map, Any, Contains}
+use Rattle.std.specs.Ordering.{nat_cmp}
+use Rattle.std.specs.Cmp.Lexicographic.{slice_cmp}
+use Rattle.std.specs.FinMap.{get}
+use Rattle.std.specs.FinSet.{FinSet, from_list, len}
 use Rattle.hex.specs.Hex.{decode_of}
 use Rattle.mac_hmac.specs.Chain.{root_of}
 use Rattle.mac_keys.specs.declared.fault.LineFault.{LineFault}
 use Rattle.mac_keys.specs.declared.table.TheConstants.{NAMES_MAX}
 use Rattle.mac_keys.specs.Line.{Given, is_name, line_of}
-use Rattle.mac_keys.specs.Table.{entry_said, keys_of, fault_below}
+use Rattle.mac_keys.specs.Keys.{Table, listed}
+use Rattle.mac_keys.specs.Table.{keys_of, fault_below}
 
 -- the line is `key `, the name, a space, and digits that spell the secret
 pub record Spells (line : List ℕ) (g : Given) : Type 0 where
@@ -16,6 +21,10 @@ pub record Spells (line : List ℕ) (g : Given) : Type 0 where
   pub name : IsTrue (is_name g.name)
   pub secret : decode_of digits ≡ Ok g.secret
   pub some : 0 < length digits
+
+-- the keys that a table has for a name, in their order
+abbrev pub keys_at : Table → List ℕ → List (List ℕ)
+keys_at table name = option_map_or listed (get table name) []
 
 -- the line gives the name a secret of which this is the root key
 pub record GivesKey (name key line : List ℕ) : Type 0 where
@@ -83,23 +92,32 @@ pub record HasBadHex (line : List ℕ) : Type 0 where
 abbrev pub GivesName : List ℕ → List ℕ → Type 0
 GivesName name line = (secret : List ℕ) × Spells line (record { name = name; secret = secret })
 
--- Twice: it gives a name a secret, and so does one of the lines above it
+-- two of the lines are such: the first and one of the others, or two of the others
+abbrev pub TwoOf : (List ℕ → Type 0) → List (List ℕ) → Type 0
+TwoOf Is [] = ⊥
+TwoOf Is (line ∷ lines) = (Is line × Any Is lines) ⊎ TwoOf Is lines
+
+-- Twice: it gives a name a secret, and so do two of the lines above it
 pub record IsTwice (above : List (List ℕ)) (line : List ℕ) : Type 0 where
   pub name : List ℕ
   pub given : GivesName name line
-  pub known : Any (GivesName name) above
+  pub known : TwoOf (GivesName name) above
 
--- a line that gives some name a secret
-abbrev pub is_key_line : List ℕ → Bool
-is_key_line line = is_some (entry_said (line_of line))
+-- the names to which the lines give secrets, each once
+abbrev pub name_said : Result (Option Given) LineFault → Option (List ℕ)
+name_said (Ok said) = option_map (λ g. g.name) said
+name_said (Err fault) = None
 
--- TooMany: it gives a secret to a name to which none of the lines above it gives one, and 1,000 of
--- these give names theirs
+abbrev pub names_given : List (List ℕ) → FinSet (slice_cmp nat_cmp)
+names_given lines = from_list (filter_map (λ line. name_said (line_of line)) lines)
+
+-- TooMany: it gives a secret to a name to which none of the lines above it gives one, and these
+-- give 1,000 names theirs
 pub record IsTooMany (above : List (List ℕ)) (line : List ℕ) : Type 0 where
   pub name : List ℕ
   pub given : GivesName name line
   pub new : ¬ Any (GivesName name) above
-  pub full : NAMES_MAX ≤ count_by is_key_line above
+  pub full : NAMES_MAX ≤ len (names_given above)
 
 -- ---- where memory may run out
 

@@ -18,8 +18,8 @@ pub enum LineFault {
     /// The secret has no digits.
     #[error("the secret is empty")]
     EmptySecret,
-    /// An earlier line gives the name a secret.
-    #[error("the name stands on an earlier line")]
+    /// Two earlier lines give the name a secret.
+    #[error("the name stands on two earlier lines")]
     Twice,
     /// The table has as many names as it may.
     #[error("the name is one more than the {} that a table holds", NAMES_MAX)]

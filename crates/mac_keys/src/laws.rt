@@ -1,6 +1,6 @@
 //! Laws of the definitions, as functions whose contracts state them.
 ghost use Rattle.std.specs.Prelude.{◌≡◌, ◌≢◌, ◌≤◌, ◌↔◌, List, ℕ, take, Some, Ok, Err};
-ghost use Rattle.std.specs.List.{Any};
+ghost use Rattle.std.specs.List.{Any, Contains};
 ghost use Rattle.std.specs.FinMap as map;
 ghost use Rattle.mac_keys.specs.declared.table.TheConstants.{NAMES_MAX};
 ghost use Rattle.mac_keys.specs.declared.fault.KeyFault.TheVariants.{Line, Memory};
@@ -9,9 +9,9 @@ ghost use Rattle.mac_keys.specs.declared.fault.LineFault.TheVariants.{BadName, B
 ghost use Rattle.mac_keys.specs.declared.fault.LineFault.TheVariants.{Twice, TooMany, BadLine};
 ghost use Rattle.mac_keys.specs.declared.line.TheConstants.{NAME_MAX};
 ghost use Rattle.mac_keys.specs.Line.{Given, line_of};
-ghost use Rattle.mac_keys.specs.Table.{Keys, lines_of, keys_of, table_of};
-ghost use Rattle.mac_keys.specs.Meaning.{Spells, GivesKey, AreFaultless, IsFirstFault};
-ghost use Rattle.mac_keys.specs.Meaning.{fault_in_place, AreFaultlessAbove};
+ghost use Rattle.mac_keys.specs.Table.{Table, lines_of, keys_given, keys_of, table_of};
+ghost use Rattle.mac_keys.specs.Meaning.{Spells, GivesKey, keys_at, AreFaultless, IsFirstFault};
+ghost use Rattle.mac_keys.specs.Meaning.{fault_in_place};
 ghost use Rattle.mac_keys.specs.Meaning.{IsBadLine, HasBadName, HasEmptySecret, HasBadHex};
 ghost use Rattle.mac_keys.specs.Meaning.{IsTwice, IsTooMany};
 
@@ -21,19 +21,21 @@ pub fn line_gives_what_it_spells()
         → (line_of line ≡ Ok (Some given)) ↔ Spells line given }
 {}
 
-/// A table has, at each name, the root key of the secret that a line gives the name, and nothing
-/// else.
+/// A table has, at each name, the root keys of the secrets that lines give the name, in the order
+/// of the lines, and nothing else.
 pub fn table_has_the_keys_of_its_lines()
-    ensures { (text : List ℕ) (keys : Keys) → table_of text ≡ Ok keys →
+    ensures all { (text : List ℕ) (table : Table) → table_of text ≡ Ok table → (name : List ℕ) →
+        keys_at table name ≡ keys_given name (lines_of text) }
+    ensures each { (text : List ℕ) (table : Table) → table_of text ≡ Ok table →
         (name key : List ℕ) →
-        (map.get keys name ≡ Some key) ↔ Any (GivesKey name key) (lines_of text) }
+        Contains (keys_at table name) key ↔ Any (GivesKey name key) (lines_of text) }
 {}
 
 /// A text makes a table exactly where none of its lines has a fault.
 pub fn table_is_made_of_faultless_lines()
-    ensures { (text : List ℕ) (keys : Keys) →
-        (table_of text ≡ Ok keys)
-        ↔ (AreFaultless (lines_of text) × (keys ≡ keys_of (lines_of text))) }
+    ensures { (text : List ℕ) (table : Table) →
+        (table_of text ≡ Ok table)
+        ↔ (AreFaultless (lines_of text) × (table ≡ keys_of (lines_of text))) }
 {}
 
 /// The fault that is told is that of the first line that has one.
@@ -42,7 +44,7 @@ pub fn first_fault_is_told()
         (table_of text ≡ Err (Line number fault)) ↔ IsFirstFault (lines_of text) number fault }
 {}
 
-/// What each fault of a line says, in plain words; for TooMany, where no line above has a fault.
+/// What each fault of a line says, in plain words.
 pub fn faults_in_plain_words()
     ensures bad_line { (lines : List (List ℕ)) (place : ℕ) (line : List ℕ) →
         (fault_in_place lines place line ≡ Some BadLine) ↔ IsBadLine line }
@@ -55,7 +57,6 @@ pub fn faults_in_plain_words()
     ensures twice { (lines : List (List ℕ)) (place : ℕ) (line : List ℕ) →
         (fault_in_place lines place line ≡ Some Twice) ↔ IsTwice (take place lines) line }
     ensures too_many { (lines : List (List ℕ)) (place : ℕ) (line : List ℕ) →
-        AreFaultlessAbove lines place →
         (fault_in_place lines place line ≡ Some TooMany) ↔ IsTooMany (take place lines) line }
 {}
 
@@ -66,7 +67,8 @@ pub fn no_text_lacks_memory()
 
 /// A table has no more names than it may.
 pub fn table_has_at_most_names_max()
-    ensures { (text : List ℕ) (keys : Keys) → table_of text ≡ Ok keys → map.len keys ≤ NAMES_MAX }
+    ensures { (text : List ℕ) (table : Table) →
+        table_of text ≡ Ok table → map.len table ≤ NAMES_MAX }
 {}
 
 /// A name has at most 64 bytes, and a table at most 1,000 names.

@@ -1,15 +1,17 @@
 //! The key table: the root keys of the names that requests give.
 //!
-//! A key file is text, a line for each name. [`KeyTable::read`] takes it whole and keeps of each
-//! secret the root key that is derived from it; [`KeyTable::find`] looks a name up. [`laws`] says
-//! in other words what a file means.
+//! A key file is text, a line for each secret of a name, which has one or two. [`KeyTable::read`]
+//! takes it whole and keeps of each secret the root key that is derived from it;
+//! [`KeyTable::find`] looks a name up. [`laws`] says in other words what a file means.
 #![tactic(auto)]
 
 mod fault;
+mod keys;
 pub mod laws;
 mod line;
 mod table;
 
 pub use fault::{KeyFault, LineFault};
+pub use keys::Keys;
 pub use line::NAME_MAX;
 pub use table::{KeyTable, NAMES_MAX};

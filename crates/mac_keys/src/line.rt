@@ -11,7 +11,7 @@ ghost use Rattle.mac_keys.specs.Line.{is_ignored, is_name_byte, is_name, is_spac
 ghost use Rattle.mac_keys.specs.Meaning.{ArePairs, HasPairs};
 ghost use Rattle.mac_keys.specs.Answers.{Answers, seen};
 ghost use Rattle.mac_keys.specs.Taken.{fault_of_line};
-ghost use Rattle.mac_keys.specs.declared.line.Refusal.TheVariants.{Memory};
+ghost use Rattle.mac_keys.specs.declared.line.Refusal.TheVariants.{Line, Memory};
 
 use crate::fault::{KeyFault, LineFault};
 use hex::FromHexError;
@@ -55,6 +55,14 @@ impl From<AllocError> for Refusal {
 
     fn from(_error: AllocError) -> Refusal {
         Refusal::Memory
+    }
+}
+
+impl From<LineFault> for Refusal {
+    ghost from_gives = { λ fault refusal. refusal ≡ Line fault };
+
+    fn from(fault: LineFault) -> Refusal {
+        Refusal::Line(fault)
     }
 }
 

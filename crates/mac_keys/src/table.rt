@@ -1,16 +1,17 @@
 //! The table of a key file.
-ghost use Rattle.std.specs.Prelude.{◌≡◌, ◌⊎◌, IfOk, IfErr, OnOk, OnErr, IsErrOf, option_copied};
+ghost use Rattle.std.specs.Prelude.{◌≡◌, ◌⊎◌, ℕ, None, Some, IfOk, IfErr, OnOk, OnErr, IsErrOf, option_copied};
 ghost use Rattle.std.specs.FinMap as map;
 ghost use Rattle.mac_keys.specs.Line.{line_of};
 ghost use Rattle.mac_hmac.specs.Chain.{root_of};
-ghost use Rattle.mac_keys.specs.Table.{lines_of, table_of, fault_below, fault_of_name};
+ghost use Rattle.mac_keys.specs.Table.{lines_of, table_of, fault_below, fault_of_keys, fault_of_name};
 ghost use Rattle.mac_keys.specs.Meaning.{HasPairs, TakeMemory};
-ghost use Rattle.mac_keys.specs.Taken.{keys_with, IsFor};
+ghost use Rattle.mac_keys.specs.Taken.{keys_with, table_with, Gets, IsFor};
 ghost use Rattle.mac_keys.specs.declared.fault.KeyFault.TheVariants.{Memory};
 
 use crate::fault::{KeyFault, LineFault};
+use crate::keys::Keys;
 use crate::line::{Refusal, read_line};
-use mac_hmac::{RootKey, root_key};
+use mac_hmac::root_key;
 use std::alloc::Global;
 use std::collections::BTreeMap;
 use std::marker::Model;
@@ -18,20 +19,20 @@ use std::marker::Model;
 /// The greatest number of names in a table.
 pub const NAMES_MAX: usize = 1000;
 
-/// The names of a key file, each with the root key of its secret.
+/// The names of a key file, each with the root keys of its secrets.
 #[derive(Drop)]
 pub struct KeyTable {
-    keys: BTreeMap<Vec<u8>, RootKey>,
+    keys: BTreeMap<Vec<u8>, Keys>,
 }
 
 impl Model for KeyTable {
     ghost use Rattle.std.specs.Coded.{coded_list, coded_ℕ};
     ghost use Rattle.std.specs.FinMap as map;
-    ghost use Rattle.mac_keys.specs.Keys.{Keys, by_name};
+    ghost use Rattle.mac_keys.specs.Keys.{Table, by_name, keys_code};
 
-    ghost Value = { Keys };
+    ghost Value = { Table };
 
-    ghost coded = { map.code (coded_list coded_ℕ) (coded_list coded_ℕ) };
+    ghost coded = { map.code (coded_list coded_ℕ) keys_code };
 
     ghost view = { λ table. map.from_entries (by_name table.keys.entries) };
 }
@@ -57,8 +58,8 @@ impl KeyTable {
         Ok(table)
     }
 
-    /// The root key of a name, found by some ten comparisons of names. Takes no memory.
-    pub fn find(&self, name: &[u8]) -> Option<&RootKey>
+    /// The root keys of a name, found by some ten comparisons of names. Takes no memory.
+    pub fn find(&self, name: &[u8]) -> Option<&Keys>
         ensures { option_copied result ≡ map.get self.now name.now }
     {
         self.keys.get(name)
@@ -74,7 +75,7 @@ impl KeyTable {
     /// Takes the next line of a file into the table.
     fn take_line(&mut self, alloc: Global, line: &[u8]) -> Result<(), Refusal>
         ensures ok { OnOk result ((fault_below self.old (line_of line.now) ≡ None)
-            × (self.new ≡ keys_with self.old (line_of line.now))) }
+            × (self.new ≡ table_with self.old (line_of line.now))) }
         ensures fault { IfErr result (IsFor (fault_below self.old (line_of line.now))) }
         ensures memory { IsErrOf result Refusal.Memory → HasPairs line.now }
     {
@@ -86,19 +87,54 @@ impl KeyTable {
 
     /// Gives a name the root key of a secret.
     fn put(&mut self, alloc: Global, name: &[u8], secret: &[u8]) -> Result<(), Refusal>
-        ensures ok { OnOk result ((fault_of_name self.old name.now ≡ None)
-            × (self.new ≡ map.insert self.old name.now (root_of secret.now))) }
+        ensures ok { OnOk result ((fault_of_name self.old name.now ≡ None) × (self.new
+            ≡ map.insert self.old name.now (keys_with (map.get self.old name.now)
+            (root_of secret.now)))) }
         ensures fault { IfErr result (IsFor (fault_of_name self.old name.now)) }
         ensures memory { IsErrOf result Refusal.Memory → fault_of_name self.old name.now ≡ None }
     {
-        if self.keys.contains_key(name) {
-            return Err(Refusal::Line(LineFault::Twice));
-        }
-        if self.keys.len() >= NAMES_MAX {
-            return Err(Refusal::Line(LineFault::TooMany));
-        }
+        let keys = self.keys_after(name, secret)?;
         let name = Vec::from_slice(alloc, name)?;
-        self.keys.insert(name, root_key(secret))?;
+        self.keys.insert(name, keys)?;
         Ok(())
     }
+
+    /// The keys of a name once a line gives it one more secret.
+    fn keys_after(&self, name: &[u8], secret: &[u8]) -> Result<Keys, LineFault>
+        ensures { Gets result (fault_of_name self.now name.now)
+            (keys_with (map.get self.now name.now) (root_of secret.now)) }
+    {
+        match self.find(name) {
+            None => self.first_key(secret),
+            Some(keys) => second_key(keys, secret),
+        }
+    }
+
+    /// The keys of a new name, where the table has room for it.
+    fn first_key(&self, secret: &[u8]) -> Result<Keys, LineFault>
+        ensures { Gets result (fault_of_keys (map.len self.now) None)
+            (keys_with None (root_of secret.now)) }
+    {
+        if self.keys.len() >= NAMES_MAX {
+            return Err(LineFault::TooMany);
+        }
+        Ok(Keys {
+            first: root_key(secret),
+            second: None,
+        })
+    }
+}
+
+/// The keys of a name that has some, with that of one more secret.
+fn second_key(keys: &Keys, secret: &[u8]) -> Result<Keys, LineFault>
+    ensures { (names : ℕ) → Gets result (fault_of_keys names (Some keys.now))
+        (keys_with (Some keys.now) (root_of secret.now)) }
+{
+    if keys.second.is_some() {
+        return Err(LineFault::Twice);
+    }
+    Ok(Keys {
+        first: keys.first,
+        second: Some(root_key(secret)),
+    })
 }

@@ -8,7 +8,7 @@ use Rattle.std.proofs.lemmas.List.{take-append-le}
 use Rattle.std.proofs.lemmas.List.{map-append}
 use Rattle.mac_relay.specs.Lane.{admitted, IsSameIntake}
 use Rattle.mac_pool.specs.Pass.{Pass, IsSamePass, with_put}
-use Rattle.mac_keys.specs.Table.{Keys}
+use Rattle.mac_keys.specs.Table.{Table}
 use Rattle.mac_wire.specs.declared.arrival.Arrival.{Arrival}
 use Rattle.mac_wire.specs.declared.arrival.Ending.{Ending}
 use Rattle.mac_wire.specs.declared.arrival.Ending.TheVariants as ending
@@ -145,13 +145,13 @@ receives-put (Err why) job place before mid after is_admitted is_putter is_lane 
 }
 
 -- one more arrival
-pub takes-in-next : (table : Keys) (front : List Arrival) (arrival : Arrival) (a b c : Inbound)
+pub takes-in-next : (table : Table) (front : List Arrival) (arrival : Arrival) (a b c : Inbound)
     → TakesIn (jobs_of table front) a b → TakesIn (job_under table arrival ∷ []) b c → TakesIn (jobs_of table (front ++ arrival ∷ [])) a c
 takes-in-next table front arrival a b c first then =
     subst (λ (jobs : List Job). TakesIn jobs a c) (sym (map-append (job_under table) front (arrival ∷ []))) (takes-in-more (jobs_of table front) (job_under table arrival ∷ []) a b c first then)
 
 -- one more arrival, that was not taken in whole
-pub takes-some-next : (table : Keys) (front : List Arrival) (arrival : Arrival) (rest all : List Arrival) (a b c : Inbound)
+pub takes-some-next : (table : Table) (front : List Arrival) (arrival : Arrival) (rest all : List Arrival) (a b c : Inbound)
     → front ++ arrival ∷ rest ≡ all
     → TakesIn (jobs_of table front) a b → TakesSome (job_under table arrival ∷ []) b c → TakesSome (jobs_of table all) a c
 takes-some-next table front arrival rest all a b c is first then =
@@ -172,7 +172,7 @@ gave-nothing : (tells : Bool) (a b c bytes : List ℕ) → Gave tells a b bytes 
 gave-nothing tells a b c bytes one two told = two told ∙ ap (λ (l : List ℕ). l ++ []) (one told) ∙ search rules
 
 -- a run that is given up where it stands
-pub gives-up : (tells : Bool) (table : Keys) (given given' : List ℕ) (reader : FrameReader) (a b : Inbound) (why : InboundFault)
+pub gives-up : (tells : Bool) (table : Table) (given given' : List ℕ) (reader : FrameReader) (a b : Inbound) (why : InboundFault)
     → GoesOn tells table given given' reader a b → HasRun tells table given given' (Err why) a b
 gives-up tells table given given' reader a b why on =
     let all : TakesIn (jobs_of table (arrivals_of on.stream).arrived) a b =
@@ -186,7 +186,7 @@ gives-up tells table given given' reader a b why on =
     gave_up fault.Stopped all = takes-some-all (jobs_of table (arrivals_of on.stream).arrived) a b all
 
 -- a read that failed
-pub read-failed : (tells : Bool) (table : Keys) (given mid given' : List ℕ) (reader reader' : FrameReader) (a b : Inbound) (why : InboundFault)
+pub read-failed : (tells : Bool) (table : Table) (given mid given' : List ℕ) (reader reader' : FrameReader) (a b : Inbound) (why : InboundFault)
     → (on : GoesOn tells table given mid reader a b) → Reads tells mid given' on.stream on.handed (Err why) reader' → HasRun tells table given given' (Err why) a b
 read-failed tells table given mid given' reader reader' a b fault.Read on nothing =
     let run = gives-up tells table given mid reader a b fault.Read on in
@@ -203,13 +203,13 @@ read-failed tells table given mid given' reader reader' a b fault.Lane on reads 
 read-failed tells table given mid given' reader reader' a b fault.Stopped on reads = absurd reads
 
 -- the end of a source
-pub goes-to-end : (tells : Bool) (table : Keys) (given mid given' : List ℕ) (reader reader' : FrameReader) (a b : Inbound)
+pub goes-to-end : (tells : Bool) (table : Table) (given mid given' : List ℕ) (reader reader' : FrameReader) (a b : Inbound)
     → (on : GoesOn tells table given mid reader a b) → Reads tells mid given' on.stream on.handed (Ok None) reader' → GoesOn tells table given given' reader' a b
 goes-to-end tells table given mid given' reader reader' a b on (nothing, read) =
     record { stream = on.stream; gave = gave-nothing tells given mid given' on.stream on.gave nothing; handed = on.handed; read = read; took = on.took }
 
 -- more arrivals, all taken in
-pub goes-further : (tells : Bool) (table : Keys) (given mid given' : List ℕ) (reader reader' : FrameReader) (a b c : Inbound) (more : Vec Arrival Global)
+pub goes-further : (tells : Bool) (table : Table) (given mid given' : List ℕ) (reader reader' : FrameReader) (a b c : Inbound) (more : Vec Arrival Global)
     → (on : GoesOn tells table given mid reader a b) → Reads tells mid given' on.stream on.handed (Ok (Some more)) reader'
     → TakesIn (jobs_of table more.items) b c → GoesOn tells table given given' reader' a c
 goes-further tells table given mid given' reader reader' a b c more on (bytes, gave, read) took =
@@ -223,7 +223,7 @@ goes-further tells table given mid given' reader reader' a b c more on (bytes, g
     }
 
 -- more arrivals, not all taken in
-pub goes-no-further : (tells : Bool) (table : Keys) (given mid given' : List ℕ) (reader reader' : FrameReader) (a b c : Inbound) (more : Vec Arrival Global) (why : InboundFault)
+pub goes-no-further : (tells : Bool) (table : Table) (given mid given' : List ℕ) (reader reader' : FrameReader) (a b c : Inbound) (more : Vec Arrival Global) (why : InboundFault)
     → (on : GoesOn tells table given mid reader a b) → Reads tells mid given' on.stream on.handed (Ok (Some more)) reader'
     → why ≢ fault.Read → TakesSome (jobs_of table more.items) b c → HasRun tells table given given' (Err why) a c
 goes-no-further tells table given mid given' reader reader' a b c more why on (bytes, gave, read) no_read took =
@@ -239,7 +239,7 @@ goes-no-further tells table given mid given' reader reader' a b c more why on (b
     by_fault fault.Stopped no_read all = all
 
 -- a run whose stream has ended
-pub has-finished : (tells : Bool) (table : Keys) (given given' : List ℕ) (reader : FrameReader) (a b : Inbound) (end : Ending)
+pub has-finished : (tells : Bool) (table : Table) (given given' : List ℕ) (reader : FrameReader) (a b : Inbound) (end : Ending)
     → (on : GoesOn tells table given given' reader a b) → arrivals_of on.stream ≡ record { arrived = on.handed; ending = end } → end ≢ ending.Broken
     → HasRun tells table given given' (Ok end) a b
 has-finished tells table given given' reader a b end on is whole =
@@ -250,7 +250,7 @@ has-finished tells table given given' reader a b end on is whole =
     }
 
 -- a run that did not begin
-pub not-begun : (tells : Bool) (table : Keys) (given : List ℕ) (a : Inbound) (why : InboundFault) → why ≢ fault.Read → HasRun tells table given given (Err why) a a
+pub not-begun : (tells : Bool) (table : Table) (given : List ℕ) (a : Inbound) (why : InboundFault) → why ≢ fault.Read → HasRun tells table given given (Err why) a a
 not-begun tells table given a why no_read = record { stream = []; gave = λ told. search rules; ran = by_fault why no_read }
   where
     nothing : TakesSome (jobs_of table (arrivals_of []).arrived) a a
@@ -263,17 +263,17 @@ not-begun tells table given a why no_read = record { stream = []; gave = λ told
     by_fault fault.Stopped no_read = nothing
 
 -- nothing has come yet
-pub goes-from-start : (tells : Bool) (table : Keys) (given : List ℕ) (reader : FrameReader) (a : Inbound) → HasRead reader [] [] → GoesOn tells table given given reader a a
+pub goes-from-start : (tells : Bool) (table : Table) (given : List ℕ) (reader : FrameReader) (a : Inbound) → HasRead reader [] [] → GoesOn tells table given given reader a a
 goes-from-start tells table given reader a read =
     record { stream = []; gave = λ told. search rules; handed = []; read = read; took = took-nothing a }
 
 -- a fault that is passed on
-pub continues-residual : (tells : Bool) (table : Keys) (given given' : List ℕ) (r : Result Bool InboundFault) (why : InboundFault) (reader : FrameReader) (a b : Inbound)
+pub continues-residual : (tells : Bool) (table : Table) (given given' : List ℕ) (r : Result Bool InboundFault) (why : InboundFault) (reader : FrameReader) (a b : Inbound)
     → IsErrAnd r (λ e. e ≡ why) → HasRun tells table given given' (Err why) a b → Continues tells table given given' r reader a b
 continues-residual tells table given given' (Ok x) why reader a b is run = absurd is
 continues-residual tells table given given' (Err e) why reader a b is run = subst (λ (f : InboundFault). HasRun tells table given given' (Err f) a b) (sym is) run
 
-pub run-residual : (tells : Bool) (table : Keys) (given given' : List ℕ) (r : Result Ending InboundFault) (why : InboundFault) (a b : Inbound)
+pub run-residual : (tells : Bool) (table : Table) (given given' : List ℕ) (r : Result Ending InboundFault) (why : InboundFault) (a b : Inbound)
     → IsErrAnd r (λ e. e ≡ why) → HasRun tells table given given' (Err why) a b → HasRun tells table given given' r a b
 run-residual tells table given given' (Ok x) why a b is run = absurd is
 run-residual tells table given given' (Err e) why a b is run = subst (λ (f : InboundFault). HasRun tells table given given' (Err f) a b) (sym is) run

@@ -5,7 +5,7 @@ use Rattle.std.proofs.lemmas.List.{map-append, take_all, take-append-le, take-ap
 use Rattle.std.proofs.lemmas.List.Concat.{flat_map-append}
 use Rattle.mac_relay.specs.Lane.{admitted, received}
 use Rattle.mac_pool.specs.Pass.{Pass, IsSamePass}
-use Rattle.mac_keys.specs.Table.{Keys}
+use Rattle.mac_keys.specs.Table.{Table}
 use Rattle.mac_wire.specs.declared.arrival.Arrival.{Arrival}
 use Rattle.mac_wire.specs.declared.arrival.Ending.{Ending}
 use Rattle.mac_wire.specs.declared.arrival.Ending.TheVariants as ending
@@ -38,7 +38,7 @@ abbrev Entry : Type 0
 Entry = ℕ × Option Job
 
 -- the answers to arrivals are the replies to their jobs
-answers-are : (table : Keys) (arrivals : List Arrival) → map answer_to (jobs_of table arrivals) ≡ answers table arrivals
+answers-are : (table : Table) (arrivals : List Arrival) → map answer_to (jobs_of table arrivals) ≡ answers table arrivals
 unfolding answer_of
 answers-are table [] = refl
 answers-are table (a ∷ more) = ap (λ (rs : List Reply). answer_of table a ∷ rs) (answers-are table more)
@@ -48,7 +48,7 @@ pub released-count : {Job Answered : Type 0} (reply_to : Job → Answered) (jobs
 released-count reply_to jobs n within = length-map (take n jobs) reply_to ∙ length-take-le n jobs within
 
 -- a run took in some jobs of the stream's arrivals, the first ones
-ran-some : (table : Keys) (stream : List ℕ) (result : Result Ending InboundFault) (start i : Inbound) → Ran table stream result start i
+ran-some : (table : Table) (stream : List ℕ) (result : Result Ending InboundFault) (start i : Inbound) → Ran table stream result start i
     → TakesSome (jobs_of table (arrivals_of stream).arrived) start i
 ran-some table stream (Ok end) start i ran = takes-some-all (jobs_of table (arrivals_of stream).arrived) start i ran.0
 ran-some table stream (Err reading.Read) start i ran = takes-some-all (jobs_of table (arrivals_of stream).arrived) start i ran
@@ -67,7 +67,7 @@ told o i count end = record {
 }
 
 -- where the jobs that an outbound half received are the first of those of these arrivals
-module _ (table : Keys) (arrivals : List Arrival) (o : Outbound) (more : List Job) (is : received o.lane ++ more ≡ jobs_of table arrivals) where
+module _ (table : Table) (arrivals : List Arrival) (o : Outbound) (more : List Job) (is : received o.lane ++ more ≡ jobs_of table arrivals) where
   longer : answers table arrivals ≡ replies o ++ map answer_to more
   longer = sym (answers-are table arrivals) ∙ ap (map answer_to) (sym is) ∙ map-append answer_to (received o.lane) more
 
@@ -90,7 +90,7 @@ module _ (table : Keys) (arrivals : List Arrival) (o : Outbound) (more : List Jo
       (whole-longer (replies o) (map answer_to more) o.written o.sent frames within)
 
 -- What two halves did that ran over one lane, from its beginning: the source gave a stream, the sink took what went out, and the ends met.
-module _ (tells_in tells_out : Bool) (table : Keys) (given given' wrote wrote' stream : List ℕ) (pass : Pass Job) (taken : List Entry)
+module _ (tells_in tells_out : Bool) (table : Table) (given given' wrote wrote' stream : List ℕ) (pass : Pass Job) (taken : List Entry)
     (start i : Inbound) (o : Outbound) (rest : List Job) (count : ℕ)
     (gave : Gave tells_in given given' stream)
     (took : IsTrue tells_out → wrote' ≡ wrote ++ out_text o)
@@ -243,7 +243,7 @@ module _ (tells_in tells_out : Bool) (table : Keys) (given given' wrote wrote' s
       (subst (λ (p : Option ServeFault × Ending). Serves p.0 p.1) (sym is) (rows sent read all sends same ran due))
 
 -- a connection that was not served
-pub nothing-served : (tells_in tells_out : Bool) (table : Keys) (given wrote : List ℕ) (pass : Pass Job) (taken : List Entry) (served : Served)
+pub nothing-served : (tells_in tells_out : Bool) (table : Table) (given wrote : List ℕ) (pass : Pass Job) (taken : List Entry) (served : Served)
     → served ≡ record { arrived = 0; sent = 0; written = 0; ending = ending.Broken; desk = record { putter = pass; taker = taken } }
     → HasServed tells_in tells_out table given given wrote wrote pass taken (Some fault.NoMemory) served
 unfolding placed

@@ -3,7 +3,7 @@ use Rattle.std.specs.Prelude.{◌≡◌, ◌≢◌, ◌⊎◌, ℕ, ◌+◌, ◌
 use Rattle.std.specs.declared.alloc.Global.{Global}
 use Rattle.std.specs.declared.vec.Vec.{Vec}
 use Rattle.mac_relay.specs.Lane.{admitted}
-use Rattle.mac_keys.specs.Table.{Keys}
+use Rattle.mac_keys.specs.Table.{Table}
 use Rattle.mac_wire.specs.declared.arrival.Arrival.{Arrival}
 use Rattle.mac_wire.specs.declared.arrival.Ending.{Ending}
 use Rattle.mac_wire.specs.declared.arrival.Ending.TheVariants as ending
@@ -45,7 +45,7 @@ CountsRead (Err fault.Lane) old new = new ≡ old
 CountsRead (Err fault.Stopped) old new = new ≡ old
 
 -- the jobs of arrivals under a table
-abbrev pub jobs_of : Keys → List Arrival → List Job
+abbrev pub jobs_of : Table → List Arrival → List Job
 jobs_of table arrivals = map (job_under table) arrivals
 
 -- jobs at their places, from a first place on
@@ -82,7 +82,7 @@ Receives jobs (Err why) before after = TakesSome jobs before after
 
 -- What a run did with a stream: to its end, or to where the source failed, it took in the jobs of
 -- all arrivals, and else of some.
-abbrev pub Ran : Keys → List ℕ → Result Ending InboundFault → Inbound → Inbound → Type 0
+abbrev pub Ran : Table → List ℕ → Result Ending InboundFault → Inbound → Inbound → Type 0
 Ran table stream (Ok end) before after =
     TakesIn (jobs_of table (arrivals_of stream).arrived) before after
     × ((arrivals_of stream).ending ≡ end) × (end ≢ ending.Broken)
@@ -96,14 +96,14 @@ Ran table stream (Err fault.Stopped) before after =
     TakesSome (jobs_of table (arrivals_of stream).arrived) before after
 
 -- a run over the bytes that the source gave
-pub record HasRun (tells : Bool) (table : Keys) (given given' : List ℕ)
+pub record HasRun (tells : Bool) (table : Table) (given given' : List ℕ)
     (result : Result Ending InboundFault) (before after : Inbound) : Type 0 where
   pub stream : List ℕ
   pub gave : Gave tells given given' stream
   pub ran : Ran table stream result before after
 
 -- a run that goes on: a reader was fed a stream, and the jobs of what it handed out were taken in
-pub record GoesOn (tells : Bool) (table : Keys) (given given' : List ℕ) (reader : FrameReader)
+pub record GoesOn (tells : Bool) (table : Table) (given given' : List ℕ) (reader : FrameReader)
     (before after : Inbound) : Type 0 where
   pub stream : List ℕ
   pub gave : Gave tells given given' stream
@@ -113,7 +113,7 @@ pub record GoesOn (tells : Bool) (table : Keys) (given given' : List ℕ) (reade
 
 -- how a step of a run ended: it goes on, whether or not more can come, or only some jobs were taken
 -- in
-abbrev pub Continues : Bool → Keys → List ℕ → List ℕ → Result Bool InboundFault → FrameReader
+abbrev pub Continues : Bool → Table → List ℕ → List ℕ → Result Bool InboundFault → FrameReader
     → Inbound → Inbound → Type 0
 Continues tells table given given' (Ok more) reader before after =
     GoesOn tells table given given' reader before after

@@ -1,7 +1,7 @@
 -- What a run of `serve` did, for its callers.
 use Rattle.std.specs.Prelude.{◌≡◌, ◌⊎◌, ℕ, ◌+◌, ◌≤◌, Bool, if◌then◌else◌, List, ◌++◌, length, map, take, Option, Some, None, Result, Ok, Err}
 use Rattle.mac_pool.specs.Pass.{Pass, IsSamePass}
-use Rattle.mac_keys.specs.Table.{Keys}
+use Rattle.mac_keys.specs.Table.{Table}
 use Rattle.mac_wire.specs.declared.arrival.Arrival.{Arrival}
 use Rattle.mac_wire.specs.declared.arrival.Ending.{Ending}
 use Rattle.mac_wire.specs.declared.arrival.Ending.TheVariants as ending
@@ -22,12 +22,12 @@ use Rattle.mac_serve.specs.declared.incoming.InboundFault.{InboundFault}
 use Rattle.mac_serve.specs.declared.incoming.InboundFault.TheVariants as reading
 
 -- the replies to arrivals under a table
-abbrev pub answers : Keys → List Arrival → List Reply
+abbrev pub answers : Table → List Arrival → List Reply
 answers table arrivals = map (answer_of table) arrivals
 
 -- every arrival was admitted, put into the line at its place, and its reply was sent, and nothing
 -- else was written
-pub record SentAll (table : Keys) (arrivals : List Arrival) (pass : Pass Job) (output : List ℕ)
+pub record SentAll (table : Table) (arrivals : List Arrival) (pass : Pass Job) (output : List ℕ)
     (served : Served) : Type 0 where
   pub output_is : output ≡ reply_text (answers table arrivals)
   pub arrived_is : served.arrived ≡ length arrivals
@@ -37,19 +37,19 @@ pub record SentAll (table : Keys) (arrivals : List Arrival) (pass : Pass Job) (o
 
 -- the frames of the replies that were sent were written, and nothing else; the stream was not read
 -- to its end, or not all was sent
-pub record SentSome (table : Keys) (arrivals : List Arrival) (output : List ℕ)
+pub record SentSome (table : Table) (arrivals : List Arrival) (output : List ℕ)
     (served : Served) : Type 0 where
   pub output_is : output ≡ reply_text (take served.sent (answers table arrivals))
   pub ending_is : served.ending ≡ ending.Broken
 
 -- the sink failed: a beginning of the replies' frames was written
-pub record SentBeginning (table : Keys) (arrivals : List Arrival) (output : List ℕ)
+pub record SentBeginning (table : Table) (arrivals : List Arrival) (output : List ℕ)
     (served : Served) : Type 0 where
   pub output_is : output ≡ take served.written (reply_text (answers table arrivals))
   pub ending_is : served.ending ≡ ending.Broken
 
 -- What was written, and which ending is told, row by row: by the fault that is told, if any.
-abbrev pub Sent : Keys → Arrivals → Pass Job → List ℕ → Option ServeFault → Served → Type 0
+abbrev pub Sent : Table → Arrivals → Pass Job → List ℕ → Option ServeFault → Served → Type 0
 Sent table a pass output None served =
     SentAll table a.arrived pass output served × (served.ending ≡ a.ending)
     × ((a.ending ≡ ending.Clean) ⊎ (a.ending ≡ ending.Oversize))
@@ -67,8 +67,8 @@ Sent table a pass output (Some fault.Lane) served = SentSome table a.arrived out
 -- many bytes written, and so many replies went out whole. The admitted jobs were put into the line
 -- at their places, or all but the last. For each reply that went out the desk took a post with that
 -- place's job. A stranger is told only where a post was foreign.
-pub record HasServed (tells_in tells_out : Bool) (table : Keys) (given given' wrote wrote' : List ℕ)
-    (pass : Pass Job) (taken : List (ℕ × Option Job))
+pub record HasServed (tells_in tells_out : Bool) (table : Table)
+    (given given' wrote wrote' : List ℕ) (pass : Pass Job) (taken : List (ℕ × Option Job))
     (why : Option ServeFault) (served : Served) : Type 0 where
   pub stream : List ℕ
   pub gave : Gave tells_in given given' stream

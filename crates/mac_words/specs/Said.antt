@@ -1,7 +1,7 @@
 -- What is said to a person who asks a request in words.
 use Rattle.std.specs.Prelude.{◌≡◌, ◌⊎◌, ℕ, Bool, true, false, List, [], ◌∷◌, ◌++◌, Option, Some, None, Result, Ok, Err}
 use Rattle.mac_decide.specs.Answer.{answer_of, refusal_of}
-use Rattle.mac_keys.specs.Table.{Keys, table_of}
+use Rattle.mac_keys.specs.Table.{Table, table_of}
 use Rattle.mac_token.specs.RawToken.{RawParts}
 use Rattle.mac_token.specs.Read.{raw_read_of}
 use Rattle.mac_token.specs.declared.fault.TokenRefusal.{TokenRefusal}
@@ -42,7 +42,7 @@ IsSaid token reply said =
 
 -- what is said of a request about these bytes of a token: the answer to its payload under the
 -- table, or the first fault of its words, or memory ran out
-abbrev pub Says : Keys → List ℕ → Asked → Result Said FieldFault → Type 0
+abbrev pub Says : Table → List ℕ → Asked → Result Said FieldFault → Type 0
 Says table token request (Ok said) = (first_fault request ≡ None)
     × IsSaid token (answer_of table (arrival.Payload (payload_of request))) said
 Says table token request (Err why) =
@@ -51,7 +51,7 @@ Says table token request (Err why) =
 -- the same under no keys
 abbrev pub SaysAlone : List ℕ → Asked → Result Said FieldFault → Type 0
 SaysAlone token request result =
-    (table : Keys) → table_of [] ≡ Ok table → Says table token request result
+    (table : Table) → table_of [] ≡ Ok table → Says table token request result
 
 -- what is said of bytes that are looked at: what they spell, or why they spell nothing
 abbrev pub TellsRead : List ℕ → Result RawParts TokenRefusal → Said → Type 0

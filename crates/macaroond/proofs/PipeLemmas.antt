@@ -2,7 +2,7 @@
 use Rattle.std.proofs.Common.{◌≡◌, ◌⊎◌, inl, inr, ℕ, ◌+◌, ◌≤◌, List, [], ◌++◌, length, map, refl, sym, ap, ◌∙◌, arith}
 use Rattle.std.proofs.lemmas.List.{append_cancel_left, append-nil}
 use Rattle.std.specs.Prelude.{Bool, IsTrue, Result, Ok, Err, IsErrAnd}
-use Rattle.mac_keys.specs.Table.{Keys, table_of}
+use Rattle.mac_keys.specs.Table.{Table, table_of}
 use Rattle.mac_keys.specs.declared.fault.KeyFault.{KeyFault}
 use Rattle.mac_keys.specs.declared.fault.LineFault.{LineFault}
 use Rattle.mac_keys.specs.declared.fault.KeyFault.TheVariants as key
@@ -19,13 +19,13 @@ use Rattle.macaroond.specs.PipeText.{answers, answers_under, pipe_text}
 use Rattle.macaroond.proofs.OutputLemmas.{remains-begins, remains-none}
 
 -- what the pipe writes where the key lines have no fault
-pub pipe_text-ok : (answer : Keys → Arrival → Reply) (input : List ℕ) (table : Keys) → table_of (key_text input) ≡ Ok table →
+pub pipe_text-ok : (answer : Table → Arrival → Reply) (input : List ℕ) (table : Table) → table_of (key_text input) ≡ Ok table →
     pipe_text answer input ≡ answers (answer table) (map arrival_of (request_lines input))
 unfolding pipe_text
 pipe_text-ok answer input table e = ap (answers_under answer (request_lines input)) e
 
 -- the answers that were written are the pipe's text
-pub output-answers : (answer : Keys → Arrival → Reply) (r : Result (Unit {0}) PipeFault) (input : List ℕ) (table : Keys)
+pub output-answers : (answer : Table → Arrival → Reply) (r : Result (Unit {0}) PipeFault) (input : List ℕ) (table : Table)
     (requests : List (List ℕ)) (old new : List ℕ) → table_of (key_text input) ≡ Ok table →
     requests ≡ request_lines input → Writes r (answers (answer table) (map arrival_of requests)) old new →
     GivesOutput answer r input old new
@@ -58,7 +58,7 @@ source-unread fault.TooLong (Err g) ended old new e takes = (takes.0, takes.1, r
 source-unread (fault.Keys line kind) (Err g) ended old new e takes = absurd takes
 
 -- and it has written nothing
-pub output-unread : (answer : Keys → Arrival → Reply) (f : PipeFault) (r : Result (Unit {0}) PipeFault) (old new input out : List ℕ) →
+pub output-unread : (answer : Table → Arrival → Reply) (f : PipeFault) (r : Result (Unit {0}) PipeFault) (old new input out : List ℕ) →
     IsErrAnd r (λ e. e ≡ f) → Takes (Err f) old new → GivesOutput answer r input out out
 output-unread answer f (Ok x) old new input out e takes = absurd e
 output-unread answer fault.Device (Err g) old new input out e takes =
@@ -69,7 +69,7 @@ output-unread answer fault.TooLong (Err g) old new input out e takes = rw e refl
 output-unread answer (fault.Keys line kind) (Err g) old new input out e takes = absurd takes
 
 -- a run whose key lines couldn't be read has taken the whole input
-pub source-told : (f : PipeFault) (r : Result (Unit {0}) PipeFault) (table : Result Keys KeyFault) (ended : Bool) (input : List ℕ) →
+pub source-told : (f : PipeFault) (r : Result (Unit {0}) PipeFault) (table : Result Table KeyFault) (ended : Bool) (input : List ℕ) →
     IsErrAnd r (λ e. e ≡ f) → Tells table f → IsTrue ended → length input ≤ INPUT_MAX → TakesInput r ended input
 source-told f (Ok x) table ended input e tells is_ended bound = absurd e
 source-told fault.Memory (Err g) table ended input e tells is_ended bound =
@@ -80,7 +80,7 @@ source-told fault.Device (Err g) table ended input e tells is_ended bound = absu
 source-told fault.TooLong (Err g) table ended input e tells is_ended bound = absurd tells
 
 -- and it has written nothing
-pub output-told : (answer : Keys → Arrival → Reply) (f : PipeFault) (r : Result (Unit {0}) PipeFault) (input out : List ℕ) →
+pub output-told : (answer : Table → Arrival → Reply) (f : PipeFault) (r : Result (Unit {0}) PipeFault) (input out : List ℕ) →
     IsErrAnd r (λ e. e ≡ f) → Tells (table_of (key_text input)) f → GivesOutput answer r input out out
 output-told answer f (Ok x) input out e tells = absurd e
 output-told answer fault.Memory (Err g) input out e tells =
@@ -111,7 +111,7 @@ keys-unread fault.TooLong (Err g) old new input line kind e takes failed more bo
 keys-unread (fault.Keys l k) (Err g) old new input line kind e takes failed more bound table = absurd takes
 
 -- a run whose key lines couldn't be read tells their fault
-pub keys-told : (f : PipeFault) (r : Result (Unit {0}) PipeFault) (table : Result Keys KeyFault) (line : ℕ) (kind : LineFault) →
+pub keys-told : (f : PipeFault) (r : Result (Unit {0}) PipeFault) (table : Result Table KeyFault) (line : ℕ) (kind : LineFault) →
     IsErrAnd r (λ e. e ≡ f) → Tells table f → table ≡ Err (key.Line line kind) →
     (r ≡ Err (fault.Keys line kind)) ⊎ (r ≡ Err fault.Memory)
 keys-told f (Ok x) table line kind e tells is_fault = absurd e

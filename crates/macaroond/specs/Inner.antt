@@ -2,7 +2,7 @@
 use Rattle.std.specs.Prelude.{◌≡◌, ℕ, ◌+◌, ◌≤◌, List, ◌++◌, length, Result, Ok, Err}
 use Rattle.std.specs.declared.vec.Vec.{Vec}
 use Rattle.std.specs.declared.alloc.Global.{Global}
-use Rattle.mac_keys.specs.Table.{Keys}
+use Rattle.mac_keys.specs.Table.{Table}
 use Rattle.mac_keys.specs.declared.fault.KeyFault.{KeyFault}
 use Rattle.mac_keys.specs.declared.fault.KeyFault.TheVariants as key
 use Rattle.macaroond.specs.declared.fault.PipeFault.{PipeFault}
@@ -22,7 +22,7 @@ Takes (Err fault.Memory) old new =
 Takes (Err (fault.Keys line kind)) old new = ⊥
 
 -- the fault tells that of the key lines, unless memory ran out
-abbrev pub Tells : Result Keys KeyFault → PipeFault → Type 0
+abbrev pub Tells : Result Table KeyFault → PipeFault → Type 0
 Tells table (fault.Keys line kind) = table ≡ Err (key.Line line kind)
 Tells table fault.Memory = Unit {0}
 Tells table fault.Device = ⊥

@@ -7,7 +7,7 @@ use Rattle.clap.specs.Words.{App, Row, Rule, Text, all_of, first_of, new_app, ne
 use Rattle.clap.specs.Words.{with_subcommand}
 use Rattle.clap.specs.declared.builder.action.ArgAction.TheVariants.{Append}
 use Rattle.clap.specs.declared.builder.value_parser.ValueParser.TheVariants.{NonEmptyString}
-use Rattle.mac_keys.specs.Table.{Keys, table_of}
+use Rattle.mac_keys.specs.Table.{Table, table_of}
 use Rattle.mac_wire.specs.Request.{Asked, mint, attenuate, verify}
 use Rattle.mac_wire.specs.declared.request.TokenForm.{TokenForm}
 use Rattle.mac_words.specs.Moment.{IsMoment}
@@ -153,7 +153,7 @@ verify_asked token moment words =
     verify (string_bytes words.key) token moment (texts_of words.facts.items)
 
 -- what is said of a request about these bytes of a token, as `mac_words` says it
-abbrev pub SaysWords : Keys → List ℕ → Asked → Result Said PersonFault → Type 0
+abbrev pub SaysWords : Table → List ℕ → Asked → Result Said PersonFault → Type 0
 SaysWords table token request (Ok said) = Says table token request (Ok said)
 SaysWords table token request (Err (fault.Words why)) = Says table token request (Err why)
 SaysWords table token request (Err _) = ⊥
@@ -161,7 +161,7 @@ SaysWords table token request (Err _) = ⊥
 -- the same under no keys
 abbrev pub SaysWordsAlone : List ℕ → Asked → Result Said PersonFault → Type 0
 SaysWordsAlone token request result =
-    (table : Keys) → table_of [] ≡ Ok table → SaysWords table token request result
+    (table : Table) → table_of [] ≡ Ok table → SaysWords table token request result
 
 -- the form that a word names, if there is a word
 abbrev pub GivesForm : Option (List ℕ) → Result (Option TokenForm) PersonFault → Type 0

@@ -1,7 +1,7 @@
 -- What a run of the pipe does.
 use Rattle.std.specs.Prelude.{◌≡◌, ℕ, ◌+◌, ◌≤◌, Bool, IsTrue, IsOk, List, ◌++◌, length}
 use Rattle.std.specs.Prelude.{Result, Ok, Err}
-use Rattle.mac_keys.specs.Table.{Keys, table_of}
+use Rattle.mac_keys.specs.Table.{Table, table_of}
 use Rattle.mac_keys.specs.declared.fault.KeyFault.TheVariants as key
 use Rattle.mac_wire.specs.declared.arrival.Arrival.{Arrival}
 use Rattle.mac_wire.specs.declared.reply.Reply.{Reply}
@@ -27,7 +27,7 @@ TakesInput (Err fault.Memory) ended input = length input ≤ INPUT_MAX + 1
 
 -- what a run with this result made of the input that it took, under the answers handed in: the
 -- output was old and is new
-abbrev pub GivesOutput : (Keys → Arrival → Reply) → Result (Unit {0}) PipeFault → List ℕ → List ℕ
+abbrev pub GivesOutput : (Table → Arrival → Reply) → Result (Unit {0}) PipeFault → List ℕ → List ℕ
     → List ℕ → Type 0
 GivesOutput answer (Ok x) input old new =
     IsOk (table_of (key_text input)) × (new ≡ old ++ pipe_text answer input)

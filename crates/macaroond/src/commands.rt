@@ -27,6 +27,7 @@ const VERSION: &str = "0.1.0";
 const PIPE_HELP: &str = "\
 Input, of at most 16777216 bytes:
   Key lines: `key NAME SECRET`, the secret in hexadecimal. A line that begins with # says nothing.
+  A name may have two lines: the first one's key mints, and a verify takes either.
   An empty line.
   Requests: a line each, its bytes in hexadecimal. One of more than 65536 bytes is answered and
   ends the run.
@@ -42,8 +43,8 @@ Output, once the whole input is read, a line for each request:
 Exit status:
   0  every request was answered, be it granted or refused
   1  a key line has a fault; standard error names it as `keys: line L kind K`: 1 a bad name,
-     2 a secret that isn't hexadecimal, 3 an empty secret, 4 a name that stands on an earlier line,
-     5 more than 1000 names, 6 no key line
+     2 a secret that isn't hexadecimal, 3 an empty secret, 4 a name that stands on two earlier
+     lines, 5 more than 1000 names, 6 no key line
   2  a bad command line
   3  reading or writing failed, or the input is longer than it may be
   4  memory ran out";

@@ -94,7 +94,7 @@ where
     };
     let (names, workers) = (keys.len(), terms.workers);
     let told = println!(rt;
-        "listening at {}: {names} keys, {workers} workers",
+        "listening at {}: {names} names, {workers} workers",
         terms.path
     );
     if told.is_err() {

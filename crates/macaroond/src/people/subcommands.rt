@@ -15,7 +15,8 @@ use std::alloc::{AllocError, Global};
 const KEYGEN_HELP: &str = "\
 Prints a line of a key file, `key NAME SECRET`: the secret is 32 random bytes of the system, in
 hexadecimal. NAME has 1 to 64 letters, digits, dots, underscores or dashes. Whoever has the line
-can mint tokens under the key.
+can mint tokens under the key. A new line above the name's old one changes the key: it mints, and
+tokens of the old line are verified until that is dropped.
 
 Example:
   macaroond keygen bank >> keys

@@ -1,4 +1,5 @@
 use Rattle.std.proofs.Common.{ap, ◌∙◌}
+use Rattle.mac_keys.specs.Keys.{listed}
 use Rattle.mac_decide.specs.Answer.{verdict_reply}
 use Rattle.mac_decide.specs.Reading.{verdict_of}
 use Rattle.mac_decide.proofs.VerdictLemmas.{verdict_of-is, one_verdict}
@@ -6,8 +7,8 @@ use Rattle.mac_decide.proofs.preparing.prepare_json.Goals as goal
 
 pub returns-in-Ok : goal.returns-in-Ok
 returns-in-Ok c =
-    let key = c.args.key in
+    let keys = listed c.args.keys in
     let context = c.args.context.now in
     let token = c.in-Ok.token in
-    let same = one_verdict key token context c.verify.result (verdict_of key token context) c.verify.ensures (verdict_of-is key token context) in
+    let same = one_verdict keys token context c.verify.result (verdict_of keys token context) c.verify.ensures (verdict_of-is keys token context) in
     rw c.in-Ok.ensures (c.verdict_reply.ensures ∙ ap verdict_reply same)

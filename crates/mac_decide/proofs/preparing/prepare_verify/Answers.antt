@@ -1,4 +1,5 @@
 use Rattle.std.proofs.Common.{◌≡◌, sym, ap, ◌∙◌}
+use Rattle.mac_keys.specs.Keys.{listed}
 use Rattle.mac_decide.specs.Answer.{refused, refusal_of, told, verdict_reply}
 use Rattle.mac_decide.specs.Reading.{verdict_of}
 use Rattle.mac_decide.proofs.VerifiedLemmas.{read_of-carried, read_of-refused}
@@ -12,4 +13,4 @@ returns-in-Err-Refused c =
     let reason = c.in-Err-Refused.reason in
     let named : c.refusal_of.result ≡ refusal_of reason = rw c.in-Err-Refused.field-0-is at c.refusal_of.ensures in
     let read = read_of-refused c.args.token.now c.in-Err-Refused.field-0 reason c.in-Err-Refused.field-0-is c.in-Err-Refused.ensures.answer in
-    c.told.ensures ∙ ap refused named ∙ ap (λ read. told read (λ t. verdict_reply (verdict_of c.args.key t c.args.context))) (sym read)
+    c.told.ensures ∙ ap refused named ∙ ap (λ read. told read (λ t. verdict_reply (verdict_of (listed c.args.keys) t c.args.context))) (sym read)

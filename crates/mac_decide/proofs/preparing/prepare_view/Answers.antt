@@ -1,4 +1,5 @@
 use Rattle.std.proofs.Common.{ap, ◌∙◌}
+use Rattle.mac_keys.specs.Keys.{listed}
 use Rattle.mac_decide.specs.Answer.{told, verdict_reply}
 use Rattle.mac_decide.specs.Folding.{Progress, end_of}
 use Rattle.mac_decide.specs.Prepared.{verdict_by}
@@ -8,9 +9,9 @@ use Rattle.mac_decide.proofs.preparing.prepare_view.Goals as goal
 
 pub returns-in-Ok : goal.returns-in-Ok
 returns-in-Ok c =
-    let key = c.args.key in
+    let keys = c.args.keys in
     let token = c.in-Ok.token in
     let context = c.args.context in
-    ap (λ (p : Progress). verdict_reply (verdict_by (end_of p) token context)) c.of_token-folding.ensures
-    ∙ ap verdict_reply (verdict_of-by key token context)
-    ∙ ap (λ read. told read (λ t. verdict_reply (verdict_of key t context))) c.in-Ok.ensures
+    ap (λ (p : Progress). verdict_reply (verdict_by (end_of p) keys.second token context)) c.of_token-folding.ensures
+    ∙ ap verdict_reply (verdict_of-by keys.first keys.second token context)
+    ∙ ap (λ read. told read (λ t. verdict_reply (verdict_of (listed keys) t context))) c.in-Ok.ensures

@@ -20,5 +20,4 @@ pub returns-clause-twice : goal.returns-clause-twice
 returns-clause-twice c lines place line = (IsTwice-from_fault (take place lines) line, fault_from_IsTwice (take place lines) line)
 
 pub returns-clause-too_many : goal.returns-clause-too_many
-returns-clause-too_many c lines place line faultless =
-    (IsTooMany-from_fault lines place line faultless, fault_from_IsTooMany lines place line faultless)
+returns-clause-too_many c lines place line = (IsTooMany-from_fault (take place lines) line, fault_from_IsTooMany (take place lines) line)

@@ -2,13 +2,13 @@ use Rattle.std.proofs.Common.{◌≤◌, length, sym, ap, subst, ◌∙◌, arit
 use Rattle.std.proofs.lemmas.List.{take_all}
 use Rattle.std.specs.FinMap as map
 use Rattle.mac_keys.specs.declared.table.TheConstants.{NAMES_MAX}
-use Rattle.mac_keys.specs.Table.{Keys, lines_of, keys_of}
+use Rattle.mac_keys.specs.Table.{Table, lines_of, keys_of}
 use Rattle.mac_keys.proofs.FileMeaning.{faultless_made}
 use Rattle.mac_keys.proofs.Bounded.{len-keys_of-le}
 use Rattle.mac_keys.proofs.laws.table_has_at_most_names_max.Goals as goal
 
 pub returns : goal.returns
-returns c = λ text keys made.
-    let (faultless, is) = faultless_made (lines_of text) keys made in
+returns c = λ text table made.
+    let (faultless, is) = faultless_made (lines_of text) table made in
     let bound = len-keys_of-le (lines_of text) faultless (length (lines_of text)) (omega arith) in
-    subst (λ (k : Keys). map.len k ≤ NAMES_MAX) (ap keys_of (take_all (length (lines_of text)) (lines_of text) (omega arith)) ∙ sym is) bound
+    subst (λ (t : Table). map.len t ≤ NAMES_MAX) (ap keys_of (take_all (length (lines_of text)) (lines_of text) (omega arith)) ∙ sym is) bound

@@ -1,7 +1,7 @@
 use Rattle.std.proofs.Common.{◌≡◌, take, drop, MatchOption}
 use Rattle.std.specs.List.{All}
 use Rattle.mac_decide.specs.Verdict.{Satisfied, IsFirstUnsatisfied}
-use Rattle.mac_decide.proofs.verdict.unsatisfied_caveat.Given as goal
+use Rattle.mac_decide.proofs.verdict_view.unsatisfied_caveat.Given as goal
 
 abbrev pub invariant-loop-caveat : goal.invariant-loop-caveat
 invariant-loop-caveat l = record {

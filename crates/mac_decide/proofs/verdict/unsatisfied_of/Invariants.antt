@@ -1,12 +1,10 @@
 use Rattle.std.proofs.Common.{◌≡◌, take, MatchOption}
 use Rattle.std.specs.List.{All}
-use Rattle.mac_hmac.specs.Chain.{chain}
 use Rattle.mac_decide.specs.Verdict.{Satisfied, IsFirstUnsatisfied}
-use Rattle.mac_decide.proofs.verdict.verify.Given as goal
+use Rattle.mac_decide.proofs.verdict.unsatisfied_of.Given as goal
 
 abbrev pub invariant-loop-caveat : goal.invariant-loop-caveat
 invariant-loop-caveat l = record {
-  signature : l.chain ≡ chain l.key l.token.identifier (take l.caveat-index l.token.caveats);
   found : MatchOption l.unsatisfied (All (λ caveat. Satisfied caveat l.context) (take l.caveat-index l.token.caveats)) (IsFirstUnsatisfied l.token.caveats l.context);
   index : l.index ≡ l.caveat-index;
 }

@@ -1,7 +1,7 @@
 use Rattle.std.proofs.Common.{◌∙◌, arith}
 use Rattle.std.proofs.lemmas.Option.{slice_get_within}
 use Rattle.mac_decide.proofs.WalkLemmas.{found-next, found-all, first-of-drop, end-of-drop}
-use Rattle.mac_decide.proofs.verdict.unsatisfied_caveat.Goals as goal
+use Rattle.mac_decide.proofs.verdict_view.unsatisfied_caveat.Goals as goal
 
 pub loop-caveat-preserved : goal.loop-caveat-preserved
 loop-caveat-preserved c =

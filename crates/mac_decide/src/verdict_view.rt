@@ -1,0 +1,93 @@
+//! The same verdict on a token that is read where it lies.
+
+ghost use Rattle.std.specs.Prelude.{◌≡◌, ◌↔◌, ◌⊎◌, All, IsTrue, IsSomeAnd, MatchOption};
+ghost use Rattle.mac_keys.specs.Keys.{listed};
+ghost use Rattle.mac_decide.specs.Minted.{Signs, Minted};
+ghost use Rattle.mac_decide.specs.Prepared.{verdict_by};
+ghost use Rattle.mac_decide.specs.Verdict.{Satisfied, IsFirstUnsatisfied, IsVerdict};
+
+use crate::context::Context;
+use crate::verdict::{Verdict, first_unsatisfied, found_verdict};
+use mac_hmac::{Chain, RootKey, Sig, same};
+use mac_keys::Keys;
+use mac_token::TokenView;
+
+/// The same as [`verify`](crate::verify), of a token that is read where it lies.
+pub fn verify_view(keys: &Keys, token: &TokenView<'_>, context: &Context<'_>) -> Verdict
+    ensures { IsVerdict (listed keys.now) token.now context.now result }
+{
+    if is_minted_view(keys, token) {
+        found_verdict(unsatisfied_caveat(token, context))
+    } else {
+        Verdict::BadSignature
+    }
+}
+
+/// Whether one of the keys gives the token's signature.
+fn is_minted_view(keys: &Keys, token: &TokenView<'_>) -> bool
+    ensures { IsTrue result ↔ Minted (listed keys.now) token.now }
+{
+    signs_view(&keys.first, token) || second_signs(keys.second, token)
+}
+
+/// Whether there is a second key and it gives the token's signature.
+fn second_signs(second: Option<RootKey>, token: &TokenView<'_>) -> bool
+    ensures { IsTrue result ↔ IsSomeAnd second (λ key. Signs key token.now) }
+{
+    match second {
+        Some(second) => signs_view(&second, token),
+        None => false,
+    }
+}
+
+/// Whether the key gives the token's signature.
+fn signs_view(key: &RootKey, token: &TokenView<'_>) -> bool
+    ensures { IsTrue result ↔ Signs key.now token.now }
+{
+    let mut chain = Chain::start(key, token.identifier());
+    for caveat in token.walk() {
+        chain.push(caveat);
+    }
+    same(&Sig::from_bytes(token.sig()), &chain.sig())
+}
+
+/// The verdict by the signature that the first key gives the token. Only where it isn't the token's
+/// the second key is asked.
+pub(crate) fn verdict_by(
+    signature: Sig,
+    second: Option<RootKey>,
+    token: &TokenView<'_>,
+    context: &Context<'_>,
+) -> Verdict
+    ensures { result ≡ verdict_by signature second token.now context.now }
+{
+    if is_given(signature, second, token) {
+        found_verdict(unsatisfied_caveat(token, context))
+    } else {
+        Verdict::BadSignature
+    }
+}
+
+/// Whether the token has this signature, or the one that the second key gives it.
+fn is_given(signature: Sig, second: Option<RootKey>, token: &TokenView<'_>) -> bool
+    ensures { IsTrue result ↔ ((token.now.sig ≡ signature)
+        ⊎ IsSomeAnd second (λ key. Signs key token.now)) }
+{
+    same(&Sig::from_bytes(token.sig()), &signature) || second_signs(second, token)
+}
+
+/// The index of the first caveat that isn't satisfied.
+fn unsatisfied_caveat(token: &TokenView<'_>, context: &Context<'_>) -> Option<u16>
+    ensures { MatchOption result (All (λ caveat. Satisfied caveat context.now) token.now.caveats)
+        (IsFirstUnsatisfied token.now.caveats context.now) }
+{
+    let mut unsatisfied = None;
+    let mut index = 0;
+    let _count = token.caveats();
+    let walk = token.walk();
+    for caveat in walk {
+        unsatisfied = first_unsatisfied(unsatisfied, index, caveat, context);
+        index += 1;
+    }
+    unsatisfied
+}
