@@ -30,6 +30,7 @@ BARE = b"made", b"refused, and made once more", b"refused elsewhere"
 MINT = bytes.fromhex("01010462616e6b000e687474703a2f2f6d7962616e6b2f001677652075736564206f757220736563726574206b657900")
 TOKEN = faulty_daemon.TOKEN
 REPLIES = [faulty_daemon.frame(b"\x01" + TOKEN), faulty_daemon.frame(b"\x10")]
+NO_CASE = b"the line is no case\n"
 KEY = b"key bank 74686973206973206f757220737570657220736563726574206b65793b206f6e6c792077652073686f756c64206b6e6f77206974\n\n"
 
 
@@ -151,6 +152,8 @@ def rows():
         def judge(ended):
             if ended and (ended.status, ended.output) == (0, due + b"\n"):
                 return "the row's answer"
+            if ended and ended.status == 0 and (ended.output == NO_CASE or b" otherwise" in ended.output):
+                return "refused to what the row is read by, or to one of two that it compares"
             return "want of memory" if ended and ended.status == 1 and not ended.output else None
 
         command = [BIN / "conformance"]
