@@ -1,6 +1,6 @@
 pub mod DateLemmas
 pub mod KeysLemmas
-pub mod LimitLemmas
+pub mod TimeLemmas
 pub mod SatisfiedLemmas
 pub mod WalkLemmas
 pub mod ReadingLemmas

@@ -1,12 +1,13 @@
 -- Attenuation narrows, and facts only help.
-use Rattle.std.proofs.Common.{◌≡◌, ◌↔◌, inl, inr, ℕ, ℤ, List, [], ◌∷◌, ◌++◌, append_assoc, refl, sym, ap, ◌∙◌}
+use Rattle.std.proofs.Common.{◌≡◌, ◌↔◌, inl, inr, ℕ, ◌≤◌, ℤ, List, [], ◌∷◌, ◌++◌, append_assoc, arith, refl, sym, ap, ◌∙◌}
 use Rattle.std.specs.List.{All, Contains}
 use Rattle.std.proofs.lemmas.List.Elements.{All-nil, All-cons, All-head, All-tail, All-append, All-weaker, All-contains_itself}
+use Rattle.std.proofs.lemmas.Int.{ints}
 use Rattle.mac_hmac.specs.Chain.{extended}
 use Rattle.mac_hmac.proofs.ChainLemmas.{extended-append}
 use Rattle.mac_token.specs.RawToken.{TokenParts}
 use Rattle.mac_decide.specs.declared.context.Context.{Context}
-use Rattle.mac_decide.specs.Time.{IsTimeLimit}
+use Rattle.mac_decide.specs.Time.{IsTimeLimit, IsLowerBound}
 use Rattle.mac_decide.specs.Minted.{Signs, Minted, minted, add}
 use Rattle.mac_decide.specs.Verdict.{Satisfied, Accepts}
 
@@ -63,11 +64,32 @@ Accepts-keys keys more t x still a =
     let (k, key, within, is, signs) = a.minted in
     record { minted = Minted-by more key t (still key (k, within, is) signs) signs; satisfied = a.satisfied }
 
--- a caveat that is no time limit is satisfied by facts alone
-pub Satisfied-timeless : (c : List ℕ) (x : Context) (moment : ℕ) → ((v : ℤ) → ¬ (IsTimeLimit c v)) → Satisfied c x → Satisfied c (record x { moment = moment })
+-- a caveat that is no bound of time is satisfied by facts alone
+pub Satisfied-timeless : (c : List ℕ) (x : Context) (moment : ℕ) → ((v : ℤ) → ¬ (IsTimeLimit c v) × ¬ (IsLowerBound c v)) → Satisfied c x → Satisfied c (record x { moment = moment })
 Satisfied-timeless c x moment timeless (inl has) = inl has
-Satisfied-timeless c x moment timeless (inr (v, limit, below)) = absurd (timeless v limit)
+Satisfied-timeless c x moment timeless (inr (inl (v, limit, below))) = absurd ((timeless v).0 limit)
+Satisfied-timeless c x moment timeless (inr (inr (v, bound, reached))) = absurd ((timeless v).1 bound)
 
-pub Accepts-timeless : (keys : List (List ℕ)) (t : TokenParts) (x : Context) (moment : ℕ) → All (λ c. (v : ℤ) → ¬ (IsTimeLimit c v)) t.caveats → Accepts keys t x → Accepts keys t (record x { moment = moment })
+pub Accepts-timeless : (keys : List (List ℕ)) (t : TokenParts) (x : Context) (moment : ℕ) → All (λ c. (v : ℤ) → ¬ (IsTimeLimit c v) × ¬ (IsLowerBound c v)) t.caveats → Accepts keys t x → Accepts keys t (record x { moment = moment })
 Accepts-timeless keys t x moment timeless a =
     record { minted = a.minted; satisfied = λ k d within. Satisfied-timeless _ x moment (timeless k d within) (a.satisfied k d within) }
+
+-- what is no lower bound of time was satisfied earlier
+pub Satisfied-earlier : (c : List ℕ) (x : Context) (moment : ℕ) → moment ≤ x.moment → ((v : ℤ) → ¬ (IsLowerBound c v)) → Satisfied c x → Satisfied c (record x { moment = moment })
+Satisfied-earlier c x moment early none (inl has) = inl has
+Satisfied-earlier c x moment early none (inr (inl (v, limit, below))) = inr (inl (v, limit, omega (arith, ints)))
+Satisfied-earlier c x moment early none (inr (inr (v, bound, reached))) = absurd (none v bound)
+
+pub Accepts-earlier : (keys : List (List ℕ)) (t : TokenParts) (x : Context) (moment : ℕ) → moment ≤ x.moment → All (λ c. (v : ℤ) → ¬ (IsLowerBound c v)) t.caveats → Accepts keys t x → Accepts keys t (record x { moment = moment })
+Accepts-earlier keys t x moment early none a =
+    record { minted = a.minted; satisfied = λ k d within. Satisfied-earlier _ x moment early (none k d within) (a.satisfied k d within) }
+
+-- what is no time limit stays satisfied
+pub Satisfied-later : (c : List ℕ) (x : Context) (moment : ℕ) → x.moment ≤ moment → ((v : ℤ) → ¬ (IsTimeLimit c v)) → Satisfied c x → Satisfied c (record x { moment = moment })
+Satisfied-later c x moment late none (inl has) = inl has
+Satisfied-later c x moment late none (inr (inl (v, limit, below))) = absurd (none v limit)
+Satisfied-later c x moment late none (inr (inr (v, bound, reached))) = inr (inr (v, bound, omega (arith, ints)))
+
+pub Accepts-later : (keys : List (List ℕ)) (t : TokenParts) (x : Context) (moment : ℕ) → x.moment ≤ moment → All (λ c. (v : ℤ) → ¬ (IsTimeLimit c v)) t.caveats → Accepts keys t x → Accepts keys t (record x { moment = moment })
+Accepts-later keys t x moment late none a =
+    record { minted = a.minted; satisfied = λ k d within. Satisfied-later _ x moment late (none k d within) (a.satisfied k d within) }

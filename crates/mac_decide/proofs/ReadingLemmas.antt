@@ -1,5 +1,5 @@
--- A text is a time limit exactly where it reads as one.
-use Rattle.std.proofs.Common.{◌≡◌, ◌↔◌, ◌⊎◌, inl, inr, ℕ, zero, suc, ◌+◌, ◌-◌, ◌*◌, ◌/◌, ◌%◌, ◌≤◌, ℤ, pos, ◌≤ℤ◌, unsigned_abs, List, [], ◌++◌, codes, slice_index, Option, Some, None, option_map, Bool, true, false, ◌||◌, ◌&&◌, if◌then◌else◌, nat_lt, arith, refl, sym, ap, ◌∙◌}
+-- A text is a bound of time exactly where it reads as one.
+use Rattle.std.proofs.Common.{◌≡◌, ◌↔◌, ◌⊎◌, inl, inr, ℕ, zero, suc, ◌+◌, ◌-◌, ◌*◌, ◌/◌, ◌%◌, ◌≤◌, ℤ, pos, ◌≤ℤ◌, unsigned_abs, List, [], ◌∷◌, ◌++◌, length, drop, codes, slice_index, Option, Some, None, option_map, Bool, true, false, ◌||◌, ◌&&◌, if◌then◌else◌, nat_lt, arith, refl, sym, ap, ◌∙◌}
 use Rattle.std.specs.List.{list_any}
 use Rattle.std.specs.Int.{IsInRange}
 use Rattle.std.specs.Str.{bytes_eq}
@@ -9,8 +9,8 @@ use Rattle.std.proofs.lemmas.Slice.Eq.{bytes_eq-Decides}
 use Rattle.jiff.specs.Types.{Date}
 use Rattle.jiff.specs.Words.{IsYear, days_in_month, epoch_day}
 use Rattle.mac_decide.specs.Calendar.{is_date}
-use Rattle.mac_decide.specs.Time.{Stamp, unix_second, two_digits, date_text, clock_text, IsEnding, IsLimitAt, IsTimeLimit}
-use Rattle.mac_decide.specs.Reading.{date_if, date_of, two_at, stamp_at, short_endings, endings, is_limit_at, limit_on, limit_of}
+use Rattle.mac_decide.specs.Time.{Stamp, unix_second, two_digits, date_text, clock_text, IsEnding, IsStampText, IsTimeText, IsBound, IsTimeLimit, IsLowerBound}
+use Rattle.mac_decide.specs.Reading.{date_if, date_of, two_at, stamp_at, short_endings, endings, is_stamp_text, time_on, time_of, bound_of, limit_of, since_of}
 use Rattle.mac_decide.proofs.DateLemmas.{year_is}
 
 -- a date that was made has the numbers that it was made of
@@ -92,14 +92,14 @@ second_at n ending (second, zone, inl p, z, e) = rw (e, p) (omega arith)
 second_at n ending (second, zone, inr (nil, zero_is), inl z, e) = rw (e, nil, z, zero_is)
 second_at n ending (second, zone, inr (nil, zero_is), inr z, e) = rw (e, nil, z, zero_is)
 
--- the numbers of a time limit stand at their places
+-- the numbers of a stamp stand at their places
 pub record StandsIn (text : List ℕ) (t : Stamp) : Type 0 where
-  pub year : 100 * two_at text 7 + two_at text 9 ≡ unsigned_abs t.date.year
-  pub month : two_at text 12 ≡ t.date.month
-  pub day : two_at text 15 ≡ t.date.day
-  pub hour : two_at text 18 ≡ t.hour
-  pub minute : two_at text 21 ≡ t.minute
-  pub second : two_at text 24 ≡ t.second
+  pub year : 100 * two_at text 0 + two_at text 2 ≡ unsigned_abs t.date.year
+  pub month : two_at text 5 ≡ t.date.month
+  pub day : two_at text 8 ≡ t.date.day
+  pub hour : two_at text 11 ≡ t.hour
+  pub minute : two_at text 14 ≡ t.minute
+  pub second : two_at text 17 ≡ t.second
 
 pub two_at-is : (n : ℕ) → 10 * ((48 + n / 10) - 48) + ((48 + n % 10) - 48) ≡ n
 two_at-is n = omega arith
@@ -107,22 +107,22 @@ two_at-is n = omega arith
 pub at_place : (i n : ℕ) (text other : List ℕ) → text ≡ other → two_at other i ≡ n → two_at text i ≡ n
 at_place i n text other e h = ap (λ l. two_at l i) e ∙ h
 
-pub StandsIn-of : (text : List ℕ) (t : Stamp) → IsLimitAt text t → StandsIn text t
+pub StandsIn-of : (text : List ℕ) (t : Stamp) → IsStampText text t → StandsIn text t
 StandsIn-of text t h =
-    let high : two_at text 7 ≡ unsigned_abs t.date.year / 100 = at_place 7 _ _ _ h.is_text (two_at-is _) in
-    let low : two_at text 9 ≡ unsigned_abs t.date.year % 100 = at_place 9 _ _ _ h.is_text (two_at-is _) in
+    let high : two_at text 0 ≡ unsigned_abs t.date.year / 100 = at_place 0 _ _ _ h.is_text (two_at-is _) in
+    let low : two_at text 2 ≡ unsigned_abs t.date.year % 100 = at_place 2 _ _ _ h.is_text (two_at-is _) in
     record {
       year = omega arith;
-      month = at_place 12 _ _ _ h.is_text (two_at-is _);
-      day = at_place 15 _ _ _ h.is_text (two_at-is _);
-      hour = at_place 18 _ _ _ h.is_text (two_at-is _);
-      minute = at_place 21 _ _ _ h.is_text (two_at-is _);
-      second = at_place 24 _ _ _ h.is_text (second_at _ _ h.is_ending);
+      month = at_place 5 _ _ _ h.is_text (two_at-is _);
+      day = at_place 8 _ _ _ h.is_text (two_at-is _);
+      hour = at_place 11 _ _ _ h.is_text (two_at-is _);
+      minute = at_place 14 _ _ _ h.is_text (two_at-is _);
+      second = at_place 17 _ _ _ h.is_text (second_at _ _ h.is_ending);
     }
 
--- the text of a limit up to the minute
+-- the text of a stamp up to the minute
 abbrev front_of : Stamp → List ℕ
-front_of t = codes "time < " ++ date_text t.date ++ codes "T" ++ clock_text t.hour t.minute
+front_of t = date_text t.date ++ codes "T" ++ clock_text t.hour t.minute
 
 -- three tests and a fourth
 pub all_pass : (a b c d : Bool) → a ≡ true → b ≡ true → c ≡ true → d ≡ true → (a && b && c && d) ≡ true
@@ -134,18 +134,18 @@ each_passes true true false d e = absurd (cc)
 each_passes true false c d e = absurd (cc)
 each_passes false b c d e = absurd (cc)
 
--- a limit passes the test
-pub is_limit_at-of : (text : List ℕ) (t : Stamp) → IsLimitAt text t → is_limit_at text t ≡ true
-is_limit_at-of text t h =
+-- the text of a stamp passes the test
+pub is_stamp_text-of : (text : List ℕ) (t : Stamp) → IsStampText text t → is_stamp_text text t ≡ true
+is_stamp_text-of text t h =
     let hour : nat_lt t.hour 24 ≡ true = grind (arith, nat_tests, h.writable.hour) in
     let minute : nat_lt t.minute 60 ≡ true = grind (arith, nat_tests, h.writable.minute) in
     let second : nat_lt t.second 60 ≡ true = grind (arith, nat_tests, h.writable.second) in
     all_pass _ _ _ _ hour minute second
     (ending-found text (front_of t) t.second h.ending h.is_ending h.is_text)
 
--- what passes the test is a limit
-pub IsLimitAt-tested : (text : List ℕ) (t : Stamp) → pos 0 ≤ℤ t.date.year → is_limit_at text t ≡ true → IsLimitAt text t
-IsLimitAt-tested text t low e =
+-- what passes the test is the text of a stamp
+pub IsStampText-tested : (text : List ℕ) (t : Stamp) → pos 0 ≤ℤ t.date.year → is_stamp_text text t ≡ true → IsStampText text t
+IsStampText-tested text t low e =
     let parts = each_passes (nat_lt t.hour 24) (nat_lt t.minute 60) (nat_lt t.second 60)
     (list_any (λ ending. bytes_eq text (front_of t ++ ending)) (endings t.second)) e in
     let found = found-ending text (front_of t) t.second parts.3 in
@@ -156,8 +156,8 @@ IsLimitAt-tested text t low e =
       is_text = found.2;
     }
 
--- the stamp of a limit with another date of the same numbers
-pub restamped : (text : List ℕ) (t : Stamp) (d : Date) → IsLimitAt text t → t.date.year ≡ d.year → t.date.month ≡ d.month → t.date.day ≡ d.day → IsLimitAt text (record t { date = d })
+-- the stamp of a text with another date of the same numbers
+pub restamped : (text : List ℕ) (t : Stamp) (d : Date) → IsStampText text t → t.date.year ≡ d.year → t.date.month ≡ d.month → t.date.day ≡ d.day → IsStampText text (record t { date = d })
 restamped text t d h year month day =
     record {
       writable = record { year = rw year at h.writable.year; hour = h.writable.hour; minute = h.writable.minute; second = h.writable.second };
@@ -167,25 +167,25 @@ restamped text t d h year month day =
     }
 
 -- a test that passes gives the second
-limit_if : (text : List ℕ) (t : Stamp) → is_limit_at text t ≡ true → (if is_limit_at text t then Some (unix_second t) else None) ≡ Some (unix_second t)
-limit_if text t e = rw e
+time_if : (text : List ℕ) (t : Stamp) → is_stamp_text text t ≡ true → (if is_stamp_text text t then Some (unix_second t) else None) ≡ Some (unix_second t)
+time_if text t e = rw e
 
 -- a second that is given passed the test
-read_at : (text : List ℕ) (x : Date) (b : Bool) → is_limit_at text (stamp_at text x) ≡ b → (v : ℤ) → pos 0 ≤ℤ x.year → (if b then Some (unix_second (stamp_at text x)) else None) ≡ Some v → IsTimeLimit text v
-read_at text x true passes v low e = (stamp_at text x, IsLimitAt-tested text (stamp_at text x) low passes, cc)
+read_at : (text : List ℕ) (x : Date) (b : Bool) → is_stamp_text text (stamp_at text x) ≡ b → (v : ℤ) → pos 0 ≤ℤ x.year → (if b then Some (unix_second (stamp_at text x)) else None) ≡ Some v → IsTimeText text v
+read_at text x true passes v low e = (stamp_at text x, IsStampText-tested text (stamp_at text x) low passes, cc)
 read_at text x false passes v low e = absurd (cc)
 
--- a limit at a date that was read
-pub limit_on-date : (text : List ℕ) (t : Stamp) (d : Date) → StandsIn text t → IsLimitAt text (record t { date = d }) → epoch_day d ≡ epoch_day t.date → limit_on text (Some d) ≡ Some (unix_second t)
-limit_on-date text t d s there day =
+-- the second at a date that was read
+pub time_on-date : (text : List ℕ) (t : Stamp) (d : Date) → StandsIn text t → IsStampText text (record t { date = d }) → epoch_day d ≡ epoch_day t.date → time_on text (Some d) ≡ Some (unix_second t)
+time_on-date text t d s there day =
     let same : stamp_at text d ≡ record t { date = d } = rw (s.hour, s.minute, s.second) in
-    let passes : is_limit_at text (stamp_at text d) ≡ true =
-    ap (is_limit_at text) same ∙ is_limit_at-of text (record t { date = d }) there in
+    let passes : is_stamp_text text (stamp_at text d) ≡ true =
+    ap (is_stamp_text text) same ∙ is_stamp_text-of text (record t { date = d }) there in
     let value : unix_second (stamp_at text d) ≡ unix_second t = rw (s.hour, s.minute, s.second, day) in
-    limit_if text (stamp_at text d) passes ∙ ap Some value
+    time_if text (stamp_at text d) passes ∙ ap Some value
 
--- a limit at the date that its numbers make
-at_date : (text : List ℕ) (t : Stamp) (y m d : ℕ) → IsLimitAt text t → y ≡ unsigned_abs t.date.year → m ≡ t.date.month → d ≡ t.date.day → (x : Date) → date_of y m d ≡ Some x → limit_on text (date_of y m d) ≡ Some (unix_second t)
+-- the second at the date that its numbers make
+at_date : (text : List ℕ) (t : Stamp) (y m d : ℕ) → IsStampText text t → y ≡ unsigned_abs t.date.year → m ≡ t.date.month → d ≡ t.date.day → (x : Date) → date_of y m d ≡ Some x → time_on text (date_of y m d) ≡ Some (unix_second t)
 at_date text t y m d h year month day x made =
     let numbers = numbers-date_if y m d (is_date y m d) refl x made in
     let low = h.writable.year in
@@ -194,35 +194,66 @@ at_date text t y m d h year month day x made =
     let same_day_of : t.date.day ≡ x.day = sym day ∙ numbers.2 in
     let there = restamped text t x h same_year same_month same_day_of in
     let epoch : epoch_day x ≡ epoch_day t.date = rw (same_year, same_month, same_day_of) in
-    ap (limit_on text) made ∙ limit_on-date text t x (StandsIn-of text t h) there epoch
+    ap (time_on text) made ∙ time_on-date text t x (StandsIn-of text t h) there epoch
 
--- a limit is read as its second
-pub limit_on-limit : (text : List ℕ) (t : Stamp) (y m d : ℕ) → IsLimitAt text t → y ≡ unsigned_abs t.date.year → m ≡ t.date.month → d ≡ t.date.day → limit_on text (date_of y m d) ≡ Some (unix_second t)
-limit_on-limit text t y m d h year month day =
+-- the text of a stamp is read as its second
+pub time_on-stamp : (text : List ℕ) (t : Stamp) (y m d : ℕ) → IsStampText text t → y ≡ unsigned_abs t.date.year → m ≡ t.date.month → d ≡ t.date.day → time_on text (date_of y m d) ≡ Some (unix_second t)
+time_on-stamp text t y m d h year month day =
     let low = h.writable.year in
     let real : is_date y m d ≡ true = rw (year, month, day) (is_date-of t.date low) in
     let (x, made) = made-date_if y m d (is_date y m d) refl real in
     at_date text t y m d h year month day x made
 
-pub limit_of-limit : (text : List ℕ) (t : Stamp) → IsLimitAt text t → limit_of text ≡ Some (unix_second t)
-unfolding limit_of
-limit_of-limit text t h =
+pub time_of-stamp : (text : List ℕ) (t : Stamp) → IsStampText text t → time_of text ≡ Some (unix_second t)
+unfolding time_of
+time_of-stamp text t h =
     let s = StandsIn-of text t h in
-    limit_on-limit text t _ _ _ h s.year s.month s.day
+    time_on-stamp text t _ _ _ h s.year s.month s.day
 
--- what is read is a limit
-pub limit-limit_on : (text : List ℕ) (y : ℕ) (o : Option Date) (v : ℤ) → ((x : Date) → o ≡ Some x → pos y ≡ x.year) → limit_on text o ≡ Some v → IsTimeLimit text v
-limit-limit_on text y None v year e = absurd (cc)
-limit-limit_on text y (Some x) v year e = read_at text x (is_limit_at text (stamp_at text x)) refl v (rw (← year x refl) (omega (arith, ints))) e
+-- what is read is the text of a stamp
+pub text-time_on : (text : List ℕ) (y : ℕ) (o : Option Date) (v : ℤ) → ((x : Date) → o ≡ Some x → pos y ≡ x.year) → time_on text o ≡ Some v → IsTimeText text v
+text-time_on text y None v year e = absurd (cc)
+text-time_on text y (Some x) v year e = read_at text x (is_stamp_text text (stamp_at text x)) refl v (rw (← year x refl) (omega (arith, ints))) e
 
-pub limit-limit_of : (text : List ℕ) (v : ℤ) → limit_of text ≡ Some v → IsTimeLimit text v
-unfolding limit_of
-limit-limit_of text v e =
-    let y = 100 * two_at text 7 + two_at text 9 in
-    let m = two_at text 12 in
-    let d = two_at text 15 in
-    limit-limit_on text y (date_of y m d) v (λ x found. (numbers-date_if y m d (is_date y m d) refl x found).0) e
+pub text-time_of : (text : List ℕ) (v : ℤ) → time_of text ≡ Some v → IsTimeText text v
+unfolding time_of
+text-time_of text v e =
+    let y = 100 * two_at text 0 + two_at text 2 in
+    let m = two_at text 5 in
+    let d = two_at text 8 in
+    text-time_on text y (date_of y m d) v (λ x found. (numbers-date_if y m d (is_date y m d) refl x found).0) e
 
--- a text is a time limit exactly where it reads as one
+-- a text is that of a stamp exactly where it reads as one
+pub time_of-exact : (text : List ℕ) (v : ℤ) → (time_of text ≡ Some v) ↔ IsTimeText text v
+time_of-exact text v = (text-time_of text v, (λ (t, h, e). time_of-stamp text t h ∙ ap Some (sym e)))
+
+-- what stands behind a front
+drop-front : (front time : List ℕ) → drop (length front) (front ++ time) ≡ time
+drop-front [] time = refl
+drop-front (x ∷ front) time = drop-front front time
+
+-- the second behind a front, by the test for the front
+bound_if : (front text time : List ℕ) (is_front : Bool) (v : ℤ) → bytes_eq text (front ++ time) ≡ is_front → (if is_front then time_of time else None) ≡ Some v → IsBound front text v
+bound_if front text time true v e is = (time, (bytes_eq-Decides text (front ++ time)).0 e, (time_of-exact time v).0 is)
+bound_if front text time false v e is = absurd (cc)
+
+bound_of-time : (front text time : List ℕ) (v : ℤ) → text ≡ front ++ time → IsTimeText time v → bound_of front text ≡ Some v
+bound_of-time front text time v e h =
+    let rest : drop (length front) text ≡ time = rw e (drop-front front time) in
+    let is : bytes_eq text (front ++ drop (length front) text) ≡ true = (bytes_eq-Decides text (front ++ drop (length front) text)).1 (rw rest e) in
+    rw is (ap time_of rest ∙ (time_of-exact time v).1 h)
+
+-- a text is a bound by a front exactly where it reads as one
+pub bound_of-exact : (front text : List ℕ) (v : ℤ) → (bound_of front text ≡ Some v) ↔ IsBound front text v
+bound_of-exact front text v = (
+  (λ e. bound_if front text (drop (length front) text) (bytes_eq text (front ++ drop (length front) text)) v refl e),
+  (λ (time, e, h). bound_of-time front text time v e h),
+)
+
 pub limit_of-exact : (text : List ℕ) (v : ℤ) → (limit_of text ≡ Some v) ↔ IsTimeLimit text v
-limit_of-exact text v = (limit-limit_of text v, (λ (t, h, e). limit_of-limit text t h ∙ ap Some (sym e)))
+unfolding limit_of
+limit_of-exact text v = bound_of-exact (codes "time < ") text v
+
+pub since_of-exact : (text : List ℕ) (v : ℤ) → (since_of text ≡ Some v) ↔ IsLowerBound text v
+unfolding since_of
+since_of-exact text v = bound_of-exact (codes "time >= ") text v

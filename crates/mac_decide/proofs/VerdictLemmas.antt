@@ -1,5 +1,5 @@
 -- The verdict as a function is the verdict, and there is one.
-use Rattle.std.proofs.Common.{◌≡◌, ◌↔◌, inl, inr, ℕ, suc, ◌+◌, ◌<◌, ℤ, List, [], ◌∷◌, take, length, get_or, Option, Some, None, IsSomeAnd, MatchOption, ◌⊎◌, Bool, true, false, if◌then◌else◌, arith, refl, sym, ap, ◌∙◌}
+use Rattle.std.proofs.Common.{◌≡◌, ◌↔◌, inl, inr, ℕ, suc, ◌+◌, ◌<◌, ℤ, List, [], ◌∷◌, take, length, get_or, Option, Some, None, IsSomeAnd, MatchOption, ◌⊎◌, Bool, true, false, ◌||◌, if◌then◌else◌, arith, refl, sym, ap, ◌∙◌}
 use Rattle.std.specs.List.{list_any, All, slice_get}
 use Rattle.std.specs.Option.{option_to_list}
 use Rattle.std.specs.Str.{bytes_eq}
@@ -16,13 +16,13 @@ use Rattle.mac_token.specs.RawToken.{TokenParts}
 use Rattle.mac_decide.specs.declared.context.Context.{Context}
 use Rattle.mac_decide.specs.declared.verdict.Verdict.{Verdict}
 use Rattle.mac_decide.specs.declared.verdict.Verdict.TheVariants.{Granted, BadSignature, Unsatisfied}
-use Rattle.mac_decide.specs.Reading.{limit_of, is_below, is_satisfied, caveats_verdict, is_minted, verdict_of}
+use Rattle.mac_decide.specs.Reading.{limit_of, since_of, is_below, is_from, is_satisfied, caveats_verdict, is_minted, verdict_of}
 use Rattle.mac_decide.specs.Minted.{Signs, Minted, minted}
 use Rattle.mac_decide.specs.Prepared.{is_given, verdict_by}
-use Rattle.mac_decide.specs.Verdict.{IsBefore, Satisfied, IsFirstUnsatisfied, IsVerdict, found_verdict}
+use Rattle.mac_decide.specs.Verdict.{IsBefore, IsSince, Satisfied, IsFirstUnsatisfied, IsVerdict, found_verdict}
 use Rattle.mac_decide.proofs.WalkLemmas.{found-verdict}
 use Rattle.mac_decide.proofs.KeysLemmas.{Any-here, Any-later, Any-cases, Any-none}
-use Rattle.mac_decide.proofs.ReadingLemmas.{or-cases, or-left, or-right, limit_of-exact}
+use Rattle.mac_decide.proofs.ReadingLemmas.{or-cases, or-left, or-right, limit_of-exact, since_of-exact}
 
 -- a limit that is read and that the moment is below
 pub IsBefore-read : (moment : ℕ) (caveat : List ℕ) (o : Option ℤ) → limit_of caveat ≡ o → is_below moment o ≡ true → IsBefore moment caveat
@@ -32,17 +32,31 @@ IsBefore-read moment caveat (Some v) e below = (v, (limit_of-exact caveat v).0 e
 pub read-IsBefore : (moment : ℕ) (caveat : List ℕ) → IsBefore moment caveat → is_below moment (limit_of caveat) ≡ true
 read-IsBefore moment caveat (v, h, below) = rw ((limit_of-exact caveat v).1 h) (grind (arith, ints))
 
+-- a lower bound that is read and that the moment has reached
+pub IsSince-read : (moment : ℕ) (caveat : List ℕ) (o : Option ℤ) → since_of caveat ≡ o → is_from moment o ≡ true → IsSince moment caveat
+IsSince-read moment caveat None e reached = absurd (false≢true reached)
+IsSince-read moment caveat (Some v) e reached = (v, (since_of-exact caveat v).0 e, grind (arith, ints))
+
+pub read-IsSince : (moment : ℕ) (caveat : List ℕ) → IsSince moment caveat → is_from moment (since_of caveat) ≡ true
+read-IsSince moment caveat (v, h, reached) = rw ((since_of-exact caveat v).1 h) (grind (arith, ints))
+
 -- the test is the statement
 pub is_satisfied-exact : (caveat : List ℕ) (x : Context) → (is_satisfied caveat x ≡ true) ↔ Satisfied caveat x
 unfolding is_satisfied
 is_satisfied-exact caveat x = (
-  (λ e. elim (or-cases (list_any (bytes_eq caveat) x.facts) (is_below x.moment (limit_of caveat)) e) [
+  (λ e. elim (or-cases (list_any (bytes_eq caveat) x.facts) (is_below x.moment (limit_of caveat) || is_from x.moment (since_of caveat)) e) [
     | inl found ↦ inl (Contains-from_any (λ a b. (bytes_eq-Decides a b).0) caveat x.facts found)
-    | inr below ↦ inr (IsBefore-read x.moment caveat (limit_of caveat) refl below)
+    | inr bound ↦ elim (or-cases (is_below x.moment (limit_of caveat)) (is_from x.moment (since_of caveat)) bound) [
+      | inl below ↦ inr (inl (IsBefore-read x.moment caveat (limit_of caveat) refl below))
+      | inr reached ↦ inr (inr (IsSince-read x.moment caveat (since_of caveat) refl reached))
+    ]
   ]),
   (λ h. elim h [
-    | inl has ↦ or-left _ _ (list_any-from_Contains nat_list_eq_equiv caveat x.facts has)
-    | inr before ↦ or-right _ _ (read-IsBefore x.moment caveat before)
+    | inl has ↦ or-left (list_any (bytes_eq caveat) x.facts) _ (list_any-from_Contains nat_list_eq_equiv caveat x.facts has)
+    | inr bound ↦ or-right (list_any (bytes_eq caveat) x.facts) _ (elim bound [
+      | inl before ↦ or-left (is_below x.moment (limit_of caveat)) _ (read-IsBefore x.moment caveat before)
+      | inr since ↦ or-right (is_below x.moment (limit_of caveat)) _ (read-IsSince x.moment caveat since)
+    ])
   ]),
 )
 

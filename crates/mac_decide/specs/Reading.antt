@@ -1,12 +1,12 @@
--- The definitions of time limits and verdicts as functions, for the reply to each job.
-use Rattle.std.specs.Prelude.{◌≡◌, refl, ℕ, zero, suc, ◌+◌, ◌-◌, ◌*◌, ℤ, pos, List, [], ◌∷◌, ◌++◌, codes, slice_index, Option, Some, None, Bool, true, false, ◌&&◌, ◌||◌, nat_lt, int_lt, if◌then◌else◌}
+-- The definitions of bounds of time and verdicts as functions, for the reply to each job.
+use Rattle.std.specs.Prelude.{◌≡◌, refl, ℕ, zero, suc, ◌+◌, ◌-◌, ◌*◌, ℤ, pos, List, [], ◌∷◌, ◌++◌, codes, slice_index, length, drop, Option, Some, None, Bool, true, false, ◌&&◌, ◌||◌, nat_lt, int_lt, int_le, if◌then◌else◌}
 use Rattle.std.specs.List.{list_any}
 use Rattle.std.specs.Str.{bytes_eq}
 use Rattle.jiff.specs.Types.{Date}
 use Rattle.mac_hmac.specs.Chain.{chain}
 use Rattle.mac_token.specs.RawToken.{TokenParts}
 use Rattle.mac_decide.specs.Calendar.{is_date, year_in, month_in, day_in}
-use Rattle.mac_decide.specs.Time.{Stamp, unix_second, two_digits, limit_text}
+use Rattle.mac_decide.specs.Time.{Stamp, unix_second, two_digits, stamp_text}
 use Rattle.mac_decide.specs.declared.context.Context.{Context}
 use Rattle.mac_decide.specs.declared.verdict.Verdict.{Verdict}
 use Rattle.mac_decide.specs.declared.verdict.Verdict.TheVariants.{Granted, BadSignature, Unsatisfied}
@@ -31,11 +31,11 @@ date_of y m d = date_if y m d (is_date y m d) refl
 abbrev pub two_at : List ℕ → ℕ → ℕ
 two_at text i = 10 * (slice_index text i - 48) + (slice_index text (i + 1) - 48)
 
--- the time of day at the places that a time limit has for it; where none stands for the second, it
--- reads as 0
+-- the time of day at the places that a stamp's text has for it; where none stands for the second,
+-- it reads as 0
 abbrev pub stamp_at : List ℕ → Date → Stamp
 stamp_at text d =
-    record { date = d; hour = two_at text 18; minute = two_at text 21; second = two_at text 24 }
+    record { date = d; hour = two_at text 11; minute = two_at text 14; second = two_at text 17 }
 
 -- the endings that leave out a second of 0
 abbrev pub short_endings : ℕ → List (List ℕ)
@@ -46,31 +46,51 @@ short_endings (suc n) = []
 abbrev pub endings : ℕ → List (List ℕ)
 endings n = (codes ":" ++ two_digits n) ∷ (codes ":" ++ two_digits n ++ codes "Z") ∷ short_endings n
 
--- whether the text is a time limit at that stamp
-abbrev pub is_limit_at : List ℕ → Stamp → Bool
-is_limit_at text t = nat_lt t.hour 24 && nat_lt t.minute 60 && nat_lt t.second 60
-    && list_any (λ ending. bytes_eq text (limit_text t ending)) (endings t.second)
+-- whether the text is that of the stamp
+abbrev pub is_stamp_text : List ℕ → Stamp → Bool
+is_stamp_text text t = nat_lt t.hour 24 && nat_lt t.minute 60 && nat_lt t.second 60
+    && list_any (λ ending. bytes_eq text (stamp_text t ending)) (endings t.second)
 
--- the second of the time limit, at the date that was read
-abbrev pub limit_on : List ℕ → Option Date → Option ℤ
-limit_on text None = None
-limit_on text (Some d) =
-    if is_limit_at text (stamp_at text d) then Some (unix_second (stamp_at text d)) else None
+-- the second of the stamp, at the date that was read
+abbrev pub time_on : List ℕ → Option Date → Option ℤ
+time_on text None = None
+time_on text (Some d) =
+    if is_stamp_text text (stamp_at text d) then Some (unix_second (stamp_at text d)) else None
 
--- the second of a time limit: its numbers stand at their places, and the text is what they spell
+-- the second of a stamp: its numbers stand at their places, and the text is what they spell
+unfoldable pub time_of : List ℕ → Option ℤ
+time_of text =
+    let year = 100 * two_at text 0 + two_at text 2 in
+    time_on text (date_of year (two_at text 5) (two_at text 8))
+
+-- the second of the stamp behind the front, where the text has that front
+abbrev pub bound_of : List ℕ → List ℕ → Option ℤ
+bound_of front text =
+    let time = drop (length front) text in
+    if bytes_eq text (front ++ time) then time_of time else None
+
+-- the second of a time limit
 unfoldable pub limit_of : List ℕ → Option ℤ
-limit_of text =
-    let year = 100 * two_at text 7 + two_at text 9 in
-    limit_on text (date_of year (two_at text 12) (two_at text 15))
+limit_of text = bound_of (codes "time < ") text
+
+-- the second of a lower bound of time
+unfoldable pub since_of : List ℕ → Option ℤ
+since_of text = bound_of (codes "time >= ") text
 
 -- whether the moment is below the limit, where there is one
 abbrev pub is_below : ℕ → Option ℤ → Bool
 is_below moment None = false
 is_below moment (Some limit) = int_lt (pos moment) limit
 
+-- whether the moment isn't below the lower bound, where there is one
+abbrev pub is_from : ℕ → Option ℤ → Bool
+is_from moment None = false
+is_from moment (Some bound) = int_le bound (pos moment)
+
 -- whether the caveat is satisfied
 unfoldable pub is_satisfied : List ℕ → Context → Bool
-is_satisfied caveat x = list_any (bytes_eq caveat) x.facts || is_below x.moment (limit_of caveat)
+is_satisfied caveat x = list_any (bytes_eq caveat) x.facts
+    || (is_below x.moment (limit_of caveat) || is_from x.moment (since_of caveat))
 
 -- the verdict on the caveats from an index on
 unfoldable pub caveats_verdict : Context → ℕ → List (List ℕ) → Verdict

@@ -1,4 +1,4 @@
--- Time limits: the caveats that hold until a second of the calendar.
+-- Bounds of time: the caveats that hold until a second of the calendar, or from one on.
 use Rattle.std.specs.Prelude.{◌≡◌, ℕ, ◌+◌, ◌*◌, ◌/◌, ◌%◌, ◌<◌, ◌⊎◌, ℤ, pos, ◌+ℤ◌, ◌*ℤ◌, ◌≤ℤ◌, unsigned_abs, List, [], ◌∷◌, ◌++◌, codes}
 use Rattle.jiff.specs.Types.{Date}
 use Rattle.jiff.specs.Words.{epoch_day}
@@ -40,10 +40,9 @@ date_text d =
 abbrev pub clock_text : ℕ → ℕ → List ℕ
 clock_text hour minute = two_digits hour ++ codes ":" ++ two_digits minute
 
--- the text of a time limit at a stamp, with what follows the minute
-abbrev pub limit_text : Stamp → List ℕ → List ℕ
-limit_text t ending =
-    codes "time < " ++ date_text t.date ++ codes "T" ++ clock_text t.hour t.minute ++ ending
+-- YYYY-MM-DDTHH:MM, with what follows the minute
+abbrev pub stamp_text : Stamp → List ℕ → List ℕ
+stamp_text t ending = date_text t.date ++ codes "T" ++ clock_text t.hour t.minute ++ ending
 
 -- :SS, or nothing where the second is 0
 abbrev pub SpellsSecond : ℕ → List ℕ → Type 0
@@ -59,13 +58,25 @@ IsEnding n text =
     (second : List ℕ) × (zone : List ℕ) × SpellsSecond n second × MarksUtc zone
     × (text ≡ second ++ zone)
 
--- the text is a time limit at that stamp
-pub record IsLimitAt (text : List ℕ) (t : Stamp) : Type 0 where
+-- the text is that of the stamp
+pub record IsStampText (text : List ℕ) (t : Stamp) : Type 0 where
   pub writable : IsWritable t
   pub ending : List ℕ
   pub is_ending : IsEnding t.second ending
-  pub is_text : text ≡ limit_text t ending
+  pub is_text : text ≡ stamp_text t ending
+
+-- the text is that of a stamp, and v is its second
+abbrev pub IsTimeText : List ℕ → ℤ → Type 0
+IsTimeText text v = (t : Stamp) × IsStampText text t × (v ≡ unix_second t)
+
+-- the text is the front and the text of a stamp, and v is its second
+abbrev pub IsBound : List ℕ → List ℕ → ℤ → Type 0
+IsBound front text v = (time : List ℕ) × (text ≡ front ++ time) × IsTimeText time v
 
 -- the text is a time limit, and v is its second
 abbrev pub IsTimeLimit : List ℕ → ℤ → Type 0
-IsTimeLimit text v = (t : Stamp) × IsLimitAt text t × (v ≡ unix_second t)
+IsTimeLimit = IsBound (codes "time < ")
+
+-- the text is a lower bound of time, and v is its second
+abbrev pub IsLowerBound : List ℕ → ℤ → Type 0
+IsLowerBound = IsBound (codes "time >= ")

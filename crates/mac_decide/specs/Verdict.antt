@@ -1,9 +1,9 @@
 -- What a name's keys accept (NDSS 2014): the chain of signatures, and caveats that hold in a
 -- context.
-use Rattle.std.specs.Prelude.{◌⊎◌, ℕ, ℤ, pos, ◌<ℤ◌, List, take, slice_get, Option, Some, None, IsSomeAnd, Contains, All}
+use Rattle.std.specs.Prelude.{◌⊎◌, ℕ, ℤ, pos, ◌<ℤ◌, ◌≤ℤ◌, List, take, slice_get, Option, Some, None, IsSomeAnd, Contains, All}
 use Rattle.mac_token.specs.RawToken.{TokenParts}
 use Rattle.mac_decide.specs.Minted.{Minted}
-use Rattle.mac_decide.specs.Time.{IsTimeLimit}
+use Rattle.mac_decide.specs.Time.{IsTimeLimit, IsLowerBound}
 use Rattle.mac_decide.specs.declared.context.Context.{Context}
 use Rattle.mac_decide.specs.declared.verdict.Verdict.{Verdict}
 use Rattle.mac_decide.specs.declared.verdict.Verdict.TheVariants.{Granted, BadSignature, Unsatisfied}
@@ -12,9 +12,14 @@ use Rattle.mac_decide.specs.declared.verdict.Verdict.TheVariants.{Granted, BadSi
 abbrev pub IsBefore : ℕ → List ℕ → Type 0
 IsBefore moment caveat = (limit : ℤ) × IsTimeLimit caveat limit × (pos moment <ℤ limit)
 
--- the caveat is one of the facts, or a time limit that isn't reached
+-- the caveat is a lower bound of time, and the moment isn't below it
+abbrev pub IsSince : ℕ → List ℕ → Type 0
+IsSince moment caveat = (bound : ℤ) × IsLowerBound caveat bound × (bound ≤ℤ pos moment)
+
+-- the caveat is one of the facts, a time limit that isn't reached, or a lower bound that is
 abbrev pub Satisfied : List ℕ → Context → Type 0
-Satisfied caveat x = Contains x.facts caveat ⊎ IsBefore x.moment caveat
+Satisfied caveat x =
+    Contains x.facts caveat ⊎ IsBefore x.moment caveat ⊎ IsSince x.moment caveat
 
 -- the keys grant the token in the context: one of them gives the signature, and each caveat is
 -- satisfied

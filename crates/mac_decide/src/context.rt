@@ -1,11 +1,11 @@
 //! What a caveat is judged by.
 
-ghost use Rattle.std.specs.Prelude.{◌≡◌, ◌↔◌, IsTrue};
+ghost use Rattle.std.specs.Prelude.{◌≡◌, ◌↔◌, ◌⊎◌, IsTrue};
 ghost use Rattle.std.specs.List.{list_any};
 ghost use Rattle.std.specs.Str.{bytes_eq};
-ghost use Rattle.mac_decide.specs.Verdict.{IsBefore, Satisfied};
+ghost use Rattle.mac_decide.specs.Verdict.{IsBefore, IsSince, Satisfied};
 
-use crate::time::time_limit;
+use crate::time::{time_limit, time_since};
 use mac_wire::FieldList;
 
 /// What the verifier knows: the moment, in seconds since 1970-01-01T00:00:00Z, and facts, where
@@ -29,6 +29,27 @@ fn is_before(moment: u64, caveat: &[u8]) -> bool
     }
 }
 
+/// Whether the moment has reached the lower bound of time that the caveat is.
+fn is_since(moment: u64, caveat: &[u8]) -> bool
+    ensures { IsTrue result ↔ IsSince moment caveat.now }
+{
+    match time_since(caveat) {
+        Some(bound) => match u64::try_from(bound) {
+            Ok(bound) => bound <= moment,
+            Err(_) => true,
+        },
+        None => false,
+    }
+}
+
+/// Whether the caveat is a bound of time that the moment keeps. Any other caveat costs a look at its
+/// first bytes.
+fn is_in_time(moment: u64, caveat: &[u8]) -> bool
+    ensures { IsTrue result ↔ (IsBefore moment caveat.now ⊎ IsSince moment caveat.now) }
+{
+    caveat.starts_with(b"time ") && (is_before(moment, caveat) || is_since(moment, caveat))
+}
+
 /// Whether the caveat is one of the facts.
 fn is_fact(caveat: &[u8], facts: &FieldList<'_>) -> bool
     ensures { result ≡ list_any (bytes_eq caveat.now) facts.now }
@@ -36,10 +57,11 @@ fn is_fact(caveat: &[u8], facts: &FieldList<'_>) -> bool
     facts.walk().any(|fact| caveat == fact)
 }
 
-/// Whether the caveat is satisfied: it is one of the facts, or a time limit that the moment is
-/// below. It costs the facts times the first byte in which one differs, and takes no memory.
+/// Whether the caveat is satisfied: it is one of the facts, a time limit that the moment is below,
+/// or a lower bound of time that it isn't below. It costs the facts times the first byte in which
+/// one differs, and takes no memory.
 pub fn satisfied(caveat: &[u8], context: &Context<'_>) -> bool
     ensures { IsTrue result ↔ Satisfied caveat.now context.now }
 {
-    is_fact(caveat, &context.facts) || is_before(context.moment, caveat)
+    is_fact(caveat, &context.facts) || is_in_time(context.moment, caveat)
 }

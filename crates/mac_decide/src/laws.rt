@@ -1,6 +1,6 @@
 //! Laws of the definitions, as functions whose contracts state them.
 
-ghost use Rattle.std.specs.Prelude.{◌≡◌, ◌↔◌, ℕ, ℤ, List, [], ◌∷◌, ◌++◌, Option, All, Contains, map as map_list};
+ghost use Rattle.std.specs.Prelude.{◌≡◌, ◌↔◌, ℕ, ◌≤◌, ℤ, List, [], ◌∷◌, ◌++◌, Option, All, Contains, map as map_list};
 ghost use Rattle.mac_lane.specs.declared.event.Event as event;
 ghost use Rattle.mac_lane.specs.History.{IsBeginningOf, Reaches};
 ghost use Rattle.mac_lane.specs.State.{Connection};
@@ -20,8 +20,8 @@ ghost use Rattle.mac_decide.specs.declared.job.Job.{Job as PlainJob};
 ghost use Rattle.mac_decide.specs.World.{job_under};
 ghost use Rattle.mac_decide.specs.Answer.{reply_of, answer_of, IsGranted};
 ghost use Rattle.mac_decide.specs.Minted.{Signs, Minted, minted, add};
-ghost use Rattle.mac_decide.specs.Reading.{limit_of, verdict_of};
-ghost use Rattle.mac_decide.specs.Time.{IsTimeLimit};
+ghost use Rattle.mac_decide.specs.Reading.{limit_of, since_of, verdict_of};
+ghost use Rattle.mac_decide.specs.Time.{IsTimeLimit, IsLowerBound};
 ghost use Rattle.mac_decide.specs.Verdict.{Satisfied, Accepts, IsVerdict};
 
 use crate::macaroons::Macaroons;
@@ -73,10 +73,23 @@ pub fn facts_only_help()
         → Accepts keys t x → Accepts keys t (record x { facts = facts }) }
 {}
 
-/// A token none of whose caveats is a time limit is accepted at every moment or at none.
+/// A token none of whose caveats is a time limit or a lower bound of time is accepted at every moment
+/// or at none.
 pub fn timeless_at_every_moment()
     ensures { (keys : List (List ℕ)) (t : TokenParts) (x : PlainContext) (moment : ℕ)
-        → All (λ caveat. (v : ℤ) → ¬ (IsTimeLimit caveat v)) t.caveats
+        → All (λ caveat. (v : ℤ) → ¬ (IsTimeLimit caveat v) × ¬ (IsLowerBound caveat v)) t.caveats
+        → Accepts keys t x → Accepts keys t (record x { moment = moment }) }
+{}
+
+/// A time limit only ends what a token grants, and a lower bound only begins it: an accepted token
+/// without a lower bound was accepted at each earlier moment, and one without a time limit stays
+/// accepted at each later one.
+pub fn bounds_begin_and_end()
+    ensures earlier { (keys : List (List ℕ)) (t : TokenParts) (x : PlainContext) (moment : ℕ)
+        → moment ≤ x.moment → All (λ caveat. (v : ℤ) → ¬ (IsLowerBound caveat v)) t.caveats
+        → Accepts keys t x → Accepts keys t (record x { moment = moment }) }
+    ensures later { (keys : List (List ℕ)) (t : TokenParts) (x : PlainContext) (moment : ℕ)
+        → x.moment ≤ moment → All (λ caveat. (v : ℤ) → ¬ (IsTimeLimit caveat v)) t.caveats
         → Accepts keys t x → Accepts keys t (record x { moment = moment }) }
 {}
 
@@ -148,6 +161,11 @@ pub fn replies_can_be_sent()
 /// A text is a time limit exactly where it reads as one.
 pub fn time_limit_reads()
     ensures { (text : List ℕ) (v : ℤ) → (limit_of text ≡ Some v) ↔ IsTimeLimit text v }
+{}
+
+/// A text is a lower bound of time exactly where it reads as one.
+pub fn time_since_reads()
+    ensures { (text : List ℕ) (v : ℤ) → (since_of text ≡ Some v) ↔ IsLowerBound text v }
 {}
 
 /// A token has one verdict, and the function gives it.

@@ -25,6 +25,6 @@ pub use macaroons::Macaroons;
 pub use minting::{attenuate, mint};
 pub use reply::answer;
 pub use side_by_side::answer_all;
-pub use time::time_limit;
+pub use time::{time_limit, time_since};
 pub use verdict::{Verdict, verify};
 pub use verdict_view::verify_view;

@@ -1,9 +1,9 @@
-//! Time limits, read from the front of their text.
+//! Bounds of time, read from the front of their text.
 
 ghost use Rattle.std.specs.Prelude.{◌≡◌, ℕ, ◌+◌, ◌*◌, ◌<◌, ℤ, pos, ◌+ℤ◌, ◌*ℤ◌, ◌≤ℤ◌, ◌↔◌, List, [], ◌∷◌, ◌++◌, MatchOption, codes};
 ghost use Rattle.jiff.specs.Types.{Date as PlainDate};
 ghost use Rattle.jiff.specs.Words.{epoch_day, IsDate, IsYmd};
-ghost use Rattle.mac_decide.specs.Time.{two_digits, four_digits, date_text, clock_text, IsEnding, IsTimeLimit};
+ghost use Rattle.mac_decide.specs.Time.{two_digits, four_digits, date_text, clock_text, IsEnding, IsTimeText, IsBound, IsTimeLimit, IsLowerBound};
 
 use jiff::civil::Date;
 
@@ -13,7 +13,29 @@ use jiff::civil::Date;
 pub fn time_limit(caveat: &[u8]) -> Option<i64>
     ensures { (v : ℤ) → (result ≡ Some v) ↔ IsTimeLimit caveat.now v }
 {
-    let text = caveat.strip_prefix(b"time < ")?;
+    bound_second(b"time < ", caveat)
+}
+
+/// The second from which on the caveat holds, from 1970-01-01T00:00:00Z, where it is a lower bound:
+/// `time >= ` and a time as a time limit has it. It is negative before 1970.
+pub fn time_since(caveat: &[u8]) -> Option<i64>
+    ensures { (v : ℤ) → (result ≡ Some v) ↔ IsLowerBound caveat.now v }
+{
+    bound_second(b"time >= ", caveat)
+}
+
+/// The second of the time behind the front of a text.
+fn bound_second(front: &[u8], text: &[u8]) -> Option<i64>
+    ensures { (v : ℤ) → (result ≡ Some v) ↔ IsBound front.now text.now v }
+{
+    let time = text.strip_prefix(front)?;
+    time_second(time)
+}
+
+/// The second of a time, from 1970-01-01T00:00:00Z.
+fn time_second(text: &[u8]) -> Option<i64>
+    ensures { (v : ℤ) → (result ≡ Some v) ↔ IsTimeText text.now v }
+{
     let (day, text) = day_number(text)?;
     let (minute_start, text) = minute_start(text)?;
     let second = second(text)?;

@@ -8,9 +8,9 @@ returns-then-is_fact c = ((λ e. inl (Contains-found _ _ (sym c.is_fact.ensures 
 
 pub returns-else-is_fact : goal.returns-else-is_fact
 returns-else-is_fact c = (
-  (λ e. inr (c.is_before.ensures.0 e)),
+  (λ e. inr (c.is_in_time.ensures.0 e)),
   (λ h. elim h [
     | inl has ↦ absurd (false≢true (sym c.if-is_fact.false ∙ c.is_fact.ensures ∙ found-Contains _ _ has))
-    | inr before ↦ c.is_before.ensures.1 before
+    | inr bound ↦ c.is_in_time.ensures.1 bound
   ]),
 )
