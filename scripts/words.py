@@ -29,8 +29,14 @@ DIGITS = (
     "e3d9e02908526c4c0039ae15114115d97fdd68bf2ba379b342aaf0f617d0552f"
 )
 THIRD_PARTY = "0202016b0001056120623a2f0202610a04017600000620" + "00" * 32
+# TOKEN with the caveat SINCE.
+LATER = (
+    "AgEOaHR0cDovL215YmFuay8CFndlIHVzZWQgb3VyIHNlY3JldCBrZXkAAhh0aW1lID49IDIwMjAtMDEtMDFUMDA6MDAAAAYg"
+    "GwyaOE9HBtkzAVTzRdSm7ZnFk9GB_Z8Nlhckrm11sq0"
+)
 ACCOUNT = "account = 3735928559"
 LIMIT = "time < 2030-01-01T00:00"
+SINCE = "time >= 2020-01-01T00:00"
 MINT = ["mint", "--keys", KEYS, "--key", "bank", "--location", "http://mybank/"]
 IDENTIFIER = ["--identifier", "we used our secret key"]
 NO_TEXT = "refused 19: the token is neither a bare form nor base64 text\n"
@@ -51,6 +57,12 @@ def verify(*words, keys=KEYS, key="bank", token=NARROW):
 
 def good(printed):
     return Ending(0, printed, "")
+
+
+def inspected(*caveats):
+    """What is told of a token of the README with these caveats, up to its signature."""
+    front = "form: base64 text of version 2 binary\nlocation: http://mybank/\nidentifier: we used our secret key\n"
+    return good(front + "".join(f"caveat {place}: {caveat}\n" for place, caveat in enumerate(caveats)) + "signature: ")
 
 
 def refused(printed):
@@ -85,7 +97,14 @@ RIGHT = {
         Case("", verify("--fact", ACCOUNT, "--at", "2030-01-01T00:00:00Z")),
         Ending(1, f"refused 24: caveat 1 is not satisfied: {LIMIT}\n", ""),
     ),
-    "inspect": (Case("", ["inspect", NARROW]), good("form: base64 text of version 2 binary\nlocation: http://mybank/\n")),
+    "attenuate_since": (Case("", ["attenuate", "--caveat", SINCE, TOKEN]), good(LATER + "\n")),
+    "in_time": (Case("", verify("--at", "2020-01-01T00:00", token=LATER)), good("granted\n")),
+    "too_early": (
+        Case("", verify("--at", "1577836799", token=LATER)),
+        Ending(1, f"refused 24: caveat 0 is not satisfied: {SINCE}\n", ""),
+    ),
+    "inspect": (Case("", ["inspect", NARROW]), inspected(ACCOUNT, f"{LIMIT} (holds before second 1893456000 since 1970)")),
+    "inspect_since": (Case("", ["inspect", LATER]), inspected(f"{SINCE} (holds from second 1577836800 since 1970)")),
     "help": (Case("", ["mint", "--help"]), good("Prints a new token\n")),
 }
 

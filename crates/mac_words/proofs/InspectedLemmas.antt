@@ -1,12 +1,12 @@
 -- The text of a token that is looked at, as it is put together.
-use Rattle.std.proofs.Common.{◌≡◌, ◌∙◌, ℕ, ℤ, suc, ◌+◌, ◌<◌, ◌↔◌, inl, inr, List, [], ◌∷◌, ◌++◌, length, get_or, Option, Some, None, refl, sym, ap, subst, add-one}
+use Rattle.std.proofs.Common.{◌≡◌, ◌∙◌, ℕ, ℤ, suc, ◌+◌, ◌<◌, ◌↔◌, inl, inr, List, [], ◌∷◌, ◌++◌, length, get_or, Option, Some, None, refl, sym, ap, subst, add-one, append-nil}
 use Rattle.std.specs.List.{slice_get}
 use Rattle.std.proofs.lemmas.Option.{slice_get_read}
-use Rattle.mac_decide.specs.Time.{IsTimeLimit}
+use Rattle.mac_decide.specs.Time.{IsTimeLimit, IsLowerBound}
 use Rattle.mac_token.specs.RawToken.{CaveatParts, RawParts}
 use Rattle.mac_words.specs.Escaped.{escaped}
 use Rattle.mac_words.proofs.Appends.{two, three}
-use Rattle.mac_words.specs.Inspected.{AreBareWords, AreLines, AreWords, IsCaveatLine, IsInspected, caveat_front, head_text, limit_words, place_words, tail_text, third_party}
+use Rattle.mac_words.specs.Inspected.{AreBareWords, AreBoundWords, AreLines, AreWords, IsCaveatLine, IsInspected, caveat_front, head_text, limit_words, place_words, since_words, tail_text, third_party}
 
 -- lines behind what was there
 abbrev pub Adds : (List ℕ → Type 0) → List ℕ → List ℕ → Type 0
@@ -33,15 +33,21 @@ pub line_made : (place : ℕ) (c : CaveatParts) (o0 o1 o2 o3 : List ℕ) → o1 
 line_made place c o0 o1 o2 o3 e1 (words, are, e2) e3 =
     (caveat_front place ++ (words ++ 10 ∷ []), (words, are, refl), three o0 o1 o2 o3 (caveat_front place) words (10 ∷ []) e1 e2 e3)
 
-pub limit_told : (id : List ℕ) (second : ℤ) (o0 o1 o2 : List ℕ) → ((v : ℤ) → (◌≡◌ {A = Option ℤ} (Some second) (Some v)) ↔ IsTimeLimit id v) → o1 ≡ o0 ++ escaped id → o2 ≡ o1 ++ limit_words second → Adds (AreBareWords id) o0 o2
-limit_told id second o0 o1 o2 limit e1 e2 =
-    (escaped id ++ limit_words second, inl (second, (limit second).0 refl, refl), two o0 o1 o2 (escaped id) (limit_words second) e1 e2)
+-- a text that is told apart is no bound
+never : (P : ℤ → Type 0) → ((v : ℤ) → (◌≡◌ {A = Option ℤ} None (Some v)) ↔ P v) → (v : ℤ) → ¬ (P v)
+never P exact v at = let same : ◌≡◌ {A = Option ℤ} None (Some v) = (exact v).1 at in cc
 
-pub none_told : (id o0 o1 : List ℕ) → ((v : ℤ) → (◌≡◌ {A = Option ℤ} None (Some v)) ↔ IsTimeLimit id v) → o1 ≡ o0 ++ escaped id → Adds (AreBareWords id) o0 o1
-none_told id o0 o1 limit e1 = (escaped id, inr (never, refl), e1)
-  where
-    never : (v : ℤ) → IsTimeLimit id v → ⊥
-    never v at = let same : ◌≡◌ {A = Option ℤ} None (Some v) = (limit v).1 at in cc
+pub limit_told : (id : List ℕ) (second : ℤ) (o0 o1 : List ℕ) → ((v : ℤ) → (◌≡◌ {A = Option ℤ} (Some second) (Some v)) ↔ IsTimeLimit id v) → o1 ≡ o0 ++ limit_words second → Adds (AreBoundWords id) o0 o1
+limit_told id second o0 o1 limit e1 = (limit_words second, inl (second, (limit second).0 refl, refl), e1)
+
+pub since_told : (id : List ℕ) (second : ℤ) (o0 o1 : List ℕ) → ((v : ℤ) → (◌≡◌ {A = Option ℤ} (Some second) (Some v)) ↔ IsLowerBound id v) → o1 ≡ o0 ++ since_words second → Adds (AreBoundWords id) o0 o1
+since_told id second o0 o1 since e1 = (since_words second, inr (inl (second, (since second).0 refl, refl)), e1)
+
+pub none_told : (id o0 : List ℕ) → ((v : ℤ) → (◌≡◌ {A = Option ℤ} None (Some v)) ↔ IsTimeLimit id v) → ((v : ℤ) → (◌≡◌ {A = Option ℤ} None (Some v)) ↔ IsLowerBound id v) → Adds (AreBoundWords id) o0 o0
+none_told id o0 limit since = ([], inr (inr ((λ v. (never (IsTimeLimit id) limit v, never (IsLowerBound id) since v)), refl)), sym (append-nil o0))
+
+pub bare_told : (id o0 o1 o2 : List ℕ) → o1 ≡ o0 ++ escaped id → Adds (AreBoundWords id) o1 o2 → Adds (AreBareWords id) o0 o2
+bare_told id o0 o1 o2 e1 (bound, are, e2) = (escaped id ++ bound, (bound, are, refl), two o0 o1 o2 (escaped id) bound e1 e2)
 
 pub third_told : (vid : List ℕ) (place : Option (List ℕ)) (id : List ℕ) (o0 o1 o2 o3 : List ℕ) → o1 ≡ o0 ++ third_party → o2 ≡ o1 ++ place_words place → o3 ≡ o2 ++ escaped id → Adds (AreWords (Some vid) place id) o0 o3
 third_told vid place id o0 o1 o2 o3 e1 e2 e3 =

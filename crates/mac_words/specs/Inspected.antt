@@ -4,7 +4,7 @@ use Rattle.std.specs.Fmt.{decimal, signed_decimal}
 use Rattle.std.specs.declared.alloc.Global.{Global}
 use Rattle.std.specs.declared.vec.Vec.{Vec}
 use Rattle.hex.specs.Hex.{encode_lower}
-use Rattle.mac_decide.specs.Time.{IsTimeLimit}
+use Rattle.mac_decide.specs.Time.{IsTimeLimit, IsLowerBound}
 use Rattle.mac_token.specs.RawToken.{CaveatParts, RawParts}
 use Rattle.mac_token.specs.Read.{raw_read_of}
 use Rattle.mac_token.specs.declared.fault.TokenFault.{TokenFault}
@@ -12,14 +12,28 @@ use Rattle.mac_token.specs.declared.fault.TokenFault.TheVariants as fault
 use Rattle.mac_words.specs.Escaped.{escaped}
 use Rattle.mac_words.specs.Spelling.{spelling_name, spelling_of}
 
+-- words with a second
+abbrev pub second_words : List ℕ → ℤ → List ℕ
+second_words front v = front ++ (signed_decimal v ++ codes " since 1970)")
+
 -- what a time limit of this second means
 unfoldable pub limit_words : ℤ → List ℕ
-limit_words v = codes " (holds before second " ++ (signed_decimal v ++ codes " since 1970)")
+limit_words v = second_words (codes " (holds before second ") v
 
--- the words of a first-party caveat: its bytes, and what a time limit means
+-- what a lower bound of time of this second means
+unfoldable pub since_words : ℤ → List ℕ
+since_words v = second_words (codes " (holds from second ") v
+
+-- what is told behind a caveat: what it means as a bound of time, and nothing where it is none
+abbrev pub AreBoundWords : List ℕ → List ℕ → Type 0
+AreBoundWords id words = ((v : ℤ) × IsTimeLimit id v × (words ≡ limit_words v))
+    ⊎ ((v : ℤ) × IsLowerBound id v × (words ≡ since_words v))
+    ⊎ (((v : ℤ) → ¬ (IsTimeLimit id v) × ¬ (IsLowerBound id v)) × (words ≡ []))
+
+-- the words of a first-party caveat: its bytes, and what a bound of time means
 abbrev pub AreBareWords : List ℕ → List ℕ → Type 0
-AreBareWords id words = ((v : ℤ) × IsTimeLimit id v × (words ≡ escaped id ++ limit_words v))
-    ⊎ (((v : ℤ) → ¬ (IsTimeLimit id v)) × (words ≡ escaped id))
+AreBareWords id words =
+    (bound : List ℕ) × AreBoundWords id bound × (words ≡ escaped id ++ bound)
 
 -- a location, if there is one
 unfoldable pub place_words : Option (List ℕ) → List ℕ

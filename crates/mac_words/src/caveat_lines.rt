@@ -2,12 +2,13 @@
 
 ghost use Rattle.std.specs.Prelude.{◌≡◌, ◌++◌, List, ℕ, length, OnOk, None, Some};
 ghost use Rattle.std.specs.Fmt.{signed_decimal};
-ghost use Rattle.mac_words.specs.Inspected.{AreBareWords, AreLines, AreWords, IsCaveatLine};
-ghost use Rattle.mac_words.specs.Inspected.{caveat_front, limit_words, place_words, third_party};
+ghost use Rattle.mac_words.specs.Inspected.{AreBareWords, AreBoundWords, AreLines, AreWords, IsCaveatLine};
+ghost use Rattle.mac_words.specs.Inspected.{caveat_front, limit_words, second_words, since_words};
+ghost use Rattle.mac_words.specs.Inspected.{place_words, third_party};
 ghost use Rattle.mac_token.specs.RawToken.{bytes_of, text_of};
 
 use crate::escaped::append_escaped;
-use mac_decide::time_limit;
+use mac_decide::{time_limit, time_since};
 use mac_token::RawCaveat;
 use mac_wire::NoMemory;
 use std::alloc::Global;
@@ -143,19 +144,52 @@ fn append_bare(alloc: Global, id: &[u8], out: &mut Vec<u8>) -> Result<(), NoMemo
         × (out.new.items ≡ out.old.items ++ words)) }
 {
     append_escaped(id, out)?;
+    append_bound(alloc, id, out)?;
+    Ok(())
+}
+
+fn append_bound(alloc: Global, id: &[u8], out: &mut Vec<u8>) -> Result<(), NoMemory>
+    ensures { OnOk result ((words : List ℕ) × AreBoundWords id.now words
+        × (out.new.items ≡ out.old.items ++ words)) }
+{
     match time_limit(id) {
         Some(second) => {
             append_limit(alloc, second, out)?;
             Ok(())
         }
-        None => Ok(()),
+        None => match time_since(id) {
+            Some(second) => {
+                append_since(alloc, second, out)?;
+                Ok(())
+            }
+            None => Ok(()),
+        },
     }
 }
 
+#[tactic(auto, unfolding(crate::specs::Inspected::limit_words))]
 fn append_limit(alloc: Global, second: i64, out: &mut Vec<u8>) -> Result<(), NoMemory>
     ensures { OnOk result (out.new.items ≡ out.old.items ++ limit_words second) }
 {
-    out.extend_from_slice(b" (holds before second ")?;
+    append_second(alloc, b" (holds before second ", second, out)
+}
+
+#[tactic(auto, unfolding(crate::specs::Inspected::since_words))]
+fn append_since(alloc: Global, second: i64, out: &mut Vec<u8>) -> Result<(), NoMemory>
+    ensures { OnOk result (out.new.items ≡ out.old.items ++ since_words second) }
+{
+    append_second(alloc, b" (holds from second ", second, out)
+}
+
+fn append_second(
+    alloc: Global,
+    front: &[u8],
+    second: i64,
+    out: &mut Vec<u8>,
+) -> Result<(), NoMemory>
+    ensures { OnOk result (out.new.items ≡ out.old.items ++ second_words front.now second) }
+{
+    out.extend_from_slice(front)?;
     append_signed(alloc, second, out)?;
     out.extend_from_slice(b" since 1970)")?;
     Ok(())

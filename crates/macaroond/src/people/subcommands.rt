@@ -60,9 +60,10 @@ Exit status:
 /// What the help of `verify` says below its options.
 const VERIFY_HELP: &str = "\
 Prints `granted`, or `refused`, the number of the reason and the reason. A caveat holds where it is
-one of the facts, or a time limit `time < 2030-01-01T00:00` that isn't over. TOKEN is the token's
-text, `hex:` and its digits, or - for one line of standard input. MOMENT is a number of seconds
-since 1970, or a time as 2026-01-31T12:00:00Z.
+one of the facts, a time limit `time < 2030-01-01T00:00` that isn't over, or a lower bound of time
+`time >= 2026-01-01T00:00` that has come. TOKEN is the token's text, `hex:` and its digits, or - for
+one line of standard input. MOMENT is a number of seconds since 1970, or a time as
+2026-01-31T12:00:00Z.
 
 Example:
   macaroond verify --keys keys --key bank --fact 'account = 3735928559' \"$token\"

@@ -1,12 +1,5 @@
-use Rattle.std.proofs.Common.{rules, FitsSigned, w64}
-use Rattle.std.proofs.lemmas.Int.{to_z-of_z}
-use Rattle.mac_words.proofs.InspectedLemmas.{limit_told, none_told}
+use Rattle.mac_words.proofs.InspectedLemmas.{bare_told}
 use Rattle.mac_words.proofs.caveat_lines.append_bare.Goals as goal
 
-pub returns-in_ok-append_limit-in-Some : goal.returns-in_ok-append_limit-in-Some
-returns-in_ok-append_limit-in-Some c =
-    let fits : FitsSigned w64 c.in-Some.second = search rules in
-    limit_told c.args.id.now c.in-Some.second _ _ _ (rw c.in-Some.is at c.time_limit.ensures) c.in_ok-append_escaped.ensures (rw (to_z-of_z w64 c.in-Some.second fits) at c.in_ok-append_limit-in-Some.ensures)
-
-pub returns-in-None : goal.returns-in-None
-returns-in-None c = none_told c.args.id.now _ _ (rw c.in-None.is at c.time_limit.ensures) c.in_ok-append_escaped.ensures
+pub returns : goal.returns
+returns c = bare_told c.args.id.now _ _ _ c.in_ok-append_escaped.ensures c.in_ok-append_bound.ensures
