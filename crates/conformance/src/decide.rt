@@ -6,7 +6,9 @@ use crate::case::{Case, CaseFault};
 use crate::keys::table;
 use crate::token::{next_token, say_parts, say_refusal, say_written, token_of};
 use crate::verdicts::say_verdicts;
-use mac_decide::{Context, answer, answer_all, attenuate, job_of, mint, satisfied, time_limit};
+use mac_decide::{
+    Context, answer, answer_all, attenuate, job_of, mint, satisfied, time_limit, time_since,
+};
 use mac_hmac::root_key;
 use mac_token::{Form, Token, TokenFault, write};
 use mac_wire::{Arrival, Bytes, FieldList, Reply, reply_bytes};
@@ -15,7 +17,7 @@ use std::alloc::Global;
 /// Tells what a case comes to, if it is one of these kinds.
 pub(crate) fn tells(case: &mut Case<'_>, kind: &str) -> bool {
     match kind.as_bytes() {
-        b"time" => limit(case),
+        b"time" => bound(case),
         b"satisfied" => is_satisfied(case),
         b"add" => narrowed(case),
         b"token" => agreement(case),
@@ -27,12 +29,14 @@ pub(crate) fn tells(case: &mut Case<'_>, kind: &str) -> bool {
     true
 }
 
-/// The second of a time limit.
-fn limit(case: &mut Case<'_>) {
+/// The second of a time limit or of a lower bound of time.
+fn bound(case: &mut Case<'_>) {
     let caveat = case.bytes();
-    match time_limit(&caveat) {
-        Some(second) => case.tell(format!(in case.alloc; "second {second}")),
-        None => case.say("none"),
+    match (time_limit(&caveat), time_since(&caveat)) {
+        (Some(second), None) => case.tell(format!(in case.alloc; "second {second}")),
+        (None, Some(second)) => case.tell(format!(in case.alloc; "from second {second}")),
+        (Some(_), Some(_)) => case.say("both"),
+        (None, None) => case.say("none"),
     }
 }
 

@@ -51,7 +51,7 @@ pub(crate) fn outcome(alloc: Global, line: &str) -> Result<String, AllocError> {
 /// push TOKEN CAVEAT,..: the token with more caveats, or the refusal and the token
 /// texts: the number and the text of each fault of a token
 /// cuts TOKEN: the refusal of each front part, in runs
-/// time CAVEAT: the second of a time limit, or `none`
+/// time CAVEAT: the second of a time limit or, behind `from`, of a lower bound, or `none`
 /// satisfied CAVEAT MOMENT FACT,..: `satisfied` or `unsatisfied`
 /// add FORM TOKEN CAVEAT,..: the token with caveats, or the refusal
 /// token FORM SECRET LOCATION IDENTIFIER CAVEAT,.. TOKEN: how a token agrees with its parts
