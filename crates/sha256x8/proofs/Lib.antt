@@ -1,4 +1,5 @@
 pub mod LaneWise
 mod Majority
+mod Rotations
 pub mod PaddedBlocks
 pub mod HashAfter

@@ -1,14 +1,18 @@
--- Several messages side by side: each word is a vector, with one lane for each message.
+-- Several messages side by side: of each word there is a row, with one lane for each message.
 use Rattle.std.specs.Prelude.{ℕ, ◌<◌, ◌^◌, List, [], ◌∷◌, map, slice_index, slice_index_or}
 use Rattle.std.specs.Borrow.{Bor}
-
--- the words of message j
-abbrev pub lane : ℕ → List (List ℕ) → List ℕ
-lane j x = map (λ v. slice_index v j) x
 
 -- word k of message j
 abbrev pub lane_at : List (List ℕ) → ℕ → ℕ → ℕ
 lane_at x k j = slice_index (slice_index_or x k []) j
+
+-- the sixteen words of message j
+abbrev pub lane_words : ℕ → List (List ℕ) → List ℕ
+lane_words j x =
+    lane_at x 0 j ∷ lane_at x 1 j ∷ lane_at x 2 j ∷ lane_at x 3 j
+    ∷ lane_at x 4 j ∷ lane_at x 5 j ∷ lane_at x 6 j ∷ lane_at x 7 j
+    ∷ lane_at x 8 j ∷ lane_at x 9 j ∷ lane_at x 10 j ∷ lane_at x 11 j
+    ∷ lane_at x 12 j ∷ lane_at x 13 j ∷ lane_at x 14 j ∷ lane_at x 15 j ∷ []
 
 -- the eight working variables of message j
 abbrev pub lane_state : ℕ → List (List ℕ) → List ℕ

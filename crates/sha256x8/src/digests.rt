@@ -7,11 +7,10 @@ ghost use Rattle.sha256x8.specs.Padded.{after_block};
 use crate::block::{compress, words_of};
 use crate::padding::{greatest_count, have_block, padded_blocks};
 use crate::state::{chosen, digest_words, digests_of, initial_state};
-use std::simd::u32x8;
 
 // Takes block `index` after the first one into the hash values of the messages that have so many.
 #[inline(always)]
-fn take_block(state: &mut [u32x8; 8], texts: &[&[u8]; 8], index: usize)
+fn take_block(state: &mut [[u32; 8]; 8], texts: &[&[u8]; 8], index: usize)
     ensures { (j : ℕ) → j < 8 → lane_state j state.new ≡ after_block (lane_state j state.old)
         (text_at texts.now j) index }
 {
@@ -38,7 +37,7 @@ fn are_whole(blocks: &[[u8; 64]; 8])
 
 // The hash values of eight messages, each a block and the text after it.
 #[inline(always)]
-fn hash_each(blocks: &[[u8; 64]; 8], texts: &[&[u8]; 8]) -> [u32x8; 8]
+fn hash_each(blocks: &[[u8; 64]; 8], texts: &[&[u8]; 8]) -> [[u32; 8]; 8]
     ensures { (j : ℕ) → j < 8 → lane_state j result ≡ final_hash initial_hash_256
         (slice_index_or blocks.now j [] ++ text_at texts.now j) }
 {

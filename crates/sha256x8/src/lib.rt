@@ -1,4 +1,4 @@
-//! SHA-256 (FIPS 180-4) of eight messages side by side, a lane of each vector for each message.
+//! SHA-256 (FIPS 180-4) of eight messages side by side, a lane for each message.
 //!
 //! Nothing here asks for memory, and everything answers.
 #![tactic(auto)]
@@ -8,6 +8,6 @@ mod constants;
 mod digests;
 mod padding;
 mod state;
-mod vector;
+mod word;
 
 pub use digests::{digest_each, nested_digest_each};

@@ -1,7 +1,7 @@
 use Rattle.std.proofs.Common.{◌≡◌, ℕ, ◌++◌, List, [], slice_index_or, subst, sym, ap, ◌∙◌, arith}
 use Rattle.sha2.specs.Sha256.{IsWindow, compress, digest_bytes, schedule, sha256}
 use Rattle.sha2.proofs.Facts256.{length-sha256}
-use Rattle.sha256x8.specs.Lanes.{AreWords, lane, lane_state, text_at}
+use Rattle.sha256x8.specs.Lanes.{AreWords, lane_state, lane_words, text_at}
 use Rattle.sha256x8.specs.Padded.{padded_text}
 use Rattle.sha256x8.proofs.HashAfter.{AreWords_final, hashed, hashed_first, hashed_one_more}
 use Rattle.sha256x8.proofs.PaddedBlocks.{length-padded_text}
@@ -20,7 +20,7 @@ returns c = λ j lt.
     ap (λ (h : List ℕ). digest_bytes h 8) inner in
     let words = subst (λ (h : List ℕ). AreWords h) (sym inner) (AreWords_final message) in
     let window = subst (λ (d : List ℕ).
-    IsWindow (lane j c.digest_words.result) (schedule (padded_text d) 48) 16) is_digest
+    IsWindow (lane_words j c.digest_words.result) (schedule (padded_text d) 48) 16) is_digest
     (c.digest_words.ensures j lt words) in
     let first : lane_state j c.compress.new.state ≡ hashed outer digest 0 =
     c.compress.ensures j lt outer (c.words_of.ensures j lt)

@@ -16,12 +16,12 @@ words_chosen false x y j = refl
 pub returns : goal.returns
 returns c = λ j lt.
     rw (
-      c.chosen_word.ensures j lt,
-      c.chosen_word-2.ensures j lt,
-      c.chosen_word-3.ensures j lt,
-      c.chosen_word-4.ensures j lt,
-      c.chosen_word-5.ensures j lt,
-      c.chosen_word-6.ensures j lt,
-      c.chosen_word-7.ensures j lt,
-      c.chosen_word-8.ensures j lt,
+      c.chosen_row.ensures j lt,
+      c.chosen_row-2.ensures j lt,
+      c.chosen_row-3.ensures j lt,
+      c.chosen_row-4.ensures j lt,
+      c.chosen_row-5.ensures j lt,
+      c.chosen_row-6.ensures j lt,
+      c.chosen_row-7.ensures j lt,
+      c.chosen_row-8.ensures j lt,
     ) (words_chosen (nat_lt 0 (slice_index c.args.busy j)) c.args.next c.args.state j)

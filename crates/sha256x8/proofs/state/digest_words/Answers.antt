@@ -1,23 +1,12 @@
-use Rattle.std.proofs.Common.{◌≡◌, ℕ, ◌+◌, ◌-◌, ◌*◌, ◌<◌, inl, inr, List, [], ◌∷◌, replicate, slice_index, slice_index_or, subst, refl, sym, arith}
+use Rattle.std.proofs.Common.{◌≡◌, ℕ, ◌+◌, ◌*◌, ◌<◌, List, [], ◌∷◌, replicate, slice_index, slice_index_or, refl, sym, arith}
 use Rattle.std.proofs.lemmas.Nat.{from_be_bytes-to_be_bytes_4}
-use Rattle.std.proofs.lemmas.Bool.{cases_lt}
 use Rattle.std.proofs.lemmas.Simd.{get_or-replicate}
 use Rattle.sha2.specs.Sha256.{digest_bytes, word_at}
 use Rattle.sha2.proofs.Schedule256.{IsWindow_first}
-use Rattle.sha256x8.specs.Lanes.{lane, lane_state}
+use Rattle.sha256x8.specs.Lanes.{lane_state, lane_words}
 use Rattle.sha256x8.specs.Padded.{padded_text}
-use Rattle.sha256x8.proofs.LaneWise.{below_eight}
+use Rattle.sha256x8.proofs.LaneWise.{below_eight, below_sixteen}
 use Rattle.sha256x8.proofs.state.digest_words.Goals as goal
-
--- what holds of each of a block's sixteen words
-below_sixteen : (P : ℕ → Type 0) → ((k : ℕ) → k < 8 → P k) → ((k : ℕ) → k < 8 → P (8 + k)) → (k : ℕ)
-    → k < 16 → P k
-below_sixteen P low high k lt = elim (cases_lt k 8) [
-  | inl first ↦ low k first
-  | inr rest ↦
-      let e : 8 + (k - 8) ≡ k = omega arith in
-      subst P e (high (k - 8) (omega arith))
-]
 
 pub returns : goal.returns
 unfolding padded_text digest_bytes
@@ -35,11 +24,11 @@ returns c = λ j lt words.
     let number = λ (x : ℕ). get_or-replicate 8 j x 0 lt in
     let word = λ (k : ℕ) (low : k < 8).
     sym (from_be_bytes-to_be_bytes_4 (slice_index h k) (words k low)) in
-    let low = below_eight (λ (k : ℕ). slice_index (lane j w) k ≡ word_at block (4 * k))
+    let low = below_eight (λ (k : ℕ). slice_index (lane_words j w) k ≡ word_at block (4 * k))
     (word 0 (omega arith)) (word 1 (omega arith)) (word 2 (omega arith)) (word 3 (omega arith))
     (word 4 (omega arith)) (word 5 (omega arith)) (word 6 (omega arith)) (word 7 (omega arith)) in
-    let high = below_eight (λ (k : ℕ). slice_index (lane j w) (8 + k) ≡ word_at block (4 * (8 + k)))
+    let high = below_eight (λ (k : ℕ). slice_index (lane_words j w) (8 + k) ≡ word_at block (4 * (8 + k)))
     (number 0x80000000) (number 0) (number 0) (number 0) (number 0) (number 0) (number 0)
     (number 768) in
-    IsWindow_first block (lane j w) refl
-    (below_sixteen (λ (k : ℕ). slice_index (lane j w) k ≡ word_at block (4 * k)) low high)
+    IsWindow_first block (lane_words j w) refl
+    (below_sixteen (λ (k : ℕ). slice_index (lane_words j w) k ≡ word_at block (4 * k)) low high)

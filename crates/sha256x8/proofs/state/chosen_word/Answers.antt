@@ -1,7 +1,7 @@
 use Rattle.std.proofs.Common.{ℕ, List, false, cond, ltb, get_or, replicate, ap, ◌∙◌, arith, w32}
 use lib.Lanes.{zip2, sel_l}
 use Rattle.std.proofs.lemmas.Simd.{tops_compared, length-zip2, get_or-sel_l, get_or-zip2, get_or-replicate}
-use Rattle.sha256x8.proofs.vector.chosen_word.Goals as goal
+use Rattle.sha256x8.proofs.state.chosen_word.Goals as goal
 
 pub returns : goal.returns
 returns c = λ j lt.
