@@ -48,13 +48,16 @@ fn root(case: &mut Case<'_>) {
     case.digits(&root_key(&secret).bytes());
 }
 
-/// The signature of an identifier under a root key, which is to be the same in each of eight lanes.
+/// The signature of an identifier under a root key, which is to be the same in each of eight lanes,
+/// whether the others have the same key or another.
 fn started(case: &mut Case<'_>) {
     let key = RootKey::from_bytes(case.digest());
     let identifier = case.bytes();
     let alone = start(&key, &identifier);
-    if is_in_each_lane(&key, &identifier, &[], &alone)
-        && is_in_each_lane(&key, &identifier, &[0; 200], &alone)
+    let zeros = RootKey::from_bytes([0; 32]);
+    if is_in_each_lane(&key, &identifier, &key, &[0; 200], &alone)
+        && is_in_each_lane(&key, &identifier, &zeros, &[], &alone)
+        && is_in_each_lane(&key, &identifier, &zeros, &[0; 200], &alone)
     {
         case.digits(&alone.bytes());
     } else {
@@ -62,11 +65,19 @@ fn started(case: &mut Case<'_>) {
     }
 }
 
-/// Whether each of eight lanes gives this signature, while the others are given another text.
-fn is_in_each_lane<'a>(key: &RootKey, identifier: &'a [u8], other: &'a [u8], alone: &Sig) -> bool {
-    let keys = [*key; 8];
+/// Whether each of eight lanes gives this signature, while the others are given another key and
+/// text.
+fn is_in_each_lane<'a>(
+    key: &RootKey,
+    identifier: &'a [u8],
+    other_key: &RootKey,
+    other: &'a [u8],
+    alone: &Sig,
+) -> bool {
     let mut agree = true;
     for place in 0..8 {
+        let mut keys = [*other_key; 8];
+        keys[place] = *key;
         let mut identifiers = [other; 8];
         identifiers[place] = identifier;
         let signature = start_each(&keys, &identifiers)[place];

@@ -1,5 +1,5 @@
 //! Eight HMACs side by side.
-ghost use Rattle.std.specs.Prelude.{◌≡◌, ◌<◌, ◌∷◌, ℕ, [], slice_index_or};
+ghost use Rattle.std.specs.Prelude.{◌≡◌, ◌<◌, ◌∷◌, ℕ, [], IsTrue, slice_index_or};
 ghost use Rattle.sha256x8.specs.Lanes.{text_at};
 ghost use Rattle.mac_hmac.specs.Chain.{chain, extended};
 ghost use Rattle.mac_hmac.specs.Hmac.{block_key, hmac, xor_pad};
@@ -7,7 +7,7 @@ ghost use Rattle.mac_hmac.specs.Hmac.{block_key, hmac, xor_pad};
 use crate::hmac_state::{INNER_PAD, OUTER_PAD, padded};
 use crate::key::RootKey;
 use crate::signature::Sig;
-use sha256x8::nested_digest_each;
+use sha256x8::{Begun, nested_digest_each};
 
 // The block of a key: zero bytes appended, and each byte XORed with the pad's.
 #[inline(always)]
@@ -35,11 +35,37 @@ fn padded_each(keys: &[[u8; 32]; 8], pad: u8) -> [[u8; 64]; 8]
     ]
 }
 
-/// The HMAC of each text under the key of its place (RFC 2104, section 2), for eight of both.
+// Whether the keys are all the same.
+#[inline(always)]
+fn are_same(keys: &[[u8; 32]; 8]) -> bool
+    ensures { IsTrue result → (j : ℕ) → j < 8
+        → slice_index_or keys.now j [] ≡ slice_index_or keys.now 0 [] }
+{
+    for key in keys {
+        if *key != keys[0] {
+            return false;
+        }
+    }
+    true
+}
+
+// The HMAC of each text under one key, whose blocks are hashed once.
+fn hmac_each_under(key: &[u8; 32], texts: &[&[u8]; 8]) -> [[u8; 32]; 8]
+    ensures { (j : ℕ) → j < 8 → slice_index_or result j [] ≡ hmac key.now (text_at texts.now j) }
+{
+    let begun = Begun::new(&padded_key(key, OUTER_PAD), &padded_key(key, INNER_PAD));
+    begun.digest_each(texts)
+}
+
+/// The HMAC of each text under the key of its place (RFC 2104, section 2), for eight of both. It
+/// costs a quarter less where the keys are all the same and the texts short.
 pub fn hmac_each(keys: &[[u8; 32]; 8], texts: &[&[u8]; 8]) -> [[u8; 32]; 8]
     ensures { (j : ℕ) → j < 8 → slice_index_or result j []
         ≡ hmac (slice_index_or keys.now j []) (text_at texts.now j) }
 {
+    if are_same(keys) {
+        return hmac_each_under(&keys[0], texts);
+    }
     nested_digest_each(
         &padded_each(keys, OUTER_PAD),
         &padded_each(keys, INNER_PAD),
