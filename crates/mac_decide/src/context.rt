@@ -42,8 +42,8 @@ fn is_since(moment: u64, caveat: &[u8]) -> bool
     }
 }
 
-/// Whether the caveat is a bound of time that the moment keeps. Any other caveat costs a look at its
-/// first bytes.
+/// Whether the caveat is a bound of time that the moment keeps. Any other caveat costs a look at
+/// its first bytes.
 fn is_in_time(moment: u64, caveat: &[u8]) -> bool
     ensures { IsTrue result ↔ (IsBefore moment caveat.now ⊎ IsSince moment caveat.now) }
 {

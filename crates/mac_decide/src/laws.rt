@@ -73,8 +73,8 @@ pub fn facts_only_help()
         → Accepts keys t x → Accepts keys t (record x { facts = facts }) }
 {}
 
-/// A token none of whose caveats is a time limit or a lower bound of time is accepted at every moment
-/// or at none.
+/// A token none of whose caveats is a time limit or a lower bound of time is accepted at every
+/// moment or at none.
 pub fn timeless_at_every_moment()
     ensures { (keys : List (List ℕ)) (t : TokenParts) (x : PlainContext) (moment : ℕ)
         → All (λ caveat. (v : ℤ) → ¬ (IsTimeLimit caveat v) × ¬ (IsLowerBound caveat v)) t.caveats
