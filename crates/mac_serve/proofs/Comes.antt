@@ -18,7 +18,7 @@ pub record Leaves {Job : Type 0} (same : Job → Job → Bool) (buffer after : B
 
 module _ (Which : Type 0) {Job Answered : Type 0} (same : Job → Job → Bool) (reply_to : Job → Answered) where
   abbrev pub Comes : Buffer Job → Next Which Job Answered → Buffer Job → Type 0
-  Comes buffer (Reply place reply) after = (l : Leaves same buffer after) × (reply ≡ reply_to l.slip)
+  Comes buffer (Reply place reply) after = (l : Leaves same buffer after) × (reply ≡ reply_to l.slip) × (place ≡ buffer.next)
   Comes buffer (Stranger place) after = after ≡ closed_off buffer
   Comes buffer Closed after = buffer.closed ≡ true
   Comes buffer Waiting after = after ≡ buffer
@@ -30,7 +30,7 @@ module _ (Which : Type 0) {Job Answered : Type 0} (same : Job → Job → Bool) 
   meets buffer (slip ∷ slips) (Some answer) is_slips is_answer =
       let out : Bool → Next Which Job Answered × Buffer Job = λ equal. if equal then (Reply buffer.next (reply_to slip), sent_off buffer slips) else (Stranger buffer.next, closed_off buffer) in
       elim (same answer slip) as (λ equal. same answer slip ≡ equal → Comes buffer (out equal).0 (out equal).1) [
-        | true ↦ λ is. (record { slip = slip; answer = answer; rest = slips; slips = is_slips; settled_is = is_answer; equal = is; after_is = refl }, refl)
+        | true ↦ λ is. (record { slip = slip; answer = answer; rest = slips; slips = is_slips; settled_is = is_answer; equal = is; after_is = refl }, refl, refl)
         | false ↦ λ is. refl
       ] refl
 
@@ -46,7 +46,7 @@ module _ {Which Job Answered : Type 0} (same : Job → Job → Bool) (reply_to :
   came : Comes Which same reply_to buffer out after
   came = let P : Next Which Job Answered × Buffer Job → Type 0 = λ o. Comes Which same reply_to buffer o.0 o.1 in subst P (sym is) (comes Which same reply_to buffer)
 
-  pub came-reply : (place : ℕ) (reply : Answered) → out ≡ Reply place reply → (l : Leaves same buffer after) × (reply ≡ reply_to l.slip)
+  pub came-reply : (place : ℕ) (reply : Answered) → out ≡ Reply place reply → (l : Leaves same buffer after) × (reply ≡ reply_to l.slip) × (place ≡ buffer.next)
   came-reply place reply e = subst (λ (o : Next Which Job Answered). Comes Which same reply_to buffer o after) e came
 
   pub came-stranger : (place : ℕ) → out ≡ Stranger place → after ≡ closed_off buffer

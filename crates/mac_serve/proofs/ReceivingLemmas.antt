@@ -1,6 +1,6 @@
 -- What the inbound half of a connection takes in, step by step.
-use Rattle.std.proofs.Common.{rules, ◌≡◌, ◌≢◌, ℕ, ◌+◌, ◌≤◌, Bool, ◌⊎◌, inl, inr, List, [], ◌∷◌, ◌++◌, length, take, refl, sym, ap, subst, ◌∙◌, append_assoc, append-nil, length-append, arith}
-use Rattle.std.specs.Prelude.{Some, None, Result, Ok, Err, OnOk, OnErr, IsErrAnd}
+use Rattle.std.proofs.Common.{rules, ◌≡◌, ◌≢◌, ℕ, ◌+◌, ◌<◌, ◌≤◌, Bool, ◌⊎◌, inl, inr, List, [], ◌∷◌, ◌++◌, length, take, refl, sym, ap, subst, ◌∙◌, append_assoc, append-nil, length-append, arith}
+use Rattle.std.specs.Prelude.{Option, Some, None, Result, Ok, Err, OnOk, OnErr, IsErrAnd, MatchResult}
 use Rattle.std.specs.declared.alloc.Global.{Global}
 use Rattle.std.specs.declared.vec.Vec.{Vec}
 use Rattle.std.proofs.Math.Seq.{take-append-add, take-length}
@@ -13,17 +13,16 @@ use Rattle.mac_wire.specs.declared.arrival.Arrival.{Arrival}
 use Rattle.mac_wire.specs.declared.arrival.Ending.{Ending}
 use Rattle.mac_wire.specs.declared.arrival.Ending.TheVariants as ending
 use Rattle.mac_wire.specs.declared.frame.FrameReader.{FrameReader}
-use Rattle.mac_wire.specs.declared.frame.Stage.{Stage}
-use Rattle.mac_wire.specs.declared.frame.Stage.TheVariants as stage
-use Rattle.mac_wire.specs.Frame.{arrivals_of}
-use Rattle.mac_wire.specs.FrameReader.{HasRead, HasReadTo}
-use Rattle.mac_wire.proofs.Cutting.{has_arrived}
+use Rattle.mac_wire.specs.declared.version.Version.{Version}
+use Rattle.mac_wire.specs.Stream.{Arrivals, arrivals_of, version_or_one}
+use Rattle.mac_wire.specs.FrameReader.{HasRead, version_of}
+use Rattle.mac_wire.proofs.Opening.{arrived_longer, has_arrived_in, nothing_arrived, told_first, told_is, told_more, told_some, version_tells}
 use Rattle.mac_decide.specs.World.{job_under}
 use Rattle.mac_decide.specs.declared.job.Job.{Job}
 use Rattle.mac_serve.specs.declared.incoming.InboundFault.{InboundFault}
 use Rattle.mac_serve.specs.declared.incoming.InboundFault.TheVariants as fault
 use Rattle.mac_serve.specs.declared.inbound.Inbound.{Inbound}
-use Rattle.mac_serve.specs.Receiving.{Gave, Reads, jobs_of, placed, IsBehind, TakesIn, TakesSome, Receives, HasRun, GoesOn, Continues, Ran}
+use Rattle.mac_serve.specs.Receiving.{Gave, HasTold, Reads, jobs_of, placed, IsBehind, TakesIn, TakesSome, Receives, HasRun, GoesOn, Continues, Ran}
 
 placed-append : (place : ℕ) (jobs more : List Job) → placed place (jobs ++ more) ≡ placed place jobs ++ placed (place + length jobs) more
 unfolding placed
@@ -158,26 +157,29 @@ takes-some-next table front arrival rest all a b c is first then =
     let some = takes-some-more (jobs_of table front) (jobs_of table (arrival ∷ rest)) a b c first (takes-some-longer (job_under table arrival ∷ []) (jobs_of table rest) b c then) in
     subst (λ (jobs : List Job). TakesSome jobs a c) (sym (map-append (job_under table) front (arrival ∷ rest)) ∙ ap (jobs_of table) is) some
 
--- whatever comes behind what was handed out
-pub arrived-longer : (s : Stage) (stream more : List ℕ) (handed : List Arrival) → HasReadTo s stream handed
-    → (rest : List Arrival) × ((arrivals_of (stream ++ more)).arrived ≡ handed ++ rest)
-arrived-longer (stage.Open held) stream more handed read = ((arrivals_of (held ++ more)).arrived, ap (λ a. a.arrived) (read.1 more))
-arrived-longer stage.Oversize stream more handed read = ([], ap (λ a. a.arrived) (read more) ∙ search rules)
-arrived-longer stage.Broken stream more handed read = absurd read
-
 gave-more : (tells : Bool) (a b c first then : List ℕ) → Gave tells a b first → Gave tells b c then → Gave tells a c (first ++ then)
 gave-more tells a b c first then one two told = two told ∙ ap (λ (l : List ℕ). l ++ then) (one told) ∙ append_assoc a first then
 
 gave-nothing : (tells : Bool) (a b c bytes : List ℕ) → Gave tells a b bytes → Gave tells b c [] → Gave tells a c bytes
 gave-nothing tells a b c bytes one two told = two told ∙ ap (λ (l : List ℕ). l ++ []) (one told) ∙ search rules
 
+-- what a reader handed out of which all was taken in
+all-read : (tells : Bool) (table : Table) (version : Version) (given given' : List ℕ) (reader : FrameReader) (a b : Inbound)
+    → (on : GoesOn tells table version given given' reader [] a b) → HasRead reader on.stream on.handed
+all-read tells table version given given' reader a b on = subst (HasRead reader on.stream) (append-nil on.handed) on.read
+
+-- the arrivals so far are those that were handed out
+all-arrived : (reader : FrameReader) (stream : List ℕ) (handed : List Arrival) → HasRead reader stream handed → (arrivals_of stream).arrived ≡ handed
+all-arrived reader stream handed read = has_arrived_in reader.version reader.stage stream handed read
+
 -- a run that is given up where it stands
-pub gives-up : (tells : Bool) (table : Table) (given given' : List ℕ) (reader : FrameReader) (a b : Inbound) (why : InboundFault)
-    → GoesOn tells table given given' reader a b → HasRun tells table given given' (Err why) a b
-gives-up tells table given given' reader a b why on =
+pub gives-up : (tells : Bool) (table : Table) (version : Version) (given given' : List ℕ) (reader : FrameReader) (a b : Inbound) (why : InboundFault)
+    → GoesOn tells table version given given' reader [] a b → HasRun tells table version given given' (Err why) a b
+gives-up tells table version given given' reader a b why on =
+    let read = all-read tells table version given given' reader a b on in
     let all : TakesIn (jobs_of table (arrivals_of on.stream).arrived) a b =
-    subst (λ (arrivals : List Arrival). TakesIn (jobs_of table arrivals) a b) (sym (has_arrived reader.stage on.stream on.handed on.read)) on.took in
-    record { stream = on.stream; gave = on.gave; ran = gave_up why all }
+    subst (λ (arrivals : List Arrival). TakesIn (jobs_of table arrivals) a b) (sym (all-arrived reader on.stream on.handed read)) on.took in
+    record { stream = on.stream; gave = on.gave; version_is = told_some on.stream version on.told; ran = gave_up why all }
   where
     gave_up : (why : InboundFault) → TakesIn (jobs_of table (arrivals_of on.stream).arrived) a b → Ran table on.stream (Err why) a b
     gave_up fault.Read all = all
@@ -185,98 +187,194 @@ gives-up tells table given given' reader a b why on =
     gave_up fault.Lane all = takes-some-all (jobs_of table (arrivals_of on.stream).arrived) a b all
     gave_up fault.Stopped all = takes-some-all (jobs_of table (arrivals_of on.stream).arrived) a b all
 
--- a read that failed
-pub read-failed : (tells : Bool) (table : Table) (given mid given' : List ℕ) (reader reader' : FrameReader) (a b : Inbound) (why : InboundFault)
-    → (on : GoesOn tells table given mid reader a b) → Reads tells mid given' on.stream on.handed (Err why) reader' → HasRun tells table given given' (Err why) a b
-read-failed tells table given mid given' reader reader' a b fault.Read on nothing =
-    let run = gives-up tells table given mid reader a b fault.Read on in
-    record { stream = run.stream; gave = gave-nothing tells given mid given' run.stream run.gave nothing; ran = run.ran }
-read-failed tells table given mid given' reader reader' a b fault.NoMemory on (bytes, gave) =
-    let (rest, is) = arrived-longer reader.stage on.stream bytes on.handed on.read in
-    let some = takes-some-longer (jobs_of table on.handed) (jobs_of table rest) a b (takes-some-all (jobs_of table on.handed) a b on.took) in
-    record {
-      stream = on.stream ++ bytes;
-      gave = gave-more tells given mid given' on.stream bytes on.gave gave;
-      ran = subst (λ (jobs : List Job). TakesSome jobs a b) (sym (map-append (job_under table) on.handed rest) ∙ ap (jobs_of table) (sym is)) some;
-    }
-read-failed tells table given mid given' reader reader' a b fault.Lane on reads = absurd reads
-read-failed tells table given mid given' reader reader' a b fault.Stopped on reads = absurd reads
+-- a run that is given up where nothing more came
+gives-up-there : (tells : Bool) (table : Table) (version : Version) (given mid given' : List ℕ) (reader : FrameReader) (a b : Inbound) (why : InboundFault)
+    → GoesOn tells table version given mid reader [] a b → Gave tells mid given' [] → HasRun tells table version given given' (Err why) a b
+gives-up-there tells table version given mid given' reader a b why on nothing =
+    let run = gives-up tells table version given mid reader a b why on in
+    record { stream = run.stream; gave = gave-nothing tells given mid given' run.stream run.gave nothing; version_is = run.version_is; ran = run.ran }
 
--- the end of a source
-pub goes-to-end : (tells : Bool) (table : Table) (given mid given' : List ℕ) (reader reader' : FrameReader) (a b : Inbound)
-    → (on : GoesOn tells table given mid reader a b) → Reads tells mid given' on.stream on.handed (Ok None) reader' → GoesOn tells table given given' reader' a b
-goes-to-end tells table given mid given' reader reader' a b on (nothing, read) =
-    record { stream = on.stream; gave = gave-nothing tells given mid given' on.stream on.gave nothing; handed = on.handed; read = read; took = on.took }
-
--- more arrivals, all taken in
-pub goes-further : (tells : Bool) (table : Table) (given mid given' : List ℕ) (reader reader' : FrameReader) (a b c : Inbound) (more : Vec Arrival Global)
-    → (on : GoesOn tells table given mid reader a b) → Reads tells mid given' on.stream on.handed (Ok (Some more)) reader'
-    → TakesIn (jobs_of table more.items) b c → GoesOn tells table given given' reader' a c
-goes-further tells table given mid given' reader reader' a b c more on (bytes, gave, read) took =
-    record {
-      stream = on.stream ++ bytes;
-      gave = gave-more tells given mid given' on.stream bytes on.gave gave;
-      handed = on.handed ++ more.items;
-      read = read;
-      took = subst (λ (jobs : List Job). TakesIn jobs a c) (sym (map-append (job_under table) on.handed more.items))
-          (takes-in-more (jobs_of table on.handed) (jobs_of table more.items) a b c on.took took);
-    }
-
--- more arrivals, not all taken in
-pub goes-no-further : (tells : Bool) (table : Table) (given mid given' : List ℕ) (reader reader' : FrameReader) (a b c : Inbound) (more : Vec Arrival Global) (why : InboundFault)
-    → (on : GoesOn tells table given mid reader a b) → Reads tells mid given' on.stream on.handed (Ok (Some more)) reader'
-    → why ≢ fault.Read → TakesSome (jobs_of table more.items) b c → HasRun tells table given given' (Err why) a c
-goes-no-further tells table given mid given' reader reader' a b c more why on (bytes, gave, read) no_read took =
-    let some = takes-some-more (jobs_of table on.handed) (jobs_of table more.items) a b c on.took took in
-    let is = has_arrived reader'.stage (on.stream ++ bytes) (on.handed ++ more.items) read in
-    let all = subst (λ (jobs : List Job). TakesSome jobs a c) (sym (map-append (job_under table) on.handed more.items) ∙ ap (jobs_of table) (sym is)) some in
-    record { stream = on.stream ++ bytes; gave = gave-more tells given mid given' on.stream bytes on.gave gave; ran = by_fault why no_read all }
+-- how a read of a run ended
+pub goes-further : (tells : Bool) (table : Table) (version : Version) (given mid given' : List ℕ) (reader reader' : FrameReader) (a b : Inbound)
+    (result : Result (Option (Vec Arrival Global)) InboundFault) → (on : GoesOn tells table version given mid reader [] a b)
+    → ((handed : List Arrival) → HasRead reader on.stream handed → Reads tells mid given' on.stream handed result reader')
+    → Continues tells table version given given' result reader' a b
+goes-further tells table version given mid given' reader reader' a b result on reads =
+    by_result result (reads on.handed (all-read tells table version given mid reader a b on))
   where
-    by_fault : (why : InboundFault) → why ≢ fault.Read → TakesSome (jobs_of table (arrivals_of (on.stream ++ bytes)).arrived) a c → Ran table (on.stream ++ bytes) (Err why) a c
+    by_result : (result : Result (Option (Vec Arrival Global)) InboundFault) → Reads tells mid given' on.stream on.handed result reader'
+        → Continues tells table version given given' result reader' a b
+    by_result (Ok (Some more)) (bytes, gave, some, read) =
+        record {
+          stream = on.stream ++ bytes;
+          gave = gave-more tells given mid given' on.stream bytes on.gave gave;
+          told = told_more on.stream bytes version on.told;
+          handed = on.handed;
+          read = read;
+          took = on.took;
+        }
+    by_result (Ok None) (nothing, read) =
+        record {
+          stream = on.stream;
+          gave = gave-nothing tells given mid given' on.stream on.gave nothing;
+          told = on.told;
+          handed = on.handed;
+          read = subst (HasRead reader' on.stream) (sym (append-nil on.handed)) read;
+          took = on.took;
+        }
+    by_result (Err fault.Read) (nothing, told) = gives-up-there tells table version given mid given' reader a b fault.Read on nothing
+    by_result (Err fault.NoMemory) (bytes, gave, told) =
+        let (rest, is) = arrived_longer reader.version reader.stage on.stream bytes on.handed (all-read tells table version given mid reader a b on) in
+        let some = takes-some-longer (jobs_of table on.handed) (jobs_of table rest) a b (takes-some-all (jobs_of table on.handed) a b on.took) in
+        record {
+          stream = on.stream ++ bytes;
+          gave = gave-more tells given mid given' on.stream bytes on.gave gave;
+          version_is = told_some (on.stream ++ bytes) version (told_more on.stream bytes version on.told);
+          ran = subst (λ (jobs : List Job). TakesSome jobs a b) (sym (map-append (job_under table) on.handed rest) ∙ ap (jobs_of table) (sym is)) some;
+        }
+    by_result (Err fault.Lane) (nothing, told) = gives-up-there tells table version given mid given' reader a b fault.Lane on nothing
+    by_result (Err fault.Stopped) reads = absurd reads
+
+-- the arrivals that were pending are taken in
+pub goes-taken : (tells : Bool) (table : Table) (version : Version) (given given' : List ℕ) (reader : FrameReader) (pending : List Arrival) (a b c : Inbound)
+    → GoesOn tells table version given given' reader pending a b → TakesIn (jobs_of table pending) b c → GoesOn tells table version given given' reader [] a c
+goes-taken tells table version given given' reader pending a b c on took =
+    record {
+      stream = on.stream;
+      gave = on.gave;
+      told = on.told;
+      handed = on.handed ++ pending;
+      read = subst (HasRead reader on.stream) (sym (append-nil (on.handed ++ pending))) on.read;
+      took = subst (λ (jobs : List Job). TakesIn jobs a c) (sym (map-append (job_under table) on.handed pending))
+          (takes-in-more (jobs_of table on.handed) (jobs_of table pending) a b c on.took took);
+    }
+
+-- not all of the arrivals that were pending are taken in
+pub goes-no-further : (tells : Bool) (table : Table) (version : Version) (given given' : List ℕ) (reader : FrameReader) (pending : List Arrival) (a b c : Inbound) (why : InboundFault)
+    → GoesOn tells table version given given' reader pending a b → why ≢ fault.Read → TakesSome (jobs_of table pending) b c
+    → HasRun tells table version given given' (Err why) a c
+goes-no-further tells table version given given' reader pending a b c why on no_read took =
+    let some = takes-some-more (jobs_of table on.handed) (jobs_of table pending) a b c on.took took in
+    let is = all-arrived reader on.stream (on.handed ++ pending) on.read in
+    let all = subst (λ (jobs : List Job). TakesSome jobs a c) (sym (map-append (job_under table) on.handed pending) ∙ ap (jobs_of table) (sym is)) some in
+    record { stream = on.stream; gave = on.gave; version_is = told_some on.stream version on.told; ran = by_fault why no_read all }
+  where
+    by_fault : (why : InboundFault) → why ≢ fault.Read → TakesSome (jobs_of table (arrivals_of on.stream).arrived) a c → Ran table on.stream (Err why) a c
     by_fault fault.Read no_read all = absurd (no_read refl)
     by_fault fault.NoMemory no_read all = all
     by_fault fault.Lane no_read all = all
     by_fault fault.Stopped no_read all = all
 
 -- a run whose stream has ended
-pub has-finished : (tells : Bool) (table : Table) (given given' : List ℕ) (reader : FrameReader) (a b : Inbound) (end : Ending)
-    → (on : GoesOn tells table given given' reader a b) → arrivals_of on.stream ≡ record { arrived = on.handed; ending = end } → end ≢ ending.Broken
-    → HasRun tells table given given' (Ok end) a b
-has-finished tells table given given' reader a b end on is whole =
+pub has-finished : (tells : Bool) (table : Table) (version : Version) (given given' : List ℕ) (reader : FrameReader) (a b : Inbound) (end : Ending)
+    → (on : GoesOn tells table version given given' reader [] a b)
+    → ((stream : List ℕ) (handed : List Arrival) → HasRead reader stream handed
+    → arrivals_of stream ≡ record { version = version_or_one reader.version; arrived = handed; ending = end })
+    → ((stream : List ℕ) (handed : List Arrival) → HasRead reader stream handed → end ≢ ending.Broken)
+    → HasRun tells table version given given' (Ok end) a b
+has-finished tells table version given given' reader a b end on ends whole =
+    let read = all-read tells table version given given' reader a b on in
+    let is = ends on.stream on.handed read in
     record {
       stream = on.stream;
       gave = on.gave;
-      ran = (subst (λ (arrivals : List Arrival). TakesIn (jobs_of table arrivals) a b) (sym (ap (λ x. x.arrived) is)) on.took, ap (λ x. x.ending) is, whole);
+      version_is = told_some on.stream version on.told;
+      ran = (
+        subst (λ (arrivals : List Arrival). TakesIn (jobs_of table arrivals) a b) (sym (ap (λ (x : Arrivals). x.arrived) is)) on.took,
+        ap (λ (x : Arrivals). x.ending) is,
+        whole on.stream on.handed read,
+      );
     }
 
--- a run that did not begin
-pub not-begun : (tells : Bool) (table : Table) (given : List ℕ) (a : Inbound) (why : InboundFault) → why ≢ fault.Read → HasRun tells table given given (Err why) a a
-not-begun tells table given a why no_read = record { stream = []; gave = λ told. search rules; ran = by_fault why no_read }
+-- ---- the first piece
+
+-- the version that the reader knows is that of the stream
+known-version : (reader : FrameReader) (stream : List ℕ) → HasTold reader stream → (arrivals_of stream).version ≡ version_or_one (version_of reader)
+known-version reader stream told = sym (told_is stream) ∙ ap version_or_one (sym told)
+
+-- a first piece came
+pub begins : (tells : Bool) (table : Table) (given given' : List ℕ) (reader : FrameReader) (a : Inbound) (more : Vec Arrival Global)
+    → Reads tells given given' [] [] (Ok (Some more)) reader → GoesOn tells table (version_or_one (version_of reader)) given given' reader more.items a a
+begins tells table given given' reader a more ([], gave, some, read) = absurd (omega (arith, some))
+begins tells table given given' reader a more (first ∷ rest, gave, some, read) =
+    record {
+      stream = first ∷ rest;
+      gave = gave;
+      told = told_first first rest reader.version (version_tells reader.version reader.stage (first ∷ rest) more.items read);
+      handed = [];
+      read = read;
+      took = took-nothing a;
+    }
+
+-- where a run ended that took nothing in
+nothing-taken : (table : Table) (stream : List ℕ) (a : Inbound) (why : InboundFault) → why ≢ fault.Read → Ran table stream (Err why) a a
+nothing-taken table stream a fault.Read no_read = absurd (no_read refl)
+nothing-taken table stream a fault.NoMemory no_read = takes-none (jobs_of table (arrivals_of stream).arrived) a a refl refl
+nothing-taken table stream a fault.Lane no_read = takes-none (jobs_of table (arrivals_of stream).arrived) a a refl refl
+nothing-taken table stream a fault.Stopped no_read = takes-none (jobs_of table (arrivals_of stream).arrived) a a refl refl
+
+-- the first read failed
+pub began-badly : (tells : Bool) (table : Table) (given given' : List ℕ) (reader : FrameReader) (a : Inbound) (why : InboundFault)
+    → Reads tells given given' [] [] (Err why) reader → HasRun tells table (version_or_one (version_of reader)) given given' (Err why) a a
+began-badly tells table given given' reader a fault.Read (nothing, told) =
+    record { stream = []; gave = nothing; version_is = known-version reader [] told; ran = no-jobs table a }
   where
-    nothing : TakesSome (jobs_of table (arrivals_of []).arrived) a a
-    nothing = takes-none (jobs_of table (arrivals_of []).arrived) a a refl refl
+    no-jobs : (table : Table) (a : Inbound) → TakesIn (jobs_of table (arrivals_of []).arrived) a a
+    no-jobs table a = subst (λ (arrivals : List Arrival). TakesIn (jobs_of table arrivals) a a) (sym nothing_arrived) (took-nothing a)
+began-badly tells table given given' reader a fault.NoMemory (bytes, gave, told) =
+    record { stream = bytes; gave = gave; version_is = known-version reader bytes told; ran = nothing-taken table bytes a fault.NoMemory (λ is. absurd cc) }
+began-badly tells table given given' reader a fault.Lane (nothing, told) =
+    record { stream = []; gave = nothing; version_is = known-version reader [] told; ran = nothing-taken table [] a fault.Lane (λ is. absurd cc) }
+began-badly tells table given given' reader a fault.Stopped reads = absurd reads
 
-    by_fault : (why : InboundFault) → why ≢ fault.Read → Ran table [] (Err why) a a
-    by_fault fault.Read no_read = absurd (no_read refl)
-    by_fault fault.NoMemory no_read = nothing
-    by_fault fault.Lane no_read = nothing
-    by_fault fault.Stopped no_read = nothing
+-- a run that did not begin, whatever the first read gave
+pub not-begun : (tells : Bool) (table : Table) (given given' : List ℕ) (reader : FrameReader) (a : Inbound) (first : Option (Vec Arrival Global))
+    → Reads tells given given' [] [] (Ok first) reader → HasRun tells table (version_or_one (version_of reader)) given given' (Err fault.NoMemory) a a
+not-begun tells table given given' reader a (Some more) (bytes, gave, some, read) =
+    record {
+      stream = bytes;
+      gave = gave;
+      version_is = known-version reader bytes (version_tells reader.version reader.stage bytes more.items read);
+      ran = nothing-taken table bytes a fault.NoMemory (λ is. absurd cc);
+    }
+not-begun tells table given given' reader a None (nothing, read) =
+    record {
+      stream = [];
+      gave = nothing;
+      version_is = known-version reader [] (version_tells reader.version reader.stage [] [] read);
+      ran = nothing-taken table [] a fault.NoMemory (λ is. absurd cc);
+    }
 
--- nothing has come yet
-pub goes-from-start : (tells : Bool) (table : Table) (given : List ℕ) (reader : FrameReader) (a : Inbound) → HasRead reader [] [] → GoesOn tells table given given reader a a
-goes-from-start tells table given reader a read =
-    record { stream = []; gave = λ told. search rules; handed = []; read = read; took = took-nothing a }
+-- a stream of nothing
+pub ended-at-once : (tells : Bool) (table : Table) (given given' : List ℕ) (reader : FrameReader) (a : Inbound) (end : Ending)
+    → Reads tells given given' [] [] (Ok None) reader
+    → ((stream : List ℕ) (handed : List Arrival) → HasRead reader stream handed
+    → arrivals_of stream ≡ record { version = version_or_one reader.version; arrived = handed; ending = end })
+    → ((stream : List ℕ) (handed : List Arrival) → HasRead reader stream handed → end ≢ ending.Broken)
+    → HasRun tells table (version_or_one (version_of reader)) given given' (Ok end) a a
+ended-at-once tells table given given' reader a end (nothing, read) ends whole =
+    let is = ends [] [] read in
+    record {
+      stream = [];
+      gave = nothing;
+      version_is = ap (λ (x : Arrivals). x.version) is;
+      ran = (
+        subst (λ (arrivals : List Arrival). TakesIn (jobs_of table arrivals) a a) (sym (ap (λ (x : Arrivals). x.arrived) is)) (took-nothing a),
+        ap (λ (x : Arrivals). x.ending) is,
+        whole [] [] read,
+      );
+    }
 
 -- a fault that is passed on
-pub continues-residual : (tells : Bool) (table : Table) (given given' : List ℕ) (r : Result Bool InboundFault) (why : InboundFault) (reader : FrameReader) (a b : Inbound)
-    → IsErrAnd r (λ e. e ≡ why) → HasRun tells table given given' (Err why) a b → Continues tells table given given' r reader a b
-continues-residual tells table given given' (Ok x) why reader a b is run = absurd is
-continues-residual tells table given given' (Err e) why reader a b is run = subst (λ (f : InboundFault). HasRun tells table given given' (Err f) a b) (sym is) run
+pub run-residual : (tells : Bool) (table : Table) (version : Version) (given given' : List ℕ) (r : Result Ending InboundFault) (why : InboundFault) (a b : Inbound)
+    → IsErrAnd r (λ e. e ≡ why) → HasRun tells table version given given' (Err why) a b → HasRun tells table version given given' r a b
+run-residual tells table version given given' (Ok x) why a b is run = absurd is
+run-residual tells table version given given' (Err e) why a b is run = subst (λ (f : InboundFault). HasRun tells table version given given' (Err f) a b) (sym is) run
 
-pub run-residual : (tells : Bool) (table : Table) (given given' : List ℕ) (r : Result Ending InboundFault) (why : InboundFault) (a b : Inbound)
-    → IsErrAnd r (λ e. e ≡ why) → HasRun tells table given given' (Err why) a b → HasRun tells table given given' r a b
-run-residual tells table given given' (Ok x) why a b is run = absurd is
-run-residual tells table given given' (Err e) why a b is run = subst (λ (f : InboundFault). HasRun tells table given given' (Err f) a b) (sym is) run
+pub match-residual : {T : Type 0} (P : T → Type 0) (Q : InboundFault → Type 0) (r : Result T InboundFault) (why : InboundFault)
+    → IsErrAnd r (λ e. e ≡ why) → Q why → MatchResult r P Q
+match-residual P Q (Ok x) why is q = absurd is
+match-residual P Q (Err e) why is q = subst Q (sym is) q
 
 pub receives-residual : {T : Type 0} (jobs : List Job) (r : Result T InboundFault) (why : InboundFault) (a b : Inbound)
     → IsErrAnd r (λ e. e ≡ why) → TakesSome jobs a b → Receives jobs r a b

@@ -14,7 +14,10 @@ use Rattle.mac_lane.specs.declared.fault.SettleFault.{SettleFault}
 use Rattle.mac_relay.specs.Lane.{Exit, received, IsSameOutlet, IsKept}
 use Rattle.mac_relay.specs.declared.numbered.Numbered.{Numbered}
 use Rattle.mac_wire.specs.declared.reply.Reply.{Reply}
-use Rattle.mac_wire.specs.Reply.{IsReply, reply_frame, reply_text}
+use Rattle.mac_wire.specs.Frame.{frame, framed}
+use Rattle.mac_wire.specs.Reply.{IsReply, placed_payload, payloads_from, reply_payloads, reply_frame}
+use Rattle.mac_wire.proofs.Wholes.{Fits}
+use Rattle.mac_wire.proofs.ReplyText.{payloads-append, length-payloads, payload-at, payloads_fit}
 use Rattle.std.specs.List.{All, AllByRecursion}
 use Rattle.std.proofs.lemmas.List.Elements.{All-from_recursion}
 use Rattle.std.proofs.lemmas.List.Concat.{flat_map-append}
@@ -24,7 +27,7 @@ use Rattle.mac_serve.specs.declared.outbound.Outbound.{Outbound}
 use Rattle.mac_serve.specs.declared.outbound.OutboundFault.{OutboundFault}
 use Rattle.mac_serve.specs.declared.outbound.OutboundFault.TheVariants as fault
 use Rattle.mac_serve.specs.Posts.{TookForeign}
-use Rattle.mac_serve.specs.Sending.{answer_to, replies, next, out_text, Holds, Stands, Fell, Sends}
+use Rattle.mac_serve.specs.Sending.{answer_to, replies, payloads, IsSame, next, out_text, Holds, Stands, Fell, Sends}
 use Rattle.mac_serve.proofs.Gathered.{gathered-none, gathered-longer, gathered-one, gathered-flushed, gathered-sent, gathered-begins, gathered-cut, gathered-whole}
 use Rattle.mac_serve.proofs.Answered.{none-answered, answered-fewer, answered-longer, answered-more, answered-next, took-last, took-other, settle-foreign, waiting-settled, waiting-released}
 
@@ -36,7 +39,7 @@ released-within : (before : List Entry) (o : Outbound) → Holds before o → ne
 released-within before o h =
     let g = h.gathered in
     let size = ap length g.parts in
-    omega (arith, size, length-map (received o.lane) answer_to, length-append g.out (g.held ++ g.others), length-append g.held g.others, g.is_next)
+    omega (arith, size, length-payloads o.version 0 (replies o), length-map (received o.lane) answer_to, length-append g.out (g.held ++ g.others), length-append g.held g.others, g.is_next)
 
 sent-released : (before : List Entry) (o : Outbound) → Holds before o → o.sent ≤ next o
 sent-released before o h = let g = h.gathered in omega (arith, g.is_sent, g.is_next)
@@ -57,7 +60,7 @@ stands-new o fresh empty sent written none =
     let at : next o ≡ 0 = ap (λ (b : Buffer Job). b.next) fresh in
     record {
       holds = record {
-        gathered = rw (at, sent, written, none) (gathered-none (replies o));
+        gathered = rw (at, sent, written, none) (gathered-none (payloads o));
         posts = [];
         taken = sym (append-nil o.taker);
         answered = rw at (none-answered (received o.lane));
@@ -74,9 +77,12 @@ pub stands-grown : (before : List Entry) (o : Outbound) (lane : Exit Job Global 
     → received lane ≡ received o.lane ++ more → lane.buffer.next ≡ o.lane.buffer.next → lane.buffer.closed ≡ o.lane.buffer.closed → lane.buffer.answers ≡ o.lane.buffer.answers
     → Stands before (record o { lane = lane }) × (out_text (record o { lane = lane }) ≡ out_text o)
 stands-grown before o lane more s kept grown same_next same_closed same_answers =
-    let longer : map answer_to (received lane) ≡ replies o ++ map answer_to more = ap (map answer_to) grown ∙ map-append answer_to (received o.lane) more in
-    let old = gathered-sent (replies o) (next o) o.sent o.written o.gathered.items s.holds.gathered in
-    let g = gathered-longer (replies o) (map answer_to more) (next o) o.sent o.written o.gathered.items s.holds.gathered in (
+    let behind : List (List ℕ) = payloads_from o.version (length (replies o)) (map answer_to more) in
+    let longer : reply_payloads o.version (map answer_to (received lane)) ≡ payloads o ++ behind =
+    ap (reply_payloads o.version) (ap (map answer_to) grown ∙ map-append answer_to (received o.lane) more) ∙ payloads-append o.version 0 (replies o) (map answer_to more)
+    ∙ ap (λ (n : ℕ). payloads o ++ payloads_from o.version n (map answer_to more)) (omega arith) in
+    let old = gathered-sent (payloads o) (next o) o.sent o.written o.gathered.items s.holds.gathered in
+    let g = gathered-longer (payloads o) behind (next o) o.sent o.written o.gathered.items s.holds.gathered in (
       record {
         holds = record {
           gathered = rw (longer, same_next) g;
@@ -88,9 +94,9 @@ stands-grown before o lane more s kept grown same_next same_closed same_answers 
         live = same_closed ∙ s.live;
         waiting = λ place job is. s.waiting place job (ap (λ a. get a place) (sym same_answers) ∙ is);
       },
-      ap (λ (rs : List Reply). take o.written (reply_text rs)) longer
-          ∙ (gathered-sent (replies o ++ map answer_to more) (next o) o.sent o.written o.gathered.items g).1
-          ∙ ap reply_text (take-append-le o.sent (replies o) (map answer_to more) old.0) ∙ sym old.1,
+      ap (λ (ps : List (List ℕ)). take o.written (framed ps)) longer
+          ∙ (gathered-sent (payloads o ++ behind) (next o) o.sent o.written o.gathered.items g).1
+          ∙ ap framed (take-append-le o.sent (payloads o) behind old.0) ∙ sym old.1,
     )
 
 -- an answer was settled
@@ -116,11 +122,11 @@ stands-settled before taken o lane place job s kept one_more same is_settled =
 pub fell-with : (before : List Entry) (o : Outbound) (why : OutboundFault) (h : Holds before o) → (why ≡ fault.Stranger → TookForeign (received o.lane) o.sent h.posts) → Fell before why o
 fell-with before o why h foreign =
     let g = h.gathered in
-    let frames = gathered-whole (replies o) (next o) o.sent o.written o.gathered.items g in
+    let frames = gathered-whole (payloads o) (next o) o.sent o.written o.gathered.items g in
     record {
       frames = frames.0;
       within = frames.1;
-      whole = λ other. (gathered-sent (replies o) (next o) o.sent o.written o.gathered.items g).1;
+      whole = λ other. (gathered-sent (payloads o) (next o) o.sent o.written o.gathered.items g).1;
       posts = h.posts;
       taken = h.taken;
       answered = answered-fewer (received o.lane) o.sent (next o) h.posts (sent-released before o h) h.answered;
@@ -159,9 +165,18 @@ fell-unsettled before taken o lane place job why s one_more same same_buffer is 
     fell-with before now fault.Stranger h (λ _. rw same (took-last (received o.lane) o.sent posts place job
     (settle-foreign (received o.lane) o.sent o.lane.buffer place job why posts s.live (sent-released before o s.holds) (released-within before o s.holds) s.holds.answered s.waiting is)))
 
--- the same lane, at three times
-pub same-outlet : (a b c : Exit Job Global Numbered) → IsSameOutlet a b → IsSameOutlet b c → IsSameOutlet a c
+-- the same half, at three times
+same-outlet : (a b c : Exit Job Global Numbered) → IsSameOutlet a b → IsSameOutlet b c → IsSameOutlet a c
 same-outlet a b c h k = ((k.0.0 ∙ h.0.0, k.0.1 ∙ h.0.1, k.0.2 ∙ h.0.2, k.0.3 ∙ h.0.3), k.1 ∙ h.1)
+
+pub same-half : (a b c : Outbound) → IsSame a b → IsSame b c → IsSame a c
+same-half a b c h k = (same-outlet a.lane b.lane c.lane h.0 k.0, k.1 ∙ h.1)
+
+pub same-outlet-half : (a b : Outbound) (lane : Exit Job Global Numbered) → IsSame a b → IsSameOutlet b.lane lane → IsSame a (record b { lane = lane })
+same-outlet-half a b lane h k = (same-outlet a.lane b.lane lane h.0 k, h.1)
+
+pub same-kept : (a b c : Outbound) → IsSame a b → c.lane ≡ b.lane → c.version ≡ b.version → IsSame a c
+same-kept a b c h lane version = (subst (λ (l : Exit Job Global Numbered). IsSameOutlet a.lane l) (sym lane) h.0, version ∙ h.1)
 
 -- the slip at the front is the job that was received at the next place
 slip-received : (before : List Entry) (o : Outbound) (slip : Job) (rest : List Job) → Stands before o → o.lane.buffer.slips ≡ slip ∷ rest
@@ -171,18 +186,21 @@ slip-received before o slip rest s is = item_is (received o.lane) (next o) slip 
 -- a reply was released
 pub stands-released : (before : List Entry) (o : Outbound) (lane : Exit Job Global Numbered) (gathered : Vec ℕ Global) (slip answer : Job) (rest : List Job)
     → Stands before o → IsKept lane → received lane ≡ received o.lane → o.lane.buffer.slips ≡ slip ∷ rest → get o.lane.buffer.answers (next o) ≡ Some answer → answer ≡ slip
-    → lane.buffer ≡ sent_off o.lane.buffer rest → gathered.items ≡ o.gathered.items ++ reply_frame (answer_to slip)
+    → lane.buffer ≡ sent_off o.lane.buffer rest → gathered.items ≡ o.gathered.items ++ reply_frame o.version (next o) (answer_to slip)
     → Stands before (record o { lane = lane; gathered = gathered })
 stands-released before o lane gathered slip answer rest s kept same slips settled_is equal after more =
     let posts = s.holds.posts in
     let at = slip-received before o slip rest s slips in
     let next_is : lane.buffer.next ≡ next o + 1 = ap (λ (b : Buffer Job). b.next) after in
     let reply_at : slice_get (replies o) (next o) ≡ Some (answer_to slip) = slice_get-map answer_to (received o.lane) (next o) ∙ ap (option_map answer_to) at in
+    let payload_at : slice_get (payloads o) (next o) ≡ Some (placed_payload o.version (next o) (answer_to slip)) =
+    payload-at o.version 0 (next o) (replies o) ∙ ap (option_map (placed_payload o.version (0 + next o))) reply_at
+    ∙ ap (λ (n : ℕ). Some (placed_payload o.version n (answer_to slip))) (omega arith) in
     let here : Contains posts (next o, Some slip) =
     subst (λ (job : Job). Contains posts (next o, Some job)) equal (s.waiting (next o) answer settled_is) in
     record {
       holds = record {
-        gathered = rw (same, next_is) (gathered-one (replies o) (next o) o.sent o.written o.gathered.items gathered.items (answer_to slip) s.holds.gathered reply_at more);
+        gathered = rw (same, next_is) (gathered-one (payloads o) (next o) o.sent o.written o.gathered.items gathered.items (placed_payload o.version (next o) (answer_to slip)) s.holds.gathered payload_at more);
         posts = posts;
         taken = s.holds.taken;
         answered = rw (same, next_is) (answered-next (received o.lane) (next o) posts slip s.holds.answered at here);
@@ -234,7 +252,7 @@ stands-waiting before o lane s kept same after =
 pub holds-flushed : (before : List Entry) (o : Outbound) (gathered : Vec ℕ Global) (sent written : ℕ) → Holds before o → gathered.items ≡ [] → sent ≡ next o
     → written ≡ o.written + length o.gathered.items → Holds before (record o { gathered = gathered; sent = sent; written = written })
 holds-flushed before o gathered sent written h none sent_is written_is = record {
-  gathered = rw (none, sent_is, written_is) (gathered-flushed (replies o) (next o) o.sent o.written o.gathered.items h.gathered);
+  gathered = rw (none, sent_is, written_is) (gathered-flushed (payloads o) (next o) o.sent o.written o.gathered.items h.gathered);
   posts = h.posts;
   taken = h.taken;
   answered = h.answered;
@@ -242,38 +260,38 @@ holds-flushed before o gathered sent written h none sent_is written_is = record 
 
 -- what went out, after a beginning of what was gathered
 pub out-grown : (before : List Entry) (o : Outbound) (written n : ℕ) → Holds before o → n ≤ length o.gathered.items → written ≡ o.written + n
-    → take written (reply_text (replies o)) ≡ out_text o ++ take n o.gathered.items
+    → take written (framed (payloads o)) ≡ out_text o ++ take n o.gathered.items
 out-grown before o written n h within is =
-    ap (λ (w : ℕ). take w (reply_text (replies o))) is ∙ gathered-begins (replies o) (next o) o.sent o.written n o.gathered.items h.gathered within
+    ap (λ (w : ℕ). take w (framed (payloads o))) is ∙ gathered-begins (payloads o) (next o) o.sent o.written n o.gathered.items h.gathered within
 
 all-fit : ((job : Job) → IsReply (answer_to job)) → (jobs : List Job) → AllByRecursion IsReply (map answer_to jobs)
 all-fit fits [] = tt
 all-fit fits (job ∷ jobs) = (fits job, all-fit fits jobs)
 
-later-fit : (front back : List Reply) → AllByRecursion IsReply (front ++ back) → AllByRecursion IsReply back
+later-fit : (front back : List (List ℕ)) → AllByRecursion Fits (front ++ back) → AllByRecursion Fits back
 later-fit [] back all = all
 later-fit (r ∷ rs) back all = later-fit rs back all.1
 
-earlier-fit : (front back : List Reply) → AllByRecursion IsReply (front ++ back) → AllByRecursion IsReply front
+earlier-fit : (front back : List (List ℕ)) → AllByRecursion Fits (front ++ back) → AllByRecursion Fits front
 earlier-fit [] back all = tt
 earlier-fit (r ∷ rs) back all = (all.0, earlier-fit rs back all.1)
 
 -- the sink took a beginning of what was gathered
 pub fell-cut : (before : List Entry) (o : Outbound) (bytes : List ℕ) (count whole sent written : ℕ) → Holds before o → ((job : Job) → IsReply (answer_to job))
     → next o < 2 ^ 64 → count < length o.gathered.items → bytes ≡ take count o.gathered.items
-    → ((rs : List Reply) → All IsReply rs → bytes ≡ take (length bytes) (reply_text rs) → HasWhole rs (length bytes) whole)
+    → ((ps : List (List ℕ)) → All Fits ps → bytes ≡ take (length bytes) (framed ps) → HasWhole ps (length bytes) whole)
     → sent ≡ min (o.sent + whole) (2 ^ 64 - 1) → written ≡ o.written + count
     → Fell before fault.Write (record o { sent = sent; written = written })
 fell-cut before o bytes count whole sent written h fits bound few is counts sent_is written_is =
     let g = h.gathered in
     let size : length bytes ≡ count = ap length is ∙ length-take-le count o.gathered.items (omega arith) in
-    let all = later-fit g.out (g.held ++ g.others) (rw g.parts at (all-fit fits (received o.lane))) in
-    let held : All IsReply g.held = All-from_recursion IsReply g.held (earlier-fit g.held g.others all) in
-    let begins : bytes ≡ take (length bytes) (reply_text g.held) = is ∙ ap (take count) g.is_gathered ∙ ap (λ (n : ℕ). take n (reply_text g.held)) (sym size) in
+    let all = later-fit g.out (g.held ++ g.others) (rw g.parts at (payloads_fit o.version 0 (replies o) (all-fit fits (received o.lane)))) in
+    let held : All Fits g.held = All-from_recursion Fits g.held (earlier-fit g.held g.others all) in
+    let begins : bytes ≡ take (length bytes) (framed g.held) = is ∙ ap (take count) g.is_gathered ∙ ap (λ (n : ℕ). take n (framed g.held)) (sym size) in
     let has : HasWhole g.held count whole = rw size at (counts g.held held begins) in
-    let frames : HasWhole (replies o) (o.written + count) (o.sent + whole) = gathered-cut (replies o) (next o) o.sent o.written count whole o.gathered.items g few has in
+    let frames : HasWhole (payloads o) (o.written + count) (o.sent + whole) = gathered-cut (payloads o) (next o) o.sent o.written count whole o.gathered.items g few has in
     let length_held = ap length g.is_gathered in
-    let all_text = ap (λ (l : List Reply). length (reply_text l)) g.parts in
+    let all_text = ap (λ (l : List (List ℕ)). length (framed l)) g.parts in
     let fewer : o.sent + whole ≤ next o = omega (arith, g.is_sent, g.is_next, has.there) in
     let exact : sent ≡ o.sent + whole = sent_is ∙ omega (arith, fewer, bound) in
     record {
@@ -284,10 +302,10 @@ fell-cut before o bytes count whole sent written h fits bound few is counts sent
         length_held,
         few,
         g.is_written,
-        ap length (flat_map-append reply_frame g.out (g.held ++ g.others)),
-        length-append (reply_text g.out) (reply_text (g.held ++ g.others)),
-        ap length (flat_map-append reply_frame g.held g.others),
-        length-append (reply_text g.held) (reply_text g.others),
+        ap length (flat_map-append frame g.out (g.held ++ g.others)),
+        length-append (framed g.out) (framed (g.held ++ g.others)),
+        ap length (flat_map-append frame g.held g.others),
+        length-append (framed g.held) (framed g.others),
       ));
       whole = λ other. absurd (other refl);
       posts = h.posts;

@@ -10,8 +10,11 @@ use Rattle.mac_wire.specs.declared.arrival.Arrival.{Arrival}
 use Rattle.mac_wire.specs.declared.arrival.Ending.{Ending}
 use Rattle.mac_wire.specs.declared.arrival.Ending.TheVariants as ending
 use Rattle.mac_wire.specs.declared.reply.Reply.{Reply}
-use Rattle.mac_wire.specs.Frame.{arrivals_of}
-use Rattle.mac_wire.specs.Reply.{reply_frame, reply_text}
+use Rattle.mac_wire.specs.declared.version.Version.{Version}
+use Rattle.mac_wire.specs.Frame.{frame, framed}
+use Rattle.mac_wire.specs.Stream.{arrivals_of}
+use Rattle.mac_wire.specs.Reply.{payloads_from, reply_payloads, reply_text}
+use Rattle.mac_wire.proofs.ReplyText.{length-payloads, payloads-append, payloads-take}
 use Rattle.mac_wire.specs.Whole.{HasWhole}
 use Rattle.mac_decide.specs.Answer.{answer_of}
 use Rattle.mac_decide.specs.World.{job_under}
@@ -27,7 +30,7 @@ use Rattle.mac_serve.specs.declared.outbound.OutboundFault.{OutboundFault}
 use Rattle.mac_serve.specs.declared.outbound.OutboundFault.TheVariants as sending
 use Rattle.mac_serve.specs.Posts.{AreAnswered, TookForeign}
 use Rattle.mac_serve.specs.Receiving.{Gave, Ran, TakesIn, TakesSome, IsBehind, jobs_of, placed}
-use Rattle.mac_serve.specs.Sending.{answer_to, replies, next, out_text, Fell, Sends}
+use Rattle.mac_serve.specs.Sending.{answer_to, replies, payloads, next, out_text, Fell, Sends}
 use Rattle.mac_serve.specs.Serving.{answers, SentAll, SentSome, SentBeginning, Sent, HasServed, outcome_of}
 use Rattle.mac_serve.proofs.Answered.{none-answered, answered-longer, took-longer}
 use Rattle.mac_serve.proofs.Gathered.{gathered-none, gathered-whole, whole-longer}
@@ -67,27 +70,41 @@ told o i count end = record {
 }
 
 -- where the jobs that an outbound half received are the first of those of these arrivals
-module _ (table : Table) (arrivals : List Arrival) (o : Outbound) (more : List Job) (is : received o.lane ++ more ≡ jobs_of table arrivals) where
-  longer : answers table arrivals ≡ replies o ++ map answer_to more
-  longer = sym (answers-are table arrivals) ∙ ap (map answer_to) (sym is) ∙ map-append answer_to (received o.lane) more
+module _ (table : Table) (version : Version) (arrivals : List Arrival) (o : Outbound) (more : List Job) (is : received o.lane ++ more ≡ jobs_of table arrivals)
+    (same : o.version ≡ version) where
+  -- the frames behind those of the replies to them
+  abbrev behind : List (List ℕ)
+  behind = payloads_from o.version (length (replies o)) (map answer_to more)
+
+  longer : reply_payloads version (answers table arrivals) ≡ payloads o ++ behind
+  longer =
+      ap (λ (v : Version). reply_payloads v (answers table arrivals)) (sym same)
+      ∙ ap (reply_payloads o.version) (sym (answers-are table arrivals) ∙ ap (map answer_to) (sym is) ∙ map-append answer_to (received o.lane) more)
+      ∙ payloads-append o.version 0 (replies o) (map answer_to more)
+      ∙ ap (λ (n : ℕ). payloads o ++ payloads_from o.version n (map answer_to more)) (omega arith)
 
   -- a beginning of the answers' frames went out
-  beginning : o.written ≤ length (reply_text (replies o)) → out_text o ≡ take o.written (reply_text (answers table arrivals))
+  beginning : o.written ≤ length (framed (payloads o)) → out_text o ≡ take o.written (reply_text version (answers table arrivals))
   beginning within =
-      sym (take-append-le o.written (reply_text (replies o)) (reply_text (map answer_to more)) within)
-      ∙ ap (take o.written) (sym (flat_map-append reply_frame (replies o) (map answer_to more)))
-      ∙ ap (λ (rs : List Reply). take o.written (reply_text rs)) (sym longer)
+      sym (take-append-le o.written (framed (payloads o)) (framed behind) within)
+      ∙ ap (take o.written) (sym (flat_map-append frame (payloads o) behind))
+      ∙ ap (λ (ps : List (List ℕ)). take o.written (framed ps)) (sym longer)
 
   -- the frames of the first answers went out
-  some : o.sent ≤ length (replies o) → out_text o ≡ reply_text (take o.sent (replies o)) → out_text o ≡ reply_text (take o.sent (answers table arrivals))
+  some : o.sent ≤ length (payloads o) → out_text o ≡ framed (take o.sent (payloads o)) → out_text o ≡ reply_text version (take o.sent (answers table arrivals))
   some there whole =
-      whole ∙ ap reply_text (sym (take-append-le o.sent (replies o) (map answer_to more) there))
-      ∙ ap (λ (rs : List Reply). reply_text (take o.sent rs)) (sym longer)
+      whole ∙ ap framed (sym (take-append-le o.sent (payloads o) behind there))
+      ∙ ap (λ (ps : List (List ℕ)). framed (take o.sent ps)) (sym longer)
+      ∙ ap framed (payloads-take version 0 o.sent (answers table arrivals))
 
-  whole_of : o.written ≤ length (reply_text (replies o)) → HasWhole (replies o) o.written o.sent → HasWhole (answers table arrivals) o.written o.sent
+  whole_of : o.written ≤ length (framed (payloads o)) → HasWhole (payloads o) o.written o.sent → HasWhole (reply_payloads version (answers table arrivals)) o.written o.sent
   whole_of within frames =
-      subst (λ (rs : List Reply). HasWhole rs o.written o.sent) (sym longer)
-      (whole-longer (replies o) (map answer_to more) o.written o.sent frames within)
+      subst (λ (ps : List (List ℕ)). HasWhole ps o.written o.sent) (sym longer)
+      (whole-longer (payloads o) behind o.written o.sent frames within)
+
+  -- no more were sent than received
+  sent-received : o.sent ≤ length (payloads o) → o.sent ≤ length (received o.lane)
+  sent-received there = omega (arith, there, length-payloads o.version 0 (replies o), length-map (received o.lane) answer_to)
 
 -- What two halves did that ran over one lane, from its beginning: the source gave a stream, the sink took what went out, and the ends met.
 module _ (tells_in tells_out : Bool) (table : Table) (given given' wrote wrote' stream : List ℕ) (pass : Pass Job) (taken : List Entry)
@@ -97,7 +114,11 @@ module _ (tells_in tells_out : Bool) (table : Table) (given given' wrote wrote' 
     (empty : admitted start.lane ≡ [])
     (putter : start.putter ≡ pass)
     (met : received o.lane ++ rest ≡ admitted i.lane)
-    (counted : count ≡ length (admitted i.lane)) where
+    (counted : count ≡ length (admitted i.lane))
+    (same : o.version ≡ (arrivals_of stream).version) where
+  abbrev version : Version
+  version = (arrivals_of stream).version
+
   abbrev arrived : List Arrival
   arrived = (arrivals_of stream).arrived
 
@@ -139,12 +160,12 @@ module _ (tells_in tells_out : Bool) (table : Table) (given given' wrote wrote' 
         gave = gave;
         output = out_text o;
         took = took;
-        written_is = sym (length-take-le o.written (reply_text (replies o)) fell.within);
+        written_is = sym (length-take-le o.written (framed (payloads o)) fell.within);
         sent = row;
-        whole = whole_of table arrived o more is fell.within fell.frames;
+        whole = whole_of table version arrived o more is same fell.within fell.frames;
         admitted = few t;
         answered_few = (let size = ap length met in
-            omega (arith, counted, size, fell.frames.there, length-map (received o.lane) answer_to, length-append (received o.lane) rest));
+            omega (arith, counted, size, sent-received table version arrived o more is same fell.frames.there, length-append (received o.lane) rest));
         same_pool = subst (λ (p : Pass Job). IsSamePass p i.putter) putter (same-after jobs start i t);
         puts = t.puts;
         put_behind = subst (λ (n : ℕ). IsBehind t.puts n) (sym (counted ∙ ap length (first t) ∙ length-take-le t.count jobs t.there)) t.put_behind;
@@ -152,35 +173,35 @@ module _ (tells_in tells_out : Bool) (table : Table) (given given' wrote wrote' 
         posts = fell.posts;
         taken_is = fell.taken;
         answered = subst (λ (js : List Job). AreAnswered js o.sent fell.posts) is
-            (answered-longer (received o.lane) more o.sent fell.posts (omega (arith, fell.frames.there, length-map (received o.lane) answer_to)) fell.answered);
+            (answered-longer (received o.lane) more o.sent fell.posts (sent-received table version arrived o more is same fell.frames.there) fell.answered);
         foreign = λ told. subst (λ (js : List Job). TookForeign js o.sent fell.posts) is
             (took-longer (received o.lane) more o.sent fell.posts (fell.foreign (strange told)));
       }
 
   -- the frames of the first replies went out
-  sent-some : (w : OutboundFault) → (w ≢ sending.Write) → Fell taken w o → TakesSome jobs start i → SentSome table arrived (out_text o) (told o i count ending.Broken)
+  sent-some : (w : OutboundFault) → (w ≢ sending.Write) → Fell taken w o → TakesSome jobs start i → SentSome table version arrived (out_text o) (told o i count ending.Broken)
   sent-some w other fell t = record {
-    output_is = some table arrived o (rest ++ drop t.count jobs) (goes-on t) fell.frames.there (fell.whole other);
+    output_is = some table version arrived o (rest ++ drop t.count jobs) (goes-on t) same fell.frames.there (fell.whole other);
     ending_is = refl;
   }
 
   -- a beginning of the frames went out
-  sent-beginning : (w : OutboundFault) → Fell taken w o → TakesSome jobs start i → SentBeginning table arrived (out_text o) (told o i count ending.Broken)
+  sent-beginning : (w : OutboundFault) → Fell taken w o → TakesSome jobs start i → SentBeginning table version arrived (out_text o) (told o i count ending.Broken)
   sent-beginning w fell t = record {
-    output_is = beginning table arrived o (rest ++ drop t.count jobs) (goes-on t) fell.within;
+    output_is = beginning table version arrived o (rest ++ drop t.count jobs) (goes-on t) same fell.within;
     ending_is = refl;
   }
 
   -- all went out, where all jobs were taken in and each reply was released
-  sent-all : (end : Ending) → Fell taken sending.Lane o → TakesIn jobs start i → o.sent ≡ count → SentAll table arrived pass (out_text o) (told o i count end)
+  sent-all : (end : Ending) → Fell taken sending.Lane o → TakesIn jobs start i → o.sent ≡ count → SentAll table version arrived pass (out_text o) (told o i count end)
   sent-all end fell t sent =
       let s : TakesSome jobs start i = takes-some-all jobs start i t in
       let all : admitted i.lane ≡ jobs = t.admitted_is ∙ ap (λ (l : List Job). l ++ jobs) empty in
       let size = ap length all in
       let has : count ≡ length arrived = omega (arith, counted, size, length-map arrived (job_under table)) in
       record {
-        output_is = some table arrived o (rest ++ drop s.count jobs) (goes-on s) fell.frames.there (fell.whole (λ is. absurd cc))
-            ∙ ap reply_text (take_all o.sent (answers table arrived) (omega (arith, sent, has, length-map arrived (answer_of table))));
+        output_is = some table version arrived o (rest ++ drop s.count jobs) (goes-on s) same fell.frames.there (fell.whole (λ is. absurd cc))
+            ∙ ap (reply_text version) (take_all o.sent (answers table arrived) (omega (arith, sent, has, length-map arrived (answer_of table))));
         arrived_is = has;
         sent_is = sent ∙ has;
         put_is = t.put_is ∙ put-first jobs;
@@ -188,59 +209,64 @@ module _ (tells_in tells_out : Bool) (table : Table) (given given' wrote wrote' 
 
   -- where a half that sends fell by another fault than the sink's, or stands and another fault is told
   serves-some : (why : ServeFault) (w : OutboundFault) → (w ≢ sending.Write) → (why ≡ fault.Stranger → w ≡ sending.Stranger)
-      → (SentSome table arrived (out_text o) (told o i count ending.Broken) → Sent table (arrivals_of stream) pass (out_text o) (Some why) (told o i count ending.Broken))
+      → (SentSome table version arrived (out_text o) (told o i count ending.Broken) → Sent table (arrivals_of stream) pass (out_text o) (Some why) (told o i count ending.Broken))
       → Fell taken w o → TakesSome jobs start i → Serves (Some why) ending.Broken
   serves-some why w other strange row fell t = serves (Some why) ending.Broken w fell t (λ is. strange cc) (row (sent-some w other fell t))
 
   -- what is told, case by case of how the halves ended
   rows : {T : Type 0} (sent : Result T OutboundFault) (read : Result Ending InboundFault) (all : Bool) → Sends taken sent o → OnOk sent (o.sent ≡ next o)
       → Ran table stream read start i → (all ≡ true → count ≡ next o) → Serves (outcome_of sent read all).0 (outcome_of sent read all).1
-  rows (Err sending.Write) read all fell same ran due =
+  rows (Err sending.Write) read all fell all_sent ran due =
       let t = ran-some table stream read start i ran in
       serves (Some fault.Write) ending.Broken sending.Write fell t (λ is. absurd cc) (sent-beginning sending.Write fell t)
-  rows (Err sending.NoMemory) read all fell same ran due =
+  rows (Err sending.NoMemory) read all fell all_sent ran due =
       serves-some fault.NoMemory sending.NoMemory (λ is. absurd cc) (λ is. absurd cc) (λ row. row) fell (ran-some table stream read start i ran)
-  rows (Err sending.Stranger) read all fell same ran due =
+  rows (Err sending.Stranger) read all fell all_sent ran due =
       serves-some fault.Stranger sending.Stranger (λ is. absurd cc) (λ is. refl) (λ row. row) fell (ran-some table stream read start i ran)
-  rows (Err sending.Lane) read all fell same ran due =
+  rows (Err sending.Lane) read all fell all_sent ran due =
       serves-some fault.Lane sending.Lane (λ is. absurd cc) (λ is. absurd cc) (λ row. row) fell (ran-some table stream read start i ran)
-  rows (Ok x) (Err reading.NoMemory) all s same ran due =
+  rows (Ok x) (Err reading.NoMemory) all s all_sent ran due =
       serves-some fault.NoMemory sending.Lane (λ is. absurd cc) (λ is. absurd cc) (λ row. row) (fell-held taken o sending.Lane s.holds (λ is. absurd cc)) ran
-  rows (Ok x) (Err reading.Lane) all s same ran due =
+  rows (Ok x) (Err reading.Lane) all s all_sent ran due =
       serves-some fault.Lane sending.Lane (λ is. absurd cc) (λ is. absurd cc) (λ row. row) (fell-held taken o sending.Lane s.holds (λ is. absurd cc)) ran
-  rows (Ok x) (Err reading.Stopped) all s same ran due =
+  rows (Ok x) (Err reading.Stopped) all s all_sent ran due =
       serves-some fault.Lane sending.Lane (λ is. absurd cc) (λ is. absurd cc) (λ row. row) (fell-held taken o sending.Lane s.holds (λ is. absurd cc)) ran
-  rows (Ok x) (Err reading.Read) false s same ran due =
+  rows (Ok x) (Err reading.Read) false s all_sent ran due =
       serves-some fault.Lane sending.Lane (λ is. absurd cc) (λ is. absurd cc) (λ row. row) (fell-held taken o sending.Lane s.holds (λ is. absurd cc))
       (takes-some-all jobs start i ran)
-  rows (Ok x) (Err reading.Read) true s same ran due =
+  rows (Ok x) (Err reading.Read) true s all_sent ran due =
       let fell = fell-held taken o sending.Lane s.holds (λ is. absurd cc) in
       serves (Some fault.Read) ending.Broken sending.Lane fell (takes-some-all jobs start i ran) (λ is. absurd cc)
-      (sent-all ending.Broken fell ran (same ∙ sym (due refl)), refl)
-  rows (Ok x) (Ok end) false s same ran due =
+      (sent-all ending.Broken fell ran (all_sent ∙ sym (due refl)), refl)
+  rows (Ok x) (Ok end) false s all_sent ran due =
       serves-some fault.Lane sending.Lane (λ is. absurd cc) (λ is. absurd cc) (λ row. row) (fell-held taken o sending.Lane s.holds (λ is. absurd cc))
       (takes-some-all jobs start i ran.0)
-  rows (Ok x) (Ok ending.Clean) true s same ran due =
+  rows (Ok x) (Ok ending.Clean) true s all_sent ran due =
       let fell = fell-held taken o sending.Lane s.holds (λ is. absurd cc) in
       serves None ending.Clean sending.Lane fell (takes-some-all jobs start i ran.0) (λ is. absurd cc)
-      (sent-all ending.Clean fell ran.0 (same ∙ sym (due refl)), sym ran.1, inl ran.1)
-  rows (Ok x) (Ok ending.Oversize) true s same ran due =
+      (sent-all ending.Clean fell ran.0 (all_sent ∙ sym (due refl)), sym ran.1, inl ran.1)
+  rows (Ok x) (Ok ending.Oversize) true s all_sent ran due =
       let fell = fell-held taken o sending.Lane s.holds (λ is. absurd cc) in
       serves None ending.Oversize sending.Lane fell (takes-some-all jobs start i ran.0) (λ is. absurd cc)
-      (sent-all ending.Oversize fell ran.0 (same ∙ sym (due refl)), sym ran.1, inr ran.1)
-  rows (Ok x) (Ok ending.Torn) true s same ran due =
+      (sent-all ending.Oversize fell ran.0 (all_sent ∙ sym (due refl)), sym ran.1, inr ran.1)
+  rows (Ok x) (Ok ending.Torn) true s all_sent ran due =
       let fell = fell-held taken o sending.Lane s.holds (λ is. absurd cc) in
       serves (Some fault.Torn) ending.Torn sending.Lane fell (takes-some-all jobs start i ran.0) (λ is. absurd cc)
-      (sent-all ending.Torn fell ran.0 (same ∙ sym (due refl)), sym ran.1, ran.1)
-  rows (Ok x) (Ok ending.Broken) true s same ran due = absurd (ran.2 refl)
+      (sent-all ending.Torn fell ran.0 (all_sent ∙ sym (due refl)), sym ran.1, ran.1)
+  rows (Ok x) (Ok ending.Broken) true s all_sent ran due = absurd (ran.2 refl)
 
   -- the same by the names of what is told
   pub has-served : {T : Type 0} (sent : Result T OutboundFault) (read : Result Ending InboundFault) (all : Bool) (out : Option ServeFault × Ending) (why : Option ServeFault)
       → Sends taken sent o → OnOk sent (o.sent ≡ next o) → Ran table stream read start i → (all ≡ true → count ≡ next o)
       → out ≡ outcome_of sent read all → out.0 ≡ why → Serves why out.1
-  has-served sent read all out why sends same ran due is tells =
+  has-served sent read all out why sends all_sent ran due is tells =
       subst (λ (w : Option ServeFault). Serves w out.1) tells
-      (subst (λ (p : Option ServeFault × Ending). Serves p.0 p.1) (sym is) (rows sent read all sends same ran due))
+      (subst (λ (p : Option ServeFault × Ending). Serves p.0 p.1) (sym is) (rows sent read all sends all_sent ran due))
+
+-- no reply is no byte
+sent-nothing : (v : Version) (replies : List Reply) → [] ≡ reply_text v (take 0 replies)
+unfolding payloads_from
+sent-nothing v replies = refl
 
 -- a connection that was not served
 pub nothing-served : (tells_in tells_out : Bool) (table : Table) (given wrote : List ℕ) (pass : Pass Job) (taken : List Entry) (served : Served)
@@ -249,15 +275,15 @@ pub nothing-served : (tells_in tells_out : Bool) (table : Table) (given wrote : 
 unfolding placed
 nothing-served tells_in tells_out table given wrote pass taken served is =
     let none : Served = record { arrived = 0; sent = 0; written = 0; ending = ending.Broken; desk = record { putter = pass; taker = taken } } in
-    let rs : List Reply = answers table (arrivals_of []).arrived in
+    let ps : List (List ℕ) = reply_payloads (arrivals_of []).version (answers table (arrivals_of []).arrived) in
     let has : HasServed tells_in tells_out table given given wrote wrote pass taken (Some fault.NoMemory) none = record {
       stream = [];
       gave = λ _. sym (append-nil given);
       output = [];
       took = λ _. sym (append-nil wrote);
       written_is = refl;
-      sent = record { output_is = refl; ending_is = refl };
-      whole = (gathered-whole rs 0 0 0 [] (gathered-none rs)).0;
+      sent = record { output_is = sent-nothing (arrivals_of []).version (answers table (arrivals_of []).arrived); ending_is = refl };
+      whole = (gathered-whole ps 0 0 0 [] (gathered-none ps)).0;
       admitted = omega arith;
       answered_few = omega arith;
       same_pool = (refl, refl, refl);

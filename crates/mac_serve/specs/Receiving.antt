@@ -1,5 +1,5 @@
 -- What the inbound half of a connection takes in.
-use Rattle.std.specs.Prelude.{◌≡◌, ◌≢◌, ◌⊎◌, ℕ, ◌+◌, ◌≤◌, Bool, IsTrue, List, [], ◌∷◌, ◌++◌, length, map, take, Option, Some, None, Result, Ok, Err}
+use Rattle.std.specs.Prelude.{◌≡◌, ◌≢◌, ◌⊎◌, ℕ, ◌+◌, ◌<◌, ◌≤◌, Bool, IsTrue, List, [], ◌∷◌, ◌++◌, length, map, take, Option, Some, None, Result, Ok, Err}
 use Rattle.std.specs.declared.alloc.Global.{Global}
 use Rattle.std.specs.declared.vec.Vec.{Vec}
 use Rattle.mac_relay.specs.Lane.{admitted}
@@ -8,8 +8,9 @@ use Rattle.mac_wire.specs.declared.arrival.Arrival.{Arrival}
 use Rattle.mac_wire.specs.declared.arrival.Ending.{Ending}
 use Rattle.mac_wire.specs.declared.arrival.Ending.TheVariants as ending
 use Rattle.mac_wire.specs.declared.frame.FrameReader.{FrameReader}
-use Rattle.mac_wire.specs.Frame.{arrivals_of}
-use Rattle.mac_wire.specs.FrameReader.{HasRead}
+use Rattle.mac_wire.specs.declared.version.Version.{Version}
+use Rattle.mac_wire.specs.Stream.{arrivals_of, version_told}
+use Rattle.mac_wire.specs.FrameReader.{HasRead, version_of}
 use Rattle.mac_decide.specs.declared.job.Job.{Job}
 use Rattle.mac_decide.specs.World.{job_under}
 use Rattle.mac_serve.specs.declared.incoming.InboundFault.{InboundFault}
@@ -20,20 +21,26 @@ use Rattle.mac_serve.specs.declared.inbound.Inbound.{Inbound}
 abbrev pub Gave : Bool → List ℕ → List ℕ → List ℕ → Type 0
 Gave tells before after bytes = IsTrue tells → after ≡ before ++ bytes
 
+-- the reader knows the version that the stream has told
+abbrev pub HasTold : FrameReader → List ℕ → Type 0
+HasTold reader stream = version_of reader ≡ version_told stream
+
 -- The next bytes of a stream were read: the arrivals that are whole with them came, or none where
--- nothing was left;
--- where the device failed nothing came, and where memory ran out the bytes are lost.
+-- nothing was left; where the device failed or its failures can't be counted nothing came, and where
+-- memory ran out the bytes are lost. The reader knows the version that the stream has told.
 abbrev pub Reads : Bool → List ℕ → List ℕ → List ℕ → List Arrival
     → Result (Option (Vec Arrival Global)) InboundFault → FrameReader → Type 0
 Reads tells before after stream handed (Ok (Some more)) reader =
-    (bytes : List ℕ) × Gave tells before after bytes
+    (bytes : List ℕ) × Gave tells before after bytes × (0 < length bytes)
     × HasRead reader (stream ++ bytes) (handed ++ more.items)
 Reads tells before after stream handed (Ok None) reader =
     Gave tells before after [] × HasRead reader stream handed
-Reads tells before after stream handed (Err fault.Read) reader = Gave tells before after []
+Reads tells before after stream handed (Err fault.Read) reader =
+    Gave tells before after [] × HasTold reader stream
 Reads tells before after stream handed (Err fault.NoMemory) reader =
-    (bytes : List ℕ) × Gave tells before after bytes
-Reads tells before after stream handed (Err fault.Lane) reader = ⊥
+    (bytes : List ℕ) × Gave tells before after bytes × HasTold reader (stream ++ bytes)
+Reads tells before after stream handed (Err fault.Lane) reader =
+    Gave tells before after [] × HasTold reader stream
 Reads tells before after stream handed (Err fault.Stopped) reader = ⊥
 
 -- one fault was counted where the source failed, and else none
@@ -95,27 +102,31 @@ Ran table stream (Err fault.Lane) before after =
 Ran table stream (Err fault.Stopped) before after =
     TakesSome (jobs_of table (arrivals_of stream).arrived) before after
 
--- a run over the bytes that the source gave
-pub record HasRun (tells : Bool) (table : Table) (given given' : List ℕ)
+-- a run over the bytes that the source gave, a stream of this version
+pub record HasRun (tells : Bool) (table : Table) (version : Version) (given given' : List ℕ)
     (result : Result Ending InboundFault) (before after : Inbound) : Type 0 where
   pub stream : List ℕ
   pub gave : Gave tells given given' stream
+  pub version_is : (arrivals_of stream).version ≡ version
   pub ran : Ran table stream result before after
 
--- a run that goes on: a reader was fed a stream, and the jobs of what it handed out were taken in
-pub record GoesOn (tells : Bool) (table : Table) (given given' : List ℕ) (reader : FrameReader)
-    (before after : Inbound) : Type 0 where
+-- A run that goes on: the reader was fed a stream of this version, and of what it handed out the
+-- jobs of all but these arrivals were taken in.
+pub record GoesOn (tells : Bool) (table : Table) (version : Version) (given given' : List ℕ)
+    (reader : FrameReader) (pending : List Arrival) (before after : Inbound) : Type 0 where
   pub stream : List ℕ
   pub gave : Gave tells given given' stream
+  pub told : version_told stream ≡ Some version
   pub handed : List Arrival
-  pub read : HasRead reader stream handed
+  pub read : HasRead reader stream (handed ++ pending)
   pub took : TakesIn (jobs_of table handed) before after
 
--- how a step of a run ended: it goes on, whether or not more can come, or only some jobs were taken
--- in
-abbrev pub Continues : Bool → Table → List ℕ → List ℕ → Result Bool InboundFault → FrameReader
-    → Inbound → Inbound → Type 0
-Continues tells table given given' (Ok more) reader before after =
-    GoesOn tells table given given' reader before after
-Continues tells table given given' (Err why) reader before after =
-    HasRun tells table given given' (Err why) before after
+-- how a read of a run that goes on ended: more arrivals came or none, or the run ends by a fault
+abbrev pub Continues : Bool → Table → Version → List ℕ → List ℕ
+    → Result (Option (Vec Arrival Global)) InboundFault → FrameReader → Inbound → Inbound → Type 0
+Continues tells table version given given' (Ok (Some more)) reader before after =
+    GoesOn tells table version given given' reader more.items before after
+Continues tells table version given given' (Ok None) reader before after =
+    GoesOn tells table version given given' reader [] before after
+Continues tells table version given given' (Err why) reader before after =
+    HasRun tells table version given given' (Err why) before after

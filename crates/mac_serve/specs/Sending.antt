@@ -1,9 +1,10 @@
 -- How the outbound half of a connection stands, and how it ends.
 use Rattle.std.specs.Prelude.{◌≡◌, ◌≢◌, ℕ, ◌+◌, ◌≤◌, false, List, ◌++◌, length, map, take, Option, Some, Contains, Result, Ok, Err}
 use Rattle.std.specs.FinMap.{get}
-use Rattle.mac_relay.specs.Lane.{received, IsKept}
+use Rattle.mac_relay.specs.Lane.{received, IsKept, IsSameOutlet}
 use Rattle.mac_wire.specs.declared.reply.Reply.{Reply}
-use Rattle.mac_wire.specs.Reply.{reply_text}
+use Rattle.mac_wire.specs.Frame.{framed}
+use Rattle.mac_wire.specs.Reply.{reply_payloads}
 use Rattle.mac_wire.specs.Whole.{HasWhole}
 use Rattle.mac_decide.specs.declared.job.Job.{Job}
 use Rattle.mac_decide.specs.Answer.{reply_of}
@@ -23,18 +24,26 @@ answer_to job = reply_of job.arrival job.key
 abbrev pub replies : Outbound → List Reply
 replies o = map answer_to (received o.lane)
 
+-- the payloads of their frames, in the version of the stream
+abbrev pub payloads : Outbound → List (List ℕ)
+payloads o = reply_payloads o.version (replies o)
+
 -- the place whose reply is released next
 abbrev pub next : Outbound → ℕ
 next o = o.lane.buffer.next
 
 -- the bytes that went out
 abbrev pub out_text : Outbound → List ℕ
-out_text o = take o.written (reply_text (replies o))
+out_text o = take o.written (framed (payloads o))
+
+-- the half is still that of the same lane, and frames replies in the same version
+abbrev pub IsSame : Outbound → Outbound → Type 0
+IsSame before after = IsSameOutlet before.lane after.lane × (after.version ≡ before.version)
 
 -- The half holds what it should, where its taker took `before` earlier: replies are released and
 -- gathered in order, and each that was released had its post.
 pub record Holds (before : List (ℕ × Option Job)) (o : Outbound) : Type 0 where
-  pub gathered : Gathered (replies o) (next o) o.sent o.written o.gathered.items
+  pub gathered : Gathered (payloads o) (next o) o.sent o.written o.gathered.items
   pub posts : List (ℕ × Option Job)
   pub taken : o.taker ≡ before ++ posts
   pub answered : AreAnswered (received o.lane) (next o) posts
@@ -50,9 +59,9 @@ pub record Stands (before : List (ℕ × Option Job)) (o : Outbound) : Type 0 wh
 -- It ended by this fault: `sent` replies went out whole, and but for a fault of the sink nothing
 -- else; each had its post; a stranger was told only where one came.
 pub record Fell (before : List (ℕ × Option Job)) (why : OutboundFault) (o : Outbound) : Type 0 where
-  pub frames : HasWhole (replies o) o.written o.sent
-  pub within : o.written ≤ length (reply_text (replies o))
-  pub whole : why ≢ fault.Write → out_text o ≡ reply_text (take o.sent (replies o))
+  pub frames : HasWhole (payloads o) o.written o.sent
+  pub within : o.written ≤ length (framed (payloads o))
+  pub whole : why ≢ fault.Write → out_text o ≡ framed (take o.sent (payloads o))
   pub posts : List (ℕ × Option Job)
   pub taken : o.taker ≡ before ++ posts
   pub answered : AreAnswered (received o.lane) o.sent posts

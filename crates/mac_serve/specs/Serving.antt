@@ -6,8 +6,9 @@ use Rattle.mac_wire.specs.declared.arrival.Arrival.{Arrival}
 use Rattle.mac_wire.specs.declared.arrival.Ending.{Ending}
 use Rattle.mac_wire.specs.declared.arrival.Ending.TheVariants as ending
 use Rattle.mac_wire.specs.declared.reply.Reply.{Reply}
-use Rattle.mac_wire.specs.Frame.{arrivals_of, Arrivals}
-use Rattle.mac_wire.specs.Reply.{reply_text}
+use Rattle.mac_wire.specs.declared.version.Version.{Version}
+use Rattle.mac_wire.specs.Stream.{arrivals_of, Arrivals}
+use Rattle.mac_wire.specs.Reply.{reply_payloads, reply_text}
 use Rattle.mac_wire.specs.Whole.{HasWhole}
 use Rattle.mac_decide.specs.Answer.{answer_of}
 use Rattle.mac_decide.specs.declared.job.Job.{Job}
@@ -25,11 +26,11 @@ use Rattle.mac_serve.specs.declared.incoming.InboundFault.TheVariants as reading
 abbrev pub answers : Table → List Arrival → List Reply
 answers table arrivals = map (answer_of table) arrivals
 
--- every arrival was admitted, put into the line at its place, and its reply was sent, and nothing
--- else was written
-pub record SentAll (table : Table) (arrivals : List Arrival) (pass : Pass Job) (output : List ℕ)
-    (served : Served) : Type 0 where
-  pub output_is : output ≡ reply_text (answers table arrivals)
+-- every arrival was admitted, put into the line at its place, and its reply was sent in the
+-- stream's version, and nothing else was written
+pub record SentAll (table : Table) (version : Version) (arrivals : List Arrival) (pass : Pass Job)
+    (output : List ℕ) (served : Served) : Type 0 where
+  pub output_is : output ≡ reply_text version (answers table arrivals)
   pub arrived_is : served.arrived ≡ length arrivals
   pub sent_is : served.sent ≡ length arrivals
   pub put_is : served.desk.putter
@@ -37,31 +38,35 @@ pub record SentAll (table : Table) (arrivals : List Arrival) (pass : Pass Job) (
 
 -- the frames of the replies that were sent were written, and nothing else; the stream was not read
 -- to its end, or not all was sent
-pub record SentSome (table : Table) (arrivals : List Arrival) (output : List ℕ)
-    (served : Served) : Type 0 where
-  pub output_is : output ≡ reply_text (take served.sent (answers table arrivals))
+pub record SentSome (table : Table) (version : Version) (arrivals : List Arrival)
+    (output : List ℕ) (served : Served) : Type 0 where
+  pub output_is : output ≡ reply_text version (take served.sent (answers table arrivals))
   pub ending_is : served.ending ≡ ending.Broken
 
 -- the sink failed: a beginning of the replies' frames was written
-pub record SentBeginning (table : Table) (arrivals : List Arrival) (output : List ℕ)
-    (served : Served) : Type 0 where
-  pub output_is : output ≡ take served.written (reply_text (answers table arrivals))
+pub record SentBeginning (table : Table) (version : Version) (arrivals : List Arrival)
+    (output : List ℕ) (served : Served) : Type 0 where
+  pub output_is : output ≡ take served.written (reply_text version (answers table arrivals))
   pub ending_is : served.ending ≡ ending.Broken
 
 -- What was written, and which ending is told, row by row: by the fault that is told, if any.
 abbrev pub Sent : Table → Arrivals → Pass Job → List ℕ → Option ServeFault → Served → Type 0
 Sent table a pass output None served =
-    SentAll table a.arrived pass output served × (served.ending ≡ a.ending)
+    SentAll table a.version a.arrived pass output served × (served.ending ≡ a.ending)
     × ((a.ending ≡ ending.Clean) ⊎ (a.ending ≡ ending.Oversize))
 Sent table a pass output (Some fault.Torn) served =
-    SentAll table a.arrived pass output served × (served.ending ≡ a.ending)
+    SentAll table a.version a.arrived pass output served × (served.ending ≡ a.ending)
     × (a.ending ≡ ending.Torn)
 Sent table a pass output (Some fault.Read) served =
-    SentAll table a.arrived pass output served × (served.ending ≡ ending.Broken)
-Sent table a pass output (Some fault.Write) served = SentBeginning table a.arrived output served
-Sent table a pass output (Some fault.NoMemory) served = SentSome table a.arrived output served
-Sent table a pass output (Some fault.Stranger) served = SentSome table a.arrived output served
-Sent table a pass output (Some fault.Lane) served = SentSome table a.arrived output served
+    SentAll table a.version a.arrived pass output served × (served.ending ≡ ending.Broken)
+Sent table a pass output (Some fault.Write) served =
+    SentBeginning table a.version a.arrived output served
+Sent table a pass output (Some fault.NoMemory) served =
+    SentSome table a.version a.arrived output served
+Sent table a pass output (Some fault.Stranger) served =
+    SentSome table a.version a.arrived output served
+Sent table a pass output (Some fault.Lane) served =
+    SentSome table a.version a.arrived output served
 
 -- What a run did: it read a stream, and wrote bytes. So many jobs of its arrivals were admitted, so
 -- many bytes written, and so many replies went out whole. The admitted jobs were put into the line
@@ -76,7 +81,9 @@ pub record HasServed (tells_in tells_out : Bool) (table : Table)
   pub took : Gave tells_out wrote wrote' output
   pub written_is : served.written ≡ length output
   pub sent : Sent table (arrivals_of stream) pass output why served
-  pub whole : HasWhole (answers table (arrivals_of stream).arrived) served.written served.sent
+  pub whole : HasWhole
+      (reply_payloads (arrivals_of stream).version (answers table (arrivals_of stream).arrived))
+      served.written served.sent
   pub admitted : served.arrived ≤ length (arrivals_of stream).arrived
   pub answered_few : served.sent ≤ served.arrived
   pub same_pool : IsSamePass pass served.desk.putter

@@ -1,22 +1,26 @@
 //! A connection, from its first byte to its last.
 
-ghost use Rattle.std.specs.Prelude.{◌≡◌, ◌≢◌, ◌++◌, ℕ, List, Option, IsTrue, IfOk, OnOk};
+ghost use Rattle.std.specs.Prelude.{◌≡◌, ◌≢◌, ◌++◌, ℕ, List, [], Option, None, IsTrue, IfOk, OnOk};
 ghost use Rattle.mac_decide.specs.declared.job.Job.{Job};
-ghost use Rattle.mac_relay.specs.Lane.{IsSameIntake, IsSameOutlet};
-ghost use Rattle.mac_serve.specs.Receiving.{CountsRead, HasRun};
-ghost use Rattle.mac_serve.specs.Sending.{Stands, Sends, CountsWrite, out_text, next};
+ghost use Rattle.mac_lane.specs.Buffer.{fresh_buffer};
+ghost use Rattle.mac_relay.specs.Lane.{admitted, received, waiting, IsLane, IsSameIntake};
+ghost use Rattle.mac_wire.specs.FrameReader.{HasRead, version_of};
+ghost use Rattle.mac_wire.specs.Stream.{version_or_one};
+ghost use Rattle.mac_serve.specs.Incoming.{HasRoom};
+ghost use Rattle.mac_serve.specs.Receiving.{CountsRead, HasRun, Reads};
+ghost use Rattle.mac_serve.specs.Sending.{Stands, Sends, CountsWrite, IsSame, out_text, next};
 ghost use Rattle.mac_serve.specs.Serving.{HasServed, CountsServed, fault_of, served_of, outcome_of};
 
 use crate::fault::ServeFault;
 use crate::inbound::Inbound;
-use crate::incoming::InboundFault;
+use crate::incoming::{InboundFault, Incoming};
 use crate::outbound::{Outbound, OutboundFault};
 use crate::signals::Signals;
 use mac_decide::Macaroons;
 use mac_keys::KeyTable;
 use mac_pool::Desk;
-use mac_relay::{Totals, lane, meet};
-use mac_wire::{Ending, Sink, Source};
+use mac_relay::{Intake, Outlet, Totals, lane, meet};
+use mac_wire::{Ending, NoMemory, Sink, Source};
 use std::alloc::Global;
 use std::sync::Wait;
 use std::thread::{Threads, join_mut};
@@ -37,8 +41,9 @@ pub struct Served {
 }
 
 /// Serves a connection: reads requests from the source to its end, lets the workers of the desk's
-/// pool answer them under the keys, and writes the replies into the sink, in order. Requests are
-/// read in this thread, and replies sent from a thread of their own.
+/// pool answer them under the keys, and writes the replies into the sink, in order, as the stream's
+/// version has them. Requests are read in this thread, and replies sent from a thread of their own,
+/// which begins once the first bytes are there.
 pub fn serve<R: Threads + Wait + Sync, In: Source, Out: Sink>(
     rt: &R,
     alloc: Global,
@@ -56,12 +61,22 @@ pub fn serve<R: Threads + Wait + Sync, In: Source, Out: Sink>(
         (Out.faults sink.old) (Out.faults sink.new) }
 {
     let Desk { putter, taker } = desk;
-    let Ok((intake, outlet)) = lane(alloc) else {
+    let Ok((intake, outlet, mut incoming)) = parts(alloc) else {
         return Err((ServeFault::NoMemory, unserved(Desk { putter, taker })));
     };
+    let version = incoming.begin(source);
     let mut inbound = Inbound::new(intake, putter);
-    let mut outbound = Outbound::new(alloc, outlet, taker);
-    let (sending, reading) = run_both(rt, alloc, source, sink, keys, &mut inbound, &mut outbound);
+    let mut outbound = Outbound::new(alloc, outlet, taker, version);
+    let (sending, reading) = run_both(
+        rt,
+        alloc,
+        source,
+        sink,
+        keys,
+        &mut incoming,
+        &mut inbound,
+        &mut outbound,
+    );
     let totals = meet(&mut inbound.lane, &mut outbound.lane);
     let (fault, ending) = outcome(sending, reading, totals.admitted == totals.released);
     let Inbound { putter, .. } = inbound;
@@ -84,6 +99,20 @@ pub fn serve<R: Threads + Wait + Sync, In: Source, Out: Sink>(
     }
 }
 
+/// What a connection's halves are made of.
+fn parts(alloc: Global) -> Result<(Intake<Macaroons>, Outlet<Macaroons>, Incoming), NoMemory>
+    ensures lane { IfOk result (λ p. IsLane p.0 p.1) }
+    ensures intake { IfOk result (λ p. admitted p.0 ≡ []) }
+    ensures outlet { IfOk result (λ p.
+        (received p.1 ≡ []) × (waiting p.1 ≡ []) × (p.1.buffer ≡ fresh_buffer)) }
+    ensures nothing { IfOk result (λ p. HasRead p.2.reader [] []) }
+    ensures room { IfOk result (λ p. HasRoom p.2) }
+{
+    let (intake, outlet) = lane(alloc)?;
+    let incoming = Incoming::new(alloc)?;
+    Ok((intake, outlet, incoming))
+}
+
 /// Runs both halves at once.
 fn run_both<R: Threads + Wait + Sync, In: Source, Out: Sink>(
     rt: &R,
@@ -91,10 +120,12 @@ fn run_both<R: Threads + Wait + Sync, In: Source, Out: Sink>(
     source: &mut In,
     sink: &mut Out,
     keys: &KeyTable,
+    incoming: &mut Incoming,
     inbound: &mut Inbound,
     outbound: &mut Outbound,
 ) -> (Result<(), OutboundFault>, Result<Ending, InboundFault>)
-    ensures outlet { IsSameOutlet outbound.old.lane outbound.new.lane }
+    requires { HasRoom incoming.old }
+    ensures outlet { IsSame outbound.old outbound.new }
     ensures sends { (before : List (ℕ × Option Job)) → Stands before outbound.old
         → Sends before result.0 outbound.new }
     ensures sent { OnOk result.0 (outbound.new.sent ≡ next outbound.new) }
@@ -103,17 +134,24 @@ fn run_both<R: Threads + Wait + Sync, In: Source, Out: Sink>(
         → Out.written sink.new ≡ head ++ out_text outbound.new }
     ensures write_faults { CountsWrite result.0 (Out.faults sink.old) (Out.faults sink.new) }
     ensures intake { IsSameIntake inbound.old.lane inbound.new.lane }
-    ensures run { HasRun In.tells keys.now (In.taken source.old) (In.taken source.new) result.1
-        inbound.old inbound.new }
-    ensures end { IfOk result.1 (λ ending. ending ≢ Ending.Oversize
-        → IsTrue (In.ended source.new)) }
-    ensures read_faults { CountsRead result.1 (In.faults source.old) (In.faults source.new) }
+    ensures run { (given : List ℕ)
+        → Reads In.tells given (In.taken source.old) [] [] incoming.old.first
+        incoming.old.reader
+        → HasRun In.tells keys.now (version_or_one (version_of incoming.old.reader)) given
+        (In.taken source.new) result.1 inbound.old inbound.new }
+    ensures end { IfOk incoming.old.first (λ more. more ≡ None → IsTrue (In.ended source.old))
+        → (given : List ℕ)
+        → Reads In.tells given (In.taken source.old) [] [] incoming.old.first
+        incoming.old.reader
+        → IfOk result.1 (λ ending. ending ≢ Ending.Oversize → IsTrue (In.ended source.new)) }
+    ensures read_faults { (count : ℕ) → CountsRead incoming.old.first count (In.faults source.old)
+        → CountsRead result.1 count (In.faults source.new) }
 {
     let signals = Signals::new();
     join_mut(
         rt,
         &mut ||
-            ensures lane { IsSameOutlet outbound.entry.now.lane outbound.exit.now.lane }
+            ensures half { IsSame outbound.entry.now outbound.exit.now }
             ensures sends { (before : List (ℕ × Option Job)) → Stands before outbound.entry.now
                 → Sends before result outbound.exit.now }
             ensures sent { OnOk result (outbound.exit.now.sent ≡ next outbound.exit.now) }
@@ -124,7 +162,9 @@ fn run_both<R: Threads + Wait + Sync, In: Source, Out: Sink>(
             ensures faults { CountsWrite result
                 (Out.faults sink.entry.now) (Out.faults sink.exit.now) }
         { outbound.run(rt, sink, &signals) },
-        &mut || inbound.run(rt, alloc, source, keys, &signals),
+        &mut ||
+            requires { HasRoom incoming.now }
+        { inbound.run(rt, alloc, source, incoming, keys, &signals) },
     )
 }
 

@@ -1,6 +1,6 @@
 //! The half of a connection that reads requests.
 
-ghost use Rattle.std.specs.Prelude.{◌≡◌, ◌≢◌, ◌<◌, ◌++◌, ◌∷◌, ℕ, List, [], length, map, IsTrue, IfOk, OnOk, OnErr, MatchResult, Ok, Err, false, ◌⊎◌, IfErr};
+ghost use Rattle.std.specs.Prelude.{◌≡◌, ◌≢◌, ◌<◌, ◌++◌, ◌∷◌, ℕ, List, [], length, map, IsTrue, None, IfOk, OnOk, OnErr, MatchResult, Ok, Err, false, ◌⊎◌, IfErr};
 ghost use Rattle.mac_decide.specs.World.{job_under};
 
 use crate::incoming::{InboundFault, Incoming};
@@ -14,7 +14,7 @@ use mac_relay::{AdmitFault, Intake};
 use mac_wire::{Arrival, Ending, Source};
 use std::alloc::Global;
 use std::sync::Wait;
-use std::thread;
+use std::{mem, thread};
 
 /// The half of a connection that reads requests: its end of the lane, and its way into the line of
 /// jobs.
@@ -28,9 +28,12 @@ pub struct Inbound {
 impl Inbound {
     ghost use Rattle.mac_relay.specs.Lane.{admitted, IsSameIntake, Knows};
     ghost use Rattle.mac_pool.specs.Pass.{with_put, IsSamePass};
-    ghost use Rattle.mac_serve.specs.Receiving.{CountsRead, jobs_of, Receives, HasRun, GoesOn, Continues};
+    ghost use Rattle.mac_serve.specs.Receiving.{CountsRead, Reads, jobs_of, Receives, HasRun, GoesOn, Continues};
     ghost use Rattle.mac_serve.specs.Incoming.{HasRoom};
-    ghost use Rattle.mac_wire.specs.FrameReader.{HasEnded};
+    ghost use Rattle.mac_wire.specs.FrameReader.{HasEnded, version_of};
+    ghost use Rattle.mac_wire.specs.Stream.{version_or_one};
+    ghost use Rattle.mac_keys.specs.Table.{Table};
+    ghost use Rattle.mac_wire.specs.declared.version.Version.{Version};
 
     /// A half that has read nothing.
     pub fn new(lane: Intake<Macaroons>, putter: Putter<Macaroons>) -> Inbound
@@ -163,9 +166,73 @@ impl Inbound {
         Ok(())
     }
 
-    /// Reads some bytes, and puts the jobs of the arrivals that are whole with them. Whether the
-    /// stream goes on.
-    fn take_next<R: Wait, In: Source>(
+    /// Reads on, unless the stream has ended or the outbound half sends nothing more: the next
+    /// arrivals, or `None` at the end.
+    fn read_next<In: Source>(
+        source: &mut In,
+        incoming: &mut Incoming,
+        signals: &Signals,
+    ) -> Result<Option<Vec<Arrival>>, InboundFault>
+        requires { HasRoom incoming.old }
+        ensures goes_on { (table : Table) (version : Version) (given : List ℕ)
+            (start now : Inbound)
+            → GoesOn In.tells table version given (In.taken source.old) incoming.old.reader []
+            start now
+            → Continues In.tells table version given (In.taken source.new) result
+            incoming.new.reader start now }
+        ensures end { result ≡ Ok None
+            → IsTrue (In.ended source.new) ⊎ HasEnded incoming.new.reader }
+        ensures room { HasRoom incoming.new }
+        ensures faults { CountsRead result (In.faults source.old) (In.faults source.new) }
+    {
+        if incoming.reader.has_ended() {
+            return Ok(None);
+        }
+        if signals.has_outbound_ended() {
+            return Err(InboundFault::Stopped);
+        }
+        incoming.next(source)
+    }
+
+    /// Puts the job of each of these arrivals and of those that follow them, to the end of the
+    /// source, or as many as it can.
+    fn take_all<R: Wait, In: Source>(
+        &mut self,
+        rt: &R,
+        alloc: Global,
+        source: &mut In,
+        incoming: &mut Incoming,
+        first: Vec<Arrival>,
+        keys: &KeyTable,
+        signals: &Signals,
+    ) -> Result<(), InboundFault>
+        requires { HasRoom incoming.old }
+        ensures lane { IsSameIntake self.old.lane self.new.lane }
+        ensures goes_on { (version : Version) (given : List ℕ) (start : Inbound)
+            → GoesOn In.tells keys.now version given (In.taken source.old)
+            incoming.old.reader first.items start self.old
+            → MatchResult result
+            (λ _. GoesOn In.tells keys.now version given (In.taken source.new)
+            incoming.new.reader [] start self.new)
+            (λ why. HasRun In.tells keys.now version given (In.taken source.new) (Err why)
+            start self.new) }
+        ensures end { OnOk result
+            (IsTrue (In.ended source.new) ⊎ HasEnded incoming.new.reader) }
+        ensures faults { CountsRead result (In.faults source.old) (In.faults source.new) }
+    {
+        let mut arrivals = first;
+        for _ in rt.forever() {
+            self.take_arrivals(rt, alloc, arrivals, keys, signals)?;
+            match Inbound::read_next(source, incoming, signals)? {
+                Some(more) => arrivals = more,
+                None => return Ok(()),
+            }
+        }
+        unreachable!()
+    }
+
+    /// Reads the source to its end, once replies are being sent.
+    fn read_to_end<R: Wait, In: Source>(
         &mut self,
         rt: &R,
         alloc: Global,
@@ -173,80 +240,31 @@ impl Inbound {
         incoming: &mut Incoming,
         keys: &KeyTable,
         signals: &Signals,
-    ) -> Result<bool, InboundFault>
-        requires countable { In.faults source.old < u64.MAX }
-        requires room { HasRoom incoming.old }
-        ensures lane { IsSameIntake self.old.lane self.new.lane }
-        ensures goes_on { (given : List ℕ) (start : Inbound)
-            → GoesOn In.tells keys.now given (In.taken source.old) incoming.old.reader
-            start self.old
-            → Continues In.tells keys.now given (In.taken source.new) result incoming.new.reader
-            start self.new }
-        ensures end { result ≡ Ok false
-            → IsTrue (In.ended source.new) ⊎ HasEnded incoming.new.reader }
-        ensures room { HasRoom incoming.new }
-        ensures faults { CountsRead result (In.faults source.old) (In.faults source.new) }
-    {
-        if signals.has_outbound_ended() {
-            return Err(InboundFault::Stopped);
-        }
-        let Some(arrivals) = incoming.next(source)? else {
-            return Ok(false);
-        };
-        self.take_arrivals(rt, alloc, arrivals, keys, signals)?;
-        Ok(!incoming.reader.has_ended())
-    }
-
-    /// Reads the source to its end, and puts the job of each arrival, or as many as it can.
-    fn read_until_done<R: Wait, In: Source>(
-        &mut self,
-        rt: &R,
-        alloc: Global,
-        source: &mut In,
-        keys: &KeyTable,
-        signals: &Signals,
     ) -> Result<Ending, InboundFault>
-        requires { In.faults source.old < u64.MAX }
+        requires { HasRoom incoming.old }
         ensures lane { IsSameIntake self.old.lane self.new.lane }
-        ensures run { HasRun In.tells keys.now (In.taken source.old) (In.taken source.new) result
-            self.old self.new }
-        ensures end { IfOk result (λ ending. ending ≢ Ending.Oversize
-            → IsTrue (In.ended source.new)) }
-        ensures faults { CountsRead result (In.faults source.old) (In.faults source.new) }
+        ensures run { (given : List ℕ)
+            → Reads In.tells given (In.taken source.old) [] [] incoming.old.first
+            incoming.old.reader
+            → HasRun In.tells keys.now (version_or_one (version_of incoming.old.reader)) given
+            (In.taken source.new) result self.old self.new }
+        ensures end { IfOk incoming.old.first (λ more. more ≡ None → IsTrue (In.ended source.old))
+            → (given : List ℕ)
+            → Reads In.tells given (In.taken source.old) [] [] incoming.old.first
+            incoming.old.reader
+            → IfOk result (λ ending. ending ≢ Ending.Oversize → IsTrue (In.ended source.new)) }
+        ensures faults { (count : ℕ) → CountsRead incoming.old.first count (In.faults source.old)
+            → CountsRead result count (In.faults source.new) }
     {
-        let mut incoming = Incoming::new(alloc)?;
-        for _ in rt.forever() {
-            if !self.take_next(rt, alloc, source, &mut incoming, keys, signals)? {
-                return Ok(incoming.finish());
-            }
-        }
-        unreachable!()
-    }
-
-    /// Reads where that can be: the failures of the source can be counted, and replies are being
-    /// sent.
-    fn read_if_served<R: Wait, In: Source>(
-        &mut self,
-        rt: &R,
-        alloc: Global,
-        source: &mut In,
-        keys: &KeyTable,
-        signals: &Signals,
-    ) -> Result<Ending, InboundFault>
-        ensures lane { IsSameIntake self.old.lane self.new.lane }
-        ensures run { HasRun In.tells keys.now (In.taken source.old) (In.taken source.new) result
-            self.old self.new }
-        ensures end { IfOk result (λ ending. ending ≢ Ending.Oversize
-            → IsTrue (In.ended source.new)) }
-        ensures faults { CountsRead result (In.faults source.old) (In.faults source.new) }
-    {
-        if source.faults() == u64::MAX {
-            return Err(InboundFault::Lane);
-        }
+        let first = mem::replace(&mut incoming.first, Ok(None))?;
         if !signals.await_outbound(rt) {
             return Err(InboundFault::NoMemory);
         }
-        self.read_until_done(rt, alloc, source, keys, signals)
+        let Some(arrivals) = first else {
+            return Ok(incoming.finish(alloc));
+        };
+        self.take_all(rt, alloc, source, incoming, arrivals, keys, signals)?;
+        Ok(incoming.finish(alloc))
     }
 
     /// Reads requests until the source has ended, or until a fault. The outbound half hears of its
@@ -256,17 +274,26 @@ impl Inbound {
         rt: &R,
         alloc: Global,
         source: &mut In,
+        incoming: &mut Incoming,
         keys: &KeyTable,
         signals: &Signals,
     ) -> Result<Ending, InboundFault>
+        requires { HasRoom incoming.old }
         ensures lane { IsSameIntake self.old.lane self.new.lane }
-        ensures run { HasRun In.tells keys.now (In.taken source.old) (In.taken source.new) result
-            self.old self.new }
-        ensures end { IfOk result (λ ending. ending ≢ Ending.Oversize
-            → IsTrue (In.ended source.new)) }
-        ensures faults { CountsRead result (In.faults source.old) (In.faults source.new) }
+        ensures run { (given : List ℕ)
+            → Reads In.tells given (In.taken source.old) [] [] incoming.old.first
+            incoming.old.reader
+            → HasRun In.tells keys.now (version_or_one (version_of incoming.old.reader)) given
+            (In.taken source.new) result self.old self.new }
+        ensures end { IfOk incoming.old.first (λ more. more ≡ None → IsTrue (In.ended source.old))
+            → (given : List ℕ)
+            → Reads In.tells given (In.taken source.old) [] [] incoming.old.first
+            incoming.old.reader
+            → IfOk result (λ ending. ending ≢ Ending.Oversize → IsTrue (In.ended source.new)) }
+        ensures faults { (count : ℕ) → CountsRead incoming.old.first count (In.faults source.old)
+            → CountsRead result count (In.faults source.new) }
     {
-        let ended = self.read_if_served(rt, alloc, source, keys, signals);
+        let ended = self.read_to_end(rt, alloc, source, incoming, keys, signals);
         signals.end_inbound(has_lost_jobs(&ended));
         self.putter.ring();
         ended

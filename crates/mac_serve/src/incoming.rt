@@ -2,13 +2,14 @@
 
 ghost use Rattle.std.specs.Prelude.{◌≡◌, ◌≢◌, ◌<◌, ℕ, List, [], None, length, IsTrue, IfOk, IfErr, OnOk};
 ghost use Rattle.mac_wire.specs.declared.arrival.Arrival.{Arrival};
-ghost use Rattle.mac_wire.specs.Frame.{arrivals_of};
-ghost use Rattle.mac_wire.specs.FrameReader.{HasRead, HasEnded};
+ghost use Rattle.mac_wire.specs.Stream.{arrivals_of, version_or_one};
+ghost use Rattle.mac_wire.specs.FrameReader.{HasRead, HasEnded, version_of};
 ghost use Rattle.mac_serve.specs.declared.incoming.InboundFault.TheVariants.{NoMemory};
 ghost use Rattle.mac_serve.specs.Receiving.{Reads, CountsRead};
 
-use mac_wire::{Arrival, Ending, FrameReader, NoMemory, Source};
+use mac_wire::{Arrival, Ending, FrameReader, NoMemory, Source, Version};
 use std::alloc::{AllocError, AllocFailed, Global};
+use std::mem;
 
 /// How many bytes a read asks for.
 const PIECE: usize = 65_536;
@@ -43,10 +44,12 @@ impl<T: Drop> From<AllocFailed<T>> for InboundFault {
     }
 }
 
-/// What comes in from a source: the reader of its frames, and room for a piece of its bytes.
+/// What comes in from a source: the reader of its frames, room for a piece of its bytes, and what
+/// the first piece gave.
 #[derive(Drop)]
 pub struct Incoming {
     pub reader: FrameReader,
+    pub first: Result<Option<Vec<Arrival>>, InboundFault>,
     piece: Vec<u8>,
 }
 
@@ -62,18 +65,33 @@ impl Incoming {
         piece.resize(PIECE, 0)?;
         Ok(Incoming {
             reader: FrameReader::new(alloc),
+            first: Ok(None),
             piece,
         })
     }
 
+    /// Reads the first piece of a stream, and tells the stream's version.
+    pub fn begin<In: Source>(&mut self, source: &mut In) -> Version
+        requires nothing { HasRead self.old.reader [] [] }
+        requires room { HasRoom self.old }
+        ensures version { result ≡ version_or_one (version_of self.new.reader) }
+        ensures reads { Reads In.tells (In.taken source.old) (In.taken source.new) [] []
+            self.new.first self.new.reader }
+        ensures end { IfOk self.new.first (λ more. more ≡ None → IsTrue (In.ended source.new)) }
+        ensures room { HasRoom self.new }
+        ensures faults { CountsRead self.new.first (In.faults source.old) (In.faults source.new) }
+    {
+        self.first = self.next(source);
+        self.reader.version().unwrap_or(Version::One)
+    }
+
     /// Reads some bytes, and gives the arrivals that are whole with them: `None` at the end of the
-    /// source.
+    /// source. Where a failure of the source couldn't be counted, nothing is read.
     pub fn next<In: Source>(
         &mut self,
         source: &mut In,
     ) -> Result<Option<Vec<Arrival>>, InboundFault>
-        requires countable { In.faults source.old < u64.MAX }
-        requires room { HasRoom self.old }
+        requires { HasRoom self.old }
         ensures reads { (stream : List ℕ) (handed : List Arrival)
             → HasRead self.old.reader stream handed
             → Reads In.tells (In.taken source.old) (In.taken source.new) stream handed result
@@ -82,29 +100,33 @@ impl Incoming {
         ensures room { HasRoom self.new }
         ensures faults { CountsRead result (In.faults source.old) (In.faults source.new) }
     {
-        let Ok(count) = source.read(self.piece.as_mut_slice()) else {
-            return Err(InboundFault::Read);
-        };
-        if count == 0 {
-            return Ok(None);
+        if source.faults() == u64::MAX {
+            return Err(InboundFault::Lane);
         }
+        let count = match source.read(self.piece.as_mut_slice()) {
+            Ok(0) => return Ok(None),
+            Ok(count) => count,
+            Err(_) => return Err(InboundFault::Read),
+        };
         match self.reader.feed(&self.piece[..count]) {
             Ok(arrivals) => Ok(Some(arrivals)),
             Err(_) => Err(InboundFault::NoMemory),
         }
     }
 
-    /// How the stream ended.
-    pub fn finish(self) -> Ending
+    /// How the stream ended. What comes in then is another.
+    pub fn finish(&mut self, alloc: Global) -> Ending
         ensures ending { (stream : List ℕ) (handed : List Arrival)
-            → HasRead self.reader stream handed
-            → arrivals_of stream ≡ record { arrived = handed; ending = result } }
+            → HasRead self.old.reader stream handed → arrivals_of stream ≡ record {
+              version = version_or_one (version_of self.old.reader);
+              arrived = handed;
+              ending = result;
+            } }
         ensures whole { (stream : List ℕ) (handed : List Arrival)
-            → HasRead self.reader stream handed → result ≢ Ending.Broken }
-        ensures oversize { HasEnded self.reader → result ≢ Ending.Broken
+            → HasRead self.old.reader stream handed → result ≢ Ending.Broken }
+        ensures oversize { HasEnded self.old.reader → result ≢ Ending.Broken
             → result ≡ Ending.Oversize }
     {
-        let Incoming { reader, piece: _ } = self;
-        reader.finish()
+        mem::replace(&mut self.reader, FrameReader::new(alloc)).finish()
     }
 }

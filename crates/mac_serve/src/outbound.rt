@@ -9,7 +9,7 @@ use mac_lane::Next;
 use mac_lane::laws::equal_jobs_hold_the_same;
 use mac_pool::{Post, Taker};
 use mac_relay::Outlet;
-use mac_wire::{Sink, append_reply, send_all, whole_frames};
+use mac_wire::{Sink, Version, append_reply, send_all, whole_frames};
 use std::alloc::Global;
 use std::sync::Wait;
 
@@ -47,28 +47,36 @@ enum Due {
 pub struct Outbound {
     pub lane: Outlet<Macaroons>,
     pub taker: Taker<Macaroons>,
+    pub version: Version,
     pub gathered: Vec<u8>,
     pub sent: u64,
     pub written: u64,
 }
 
 impl Outbound {
-    ghost use Rattle.mac_relay.specs.Lane.{received, IsSameOutlet};
+    ghost use Rattle.mac_relay.specs.Lane.{received};
     ghost use Rattle.mac_lane.specs.Buffer.{fresh_buffer};
     ghost use Rattle.mac_serve.specs.Posts.{TookForeign};
-    ghost use Rattle.mac_serve.specs.Sending.{Holds, Stands, Fell, Sends, Releases, CountsWrite, out_text, next};
+    ghost use Rattle.mac_serve.specs.Sending.{Holds, Stands, Fell, Sends, Releases, CountsWrite, IsSame, out_text, next};
 
-    /// A half that has sent nothing.
-    pub fn new(alloc: Global, lane: Outlet<Macaroons>, taker: Taker<Macaroons>) -> Outbound
+    /// A half that has sent nothing, for a stream of this version.
+    pub fn new(
+        alloc: Global,
+        lane: Outlet<Macaroons>,
+        taker: Taker<Macaroons>,
+        version: Version,
+    ) -> Outbound
         requires fresh { lane.buffer ≡ fresh_buffer }
         requires empty { received lane ≡ [] }
         ensures lane { result.lane ≡ lane }
+        ensures version { result.version ≡ version }
         ensures stands { Stands taker result }
         ensures none { out_text result ≡ [] }
     {
         Outbound {
             lane,
             taker,
+            version,
             gathered: Vec::new(alloc),
             sent: 0,
             written: 0,
@@ -77,7 +85,7 @@ impl Outbound {
 
     /// Opens every slip that it may. Whether there was one.
     fn look(&mut self) -> bool
-        ensures lane { IsSameOutlet self.old.lane self.new.lane }
+        ensures half { IsSame self.old self.new }
         ensures stands { (before : List (ℕ × Option Job)) → Stands before self.old
             → Stands before self.new × (out_text self.new ≡ out_text self.old) }
     {
@@ -90,7 +98,7 @@ impl Outbound {
 
     /// Takes one post, and settles its answer. Whether there was one.
     fn settle_next<R: Wait>(&mut self, rt: &R) -> Result<bool, OutboundFault>
-        ensures lane { IsSameOutlet self.old.lane self.new.lane }
+        ensures half { IsSame self.old self.new }
         ensures sends { (before : List (ℕ × Option Job))
             → Stands before self.old → Sends before result self.new }
         ensures out { out_text self.new ≡ out_text self.old }
@@ -110,7 +118,7 @@ impl Outbound {
 
     /// Takes every post that is there, and settles their answers. Whether there was one.
     fn settle_all<R: Wait>(&mut self, rt: &R) -> Result<bool, OutboundFault>
-        ensures lane { IsSameOutlet self.old.lane self.new.lane }
+        ensures half { IsSame self.old self.new }
         ensures sends { (before : List (ℕ × Option Job))
             → Stands before self.old → Sends before result self.new }
         ensures out { out_text self.new ≡ out_text self.old }
@@ -128,7 +136,7 @@ impl Outbound {
 
     /// Gathers the reply of the next place, where it is due.
     fn release_next(&mut self) -> Due
-        ensures lane { IsSameOutlet self.old.lane self.new.lane }
+        ensures half { IsSame self.old self.new }
         ensures releases { (before : List (ℕ × Option Job))
             → Stands before self.old → Releases before result self.new }
         ensures out { out_text self.new ≡ out_text self.old }
@@ -136,10 +144,12 @@ impl Outbound {
         laws::replies_can_be_sent();
         equal_jobs_hold_the_same::<Macaroons>();
         match self.lane.release() {
-            Next::Reply(_, reply) => match append_reply(&mut self.gathered, &reply) {
-                Ok(()) => Due::Gathered,
-                Err(_) => Due::NoMemory,
-            },
+            Next::Reply(place, reply) => {
+                match append_reply(&mut self.gathered, &reply, self.version, place) {
+                    Ok(()) => Due::Gathered,
+                    Err(_) => Due::NoMemory,
+                }
+            }
             Next::Stranger(_) => Due::Stranger,
             Next::Waiting => Due::Waiting,
             Next::Closed => Due::Waiting,
@@ -149,7 +159,8 @@ impl Outbound {
     /// Writes what is gathered.
     fn flush<W: Sink>(&mut self, sink: &mut W) -> Result<(), OutboundFault>
         requires { W.faults sink.old < u64.MAX }
-        ensures same { (self.new.lane ≡ self.old.lane) × (self.new.taker ≡ self.old.taker) }
+        ensures same { (self.new.lane ≡ self.old.lane) × (self.new.taker ≡ self.old.taker)
+            × (self.new.version ≡ self.old.version) }
         ensures holds { (before : List (ℕ × Option Job)) → Holds before self.old
             → MatchResult result (λ _. Holds before self.new)
             (λ why. (why ≢ OutboundFault.Stranger) × Fell before why self.new) }
@@ -186,7 +197,7 @@ impl Outbound {
     /// Sends every reply that is due.
     fn release_all<R: Wait, W: Sink>(&mut self, rt: &R, sink: &mut W) -> Result<(), OutboundFault>
         requires { W.faults sink.old < u64.MAX }
-        ensures lane { IsSameOutlet self.old.lane self.new.lane }
+        ensures half { IsSame self.old self.new }
         ensures sends { (before : List (ℕ × Option Job))
             → Stands before self.old → Sends before result self.new }
         ensures sent { OnOk result (self.new.sent ≡ next self.new) }
@@ -214,7 +225,7 @@ impl Outbound {
     /// Whether anything was there.
     fn turn<R: Wait, W: Sink>(&mut self, rt: &R, sink: &mut W) -> Result<bool, OutboundFault>
         requires { W.faults sink.old < u64.MAX }
-        ensures lane { IsSameOutlet self.old.lane self.new.lane }
+        ensures half { IsSame self.old self.new }
         ensures sends { (before : List (ℕ × Option Job))
             → Stands before self.old → Sends before result self.new }
         ensures sent { OnOk result (self.new.sent ≡ next self.new) }
@@ -238,7 +249,7 @@ impl Outbound {
         signals: &Signals,
     ) -> Result<(), OutboundFault>
         requires { W.faults sink.old < u64.MAX }
-        ensures lane { IsSameOutlet self.old.lane self.new.lane }
+        ensures half { IsSame self.old self.new }
         ensures sends { (before : List (ℕ × Option Job))
             → Stands before self.old → Sends before result self.new }
         ensures sent { OnOk result (self.new.sent ≡ next self.new) }
@@ -285,7 +296,7 @@ impl Outbound {
         sink: &mut W,
         signals: &Signals,
     ) -> Result<(), OutboundFault>
-        ensures lane { IsSameOutlet self.old.lane self.new.lane }
+        ensures half { IsSame self.old self.new }
         ensures sends { (before : List (ℕ × Option Job))
             → Stands before self.old → Sends before result self.new }
         ensures sent { OnOk result (self.new.sent ≡ next self.new) }
@@ -308,7 +319,7 @@ impl Outbound {
         sink: &mut W,
         signals: &Signals,
     ) -> Result<(), OutboundFault>
-        ensures lane { IsSameOutlet self.old.lane self.new.lane }
+        ensures half { IsSame self.old self.new }
         ensures sends { (before : List (ℕ × Option Job))
             → Stands before self.old → Sends before result self.new }
         ensures sent { OnOk result (self.new.sent ≡ next self.new) }

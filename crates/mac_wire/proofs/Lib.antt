@@ -3,11 +3,12 @@ pub mod Devices
 pub mod Text
 pub mod FieldLists
 pub mod Partials
-pub mod Arrivals
+pub mod Frames
 pub mod Cutting
+pub mod Opening
 pub mod Spelling
 pub mod Asking
 pub mod Replies
-pub mod ReplyText
 pub mod Wholes
+pub mod ReplyText
 pub mod Names

@@ -5,9 +5,9 @@ use Rattle.std.proofs.lemmas.Bool.{cases_eq}
 use Rattle.std.proofs.lemmas.List.{take_all, take_at, length-append, length-take}
 use Rattle.mac_wire.specs.declared.arrival.TheConstants.{FRAME_MAX}
 use Rattle.mac_wire.specs.declared.arrival.Ending.TheVariants as ending
-use Rattle.mac_wire.specs.Frame.{told_length, arrivals_of, IsUnfinished}
+use Rattle.mac_wire.specs.Frame.{told_length, frames_of, IsUnfinished}
 use Rattle.mac_wire.specs.Partial.{IsPartial}
-use Rattle.mac_wire.proofs.Arrivals.{arrivals_of-nothing, arrivals_of-unfinished}
+use Rattle.mac_wire.proofs.Frames.{frames_of-nothing, frames_of-unfinished}
 
 -- the length that a list tells is that of its first four bytes
 pub told_length-front : (told payload : List ℕ) → length told ≡ 4 → told_length (told ++ payload) ≡ from_be_bytes w32 told
@@ -33,14 +33,14 @@ is_unfinished told have payload parts long =
 
 -- how a stream ends that ends inside these parts
 pub ends_clean : (told : List ℕ) (have : ℕ) (payload : List ℕ) → IsPartial told have payload → have ≡ 0
-    → arrivals_of (take have told ++ payload) ≡ record { arrived = []; ending = ending.Clean }
+    → frames_of (take have told ++ payload) ≡ record { arrived = []; ending = ending.Clean }
 ends_clean told have payload parts none =
     let empty : take have told ++ payload ≡ [] = rw (none, parts.none_before (omega arith)) refl in
-    ap arrivals_of empty ∙ arrivals_of-nothing
+    ap frames_of empty ∙ frames_of-nothing
 
 pub ends_torn : (told : List ℕ) (have : ℕ) (payload : List ℕ) → IsPartial told have payload → (have ≡ 0 → ⊥)
-    → arrivals_of (take have told ++ payload) ≡ record { arrived = []; ending = ending.Torn }
+    → frames_of (take have told ++ payload) ≡ record { arrived = []; ending = ending.Torn }
 ends_torn told have payload parts some =
-    arrivals_of-unfinished (take have told ++ payload)
+    frames_of-unfinished (take have told ++ payload)
     (omega (arith, parts.have_fits, parts.four, length-append (take have told) payload, length-take have told))
     (is_unfinished told have payload parts)

@@ -1,5 +1,6 @@
 -- what the contracts mean
 pub mod Frame
+pub mod Stream
 pub mod FrameReader
 pub mod FeedFault
 pub mod Request

@@ -1,7 +1,6 @@
 -- Replies, and their payloads and frames. The format is this project's own.
-use Rattle.std.specs.Prelude.{ℕ, ◌<◌, ◌≤◌, ◌^◌, List, [], ◌∷◌, length, map}
-use Rattle.std.specs.Int.{w16, to_be_bytes}
-use Rattle.std.specs.List.{flat_map}
+use Rattle.std.specs.Prelude.{ℕ, ◌+◌, ◌<◌, ◌≤◌, ◌^◌, List, [], ◌∷◌, ◌++◌, length, map}
+use Rattle.std.specs.Int.{w16, w64, to_be_bytes}
 use Rattle.mac_wire.specs.declared.arrival.Arrival.{Arrival}
 use Rattle.mac_wire.specs.declared.arrival.Arrival.TheVariants as arrival
 use Rattle.mac_wire.specs.declared.reply.Refusal.{Refusal}
@@ -9,7 +8,9 @@ use Rattle.mac_wire.specs.declared.reply.Refusal.TheVariants as refusal
 use Rattle.mac_wire.specs.declared.reply.Reply.{Reply}
 use Rattle.mac_wire.specs.declared.reply.Reply.TheVariants as reply
 use Rattle.mac_wire.specs.declared.reply.TheConstants.{REPLY_TOKEN_MAX}
-use Rattle.mac_wire.specs.Frame.{frame}
+use Rattle.mac_wire.specs.declared.version.Version.{Version}
+use Rattle.mac_wire.specs.declared.version.Version.TheVariants as version
+use Rattle.mac_wire.specs.Frame.{frame, framed}
 
 -- the number of a refusal
 abbrev pub refusal_code : Refusal → ℕ
@@ -37,14 +38,32 @@ reply_payload (reply.Token bytes) = 1 ∷ bytes
 reply_payload (reply.Refused reason) = refusal_code reason ∷ []
 reply_payload (reply.Unsatisfied index) = 24 ∷ to_be_bytes w16 index
 
--- the whole frame of a reply
-abbrev pub reply_frame : Reply → List ℕ
-reply_frame r = frame (reply_payload r)
+-- what stands before a reply in its frame: in version two its place, the high byte first
+abbrev pub place_bytes : Version → ℕ → List ℕ
+place_bytes version.One place = []
+place_bytes version.Two place = to_be_bytes w64 place
 
--- the frames of replies, one after the other
-abbrev pub reply_text : List Reply → List ℕ
-reply_text replies = flat_map reply_frame replies
+-- the payload of the frame of the reply at a place
+abbrev pub placed_payload : Version → ℕ → Reply → List ℕ
+placed_payload v place r = place_bytes v place ++ reply_payload r
 
--- the payloads of replies, as a reader of the frames has them
-abbrev pub reply_arrivals : List Reply → List Arrival
-reply_arrivals replies = map (λ r. arrival.Payload (reply_payload r)) replies
+-- the whole frame of the reply at a place
+abbrev pub reply_frame : Version → ℕ → Reply → List ℕ
+reply_frame v place r = frame (placed_payload v place r)
+
+-- the payloads of the frames of replies, the first of which is at this place
+unfoldable pub payloads_from : Version → ℕ → List Reply → List (List ℕ)
+payloads_from v place [] = []
+payloads_from v place (r ∷ rs) = placed_payload v place r ∷ payloads_from v (place + 1) rs
+
+-- the payloads of the frames of all replies to a stream, the n-th with place n, from 0 on
+abbrev pub reply_payloads : Version → List Reply → List (List ℕ)
+reply_payloads v replies = payloads_from v 0 replies
+
+-- the frames of all replies to a stream, one after the other
+abbrev pub reply_text : Version → List Reply → List ℕ
+reply_text v replies = framed (reply_payloads v replies)
+
+-- what a reader of the frames has of them
+abbrev pub reply_arrivals : Version → List Reply → List Arrival
+reply_arrivals v replies = map (λ p. arrival.Payload p) (reply_payloads v replies)

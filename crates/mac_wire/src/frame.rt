@@ -1,9 +1,8 @@
-//! Frames out of a stream that comes in pieces.
+//! The frames of a stream that comes in pieces.
 
 ghost use Rattle.std.specs.Prelude.{◌≡◌, ◌↔◌, ◌⊎◌, ◌<◌, ℕ, List, [], ◌++◌, length, IsTrue, IfOk, OnErr, IsErrOf};
 ghost use Rattle.mac_wire.specs.FeedFault.{feed_fault_code};
-ghost use Rattle.mac_wire.specs.Frame.{arrivals_of};
-ghost use Rattle.mac_wire.specs.Steps.{Cuts};
+ghost use Rattle.mac_wire.specs.Steps.{Cuts, frames_after, told_after};
 ghost use Rattle.mac_wire.specs.declared.arrival.Arrival.{Arrival};
 ghost use Rattle.mac_wire.specs.declared.frame.FeedFault.TheVariants.{NoMemory};
 
@@ -11,6 +10,7 @@ use crate::NoMemory;
 use crate::arrival::{Arrival, Ending};
 use crate::bytes::Bytes;
 use crate::partial::{Partial, Step};
+use crate::version::{HELLO, Version};
 use std::alloc::{AllocError, AllocFailed, Global};
 use std::mem;
 use thiserror::Error;
@@ -65,15 +65,17 @@ enum Stage {
     Broken,
 }
 
-/// Cuts a stream into frames, however the pieces come.
+/// Tells a stream's version and cuts it into frames, however the pieces come.
 #[derive(Drop)]
 pub struct FrameReader {
     alloc: Global,
+    version: Option<Version>,
     stage: Stage,
 }
 
 impl FrameReader {
-    ghost use Rattle.mac_wire.specs.FrameReader.{HasRead, HasEnded, IsBroken};
+    ghost use Rattle.mac_wire.specs.FrameReader.{HasRead, HasEnded, IsBroken, version_of};
+    ghost use Rattle.mac_wire.specs.Stream.{arrivals_of, in_version, version_or_one, version_told};
 
     /// A reader that was fed nothing. It keeps the allocator.
     pub fn new(alloc: Global) -> FrameReader
@@ -81,6 +83,7 @@ impl FrameReader {
     {
         FrameReader {
             alloc,
+            version: None,
             stage: Stage::Open(Partial::new(alloc)),
         }
     }
@@ -92,6 +95,9 @@ impl FrameReader {
         ensures arrivals { (stream : List ℕ) (handed : List Arrival)
             → HasRead self.old stream handed
             → IfOk result (λ more. HasRead self.new (stream ++ piece.now) (handed ++ more.items)) }
+        ensures version { (stream : List ℕ) (handed : List Arrival)
+            → HasRead self.old stream handed
+            → version_of self.new ≡ version_told (stream ++ piece.now) }
         ensures ended { IsErrOf result FeedFault.Ended ↔ HasEnded self.old }
         ensures unchanged { HasEnded self.old → self.new ≡ self.old }
         ensures broken { IsErrOf result FeedFault.NoMemory → IsBroken self.new }
@@ -99,7 +105,9 @@ impl FrameReader {
     {
         match mem::replace(&mut self.stage, Stage::Broken) {
             Stage::Open(partial) => {
-                let (arrivals, stage) = cut(self.alloc, partial, piece)?;
+                let (version, frames) = opened(self.version, piece);
+                self.version = version;
+                let (arrivals, stage) = cut(self.alloc, partial, frames)?;
                 self.stage = stage;
                 Ok(arrivals)
             }
@@ -108,6 +116,15 @@ impl FrameReader {
                 Err(FeedFault::Ended)
             }
         }
+    }
+
+    /// The stream's version, which its first byte tells.
+    pub fn version(&self) -> Option<Version>
+        ensures reader { result ≡ version_of self.now }
+        ensures stream { (stream : List ℕ) (handed : List Arrival)
+            → HasRead self.now stream handed → result ≡ version_told stream }
+    {
+        self.version
     }
 
     /// Whether each further feed answers `Ended`: after an Oversize, and after `NoMemory`.
@@ -123,7 +140,11 @@ impl FrameReader {
     /// How the stream ended.
     pub fn finish(self) -> Ending
         ensures ending { (stream : List ℕ) (handed : List Arrival) → HasRead self stream handed
-            → arrivals_of stream ≡ record { arrived = handed; ending = result } }
+            → arrivals_of stream ≡ record {
+              version = version_or_one (version_of self);
+              arrived = handed;
+              ending = result;
+            } }
         ensures broken { (result ≡ Ending.Broken) ↔ IsBroken self }
         ensures ongoing { ((result ≡ Ending.Clean) ⊎ (result ≡ Ending.Torn)) → ¬ HasEnded self }
         ensures ended { result ≡ Ending.Oversize → HasEnded self }
@@ -133,6 +154,21 @@ impl FrameReader {
             Stage::Oversize => Ending::Oversize,
             Stage::Broken => Ending::Broken,
         }
+    }
+}
+
+// The stream's version once a piece has come, and what of the piece is frames.
+fn opened(version: Option<Version>, piece: &[u8]) -> (Option<Version>, &[u8])
+    ensures version { result.0 ≡ told_after version piece.now }
+    ensures frames { result.1.now ≡ frames_after version piece.now }
+{
+    let (None, Some((first, rest))) = (version, piece.split_first()) else {
+        return (version, piece);
+    };
+    if *first == HELLO {
+        (Some(Version::Two), rest)
+    } else {
+        (Some(Version::One), piece)
     }
 }
 

@@ -1,27 +1,32 @@
 //! What follows from the definitions alone. Each law is the contract of a function that does
 //! nothing.
 
-ghost use Rattle.std.specs.Prelude.{◌≡◌, ◌↔◌, ◌≤◌, ◌<◌, ◌^◌, ℕ, List, [], ◌∷◌, ◌++◌, length, take, Some, true, All};
+ghost use Rattle.std.specs.Prelude.{◌≡◌, ◌≢◌, ◌↔◌, ◌≤◌, ◌<◌, ◌^◌, ℕ, List, [], ◌∷◌, ◌++◌, length, take, Some, true, All, slice_get};
 ghost use Rattle.std.specs.Int.{w32, to_be_bytes};
+ghost use Rattle.std.specs.Option.{option_map};
 ghost use Rattle.mac_wire.specs.declared.arrival.Arrival.{Arrival};
 ghost use Rattle.mac_wire.specs.declared.reply.Reply.{Reply};
 ghost use Rattle.mac_wire.specs.declared.frame.FrameReader.{FrameReader};
-ghost use Rattle.mac_wire.specs.Frame.{frame, arrivals_of, followed_by};
+ghost use Rattle.mac_wire.specs.Frame.{frame, frames_of, followed_by};
+ghost use Rattle.mac_wire.specs.Stream.{arrivals_of, in_version};
 ghost use Rattle.mac_wire.specs.FrameReader.{HasRead, HasEnded};
 ghost use Rattle.mac_wire.specs.KeyName.{HasName};
 ghost use Rattle.mac_wire.specs.Request.{Asked, IsBytes, Asks, key_of};
 ghost use Rattle.mac_wire.specs.Reading.{request_of, key_name_of};
-ghost use Rattle.mac_wire.specs.Reply.{IsReply, reply_payload, reply_text, reply_arrivals};
+ghost use Rattle.mac_wire.specs.Reply.{IsReply, reply_payload, placed_payload, reply_payloads, reply_text, reply_arrivals};
+ghost use Rattle.mac_wire.specs.declared.version.Version.{Version};
 
 use crate::arrival::{Arrival, Ending, FRAME_MAX};
 use crate::reply::REPLY_TOKEN_MAX;
 use crate::request::FACTS_MAX;
+use crate::version::{HELLO, Version};
 
 /// The limits as numbers.
 pub fn limits_are_these()
     ensures frame { FRAME_MAX ≡ 65536 }
     ensures reply_token { REPLY_TOKEN_MAX ≡ 32768 }
     ensures facts { FACTS_MAX ≡ 128 }
+    ensures hello { HELLO ≡ 2 }
 {}
 
 /// What is read as a request is asked by the payload.
@@ -57,42 +62,82 @@ pub fn one_reply()
     ensures { (a b : Reply) → IsReply a → IsReply b → reply_payload a ≡ reply_payload b → a ≡ b }
 {}
 
+/// In version two a payload tells one place and one reply at most.
+pub fn one_reply_and_its_place()
+    ensures { (m n : ℕ) (a b : Reply) → m < 2 ^ 64 → n < 2 ^ 64 → IsReply a → IsReply b
+        → placed_payload Version.Two m a ≡ placed_payload Version.Two n b → (m ≡ n) × (a ≡ b) }
+{}
+
+/// The n-th of the replies to a stream is framed with place n.
+pub fn each_reply_has_its_place()
+    ensures { (version : Version) (replies : List Reply) (n : ℕ)
+        → slice_get (reply_payloads version replies) n
+        ≡ option_map (placed_payload version n) (slice_get replies n) }
+{}
+
 /// The frames of replies are read again: each payload is an arrival, in order, and the end is
 /// Clean.
 pub fn replies_arrive()
-    ensures { (replies : List Reply) → All IsReply replies → arrivals_of (reply_text replies)
-        ≡ record { arrived = reply_arrivals replies; ending = Ending.Clean } }
+    ensures { (version : Version) (replies : List Reply) → All IsReply replies
+        → frames_of (reply_text version replies)
+        ≡ record { arrived = reply_arrivals version replies; ending = Ending.Clean } }
 {}
 
-/// A stream of nothing is Clean.
-pub fn nothing_is_clean()
-    ensures { arrivals_of [] ≡ record { arrived = []; ending = Ending.Clean } }
+/// A stream that begins with the hello is of version two, and the frames are what follows.
+pub fn hello_is_version_two()
+    ensures { (rest : List ℕ)
+        → arrivals_of (HELLO ∷ rest) ≡ in_version Version.Two (frames_of rest) }
 {}
 
-/// A whole frame is the arrival of its payload, before the arrivals of what follows it.
-pub fn frame_arrives()
+/// A stream that begins otherwise is of version one, and all of it is frames.
+pub fn others_are_version_one()
+    ensures { (first : ℕ) (rest : List ℕ) → first ≢ HELLO
+        → arrivals_of (first ∷ rest) ≡ in_version Version.One (frames_of (first ∷ rest)) }
+{}
+
+/// What follows doesn't change the version.
+pub fn first_byte_tells_the_version()
+    ensures { (first : ℕ) (rest more : List ℕ) → (arrivals_of (first ∷ rest)).version
+        ≡ (arrivals_of (first ∷ more)).version }
+{}
+
+/// A frame that is allowed is no hello, so that frames alone are of version one.
+pub fn no_frame_is_a_hello()
     ensures { (payload rest : List ℕ) → length payload ≤ FRAME_MAX
         → arrivals_of (frame payload ++ rest)
-        ≡ followed_by (Arrival.Payload payload ∷ []) (arrivals_of rest) }
+        ≡ in_version Version.One (frames_of (frame payload ++ rest)) }
+{}
+
+/// Nothing is a stream of version one, and Clean.
+pub fn nothing_is_clean()
+    ensures frames { frames_of [] ≡ record { arrived = []; ending = Ending.Clean } }
+    ensures stream { arrivals_of [] ≡ in_version Version.One (frames_of []) }
+{}
+
+/// A whole frame is the arrival of its payload, before those of what follows it.
+pub fn frame_arrives()
+    ensures { (payload rest : List ℕ) → length payload ≤ FRAME_MAX
+        → frames_of (frame payload ++ rest)
+        ≡ followed_by (Arrival.Payload payload ∷ []) (frames_of rest) }
 {}
 
 /// A part of a frame is Torn, and takes no place.
 pub fn cut_frame_is_torn()
     ensures { (payload : List ℕ) (n : ℕ) → length payload ≤ FRAME_MAX
         → 0 < n → n < length (frame payload)
-        → arrivals_of (take n (frame payload)) ≡ record { arrived = []; ending = Ending.Torn } }
+        → frames_of (take n (frame payload)) ≡ record { arrived = []; ending = Ending.Torn } }
 {}
 
 /// A length that is cut is Torn, whatever its bytes.
 pub fn cut_length_is_torn()
-    ensures { (stream : List ℕ) → 0 < length stream → length stream < 4
-        → arrivals_of stream ≡ record { arrived = []; ending = Ending.Torn } }
+    ensures { (bytes : List ℕ) → 0 < length bytes → length bytes < 4
+        → frames_of bytes ≡ record { arrived = []; ending = Ending.Torn } }
 {}
 
 /// A length above the greatest is one Oversize, whatever follows.
 pub fn long_frame_is_oversize()
     ensures { (n : ℕ) (rest : List ℕ) → FRAME_MAX < n → n < 2 ^ 32
-        → arrivals_of (to_be_bytes w32 n ++ rest)
+        → frames_of (to_be_bytes w32 n ++ rest)
         ≡ record { arrived = Arrival.Oversize ∷ []; ending = Ending.Oversize } }
 {}
 
@@ -110,7 +155,7 @@ pub fn oversize_ends()
         → (arrivals_of stream).ending ≡ Ending.Oversize → HasEnded reader }
 {}
 
-/// Arrivals that compare as equal are equal.
+/// Frames that compare as equal are equal.
 pub fn equal_arrivals()
     ensures { (a b : Arrival) → ⟦<Arrival as PartialEq>⟧.eq a b ≡ true → a ≡ b }
 {}

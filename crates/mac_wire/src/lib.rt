@@ -21,6 +21,7 @@ mod reader_source;
 mod reply;
 mod request;
 mod send;
+mod version;
 mod whole;
 mod writer_sink;
 
@@ -36,6 +37,7 @@ pub use reader_source::ReaderSource;
 pub use reply::{REPLY_TOKEN_MAX, Refusal, Reply, append_reply, reply_bytes};
 pub use request::{FACTS_MAX, Request, TokenForm};
 pub use send::send_all;
+pub use version::{HELLO, Version};
 pub use whole::whole_frames;
 pub use writer_sink::WriterSink;
 

@@ -1,7 +1,7 @@
 //! A frame of which not all has come.
 
 ghost use Rattle.std.specs.Prelude.{◌≡◌, ◌⊎◌, ◌<◌, ◌≤◌, ◌++◌, ◌∷◌, [], length, IfOk};
-ghost use Rattle.mac_wire.specs.Frame.{arrivals_of};
+ghost use Rattle.mac_wire.specs.Frame.{frames_of};
 ghost use Rattle.mac_wire.specs.Steps.{Makes, Advances};
 
 use crate::NoMemory;
@@ -54,7 +54,7 @@ impl Partial {
 
     /// How a stream ends that ends here: Clean where nothing has come of a frame, and else Torn.
     pub fn ending(&self) -> Ending
-        ensures ending { arrivals_of self.now ≡ record { arrived = []; ending = result } }
+        ensures ending { frames_of self.now ≡ record { arrived = []; ending = result } }
         ensures ongoing { (result ≡ Ending.Clean) ⊎ (result ≡ Ending.Torn) }
     {
         if self.have == 0 {

@@ -1,10 +1,11 @@
 //! What a client is answered.
 
-ghost use Rattle.std.specs.Prelude.{◌≡◌, ◌<◌, ◌≤◌, ◌+◌, ◌++◌, length, vec_len, vec_capacity, IfOk, OnOk, OnErr};
-ghost use Rattle.mac_wire.specs.Reply.{refusal_code, IsReply, reply_payload, reply_frame};
+ghost use Rattle.std.specs.Prelude.{◌≡◌, ℕ, ◌<◌, ◌≤◌, ◌+◌, ◌++◌, length, vec_len, vec_capacity, IfOk, OnOk, OnErr};
+ghost use Rattle.mac_wire.specs.Reply.{refusal_code, IsReply, place_bytes, placed_payload, reply_payload, reply_frame};
 
 use crate::NoMemory;
 use crate::bytes::Bytes;
+use crate::version::Version;
 use std::alloc::Global;
 
 /// The greatest token of a reply, in bytes.
@@ -65,31 +66,55 @@ pub enum Reply {
     Unsatisfied(u16),
 }
 
-/// The whole frame of a reply: the payload's length in four bytes, and the payload. It takes the
-/// memory of the frame at once.
-pub fn reply_bytes(alloc: Global, reply: &Reply) -> Result<Vec<u8>, NoMemory>
+/// The whole frame of the reply at a place: the payload's length in four bytes, in version two the
+/// place in eight, and the reply. It takes the memory of the frame at once.
+pub fn reply_bytes(
+    alloc: Global,
+    reply: &Reply,
+    version: Version,
+    place: u64,
+) -> Result<Vec<u8>, NoMemory>
     requires { IsReply reply.now }
-    ensures { IfOk result (λ v. v.items ≡ reply_frame reply.now) }
+    ensures { IfOk result (λ v. v.items ≡ reply_frame version place reply.now) }
 {
     let mut frame = Vec::new(alloc);
-    append_reply(&mut frame, reply)?;
+    append_reply(&mut frame, reply, version, place)?;
     Ok(frame)
 }
 
-/// Appends the whole frame of a reply. The memory that is missing is taken at once, before anything
-/// is written.
-pub fn append_reply(frames: &mut Vec<u8>, reply: &Reply) -> Result<(), NoMemory>
+/// Appends the whole frame of the reply at a place. The memory that is missing is taken at once,
+/// before anything is written.
+pub fn append_reply(
+    frames: &mut Vec<u8>,
+    reply: &Reply,
+    version: Version,
+    place: u64,
+) -> Result<(), NoMemory>
     requires { IsReply reply.now }
-    ensures appended { OnOk result (frames.new.items ≡ frames.old.items ++ reply_frame reply.now) }
+    ensures appended { OnOk result
+        (frames.new.items ≡ frames.old.items ++ reply_frame version place reply.now) }
     ensures unchanged { OnErr result (frames.new.items ≡ frames.old.items) }
     ensures full { OnErr result
-        (vec_capacity frames.old < vec_len frames.old + length (reply_frame reply.now)) }
+        (vec_capacity frames.old < vec_len frames.old
+        + length (reply_frame version place reply.now)) }
 {
-    let length = payload_length(reply);
+    let length = place_length(version) + payload_length(reply);
     frames.reserve(4 + length as usize)?;
     append_within(frames, &length.to_be_bytes());
+    append_place(frames, version, place);
     append_payload(frames, reply);
     Ok(())
+}
+
+// How many bytes stand before a reply.
+fn place_length(version: Version) -> u32
+    ensures length { (place : ℕ) → result ≡ length (place_bytes version place) }
+    ensures small { result ≤ 8 }
+{
+    match version {
+        Version::One => 0,
+        Version::Two => 8,
+    }
 }
 
 // How many bytes a reply's payload has.
@@ -101,6 +126,18 @@ fn payload_length(reply: &Reply) -> u32
         Reply::Token(token) => 1 + token.as_slice().len() as u32,
         Reply::Unsatisfied(_) => 3,
         Reply::Granted | Reply::Refused(_) => 1,
+    }
+}
+
+// Appends what stands before a reply, for which there is room.
+fn append_place(frames: &mut Vec<u8>, version: Version, place: u64)
+    requires { vec_len frames.old + length (place_bytes version place) ≤ vec_capacity frames.old }
+    ensures items { frames.new.items ≡ frames.old.items ++ place_bytes version place }
+    ensures capacity { vec_capacity frames.old ≤ vec_capacity frames.new }
+{
+    match version {
+        Version::One => {}
+        Version::Two => append_within(frames, &place.to_be_bytes()),
     }
 }
 

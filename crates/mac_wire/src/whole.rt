@@ -1,17 +1,16 @@
 //! How many frames stand whole in some bytes.
 
 ghost use Rattle.std.specs.Prelude.{◌≡◌, ◌+◌, ◌≤◌, ◌<◌, ℕ, List, MatchOption, All, length, take, drop};
-ghost use Rattle.mac_wire.specs.Frame.{told_length};
-ghost use Rattle.mac_wire.specs.Reply.{IsReply, reply_text};
+ghost use Rattle.mac_wire.specs.Frame.{framed, told_length};
 ghost use Rattle.mac_wire.specs.Whole.{HasWhole};
-ghost use Rattle.mac_wire.specs.declared.reply.Reply.{Reply};
+ghost use Rattle.mac_wire.specs.declared.arrival.TheConstants.{FRAME_MAX};
 
 /// How many whole frames stand in the front of some bytes. After a write that stopped in the middle
-/// of the frames of replies it tells how many replies went out. It costs a step a frame.
+/// of frames it tells how many went out. It costs a step a frame.
 pub fn whole_frames(bytes: &[u8]) -> u64
-    ensures { (replies : List Reply) → All IsReply replies
-        → bytes.now ≡ take (length bytes.now) (reply_text replies)
-        → HasWhole replies (length bytes.now) result }
+    ensures { (payloads : List (List ℕ)) → All (λ p. length p ≤ FRAME_MAX) payloads
+        → bytes.now ≡ take (length bytes.now) (framed payloads)
+        → HasWhole payloads (length bytes.now) result }
 {
     let mut count = 0;
     let mut rest = bytes;

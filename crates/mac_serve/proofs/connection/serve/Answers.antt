@@ -17,6 +17,7 @@ returns-in_default-clause-serves g c =
 pub returns-in-None-clause-serves : goal.returns-in-None-clause-serves
 returns-in-None-clause-serves g c =
     let run = c.run_both-sending.ensures in
+    let read = run.run (g.In.Source.taken c.args.source.now) c.begin-version.ensures.reads in
     let ends = c.meet-totals.ensures in
     let start = c.new-inbound.result in
     let i = c.run_both-sending.new.inbound in
@@ -25,22 +26,24 @@ returns-in-None-clause-serves g c =
     let totals = c.meet-totals.result in
     let wrote = g.Out.Sink.written c.args.sink.now in
     let stands = c.new-outbound.ensures.stands in
-    let empty : admitted start.lane ≡ [] = ap admitted c.new-inbound.ensures.0 ∙ c.in-Ok.ensures.intake.0 in
+    let empty : admitted start.lane ≡ [] = ap admitted c.new-inbound.ensures.0 ∙ c.in-Ok.ensures.intake in
     let met : received o.lane ++ waiting lane ≡ admitted i.lane = ap (λ (l : List Job). l ++ waiting lane) (sym ends.outlet.1) ∙ ends.rest ∙ ends.intake.1 in
     let counted : totals.admitted ≡ length (admitted i.lane) = ap (λ (t : Totals). t.admitted) ends.totals ∙ ap length ends.intake.1 in
     let due : totals.released ≡ next o =
     ap (λ (t : Totals). t.released) ends.totals ∙ released-count _ (received lane) lane.buffer.next ends.kept.sent ∙ ap (λ (b : Buffer Job). b.next) ends.outlet.3 in
     has-served g.In.Source.tells g.Out.Sink.tells c.args.keys.now
     (g.In.Source.taken c.args.source.now) (g.In.Source.taken c.run_both-sending.new.source) wrote (g.Out.Sink.written c.run_both-sending.new.sink)
-    run.run.stream c.args.desk.putter c.args.desk.taker start i o (waiting lane) totals.admitted run.run.gave
+    read.stream c.args.desk.putter c.args.desk.taker start i o (waiting lane) totals.admitted read.gave
     (λ tells. run.written tells c.args.desk.taker wrote stands (sym (append-nil wrote) ∙ ap (λ (l : List ℕ). wrote ++ l) (sym c.new-outbound.ensures.none)))
     empty c.new-inbound.ensures.1 met counted
+    (run.outlet.1 ∙ c.new-outbound.ensures.version ∙ c.begin-version.ensures.version ∙ sym read.version_is)
     c.run_both-sending.result.0 c.run_both-sending.result.1 (eqb totals.admitted totals.released) c.outcome-fault.result None
-    (run.sends c.args.desk.taker stands) run.sent run.run.ran (λ is. eqb-true totals.admitted totals.released is ∙ due) c.outcome-fault.ensures c.in-None.is
+    (run.sends c.args.desk.taker stands) run.sent read.ran (λ is. eqb-true totals.admitted totals.released is ∙ due) c.outcome-fault.ensures c.in-None.is
 
 pub returns-clause-serves : goal.returns-clause-serves
 returns-clause-serves g c =
     let run = c.run_both-sending.ensures in
+    let read = run.run (g.In.Source.taken c.args.source.now) c.begin-version.ensures.reads in
     let ends = c.meet-totals.ensures in
     let start = c.new-inbound.result in
     let i = c.run_both-sending.new.inbound in
@@ -49,15 +52,16 @@ returns-clause-serves g c =
     let totals = c.meet-totals.result in
     let wrote = g.Out.Sink.written c.args.sink.now in
     let stands = c.new-outbound.ensures.stands in
-    let empty : admitted start.lane ≡ [] = ap admitted c.new-inbound.ensures.0 ∙ c.in-Ok.ensures.intake.0 in
+    let empty : admitted start.lane ≡ [] = ap admitted c.new-inbound.ensures.0 ∙ c.in-Ok.ensures.intake in
     let met : received o.lane ++ waiting lane ≡ admitted i.lane = ap (λ (l : List Job). l ++ waiting lane) (sym ends.outlet.1) ∙ ends.rest ∙ ends.intake.1 in
     let counted : totals.admitted ≡ length (admitted i.lane) = ap (λ (t : Totals). t.admitted) ends.totals ∙ ap length ends.intake.1 in
     let due : totals.released ≡ next o =
     ap (λ (t : Totals). t.released) ends.totals ∙ released-count _ (received lane) lane.buffer.next ends.kept.sent ∙ ap (λ (b : Buffer Job). b.next) ends.outlet.3 in
     has-served g.In.Source.tells g.Out.Sink.tells c.args.keys.now
     (g.In.Source.taken c.args.source.now) (g.In.Source.taken c.run_both-sending.new.source) wrote (g.Out.Sink.written c.run_both-sending.new.sink)
-    run.run.stream c.args.desk.putter c.args.desk.taker start i o (waiting lane) totals.admitted run.run.gave
+    read.stream c.args.desk.putter c.args.desk.taker start i o (waiting lane) totals.admitted read.gave
     (λ tells. run.written tells c.args.desk.taker wrote stands (sym (append-nil wrote) ∙ ap (λ (l : List ℕ). wrote ++ l) (sym c.new-outbound.ensures.none)))
     empty c.new-inbound.ensures.1 met counted
+    (run.outlet.1 ∙ c.new-outbound.ensures.version ∙ c.begin-version.ensures.version ∙ sym read.version_is)
     c.run_both-sending.result.0 c.run_both-sending.result.1 (eqb totals.admitted totals.released) c.outcome-fault.result (Some c.in-Some.fault)
-    (run.sends c.args.desk.taker stands) run.sent run.run.ran (λ is. eqb-true totals.admitted totals.released is ∙ due) c.outcome-fault.ensures c.in-Some.is
+    (run.sends c.args.desk.taker stands) run.sent read.ran (λ is. eqb-true totals.admitted totals.released is ∙ due) c.outcome-fault.ensures c.in-Some.is

@@ -7,10 +7,10 @@ pub loop-behind-preserved : goal.loop-behind-preserved
 loop-behind-preserved c =
     let e = c.in-Some.ensures in (
       (let shorter = ap length e.1 in omega (arith, e.0, shorter, length-drop (4 + told_length c.loop-behind.rest.now) c.loop-behind.rest.now, c.loop-behind.invariant.0)),
-      λ replies fit begins. counted-next replies c.args.bytes.now c.loop-behind.rest.now c.in-Some.behind.now c.loop-behind.count
-          (c.loop-behind.invariant.1 replies fit begins) e.0 e.1,
+      λ payloads fit begins. counted-next payloads c.args.bytes.now c.loop-behind.rest.now c.in-Some.behind.now c.loop-behind.count
+          (c.loop-behind.invariant.1 payloads fit begins) e.0 e.1,
     )
 
 pub returns : goal.returns
-returns c replies fit begins =
-    counted-all replies c.args.bytes.now c.loop-behind.rest.now c.loop-behind.count (c.loop-behind.invariant.1 replies fit begins) c.in_default.ensures
+returns c payloads fit begins =
+    counted-all payloads c.args.bytes.now c.loop-behind.rest.now c.loop-behind.count (c.loop-behind.invariant.1 payloads fit begins) c.in_default.ensures

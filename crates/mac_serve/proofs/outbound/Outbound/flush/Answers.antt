@@ -21,7 +21,7 @@ returns-in-Ok-clause-holds g c before h =
 pub returns-in-Ok-clause-sends : goal.returns-in-Ok-clause-sends
 returns-in-Ok-clause-sends g c before s =
     let o = c.args.self.now in
-    let after : Outbound = record { lane = o.lane; taker = o.taker; gathered = c.clear.new.self; sent = c.next_place-due.result; written = c.in-Some.written } in
+    let after : Outbound = record { lane = o.lane; taker = o.taker; version = o.version; gathered = c.clear.new.self; sent = c.next_place-due.result; written = c.in-Some.written } in
     stands-held before o after s (returns-in-Ok-clause-holds g c before s.holds) refl refl
 
 pub returns-in-Ok-clause-written : goal.returns-in-Ok-clause-written

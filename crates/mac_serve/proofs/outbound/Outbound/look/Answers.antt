@@ -3,13 +3,13 @@ use Rattle.std.proofs.lemmas.List.{append-nil}
 use Rattle.mac_lane.specs.Buffer.{Buffer}
 use Rattle.mac_relay.specs.Lane.{received}
 use Rattle.mac_decide.specs.declared.job.Job.{Job}
-use Rattle.mac_serve.proofs.SendingLemmas.{stands-grown, same-outlet}
+use Rattle.mac_serve.proofs.SendingLemmas.{stands-grown, same-outlet-half}
 use Rattle.mac_serve.proofs.outbound.Outbound.look.Goals as goal
 
 pub loop-found-preserved : goal.loop-found-preserved
 loop-found-preserved c =
     let t = c.look.ensures.taken c.loop-found-test.true in (
-      same-outlet c.args.self.now.lane c.loop-found.self.lane c.look.new.self c.loop-found.invariant.0 t.0,
+      same-outlet-half c.args.self.now c.loop-found.self c.look.new.self c.loop-found.invariant.0 t.0,
       λ before s.
           let i = c.loop-found.invariant.1 before s in
           let n = stands-grown before c.loop-found.self c.look.new.self (t.1.0 ∷ []) i.0 c.look.ensures.kept t.1.1

@@ -1,6 +1,5 @@
 use Rattle.std.proofs.Common.{◌∙◌, ◌++◌, List, ℕ, ap, sym, subst}
-use Rattle.mac_relay.specs.Lane.{IsSameOutlet}
-use Rattle.mac_serve.proofs.SendingLemmas.{same-outlet, fell-stranger, sends-residual}
+use Rattle.mac_serve.proofs.SendingLemmas.{same-half, same-kept, fell-stranger, sends-residual}
 use Rattle.mac_serve.proofs.outbound.Outbound.release_all.Goals as goal
 
 pub loop-preserved-then-len-lt-GATHERED : goal.loop-preserved-then-len-lt-GATHERED
@@ -8,7 +7,7 @@ loop-preserved-then-len-lt-GATHERED g c =
     let i = c.loop.invariant in (
       tt,
       tt,
-      same-outlet c.args.self.now.lane c.loop.self.lane c.release_next.new.self.lane i.2 c.release_next.ensures.lane,
+      same-half c.args.self.now c.loop.self c.release_next.new.self i.2 c.release_next.ensures.half,
       λ before s. rw c.in-Gathered.is at (c.release_next.ensures.releases before (i.3 before s)),
       λ tells before head s was. i.4 tells before head s was ∙ ap (λ (l : List ℕ). head ++ l) (sym c.release_next.ensures.out),
       i.5,
@@ -19,8 +18,8 @@ loop-preserved g c =
     let i = c.loop.invariant in (
       tt,
       tt,
-      same-outlet c.args.self.now.lane c.loop.self.lane c.flush.new.self.lane i.2
-          (subst (λ lane. IsSameOutlet c.loop.self.lane lane) (sym c.flush.ensures.same.0) c.release_next.ensures.lane),
+      same-half c.args.self.now c.loop.self c.flush.new.self i.2
+          (same-kept c.loop.self c.release_next.new.self c.flush.new.self c.release_next.ensures.half c.flush.ensures.same.0 c.flush.ensures.same.2),
       λ before s. rw c.in_ok-flush-in-Gathered-2.was at (c.flush.ensures.sends before (rw c.in-Gathered-2.is at (c.release_next.ensures.releases before (i.3 before s)))),
       λ tells before head s was. c.flush.ensures.written tells before head (rw c.in-Gathered-2.is at (c.release_next.ensures.releases before (i.3 before s))).holds
           (i.4 tells before head s was ∙ ap (λ (l : List ℕ). head ++ l) (sym c.release_next.ensures.out)),

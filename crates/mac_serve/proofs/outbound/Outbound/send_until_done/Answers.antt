@@ -1,5 +1,5 @@
 use Rattle.std.proofs.Common.{◌∙◌}
-use Rattle.mac_serve.proofs.SendingLemmas.{same-outlet}
+use Rattle.mac_serve.proofs.SendingLemmas.{same-half}
 use Rattle.mac_serve.proofs.outbound.Outbound.send_until_done.Goals as goal
 
 pub returns-in_err-turn-clause-written : goal.returns-in_err-turn-clause-written
@@ -9,7 +9,7 @@ pub loop-preserved-then-branch : goal.loop-preserved-then-branch
 loop-preserved-then-branch g c = (
   tt,
   tt,
-  same-outlet c.args.self.now.lane c.loop.self.lane c.turn.new.self.lane c.loop.invariant.2 c.turn.ensures.lane,
+  same-half c.args.self.now c.loop.self c.turn.new.self c.loop.invariant.2 c.turn.ensures.half,
   λ before s. rw c.in_ok-turn.was at (c.turn.ensures.sends before (c.loop.invariant.3 before s)),
   λ tells before head s was. c.turn.ensures.written tells before head (c.loop.invariant.3 before s) (c.loop.invariant.4 tells before head s was),
   (rw c.in_ok-turn.was at c.turn.ensures.faults) ∙ c.loop.invariant.5,
@@ -19,7 +19,7 @@ pub loop-preserved-in-Ok-true : goal.loop-preserved-in-Ok-true
 loop-preserved-in-Ok-true g c = (
   tt,
   tt,
-  same-outlet c.args.self.now.lane c.turn.new.self.lane c.turn-in-loop.new.self.lane (same-outlet c.args.self.now.lane c.loop.self.lane c.turn.new.self.lane c.loop.invariant.2 c.turn.ensures.lane) c.turn-in-loop.ensures.lane,
+  same-half c.args.self.now c.turn.new.self c.turn-in-loop.new.self (same-half c.args.self.now c.loop.self c.turn.new.self c.loop.invariant.2 c.turn.ensures.half) c.turn-in-loop.ensures.half,
   λ before s. rw c.in-Ok-true.is at (c.turn-in-loop.ensures.sends before (rw c.in_ok-turn.was at (c.turn.ensures.sends before (c.loop.invariant.3 before s)))),
   λ tells before head s was. c.turn-in-loop.ensures.written tells before head (rw c.in_ok-turn.was at (c.turn.ensures.sends before (c.loop.invariant.3 before s))) (c.turn.ensures.written tells before head (c.loop.invariant.3 before s) (c.loop.invariant.4 tells before head s was)),
   (rw c.in-Ok-true.is at c.turn-in-loop.ensures.faults) ∙ (rw c.in_ok-turn.was at c.turn.ensures.faults) ∙ c.loop.invariant.5,
@@ -29,7 +29,7 @@ pub loop-preserved : goal.loop-preserved
 loop-preserved g c = (
   tt,
   tt,
-  same-outlet c.args.self.now.lane c.turn.new.self.lane c.turn-in-loop.new.self.lane (same-outlet c.args.self.now.lane c.loop.self.lane c.turn.new.self.lane c.loop.invariant.2 c.turn.ensures.lane) c.turn-in-loop.ensures.lane,
+  same-half c.args.self.now c.turn.new.self c.turn-in-loop.new.self (same-half c.args.self.now c.loop.self c.turn.new.self c.loop.invariant.2 c.turn.ensures.half) c.turn-in-loop.ensures.half,
   λ before s. rw c.in-Ok-false.is at (c.turn-in-loop.ensures.sends before (rw c.in_ok-turn.was at (c.turn.ensures.sends before (c.loop.invariant.3 before s)))),
   λ tells before head s was. c.turn-in-loop.ensures.written tells before head (rw c.in_ok-turn.was at (c.turn.ensures.sends before (c.loop.invariant.3 before s))) (c.turn.ensures.written tells before head (c.loop.invariant.3 before s) (c.loop.invariant.4 tells before head s was)),
   (rw c.in-Ok-false.is at c.turn-in-loop.ensures.faults) ∙ (rw c.in_ok-turn.was at c.turn.ensures.faults) ∙ c.loop.invariant.5,
