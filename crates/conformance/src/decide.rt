@@ -11,7 +11,7 @@ use mac_decide::{
 };
 use mac_hmac::root_key;
 use mac_token::{Form, Token, TokenFault, write};
-use mac_wire::{Arrival, Bytes, FieldList, Reply, reply_bytes};
+use mac_wire::{Arrival, Bytes, FieldList, Reply, Version, reply_bytes};
 use std::alloc::Global;
 
 /// Tells what a case comes to, if it is one of these kinds.
@@ -121,7 +121,7 @@ fn replies(case: &mut Case<'_>) {
 fn say_frame(case: &mut Case<'_>, reply: &Reply)
     requires { IsReply reply.now }
 {
-    match reply_bytes(case.alloc, reply) {
+    match reply_bytes(case.alloc, reply, Version::One, 0) {
         Ok(frame) => case.digits(&frame),
         Err(_) => case.fail(CaseFault::Memory),
     }

@@ -6,7 +6,7 @@ ghost use Rattle.mac_wire.specs.Reply.{IsReply};
 use crate::case::{Case, CaseFault};
 use mac_wire::{
     Arrival, Bytes, DeviceFault, Ending, FeedFault, FrameReader, REPLY_TOKEN_MAX, Refusal, Reply,
-    append_reply, whole_frames,
+    Version, append_reply, whole_frames,
 };
 use std::alloc::Global;
 
@@ -15,7 +15,11 @@ pub(crate) fn tells(case: &mut Case<'_>, kind: &str) -> bool {
     match kind.as_bytes() {
         b"frames" => frames(case),
         b"feeds" => feeds(case),
-        b"replies" => replies(case),
+        b"replies" => replies(case, Version::One, 0),
+        b"placed" => {
+            let first = case.number();
+            replies(case, Version::Two, first);
+        }
         b"whole" => whole(case),
         b"faults" => fault_texts(case),
         _ => return false,
@@ -31,7 +35,7 @@ fn frames(case: &mut Case<'_>) {
     for byte in stream.iter() {
         let _ = feed(case, &mut reader, &[*byte]);
     }
-    case.say(ending_word(reader.finish()));
+    say_end(case, reader);
     for cut in 0..stream.len() {
         let halves = in_two(case.alloc, &stream, cut);
         if !case.is_like(&halves) {
@@ -47,7 +51,7 @@ fn in_two(alloc: Global, stream: &[u8], cut: usize) -> Case<'static> {
     let (first, second) = stream.split_at_checked(cut).unwrap_or((stream, &[]));
     let _ = feed(&mut case, &mut reader, first);
     let _ = feed(&mut case, &mut reader, second);
-    case.say(ending_word(reader.finish()));
+    say_end(&mut case, reader);
     case
 }
 
@@ -74,7 +78,7 @@ fn feeds(case: &mut Case<'_>) {
         }
         case.say("| ");
     }
-    case.say(ending_word(reader.finish()));
+    say_end(case, reader);
 }
 
 /// Feeds a piece and appends its arrivals. Whether the reader took it.
@@ -102,6 +106,15 @@ fn say_arrivals(case: &mut Case<'_>, arrivals: &[Arrival]) {
     }
 }
 
+/// Appends how a stream ended, and that it was of version two where it was.
+fn say_end(case: &mut Case<'_>, reader: FrameReader) {
+    let version = reader.version();
+    case.say(ending_word(reader.finish()));
+    if version == Some(Version::Two) {
+        case.say(" in version two");
+    }
+}
+
 fn ending_word(ending: Ending) -> &'static str {
     match ending {
         Ending::Clean => "clean",
@@ -111,21 +124,29 @@ fn ending_word(ending: Ending) -> &'static str {
     }
 }
 
-/// The frames of replies, appended to one another.
-fn replies(case: &mut Case<'_>) {
+/// The frames of replies, appended to one another, from a first place on.
+fn replies(case: &mut Case<'_>, version: Version, first: u64) {
     let mut frames = Vec::new(case.alloc);
+    let mut place = first;
     for word in case.word().split(',') {
-        append_named(case, word, &mut frames);
+        append_named(case, word, version, place, &mut frames);
+        place = place.wrapping_add(1);
     }
     case.shown(&frames);
 }
 
-/// Appends the frame of the reply that a word names.
-fn append_named(case: &mut Case<'_>, word: &str, frames: &mut Vec<u8>) {
+/// Appends the frame of the reply that a word names, at its place.
+fn append_named(
+    case: &mut Case<'_>,
+    word: &str,
+    version: Version,
+    place: u64,
+    frames: &mut Vec<u8>,
+) {
     let Some(reply) = reply_of(case, word) else {
         return case.fail(CaseFault::NoCase);
     };
-    if append_reply(frames, &reply).is_err() {
+    if append_reply(frames, &reply, version, place).is_err() {
         case.fail(CaseFault::Memory);
     }
 }

@@ -10,6 +10,7 @@ use crate::streams::{key_table, stream_of};
 use mac_decide::Macaroons;
 use mac_keys::KeyTable;
 use mac_pool::{NoGate, Pool};
+use mac_wire::Version;
 use std::alloc::Global;
 use std::sync::{Arc, Wait};
 use std::thread;
@@ -42,8 +43,8 @@ where
     )?)
 }
 
-/// So many requests that look random over three connections, by four workers, beside their answers
-/// made one after the other.
+/// So many requests that look random over three connections, of which the last is of version two, by
+/// four workers, beside their answers made one after the other.
 pub(crate) fn many_told<R>(
     rt: &R,
     alloc: Global,
@@ -57,9 +58,10 @@ where
     let gate = Arc::new(alloc, NoGate)?;
     let mut pool = pool_of(rt, alloc, 4, gate)?;
     let share = requests / 3;
-    let (one, first) = asking(alloc, &keys, &mut pool, share, seed)?;
-    let (two, second) = asking(alloc, &keys, &mut pool, share, seed ^ 0x5555)?;
-    let (three, third) = asking(alloc, &keys, &mut pool, requests - 2 * share, seed ^ 0xaaaa)?;
+    let (one, first) = asking(alloc, &keys, &mut pool, Version::One, share, seed)?;
+    let (two, second) = asking(alloc, &keys, &mut pool, Version::One, share, seed ^ 0x5555)?;
+    let rest = requests - 2 * share;
+    let (three, third) = asking(alloc, &keys, &mut pool, Version::Two, rest, seed ^ 0xaaaa)?;
     let (one, two, three) = three_attended(rt, alloc, &keys, one, two, three);
     let are_met = first.is_met(&one) && second.is_met(&two) && third.is_met(&three);
     let kinds = first.kinds.and(second.kinds).and(third.kinds);
@@ -96,13 +98,19 @@ fn asking(
     alloc: Global,
     keys: &KeyTable,
     pool: &mut Pool<Macaroons, NoGate>,
+    version: Version,
     count: u64,
     seed: u64,
 ) -> Result<(Caller, Due), RunFault>
     ensures line { pool.new.line ≡ pool.old.line }
     ensures at { IfOk result (λ asking. asking.0.desk.putter.line ≡ pool.old.line) }
 {
-    let Asked { stream, due, kinds } = requests_of(alloc, keys, count, seed)?;
+    let Asked {
+        stream,
+        due,
+        kinds,
+        ..
+    } = requests_of(alloc, keys, version, count, seed)?;
     let caller = caller_at(alloc, pool, stream, due.len(), PIECE)?;
     Ok((caller, Due { bytes: due, kinds }))
 }

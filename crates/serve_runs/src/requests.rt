@@ -4,7 +4,7 @@ use crate::fault::RunFault;
 use crate::payload::{Form, Texts, append_frame, attenuate, mint, verify};
 use mac_decide::{answer, job_of};
 use mac_keys::KeyTable;
-use mac_wire::{Arrival, Bytes, Reply, append_reply};
+use mac_wire::{Arrival, Bytes, HELLO, Reply, Version, append_reply};
 use std::alloc::{AllocError, Global};
 
 /// How many tokens the requests are about.
@@ -67,25 +67,28 @@ pub(crate) struct Kinds {
     pub unsatisfied: u64,
 }
 
-/// A stream of requests, and the bytes that are due for them.
+/// A stream of requests, its version, and the bytes that are due for it.
 #[derive(Drop)]
 pub(crate) struct Asked {
+    pub version: Version,
     pub stream: Vec<u8>,
     pub due: Vec<u8>,
     pub kinds: Kinds,
 }
 
-/// So many requests that look random.
+/// So many requests that look random, in a stream of this version.
 pub(crate) fn requests_of(
     alloc: Global,
     keys: &KeyTable,
+    version: Version,
     count: u64,
     seed: u64,
 ) -> Result<Asked, RunFault> {
     let mut dice = Dice { state: seed };
     let tokens = tokens_of(alloc, keys, &mut dice)?;
     let mut asked = Asked {
-        stream: Vec::new(alloc),
+        version,
+        stream: Vec::from_slice(alloc, front_of(version))?,
         due: Vec::new(alloc),
         kinds: Kinds {
             granted: 0,
@@ -101,13 +104,21 @@ pub(crate) fn requests_of(
     Ok(asked)
 }
 
+/// What stands before the frames.
+fn front_of(version: Version) -> &'static [u8] {
+    match version {
+        Version::One => &[],
+        Version::Two => &[HELLO],
+    }
+}
+
 impl Asked {
     /// Appends a request, and what is due for it.
     fn push(&mut self, alloc: Global, keys: &KeyTable, payload: Vec<u8>) -> Result<(), RunFault> {
         append_frame(&mut self.stream, payload.as_slice())?;
         let arrival = Arrival::Payload(Bytes::new(payload));
         let reply = answer(alloc, &job_of(keys, arrival))?;
-        append_reply(&mut self.due, &reply)?;
+        append_reply(&mut self.due, &reply, self.version, self.kinds.count())?;
         self.kinds.add(&reply);
         Ok(())
     }

@@ -2,6 +2,7 @@
 
 use crate::fault::RunFault;
 use crate::{duplex, false_worker, load, many, overtaking, serving, tables};
+use mac_wire::Version;
 use std::alloc::{AllocError, Global};
 use std::sync::Wait;
 use std::thread::Threads;
@@ -25,9 +26,9 @@ where
 /// stream:NAME:WORKERS:PIECE   a stream by so many workers, in pieces of so many bytes
 /// overtaking                  two frames, of which the first job waits for the second
 /// duplex                      two frames, of which the second waits for the first's reply
-/// cuts                        two frames, cut to each number of bytes
-/// failing_reads               two frames, and a source that fails at each of its calls
-/// failing_writes              two frames, and a sink that fails at each of its calls
+/// cuts:VERSION                two frames in version one or two, cut to each number of bytes
+/// failing_reads:VERSION       the same, and a source that fails at each of its calls
+/// failing_writes:VERSION      the same, and a sink that fails at each of its calls
 /// posts:HOW                   two frames, by a worker that posts false answers
 /// two:NAME:NAME               two streams at once by two workers, a byte a call
 /// many:REQUESTS:SEED          requests that look random, over three connections, by four workers
@@ -47,9 +48,9 @@ where
         }
         b"overtaking" => overtaking::overtaking_told(rt, alloc),
         b"duplex" => duplex::duplex_told(rt, alloc),
-        b"cuts" => tables::cuts_told(rt, alloc),
-        b"failing_reads" => tables::reads_told(rt, alloc),
-        b"failing_writes" => tables::writes_told(rt, alloc),
+        b"cuts" => tables::cuts_told(rt, alloc, version(rest)?),
+        b"failing_reads" => tables::reads_told(rt, alloc, version(rest)?),
+        b"failing_writes" => tables::writes_told(rt, alloc, version(rest)?),
         b"posts" => false_worker::false_worker_told(rt, alloc, rest),
         b"two" => many::two_told(rt, alloc, first, behind),
         b"many" => many::many_told(rt, alloc, number(first)?, number(behind)?),
@@ -65,6 +66,15 @@ where
 /// What stands before the first colon, and behind it.
 fn divided(word: &str) -> (&str, &str) {
     word.split_once(':').unwrap_or((word, ""))
+}
+
+/// The version that a word names.
+fn version(word: &str) -> Result<Version, RunFault> {
+    match word.as_bytes() {
+        b"one" => Ok(Version::One),
+        b"two" => Ok(Version::Two),
+        _ => Err(RunFault::NoRun),
+    }
 }
 
 /// The number that a word is.

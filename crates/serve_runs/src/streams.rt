@@ -2,7 +2,7 @@
 
 use crate::fault::RunFault;
 use mac_keys::KeyTable;
-use mac_wire::FRAME_MAX;
+use mac_wire::{FRAME_MAX, HELLO, Version};
 use std::alloc::{AllocError, Global};
 
 const KEYS: &[u8] = b"key bank 746869732069732\
@@ -21,6 +21,13 @@ pub(crate) const TWO_REPLIES: &[u8] = b"\x00\x00\x00\x98\x01\
     CFJsTAA5rhURQRXZf91ovyujebNCqvD2F9BVLwo\
     \x00\x00\x00\x01\x10";
 
+/// The same replies in version two: frames of 164 and of 13 bytes.
+const TWO_PLACED_REPLIES: &[u8] = b"\x00\x00\x00\xa0\0\0\0\0\0\0\0\0\x01\
+    MDAxY2xvY2F0aW9uIGh0dHA6Ly9teWJhbmsvCjAwMjZpZGVudGlmaWVy\
+    IHdlIHVzZWQgb3VyIHNlY3JldCBrZXkKMDAyZnNpZ25hdHVyZSDj2eAp\
+    CFJsTAA5rhURQRXZf91ovyujebNCqvD2F9BVLwo\
+    \x00\x00\x00\x09\0\0\0\0\0\0\0\x01\x10";
+
 /// How many bytes the first of the two replies has.
 pub(crate) const FIRST_REPLY: usize = 156;
 
@@ -32,6 +39,36 @@ pub(crate) fn key_table(alloc: Global) -> Result<KeyTable, RunFault> {
     }
 }
 
+/// A stream, and the replies to it.
+#[derive(Drop)]
+pub(crate) struct Exchange {
+    pub stream: Vec<u8>,
+    pub replies: Vec<u8>,
+}
+
+impl Exchange {
+    /// The two frames, in a stream of this version.
+    pub(crate) fn of_two(alloc: Global, version: Version) -> Result<Exchange, AllocError> {
+        Ok(match version {
+            Version::One => Exchange {
+                stream: Vec::from_slice(alloc, TWO_FRAMES)?,
+                replies: Vec::from_slice(alloc, TWO_REPLIES)?,
+            },
+            Version::Two => Exchange {
+                stream: behind_hello(alloc, TWO_FRAMES)?,
+                replies: Vec::from_slice(alloc, TWO_PLACED_REPLIES)?,
+            },
+        })
+    }
+}
+
+/// A stream of version two with these frames.
+fn behind_hello(alloc: Global, frames: &[u8]) -> Result<Vec<u8>, AllocError> {
+    let mut stream = Vec::from_slice(alloc, &[HELLO])?;
+    stream.extend_from_slice(frames)?;
+    Ok(stream)
+}
+
 /// The stream of a name.
 ///
 /// ```text
@@ -40,6 +77,10 @@ pub(crate) fn key_table(alloc: Global) -> Result<KeyTable, RunFault> {
 /// greatest_frame  a payload of 65,536 zeros
 /// longer_frame    the length of a payload of 65,537 bytes, and an empty payload
 /// half_length     three bytes of a length
+/// hello           a stream of version two without a frame
+/// hello_two       a stream of version two with the two frames
+/// hello_longer    one with the length of a payload of 65,537 bytes
+/// hello_torn      one with a byte of a length
 /// ```
 pub(crate) fn stream_of(alloc: Global, name: &str) -> Result<Vec<u8>, RunFault> {
     match name.as_bytes() {
@@ -48,6 +89,10 @@ pub(crate) fn stream_of(alloc: Global, name: &str) -> Result<Vec<u8>, RunFault> 
         b"greatest_frame" => Ok(greatest_frame(alloc)?),
         b"longer_frame" => Ok(Vec::from_slice(alloc, &[0, 1, 0, 1, 0, 0, 0, 0])?),
         b"half_length" => Ok(Vec::from_slice(alloc, &[0; 3])?),
+        b"hello" => Ok(behind_hello(alloc, &[])?),
+        b"hello_two" => Ok(behind_hello(alloc, TWO_FRAMES)?),
+        b"hello_longer" => Ok(behind_hello(alloc, &[0, 1, 0, 1])?),
+        b"hello_torn" => Ok(behind_hello(alloc, &[0])?),
         _ => Err(RunFault::NoRun),
     }
 }
