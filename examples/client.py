@@ -17,15 +17,19 @@ import request
 
 
 class Client:
-    """A connection to a `macaroond`. Replies come in the order of their requests."""
+    """A connection to a `macaroond`, in version two of the wire: each reply tells its place. Replies
+    come in the order of their requests, and a reply of another place is a fault."""
 
     FRAME_MAX = 65_536
+    HELLO = b"\x02"
 
     def __init__(self, path):
         self.socket = socket.socket(socket.AF_UNIX)
         self.socket.connect(path)
         self.socket.setblocking(False)
+        self.unsent_hello = self.HELLO
         self.received = bytearray()
+        self.place = 0
 
     def __enter__(self):
         return self
@@ -40,7 +44,8 @@ class Client:
     def ask_all(self, payloads):
         """The replies, each as soon as it is there; no request waits for a reply."""
         payloads = list(payloads)
-        unsent = memoryview(b"".join(self.frame(payload) for payload in payloads))
+        unsent = memoryview(self.unsent_hello + b"".join(self.frame(payload) for payload in payloads))
+        self.unsent_hello = b""
         for _ in payloads:
             while (reply := self.taken()) is None:
                 unsent = self.moved(unsent)
@@ -66,8 +71,11 @@ class Client:
         end = 4 + int.from_bytes(self.received[:4], "big")
         if len(self.received) < max(end, 4):
             return None
-        reply = bytes(self.received[4:end])
+        place, reply = int.from_bytes(self.received[4:12], "big"), bytes(self.received[12:end])
         del self.received[:end]
+        if place != self.place:
+            raise ConnectionError(f"the reply of place {place} came where that of {self.place} was due")
+        self.place += 1
         return reply
 
 

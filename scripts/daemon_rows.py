@@ -33,8 +33,16 @@ TRIES = 1000
 LATE = 20_000
 
 
+HELLO = b"\x02"
+
+
 def frame(payload):
     return len(payload).to_bytes(4, "big") + payload
+
+
+def placed(*replies):
+    """The frames of replies in version two."""
+    return b"".join(frame(place.to_bytes(8, "big") + reply) for place, reply in enumerate(replies))
 
 
 def connected(path):
@@ -129,6 +137,28 @@ def overtaking(path):
         yield "the end of those", output, "served 2 faults 0\n"
 
 
+def versions(path):
+    """Connections of version two beside one of version one, and a hello that comes by itself."""
+    requests = frame(MINT) + frame(b"") + bytes.fromhex("00010001")
+    due = placed(b"\x01" + TOKEN, b"\x10", b"\x11")
+    with daemon("serve", "--socket", path, "--keys", KEYS, "--workers", "2", "--accept", "5") as run:
+        with connected(path) as stream:
+            yield "places", answer(stream, HELLO + requests), due
+        with connected(path) as stream:
+            for byte in HELLO + requests[:20]:
+                stream.sendall(bytes([byte]))
+                time.sleep(0.001)
+            yield "places, where the hello comes alone", answer(stream, requests[20:]), due
+        with connected(path) as stream:
+            yield "none beside", answer(stream, frame(b"")), NO_REQUEST
+        with connected(path) as stream:
+            yield "a hello and no more", answer(stream, HELLO), b""
+        with connected(path) as stream:
+            yield "a hello and a part of a length", answer(stream, HELLO + bytes(1)), b""
+        output, _ = run.communicate(timeout=20)
+        yield "the end of those", output, "served 5 faults 1\n"
+
+
 def listening(folder):
     path = folder + "/listening"
     words = ["listen", "--socket", path, "--keys", KEYS, "--workers", "2"]
@@ -167,7 +197,7 @@ def faults():
     with tempfile.TemporaryDirectory() as folder:
         seen = [one for workers in (1, 2, 16) for one in served(f"{folder}/{workers}", workers)]
     with tempfile.TemporaryDirectory() as folder:
-        seen += [*both_ways(folder + "/both_ways"), *overtaking(folder + "/overtaking")]
+        seen += [*both_ways(folder + "/both_ways"), *overtaking(folder + "/overtaking"), *versions(folder + "/versions")]
     with tempfile.TemporaryDirectory() as folder:
         seen += listening(folder)
     return [f"daemon: {what}: {got!r} where {due!r} is due" for what, got, due in seen if got != due], len(seen)
