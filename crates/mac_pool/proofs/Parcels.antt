@@ -1,5 +1,5 @@
 -- One parcel more answers one ticket more, and what a ticket is taken apart into.
-use Rattle.std.proofs.Common.{◌≡◌, ◌+◌, ◌≤◌, ◌⊎◌, List, [], ◌∷◌, ◌++◌, length, sym, ◌∙◌, ap, refl, subst, ⊎_elim, arith, append_assoc, append-nil, length-append}
+use Rattle.std.proofs.Common.{◌≡◌, ◌+◌, ◌≤◌, List, [], ◌∷◌, ◌++◌, length, sym, ◌∙◌, ap, refl, subst, arith, append_assoc, length-append}
 use Rattle.mac_pool.specs.declared.ticket.Ticket.{Ticket}
 use Rattle.mac_pool.specs.declared.work.Label.{Label}
 use Rattle.mac_pool.specs.declared.work.Parcel.{Parcel}
@@ -42,22 +42,26 @@ module _ {S Job Reply : Type 0} where
   joined_more labels more_labels jobs more_jobs label job left rest tickets labels_are jobs_are even split was =
       rw (labels_are, jobs_are, joined_push labels jobs label job even) (ticket_done (joined labels jobs) left rest tickets (ticket_of label job) split was)
 
-  -- the first label and the first job go
-  pub joined_less : (done tickets : List (Ticket S Job Reply)) (labels rest : List (Label S Job Reply)) (jobs others : List Job) (label : Label S Job Reply) (job : Job)
-      → labels ≡ label ∷ rest → jobs ≡ job ∷ others → done ++ joined labels jobs ≡ tickets → (done ++ ticket_of label job ∷ []) ++ joined rest others ≡ tickets
-  joined_less done tickets labels rest jobs others label job labels_are jobs_are was =
-      ticket_done done (joined labels jobs) (joined rest others) tickets (ticket_of label job)
-      (ap (λ (l : List (Label S Job Reply)). joined l jobs) labels_are ∙ ap (λ (l : List Job). joined (label ∷ rest) l) jobs_are) was
+  module _ (labels rest : List (Label S Job Reply)) (jobs others : List Job) (label : Label S Job Reply) (job : Job)
+      (labels_are : labels ≡ rest ++ label ∷ []) (jobs_are : jobs ≡ others ++ job ∷ []) (even : length labels ≡ length jobs) where
+    -- without the last label and the last job there are as many of each
+    pub even_less : length rest ≡ length others
+    even_less = omega (arith, ap length labels_are, ap length jobs_are, length-append rest (label ∷ []), length-append others (job ∷ []))
 
-  -- for which there is room
-  pub joined_room : (done tickets : List (Ticket S Job Reply)) (parcels : List (Parcel S Job Reply)) (labels rest : List (Label S Job Reply)) (jobs others : List Job) (label : Label S Job Reply) (job : Job)
-      → labels ≡ label ∷ rest → jobs ≡ job ∷ others → done ++ joined labels jobs ≡ tickets → AnswerEach done parcels → length parcels + 1 ≤ length tickets
-  joined_room done tickets parcels labels rest jobs others label job labels_are jobs_are was each =
-      let now = joined_less done tickets labels rest jobs others label job labels_are jobs_are was in
-      omega (arith, answers_long done parcels each, ap length now, length-append (done ++ ticket_of label job ∷ []) (joined rest others), length-append done (ticket_of label job ∷ []))
+    -- their ticket moves to those that are done
+    pub joined_less : (done tickets : List (Ticket S Job Reply)) → joined labels jobs ++ done ≡ tickets → joined rest others ++ ticket_of label job ∷ done ≡ tickets
+    joined_less done tickets was =
+        sym (append_assoc (joined rest others) (ticket_of label job ∷ []) done)
+        ∙ ap (λ l. l ++ done) (sym (rw (labels_are, jobs_are) (joined_push rest others label job even_less)))
+        ∙ was
 
-  -- where no label or no job is left, all are done
-  pub joined_end : (done tickets : List (Ticket S Job Reply)) (labels : List (Label S Job Reply)) (jobs : List Job) → (length labels ≡ 0) ⊎ (length jobs ≡ 0) → done ++ joined labels jobs ≡ tickets → done ≡ tickets
-  joined_end done tickets [] jobs none was = sym (append-nil done) ∙ was
-  joined_end done tickets (label ∷ labels) [] none was = sym (append-nil done) ∙ was
-  joined_end done tickets (label ∷ labels) (job ∷ jobs) none was = ⊎_elim (λ n. absurd (omega arith)) (λ n. absurd (omega arith)) none
+    -- for which there is room
+    pub joined_room : (done tickets : List (Ticket S Job Reply)) (parcels : List (Parcel S Job Reply)) → joined labels jobs ++ done ≡ tickets → AnswerEach done parcels → length parcels + 1 ≤ length tickets
+    joined_room done tickets parcels was each =
+        omega (arith, answers_long done parcels each, ap length (joined_less done tickets was), length-append (joined rest others) (ticket_of label job ∷ done))
+
+  -- where no job is left, all are done
+  pub joined_end : (done tickets : List (Ticket S Job Reply)) (labels : List (Label S Job Reply)) (jobs : List Job) → length jobs ≡ 0 → joined labels jobs ++ done ≡ tickets → done ≡ tickets
+  joined_end done tickets [] [] none was = was
+  joined_end done tickets (label ∷ labels) [] none was = was
+  joined_end done tickets labels (job ∷ jobs) none was = absurd (omega arith)

@@ -56,6 +56,16 @@ module _ {A : Type 0} where
   pub get_read : (xs : List A) (n : ℕ) (x : A) → x ≡ get_or xs n x → n < length xs → slice_get xs n ≡ Some x
   get_read xs n x is below = slice_get-get_or xs n x below ∙ ap Some (sym is)
 
+  -- what stands in a list stands there with more behind it
+  pub get_front : (xs ys : List A) (n : ℕ) (x : A) → slice_get xs n ≡ Some x → slice_get (xs ++ ys) n ≡ Some x
+  get_front [] ys n x at = absurd (cc)
+  get_front (y ∷ xs) ys zero x at = at
+  get_front (y ∷ xs) ys (suc n) x at = get_front xs ys n x at
+
+  pub get_last : (xs : List A) (y : A) → slice_get (xs ++ y ∷ []) (length xs) ≡ Some y
+  get_last [] y = refl
+  get_last (x ∷ xs) y = get_last xs y
+
   pub get_below : (xs : List A) (n : ℕ) (x : A) → slice_get xs n ≡ Some x → n < length xs
   get_below [] n x at = absurd (cc)
   get_below (y ∷ xs) zero x at = omega arith
@@ -134,9 +144,12 @@ module _ {Job : Type 0} where
   pub brought_is : (line : TableId) (given back : Pass Job) (n : ℕ) → IsWorkers line given → HasClaimed given n back → IsWorkers line back
   brought_is line given back n was has = (has.same.0 ∙ was.0, has.put ∙ was.1)
 
-  -- the first of passes that have put nothing
-  pub worker_first : (line : TableId) (pass : Pass Job) (rest : List (Pass Job)) → AreWorkers line (pass ∷ rest) → IsWorkers line pass
-  worker_first line pass rest all = all 0 pass refl
+  -- the last of passes that have put nothing, and those before it
+  pub worker_last : (line : TableId) (rest : List (Pass Job)) (pass : Pass Job) → AreWorkers line (rest ++ pass ∷ []) → IsWorkers line pass
+  worker_last line rest pass all = all (length rest) pass (get_last rest pass)
+
+  pub workers_front : (line : TableId) (rest : List (Pass Job)) (pass : Pass Job) → AreWorkers line (rest ++ pass ∷ []) → AreWorkers line rest
+  workers_front line rest pass all number other at = all number other (get_front rest (pass ∷ []) number other at)
 
   -- a pass more is brought
   pub brought_more : (before brought all more : List (Pass Job)) (pass : Pass Job) → more ≡ all ++ pass ∷ [] → all ≡ before ++ brought → more ≡ before ++ (brought ++ pass ∷ [])

@@ -4,13 +4,20 @@
 //! waits for, and sleeps. Who brings something changes what is looked at first and rings then.
 //! Either the ringer sees the sleeper announced, or the sleeper's look comes after the change.
 
+use crossbeam_utils::CachePadded;
 use std::sync::Wait;
 use std::sync::atomic::Ordering::SeqCst;
 use std::sync::atomic::{AtomicBool, AtomicU64};
 
-/// A count of rings on which threads sleep. It is no part of any proof that a sleeper wakes.
+/// A count of rings on which threads sleep, on cache lines of its own. It is no part of any proof
+/// that a sleeper wakes.
 #[derive(Drop)]
 pub struct Bell {
+    words: CachePadded<Words>,
+}
+
+#[derive(Drop)]
+struct Words {
     rings: AtomicU64,
     sleepers: AtomicU64,
     // Somebody was woken and has not looked yet: who rings now need not wake another.
@@ -26,25 +33,28 @@ impl Bell {
     /// A bell on which nobody sleeps.
     pub const fn new() -> Bell {
         Bell {
-            rings: AtomicU64::new(0),
-            sleepers: AtomicU64::new(0),
-            is_answered: AtomicBool::new(false),
+            words: CachePadded::new(Words {
+                rings: AtomicU64::new(0),
+                sleepers: AtomicU64::new(0),
+                is_answered: AtomicBool::new(false),
+            }),
         }
     }
 
     /// Announces a wait. Look after it at everything that is waited for, then sleep or withdraw.
     pub fn announce(&self) -> Notice {
-        self.sleepers.fetch_add(1, SeqCst);
-        let rings = (self.rings.load(SeqCst) & 0xffff_ffff) as u32;
+        let words = &*self.words;
+        words.sleepers.fetch_add(1, SeqCst);
+        let rings = (words.rings.load(SeqCst) & 0xffff_ffff) as u32;
         // Rings before this one are answered by the look that follows.
-        self.is_answered.store(false, SeqCst);
+        words.is_answered.store(false, SeqCst);
         Notice { rings }
     }
 
     /// Sleeps until a ring after the announcement. It may return for no reason: look again.
     pub fn sleep<R: Wait>(&self, rt: &R, notice: Notice) {
         let Notice { rings } = notice;
-        self.rings.park(rt, rings);
+        self.words.rings.park(rt, rings);
         self.leave();
     }
 
@@ -55,28 +65,31 @@ impl Bell {
     }
 
     fn leave(&self) {
-        self.sleepers.fetch_sub(1, SeqCst);
-        self.is_answered.store(false, SeqCst);
+        let words = &*self.words;
+        words.sleepers.fetch_sub(1, SeqCst);
+        words.is_answered.store(false, SeqCst);
     }
 
     /// Whether anybody has announced a wait that has not ended.
     pub fn is_awaited(&self) -> bool {
-        self.sleepers.load(SeqCst) > 0
+        self.words.sleepers.load(SeqCst) > 0
     }
 
     /// Wakes one sleeper, after the change that it waits for. It costs one load where nobody
     /// sleeps, and wakes nobody where one was woken that has not looked yet.
     pub fn ring(&self) {
-        if !self.is_awaited() || self.is_answered.swap(true, SeqCst) {
+        let words = &*self.words;
+        if words.sleepers.load(SeqCst) == 0 || words.is_answered.swap(true, SeqCst) {
             return;
         }
-        self.rings.fetch_add(1, SeqCst);
-        self.rings.wake_one();
+        words.rings.fetch_add(1, SeqCst);
+        words.rings.wake_one();
     }
 
     /// Wakes all sleepers, after the change that they wait for.
     pub fn ring_all(&self) {
-        self.rings.fetch_add(1, SeqCst);
-        self.rings.wake_all();
+        let words = &*self.words;
+        words.rings.fetch_add(1, SeqCst);
+        words.rings.wake_all();
     }
 }

@@ -14,6 +14,7 @@ use crate::ticket::Ticket;
 use mac_lane::{NoMemory, Service};
 use std::alloc::Global;
 use std::marker::Model;
+use std::sync::atomic::Ordering::SeqCst;
 use std::sync::{Arc, Wait};
 
 /// A connection's place at a pool.
@@ -140,7 +141,7 @@ impl<S: Service> Putter<S> {
 
     /// Wakes who waits for posts at this desk, to look at something else.
     pub fn ring(&self) {
-        self.mail.ring();
+        self.mail.posts.ring();
     }
 }
 
@@ -151,6 +152,29 @@ impl<S: Service> Taker<S> {
         ensures same { IfNone result (self.new ≡ self.old) }
     {
         self.mail.take_as(rt, &mut self.pass)
+    }
+
+    /// Takes the oldest post, and sleeps while there is none. `None` once the mailbox is closed and
+    /// empty. Who waits for something else too announces its wait, looks and sleeps by itself.
+    pub fn wait<R: Wait>(&mut self, rt: &R) -> Option<Post<S>>
+        ensures taken { IfSome result (λ post. self.new ≡ self.old ++ entry_of post ∷ []) }
+        ensures same { IfNone result (self.new ≡ self.old) }
+    {
+        for _ in rt.forever() {
+            if let Some(post) = self.take(rt) {
+                return Some(post);
+            }
+            let notice = self.announce();
+            let is_closed = self.mail.is_closed.load(SeqCst);
+            match self.take(rt) {
+                None if !is_closed => self.sleep(rt, notice),
+                post => {
+                    self.withdraw(notice);
+                    return post;
+                }
+            }
+        }
+        unreachable!()
     }
 
     /// Announces a wait for a post or a ring. Look after it at everything that is waited for, and
@@ -168,12 +192,12 @@ impl<S: Service> Taker<S> {
     /// Sleeps until a post or a ring after the announcement. It may return for no reason: look
     /// again.
     pub fn sleep<R: Wait>(&self, rt: &R, notice: Notice) {
-        self.mail.sleep(rt, notice);
+        self.mail.posts.sleep(rt, notice);
     }
 
     /// Ends a wait that found something. Look again once that is dealt with.
     pub fn withdraw(&self, notice: Notice) {
-        self.mail.withdraw(notice);
+        self.mail.posts.withdraw(notice);
     }
 
     /// Closes the desk's mailbox: further posts are dropped.

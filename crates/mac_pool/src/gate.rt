@@ -16,7 +16,7 @@ pub trait Gate: Send + Sync + Drop {
 }
 
 /// The gate that holds nobody back.
-#[derive(Clone, Copy, Debug)]
+#[derive(Clone, Copy)]
 pub struct NoGate;
 
 impl Gate for NoGate {

@@ -12,7 +12,6 @@ use crate::fault::PutFault;
 use crate::ticket::Ticket;
 use crossbeam_queue::protocol::Free;
 use crossbeam_queue::{Pass, RuledArrayQueue};
-use crossbeam_utils::CachePadded;
 use mac_lane::{NoMemory, Service};
 use std::alloc::Global;
 use std::marker::Model;
@@ -42,8 +41,10 @@ pub type Seat<S> = Pass<Ticket<S>, Account<<S as Service>::Job>>;
 #[derive(Drop)]
 pub struct Line<S: Service> {
     queue: Queue<S>,
-    tickets: CachePadded<Bell>,
-    workers: AtomicU64,
+    // Workers that find no ticket sleep on it.
+    pub(crate) tickets: Bell,
+    // How many workers are in.
+    pub(crate) workers: AtomicU64,
     is_closed: AtomicBool,
 }
 
@@ -128,7 +129,7 @@ impl<S: Service> Line<S> {
         let passes = passes_of(alloc, &queue, seat)?;
         let line = Line {
             queue,
-            tickets: CachePadded::new(Bell::new()),
+            tickets: Bell::new(),
             workers: AtomicU64::new(0),
             is_closed: AtomicBool::new(false),
         };
@@ -214,26 +215,6 @@ impl<S: Service> Line<S> {
         ensures few { result ≤ LINE_MAX }
     {
         self.queue.len_as::<Free, R>(rt, &mut pass.seat)
-    }
-
-    /// Wakes a worker that sleeps.
-    pub(crate) fn ring(&self) {
-        self.tickets.ring();
-    }
-
-    /// Counts a worker in.
-    pub(crate) fn enter(&self) {
-        self.workers.fetch_add(1, SeqCst);
-    }
-
-    /// Counts a worker out.
-    pub(crate) fn leave(&self) {
-        self.workers.fetch_sub(1, SeqCst);
-    }
-
-    /// How many workers are in.
-    pub(crate) fn workers(&self) -> u64 {
-        self.workers.load(SeqCst)
     }
 
     /// Closes the line to further tickets, and wakes all who sleep. Those that are in stay.

@@ -54,11 +54,12 @@ pub(crate) type MailPass<S> = Pass<Post<S>, Taken<S>>;
 #[derive(Drop)]
 pub struct Mailbox<S: Service> {
     queue: RuledArrayQueue<Post<S>, Taken<S>, Told>,
-    posts: CachePadded<Bell>,
+    // Who waits for posts sleeps on it.
+    pub(crate) posts: Bell,
     // Who waits for posts waits for the one at this place, or for one before it.
     due: CachePadded<AtomicU64>,
-    room: CachePadded<Bell>,
-    is_closed: AtomicBool,
+    room: Bell,
+    pub(crate) is_closed: AtomicBool,
 }
 
 impl<S: Service> Model for Mailbox<S> {
@@ -79,9 +80,9 @@ impl<S: Service> Mailbox<S> {
         let (queue, pass) = RuledArrayQueue::ruled(alloc, MAIL_MAX)?;
         let mail = Mailbox {
             queue,
-            posts: CachePadded::new(Bell::new()),
+            posts: Bell::new(),
             due: CachePadded::new(AtomicU64::new(u64::MAX)),
-            room: CachePadded::new(Bell::new()),
+            room: Bell::new(),
             is_closed: AtomicBool::new(false),
         };
         Ok((mail, pass))
@@ -92,7 +93,7 @@ impl<S: Service> Mailbox<S> {
         ensures { IfErr result (λ e. e.1 ≡ post) }
     {
         self.push_quietly(rt, post)?;
-        self.ring();
+        self.posts.ring();
         Ok(())
     }
 
@@ -144,7 +145,7 @@ impl<S: Service> Mailbox<S> {
                 return;
             };
             // Who takes the posts must not sleep while somebody waits for room.
-            self.ring();
+            self.posts.ring();
             let notice = self.room.announce();
             let Some(back) = self.refused(rt, back) else {
                 self.room.withdraw(notice);
@@ -172,11 +173,6 @@ impl<S: Service> Mailbox<S> {
         self.room.ring_all();
     }
 
-    /// Wakes who waits for posts.
-    pub(crate) fn ring(&self) {
-        self.posts.ring();
-    }
-
     /// Whether who waits for posts waits for that of this place. Asked after the post went in.
     pub(crate) fn is_due(&self, place: u64) -> bool {
         place <= self.due.load(SeqCst)
@@ -185,13 +181,5 @@ impl<S: Service> Mailbox<S> {
     pub(crate) fn announce(&self, due: u64) -> Notice {
         self.due.store(due, SeqCst);
         self.posts.announce()
-    }
-
-    pub(crate) fn sleep<R: Wait>(&self, rt: &R, notice: Notice) {
-        self.posts.sleep(rt, notice);
-    }
-
-    pub(crate) fn withdraw(&self, notice: Notice) {
-        self.posts.withdraw(notice);
     }
 }

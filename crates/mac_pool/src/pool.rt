@@ -254,13 +254,11 @@ impl<S: Service, G: Gate> Pool<S, G> {
             line,
             workers,
             passes: _,
-            all: _,
+            mut all,
             gate: _,
         } = self;
         line.close();
-        for thread in workers {
-            thread.join(rt);
-        }
+        bring_back(rt, &line, workers, &mut all);
     }
 }
 
@@ -347,7 +345,7 @@ fn home_count<S: Service>(slots: &Slots<S>) -> usize
 fn bring_back<S: Service, R: Threads>(
     rt: &R,
     line: &Line<S>,
-    workers: Vec<Thread<S>>,
+    mut workers: Vec<Thread<S>>,
     all: &mut Vec<LinePass<S>>,
 )
     requires room { length all.old.items + length workers.items ≤ vec_capacity all.old }
@@ -355,7 +353,7 @@ fn bring_back<S: Service, R: Threads>(
     ensures capacity { vec_capacity all.new ≡ vec_capacity all.old }
     ensures brought { IsBrought line.now (length workers.items) all.old.items all.new.items }
 {
-    for thread in workers {
+    while let Some(thread) = workers.pop() {
         all.push_reserved(thread.join(rt).pass);
     }
 }

@@ -14,6 +14,7 @@ use crate::ticket::Ticket;
 use mac_lane::{Answer, NoMemory, Service};
 use std::alloc::Global;
 use std::collections::VecDeque;
+use std::sync::atomic::Ordering::SeqCst;
 use std::sync::{Arc, Wait};
 
 /// What a worker leaves behind.
@@ -77,34 +78,22 @@ pub fn worker<S: Service, G: Gate, R: Wait>(
     rt: &R,
     alloc: Global,
     line: &Line<S>,
-    pass: LinePass<S>,
-    gate: &G,
-) -> Worked<S>
-    requires { pass.line ≡ line.now }
-    ensures { HasClaimed pass result.claimed result.pass }
-{
-    line.enter();
-    let worked = work_off(rt, alloc, line, pass, gate);
-    line.leave();
-    worked
-}
-
-fn work_off<S: Service, G: Gate, R: Wait>(
-    rt: &R,
-    alloc: Global,
-    line: &Line<S>,
     mut pass: LinePass<S>,
     gate: &G,
 ) -> Worked<S>
     requires { pass.line ≡ line.now }
     ensures { HasClaimed pass result.claimed result.pass }
 {
+    line.workers.fetch_add(1, SeqCst);
     let mut claimed = 0;
     let mut room = Turn::new(alloc).ok();
     for _ in rt.forever() {
         let ticket = match line.wait(rt, &mut pass) {
             Some(ticket) => ticket,
-            None => return Worked { pass, claimed },
+            None => {
+                line.workers.fetch_sub(1, SeqCst);
+                return Worked { pass, claimed };
+            }
         };
         claimed += 1;
         match &mut room {
@@ -122,7 +111,7 @@ fn work_off<S: Service, G: Gate, R: Wait>(
 fn give_up<S: Service, G: Gate, R: Wait>(rt: &R, gate: &G, ticket: Ticket<S>) {
     gate.before(ticket.place);
     ticket.mail.deliver(rt, Post::Failed(ticket.place));
-    ticket.mail.ring();
+    ticket.mail.posts.ring();
     gate.after(ticket.place);
 }
 
@@ -143,10 +132,10 @@ fn turn_from<S: Service, G: Gate, R: Wait>(
 {
     turn.tickets.push_back_reserved(ticket);
     let waiting = line.waiting(rt, pass);
-    let others = turn_size(waiting, line.workers(), gate.most()) - 1;
+    let others = turn_size(waiting, line.workers.load(SeqCst), gate.most()) - 1;
     let claimed = claim_more(rt, line, pass, others, &mut turn.tickets);
     if waiting > others {
-        line.ring();
+        line.tickets.ring();
     }
     answer_all(alloc, gate, &mut turn.tickets, &mut turn.parcels);
     post_all(rt, gate, &mut turn.parcels, &mut turn.owed);
@@ -245,6 +234,7 @@ fn taken_apart<S: Service, G: Gate>(
     tickets: &mut Tickets<S>,
 ) -> Result<(Vec<Label<S>>, Vec<S::Job>), NoMemory>
     ensures parts { IfOk result (λ parts. joined parts.0.items parts.1.items ≡ tickets.old.items) }
+    ensures even { IfOk result (λ parts. length parts.0.items ≡ length parts.1.items) }
     ensures done { OnOk result (tickets.new.items ≡ []) }
     ensures same { OnErr result (tickets.new ≡ tickets.old) }
     ensures capacity { deque_capacity tickets.new ≡ deque_capacity tickets.old }
@@ -266,6 +256,7 @@ fn answer_together<S: Service>(
     jobs: Vec<S::Job>,
     parcels: &mut Parcels<S>,
 )
+    requires even { length labels.items ≡ length jobs.items }
     requires empty { parcels.old.items ≡ [] }
     requires room { length (joined labels.items jobs.items) ≤ deque_capacity parcels.old }
     ensures answers { AnswerEach (joined labels.items jobs.items) parcels.new.items }
@@ -277,33 +268,45 @@ fn answer_together<S: Service>(
     }
 }
 
-/// Makes a parcel of each answer.
-fn pack<S: Service>(labels: Vec<Label<S>>, answers: Vec<Answer<S>>, parcels: &mut Parcels<S>)
+/// Makes a parcel of each answer, the last first.
+fn pack<S: Service>(
+    mut labels: Vec<Label<S>>,
+    mut answers: Vec<Answer<S>>,
+    parcels: &mut Parcels<S>,
+)
+    requires even { length labels.items ≡ length answers.items }
     requires empty { parcels.old.items ≡ [] }
     requires room { length (joined labels.items answers.items) ≤ deque_capacity parcels.old }
     ensures answers { AnswerEach (joined labels.items answers.items) parcels.new.items }
     ensures capacity { deque_capacity parcels.new ≡ deque_capacity parcels.old }
 {
-    for (Label { place, mail }, answer) in labels.into_iter().zip(answers) {
+    while let Some(answer) = answers.pop() {
+        let Some(Label { place, mail }) = labels.pop() else {
+            unreachable!()
+        };
         let post = Post::Answered(place, answer);
-        parcels.push_back_reserved(Parcel { post, mail });
+        parcels.push_front_reserved(Parcel { post, mail });
     }
 }
 
-/// Works on the jobs one by one.
+/// Works on the jobs one by one, the last first.
 fn answer_parts<S: Service>(
     alloc: Global,
-    labels: Vec<Label<S>>,
-    jobs: Vec<S::Job>,
+    mut labels: Vec<Label<S>>,
+    mut jobs: Vec<S::Job>,
     parcels: &mut Parcels<S>,
 )
+    requires even { length labels.items ≡ length jobs.items }
     requires empty { parcels.old.items ≡ [] }
     requires room { length (joined labels.items jobs.items) ≤ deque_capacity parcels.old }
     ensures answers { AnswerEach (joined labels.items jobs.items) parcels.new.items }
     ensures capacity { deque_capacity parcels.new ≡ deque_capacity parcels.old }
 {
-    for (Label { place, mail }, job) in labels.into_iter().zip(jobs) {
-        parcels.push_back_reserved(answer(alloc, Ticket { place, job, mail }));
+    while let Some(job) = jobs.pop() {
+        let Some(Label { place, mail }) = labels.pop() else {
+            unreachable!()
+        };
+        parcels.push_front_reserved(answer(alloc, Ticket { place, job, mail }));
     }
 }
 
@@ -353,6 +356,6 @@ fn ring_all<S: Service>(owed: &mut Mails<S>)
     ensures capacity { deque_capacity owed.new ≡ deque_capacity owed.old }
 {
     while let Some(mail) = owed.pop_front() {
-        mail.ring();
+        mail.posts.ring();
     }
 }

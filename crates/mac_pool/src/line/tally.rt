@@ -9,7 +9,7 @@ use mac_lane::Service;
 use std::sync::Wait;
 
 /// How many tickets were put, how many of them were claimed, and how many are left in the line.
-#[derive(Clone, Copy, Debug, PartialEq, Eq)]
+#[derive(Clone, Copy)]
 pub struct Tally {
     /// The tickets that all passes put.
     pub put: u64,

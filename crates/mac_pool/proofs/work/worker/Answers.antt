@@ -1,7 +1,7 @@
 use Rattle.std.proofs.Common.{ap, sym, ◌∙◌, subst, arith}
 use Rattle.mac_pool.specs.Pass.{Pass, HasClaimed}
 use Rattle.mac_pool.proofs.Claims.{claimed_none, claimed_one, claimed_both, few_counted}
-use Rattle.mac_pool.proofs.work.work_off.Goals as goal
+use Rattle.mac_pool.proofs.work.worker.Goals as goal
 
 pub loop-init : goal.loop-init
 loop-init g c = claimed_none _
