@@ -114,24 +114,6 @@ pub(crate) fn put_run<R: Wait>(rt: &R, putter: &mut Putter<Digits>, from: u64, c
     is_put
 }
 
-/// The next post, once there is one.
-pub(crate) fn next_post<R: Wait>(rt: &R, taker: &mut Taker<Digits>) -> Post<Digits> {
-    for _ in rt.forever() {
-        if let Some(post) = taker.take(rt) {
-            return post;
-        }
-        let notice = taker.announce();
-        match taker.take(rt) {
-            Some(post) => {
-                taker.withdraw(notice);
-                return post;
-            }
-            None => taker.sleep(rt, notice),
-        }
-    }
-    unreachable!()
-}
-
 /// Takes so many answers, each waited for. Whether they are those of so many places from one on,
 /// in whatever order.
 pub(crate) fn take_run<R: Wait>(rt: &R, taker: &mut Taker<Digits>, from: u64, count: u64) -> bool {
@@ -139,15 +121,15 @@ pub(crate) fn take_run<R: Wait>(rt: &R, taker: &mut Taker<Digits>, from: u64, co
     let mut taken: u64 = 0;
     for number in 0..count {
         wanted = wanted.wrapping_add(from.wrapping_add(number));
-        taken = taken.wrapping_add(answered(&next_post(rt, taker)));
+        taken = taken.wrapping_add(answered(taker.wait(rt)));
     }
     wanted == taken
 }
 
 /// The place of an answer, and the greatest number where there is none.
-pub(crate) fn answered(post: &Post<Digits>) -> u64 {
+pub(crate) fn answered(post: Option<Post<Digits>>) -> u64 {
     match post {
-        Post::Answered(place, _) => *place,
-        Post::Failed(_) => u64::MAX,
+        Some(Post::Answered(place, _)) => place,
+        _ => u64::MAX,
     }
 }

@@ -4,7 +4,7 @@ ghost use Rattle.std.specs.Prelude.{◌≡◌, IfSome};
 ghost use Rattle.mac_pool.specs.Pass.{AreFresh};
 
 use crate::digits::{Digits, REFUSED};
-use crate::drive::{all_home, answered, books_if, desk_of, desks_of, next_post, pool_of, put_run};
+use crate::drive::{all_home, answered, books_if, desk_of, desks_of, pool_of, put_run};
 use crate::fault::RunFault;
 use crate::runs::Outcome;
 use mac_pool::{
@@ -151,9 +151,9 @@ fn fails_once<R: Wait>(rt: &R, desk: &mut Desk<Digits>) -> bool
         && desk.putter.put(rt, 1, REFUSED).is_ok()
         && desk.putter.put(rt, 2, 7).is_ok();
     is_put
-        && answered(&next_post(rt, &mut desk.taker)) == 0
-        && matches!(next_post(rt, &mut desk.taker), Post::Failed(1))
-        && answered(&next_post(rt, &mut desk.taker)) == 2
+        && answered(desk.taker.wait(rt)) == 0
+        && matches!(desk.taker.wait(rt), Some(Post::Failed(1)))
+        && answered(desk.taker.wait(rt)) == 2
 }
 
 /// Two desks put two jobs and three, each in a thread of its own; two hands claim three of them.
@@ -299,7 +299,7 @@ fn is_taken<R: Wait>(rt: &R, mail: &Mailbox<Digits>, taker: &mut Taker<Digits>) 
     is_past && is_by && is_late && matches!(taker.take(rt), Some(Post::Failed(2)))
 }
 
-/// A taker sleeps, and is rung for a flag and no post.
+/// A taker sleeps, and is rung for a flag and no post. Once it is closed it waits no more.
 fn rung<R>(rt: &R, alloc: Global) -> Result<Outcome, RunFault>
 where
     R: Threads + Wait + Sync,
@@ -317,7 +317,8 @@ where
             putter.ring();
         },
     );
-    right_if(!has_post)
+    taker.close();
+    right_if(!has_post && taker.wait(rt).is_none())
 }
 
 /// Waits for the flag. Whether a post came in the meantime.

@@ -3,7 +3,7 @@
 ghost use Rattle.std.specs.Prelude.{◌≡◌};
 
 use crate::digits::Digits;
-use crate::drive::{answered, books_if, desk_of, next_post, pool_of, put_run};
+use crate::drive::{answered, books_if, desk_of, pool_of, put_run};
 use crate::fault::RunFault;
 use crate::runs::Outcome;
 use mac_pool::{Desk, Taker};
@@ -60,7 +60,7 @@ fn go_through<R: Wait>(rt: &R, desk: &mut Desk<Digits>, runs: u64) -> bool
 fn take_sum<R: Wait>(rt: &R, taker: &mut Taker<Digits>) -> u64 {
     let mut sum: u64 = 0;
     for _ in 0..RUN {
-        sum = sum.wrapping_add(answered(&next_post(rt, taker)));
+        sum = sum.wrapping_add(answered(taker.wait(rt)));
     }
     sum
 }
