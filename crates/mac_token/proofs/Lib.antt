@@ -36,3 +36,4 @@ pub mod ReadLemmas
 pub mod ReadLaws
 pub mod AreBytes
 pub mod WrittenLaws
+pub mod DraftLemmas

@@ -5,6 +5,7 @@ use Rattle.std.specs.declared.alloc.Global.{Global}
 use Rattle.std.specs.declared.vec.Vec.{Vec}
 use Rattle.std.specs.List.{flat_map}
 use Rattle.std.proofs.lemmas.List.{append-nil, length-append, map_push, flat_map_more}
+use Rattle.mac_token.specs.Draft.{v2_head, v2_end}
 use Rattle.mac_token.specs.Varint.{varint}
 use Rattle.mac_token.specs.RawToken.{TokenParts, byte_lists}
 use Rattle.mac_token.specs.V2.{type_number, field, optional, end_mark, section, written_location, written_section, v2_bytes}
@@ -66,10 +67,6 @@ caveat_sections_more buffers i buffer below is =
     ∙ ap (λ (t : List SectionParts). flat_map section t) (map_push (written_section None) so_far buffer.items)
     ∙ sym (flat_map_more section [] (map (written_section None) so_far) (written_section None buffer.items))
 
--- the whole, part after part
-pub v2_pushed : (t : TokenParts) → 2 ∷ [] ++ section (written_section (written_location t.location) t.identifier) ++ caveat_sections t.caveats ++ 0 ∷ [] ++ field Signature t.sig ≡ v2_bytes t
-v2_pushed t = ap (λ (e : List ℕ). 2 ∷ section (written_section (written_location t.location) t.identifier) ++ caveat_sections t.caveats ++ e ++ field Signature t.sig) (sym end_is)
-
 pub length-v2_bytes : (t : TokenParts) → length (v2_bytes t) ≡ 1 + length (optional Location (written_location t.location)) + length (field Identifier t.identifier) + 1 + length (caveat_sections t.caveats) + 1 + length (field Signature t.sig)
 length-v2_bytes t =
     let head = section (written_section (written_location t.location) t.identifier) in
@@ -97,7 +94,7 @@ pub v2_len_sum : (t : TokenParts) (location identifier caveats sig : ℕ) → lo
 v2_len_sum t location identifier caveats sig a b c d = whole location identifier caveats sig _ _ _ _ a b c d ∙ sym (length-v2_bytes t)
 
 -- the bytes, part after part
-pub v2_written : (t : TokenParts) (o p q r s w : List ℕ) → o ≡ [] → p ≡ o ++ 2 ∷ [] → q ≡ p ++ section (written_section (written_location t.location) t.identifier) → r ≡ q ++ caveat_sections t.caveats → s ≡ r ++ 0 ∷ [] → w ≡ s ++ field Signature t.sig → w ≡ v2_bytes t
-v2_written t o p q r s w a b c d e f =
-    f ∙ ap (λ (x : List ℕ). x ++ field Signature t.sig) (e ∙ ap (λ (x : List ℕ). x ++ 0 ∷ []) (d ∙ ap (λ (x : List ℕ). x ++ caveat_sections t.caveats) (c ∙ ap (λ (x : List ℕ). x ++ section (written_section (written_location t.location) t.identifier)) (b ∙ ap (λ (x : List ℕ). x ++ 2 ∷ []) a))))
-    ∙ v2_pushed t
+pub v2_written : (t : TokenParts) (o p q r : List ℕ) → o ≡ [] → p ≡ o ++ v2_head t.location t.identifier → q ≡ p ++ caveat_sections t.caveats → r ≡ q ++ v2_end t.sig → r ≡ v2_bytes t
+v2_written t o p q r a b c d =
+    d ∙ ap (λ (x : List ℕ). x ++ v2_end t.sig) (c ∙ ap (λ (x : List ℕ). x ++ caveat_sections t.caveats) (b ∙ ap (λ (x : List ℕ). x ++ v2_head t.location t.identifier) a))
+    ∙ sym (append_assoc (v2_head t.location t.identifier ++ caveat_sections t.caveats) end_mark (field Signature t.sig))

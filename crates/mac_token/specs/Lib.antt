@@ -25,3 +25,4 @@ pub mod V2Whole
 pub mod Spells
 pub mod Written
 pub mod Read
+pub mod Draft

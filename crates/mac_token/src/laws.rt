@@ -4,14 +4,17 @@ ghost use Rattle.std.specs.Prelude.{All, ◌≡◌, ◌≤◌, ◌↔◌, ◌++�
 ghost use Rattle.std.specs.Str.{IsUtf8};
 ghost use Rattle.base64.specs.Engines.{standard, standard_no_pad, url_safe, url_safe_no_pad};
 ghost use Rattle.base64.specs.GeneralPurpose.{IsBytes, engine_symbols};
+ghost use Rattle.mac_token.specs.declared.draft.DraftForm.{DraftForm};
 ghost use Rattle.mac_token.specs.declared.fault.TokenRefusal.{TokenRefusal};
 ghost use Rattle.mac_token.specs.declared.form.Form.{Form};
 ghost use Rattle.mac_token.specs.declared.limits.TheConstants.{LOCATION_MAX, IDENTIFIER_MAX, CAVEAT_MAX, CAVEATS_MAX, TOKEN_MAX};
 ghost use Rattle.mac_token.specs.Base64Reading.{base64_bytes};
 ghost use Rattle.mac_token.specs.Base64Text.{IsBase64Of, base64_of, plain_letters, url_safe_letters};
+ghost use Rattle.mac_token.specs.Draft.{DraftParts, IsDraftOf, form_of, signed};
 ghost use Rattle.mac_token.specs.Json.{JsonText, json_bytes};
 ghost use Rattle.mac_token.specs.JsonReading.{json_text_of};
 ghost use Rattle.mac_token.specs.Limits.{IsWithinLimits, is_within};
+ghost use Rattle.mac_token.specs.Push.{with_sig};
 ghost use Rattle.mac_token.specs.RawToken.{RawParts, TokenParts, IsToken, byte_lists, raw_of};
 ghost use Rattle.mac_token.specs.Read.{Carried, Read, ReadRaw, bare_of, carried_of, or_malformed, read_of, raw_read_of, token_of_read};
 ghost use Rattle.mac_token.specs.Spells.{Spells};
@@ -20,7 +23,7 @@ ghost use Rattle.mac_token.specs.V1Reading.{v1_of};
 ghost use Rattle.mac_token.specs.V2.{V2, v2_bytes};
 ghost use Rattle.mac_token.specs.V2Whole.{v2_of};
 ghost use Rattle.mac_token.specs.Varint.{varint, IsVarint, IsLeb128, number_of};
-ghost use Rattle.mac_token.specs.Written.{token_bytes};
+ghost use Rattle.mac_token.specs.Written.{token_bytes, write_of};
 
 use crate::form::Form as TokenForm;
 use crate::token::Token;
@@ -40,6 +43,12 @@ pub fn written_spells()
 pub fn written_is_read_again()
     ensures { (t : TokenParts) (form : Form) → IsToken t → IsWithinLimits t
         → length (token_bytes t form) ≤ TOKEN_MAX → read_of (token_bytes t form) ≡ Ok t }
+{}
+
+/// A draft of a token is, once it is signed, what is written for the token with that signature.
+pub fn signed_draft_is_written()
+    ensures { (form : DraftForm) (t : TokenParts) (d : DraftParts) (sig : List ℕ)
+        → IsDraftOf form t d → signed d sig ≡ write_of (with_sig t sig) (form_of form) }
 {}
 
 /// What is written for a `Token` is read again as it: its parts are what [`written_is_read_again`]

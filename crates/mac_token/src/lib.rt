@@ -2,6 +2,7 @@
 #![tactic(auto)]
 
 mod base64_text;
+pub mod draft;
 pub mod fault;
 pub mod form;
 pub mod laws;
@@ -21,6 +22,7 @@ mod version;
 pub mod view;
 pub mod writing;
 
+pub use draft::{Draft, DraftForm, Expected};
 pub use fault::{NoMemory, TokenFault, TokenRefusal};
 pub use form::Form;
 pub use limits::{CAVEAT_MAX, CAVEATS_MAX, IDENTIFIER_MAX, LOCATION_MAX, TOKEN_MAX};

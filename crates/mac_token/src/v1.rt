@@ -15,4 +15,6 @@ mod reading;
 mod writing;
 
 pub(crate) use reading::{after_caveats, next_section, view};
-pub(crate) use writing::{write, written_len};
+pub(crate) use writing::{
+    BESIDE_CAVEAT, BESIDE_PARTS, put_caveat, put_head, put_signature, write, written_len,
+};

@@ -16,7 +16,9 @@ mod reading;
 mod writing;
 
 pub(crate) use reading::{end, section, view};
-pub(crate) use writing::{write, written_len};
+pub(crate) use writing::{
+    BESIDE_CAVEAT, BESIDE_PARTS, put_caveat, put_head, put_signature, write, written_len,
+};
 
 /// The first byte, which tells V2 binary from the other forms.
 const VERSION: u8 = 2;

@@ -28,6 +28,26 @@ fn text_fits(len: usize) -> bool
     }
 }
 
+/// The base64 text of bytes.
+pub(crate) fn as_text(alloc: Global, bytes: &[u8]) -> Result<Vec<u8>, TokenFault>
+    ensures { Writes (base64_of bytes.now) result }
+{
+    if !text_fits(bytes.len()) {
+        return Err(TokenFault::Refused(TokenRefusal::Limit));
+    }
+    Ok(base64_text::encode(alloc, bytes)?.into_bytes())
+}
+
+/// The bytes themselves.
+pub(crate) fn as_bare(bytes: Vec<u8>) -> Result<Vec<u8>, TokenFault>
+    ensures { Writes bytes.items result }
+{
+    if bytes.len() > TOKEN_MAX {
+        return Err(TokenFault::Refused(TokenRefusal::Limit));
+    }
+    Ok(bytes)
+}
+
 fn as_v1_text(alloc: Global, token: &Token) -> Result<Vec<u8>, TokenFault>
     ensures written { Writes (base64_of (v1_bytes token.now)) result }
     ensures memory { result ≡ Err TokenFault.Memory
@@ -66,10 +86,7 @@ fn as_v2_json(alloc: Global, token: &Token) -> Result<Vec<u8>, TokenFault>
     ensures { Writes (json_bytes token.now) result }
 {
     let bytes = v2_json::write(alloc, token)?;
-    if bytes.len() > TOKEN_MAX {
-        return Err(TokenFault::Refused(TokenRefusal::Limit));
-    }
-    Ok(bytes)
+    as_bare(bytes)
 }
 
 #[tactic(auto, unfolding(crate::specs::Written::token_bytes))]

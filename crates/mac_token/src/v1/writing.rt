@@ -2,6 +2,7 @@
 
 ghost use Rattle.std.specs.Prelude.{◌≡◌, ◌++◌, ◌≤◌, ◌<◌, ◌^◌, ◌%◌, ◌+◌, ◌*◌, ℕ, length, IfOk, OnOk, Some, slice_index, map};
 ghost use Rattle.std.specs.List.{flat_map};
+ghost use Rattle.mac_token.specs.Draft.{v1_head, v1_end};
 ghost use Rattle.mac_token.specs.Limits.{AreShort};
 ghost use Rattle.mac_token.specs.RawToken.{byte_lists};
 ghost use Rattle.mac_token.specs.V1.{Field, packet, packet_length, hex_digit, hex_digits, v1_bytes, caveat_field};
@@ -11,6 +12,13 @@ use crate::fault::NoMemory;
 use crate::limits::{CAVEAT_MAX, CAVEATS_MAX};
 use crate::token::Token;
 use std::alloc::Global;
+
+/// How many bytes a caveat's packet has beside the caveat: four digits, `cid `, a line feed.
+pub(crate) const BESIDE_CAVEAT: usize = 9;
+
+/// How many bytes a token has beside its parts, the signature counted: the packets of the location
+/// (14), of the identifier (16) and of the signature (47).
+pub(crate) const BESIDE_PARTS: usize = 77;
 
 const DIGITS: [u8; 16] = *b"0123456789abcdef";
 
@@ -71,14 +79,40 @@ pub(crate) fn written_len(token: &Token) -> usize
         + packet_len(Key::Signature, &token.sig())
 }
 
+/// Appends a token's first two packets.
+pub(crate) fn put_head(
+    out: &mut Vec<u8>,
+    location: &[u8],
+    identifier: &[u8],
+) -> Result<(), NoMemory>
+    ensures { OnOk result (out.new.items ≡ out.old.items ++ v1_head location.now identifier.now) }
+{
+    put_packet(out, Key::Location, location)?;
+    put_packet(out, Key::Identifier, identifier)
+}
+
+/// Appends a caveat's packet.
+pub(crate) fn put_caveat(out: &mut Vec<u8>, caveat: &[u8]) -> Result<(), NoMemory>
+    ensures { OnOk result (out.new.items ≡ out.old.items ++ packet (caveat_field caveat.now)) }
+{
+    put_packet(out, Key::Cid, caveat)
+}
+
 fn put_caveats(out: &mut Vec<u8>, caveats: &[Vec<u8>]) -> Result<(), NoMemory>
     ensures { OnOk result (out.new.items
         ≡ out.old.items ++ flat_map packet (map caveat_field (byte_lists caveats.now))) }
 {
     for caveat in caveats {
-        put_packet(out, Key::Cid, caveat)?;
+        put_caveat(out, caveat)?;
     }
     Ok(())
+}
+
+/// Appends the signature's packet.
+pub(crate) fn put_signature(out: &mut Vec<u8>, sig: &[u8]) -> Result<(), NoMemory>
+    ensures { OnOk result (out.new.items ≡ out.old.items ++ v1_end sig.now) }
+{
+    put_packet(out, Key::Signature, sig)
 }
 
 /// The token's packets, in a buffer of exactly their length.
@@ -86,9 +120,8 @@ pub(crate) fn write(alloc: Global, token: &Token) -> Result<Vec<u8>, NoMemory>
     ensures { IfOk result (λ out. out.items ≡ v1_bytes token.now) }
 {
     let mut out = Vec::with_capacity(alloc, written_len(token))?;
-    put_packet(&mut out, Key::Location, token.location().as_bytes())?;
-    put_packet(&mut out, Key::Identifier, token.identifier())?;
+    put_head(&mut out, token.location().as_bytes(), token.identifier())?;
     put_caveats(&mut out, token.caveat_list())?;
-    put_packet(&mut out, Key::Signature, &token.sig())?;
+    put_signature(&mut out, &token.sig())?;
     Ok(out)
 }

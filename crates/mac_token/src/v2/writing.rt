@@ -2,6 +2,7 @@
 
 ghost use Rattle.std.specs.Prelude.{◌≡◌, ◌+◌, ◌*◌, ◌<◌, ◌≤◌, ◌^◌, ◌++◌, None, length, map, IfOk, OnOk};
 ghost use Rattle.std.specs.List.{flat_map};
+ghost use Rattle.mac_token.specs.Draft.{v2_head, v2_end};
 ghost use Rattle.mac_token.specs.Limits.{AreShort};
 ghost use Rattle.mac_token.specs.RawToken.{byte_lists};
 ghost use Rattle.mac_token.specs.V2.{field, optional, section, written_location, written_section, v2_bytes};
@@ -13,6 +14,14 @@ use crate::token::Token;
 use crate::v2::{END, FieldType, VERSION};
 use crate::varint::{push_varint, varint_len};
 use std::alloc::Global;
+
+/// How many bytes a caveat's section has beside the caveat, at most: the type, a length below 2^14,
+/// the end mark.
+pub(crate) const BESIDE_CAVEAT: usize = 4;
+
+/// How many bytes a token has beside its parts, at most, the signature counted: the version, types
+/// and lengths of its location and identifier (6), two end marks, the signature's field (34).
+pub(crate) const BESIDE_PARTS: usize = 43;
 
 /// How many bytes a field of these bytes has.
 fn field_len(kind: FieldType, bytes: &[u8]) -> usize
@@ -94,15 +103,43 @@ fn put_section(out: &mut Vec<u8>, location: &[u8], identifier: &[u8]) -> Result<
     Ok(())
 }
 
+/// Appends the version and a token's own section.
+pub(crate) fn put_head(
+    out: &mut Vec<u8>,
+    location: &[u8],
+    identifier: &[u8],
+) -> Result<(), NoMemory>
+    ensures { OnOk result (out.new.items ≡ out.old.items ++ v2_head location.now identifier.now) }
+{
+    out.push(VERSION)?;
+    put_section(out, location, identifier)
+}
+
+/// Appends a caveat's section.
+pub(crate) fn put_caveat(out: &mut Vec<u8>, caveat: &[u8]) -> Result<(), NoMemory>
+    ensures { OnOk result (out.new.items
+        ≡ out.old.items ++ section (written_section None caveat.now)) }
+{
+    put_section(out, &[], caveat)
+}
+
 /// Appends the caveats' sections.
 fn put_caveats(out: &mut Vec<u8>, caveats: &[Vec<u8>]) -> Result<(), NoMemory>
     ensures { OnOk result (out.new.items
         ≡ out.old.items ++ flat_map section (map (written_section None) (byte_lists caveats.now))) }
 {
     for caveat in caveats {
-        put_section(out, &[], caveat)?;
+        put_caveat(out, caveat)?;
     }
     Ok(())
+}
+
+/// Appends the end of the caveats and the signature's field.
+pub(crate) fn put_signature(out: &mut Vec<u8>, sig: &[u8]) -> Result<(), NoMemory>
+    ensures { OnOk result (out.new.items ≡ out.old.items ++ v2_end sig.now) }
+{
+    out.push(END)?;
+    put_field(out, FieldType::Signature, sig)
 }
 
 /// The token in V2 binary, in a buffer of exactly its length.
@@ -110,10 +147,8 @@ pub(crate) fn write(alloc: Global, token: &Token) -> Result<Vec<u8>, NoMemory>
     ensures { IfOk result (λ out. out.items ≡ v2_bytes token.now) }
 {
     let mut out = Vec::with_capacity(alloc, written_len(token))?;
-    out.push(VERSION)?;
-    put_section(&mut out, token.location().as_bytes(), token.identifier())?;
+    put_head(&mut out, token.location().as_bytes(), token.identifier())?;
     put_caveats(&mut out, token.caveat_list())?;
-    out.push(END)?;
-    put_field(&mut out, FieldType::Signature, &token.sig())?;
+    put_signature(&mut out, &token.sig())?;
     Ok(out)
 }

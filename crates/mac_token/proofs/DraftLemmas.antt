@@ -1,0 +1,79 @@
+-- A draft with its signature is what is written for its token.
+use Rattle.std.proofs.Common.{◌≡◌, ℕ, List, [], ◌∷◌, ◌++◌, append_assoc, length, map, None, Result, Ok, Err, sym, ap, subst, ◌∙◌}
+use Rattle.std.specs.Prelude.{nat_lt, if◌then◌else◌}
+use Rattle.std.specs.List.{flat_map}
+use Rattle.std.specs.declared.alloc.Global.{Global}
+use Rattle.std.specs.declared.vec.Vec.{Vec}
+use Rattle.std.proofs.lemmas.List.{append-nil}
+use Rattle.std.proofs.lemmas.List.Concat.{flat_map-append}
+use Rattle.std.proofs.lemmas.List.Folds.{flat_map-map}
+use Rattle.mac_token.specs.declared.draft.DraftForm.{DraftForm}
+use Rattle.mac_token.specs.declared.draft.DraftForm.TheVariants.{V1Text, V2Binary, V2Text}
+use Rattle.mac_token.specs.declared.fault.TokenFault.{TokenFault}
+use Rattle.mac_token.specs.declared.fault.TokenRefusal.{TokenRefusal}
+use Rattle.mac_token.specs.declared.fault.TokenRefusal.TheVariants.{Limit}
+use Rattle.mac_token.specs.declared.limits.TheConstants.{TOKEN_MAX}
+use Rattle.mac_token.specs.declared.v1.key.Key.TheVariants as key
+use Rattle.mac_token.specs.declared.v2.FieldType.TheVariants as kind
+use Rattle.mac_token.specs.Answers.{Answers}
+use Rattle.mac_token.specs.Base64Text.{base64_of}
+use Rattle.mac_token.specs.Draft.{DraftParts, IsDraftOf, form_of, v1_head, v2_head, v1_end, v2_end, front_bytes, end_bytes, in_form, signed}
+use Rattle.mac_token.specs.Push.{with_sig}
+use Rattle.mac_token.specs.RawToken.{TokenParts}
+use Rattle.mac_token.specs.V1.{Field, packet, caveat_field, v1_bytes}
+use Rattle.mac_token.specs.V2.{end_mark, field, section, written_section, v2_bytes}
+use Rattle.mac_token.specs.Writes.{Writes}
+use Rattle.mac_token.specs.Written.{token_bytes, write_of}
+use Rattle.mac_token.proofs.WritesLemmas.{bounded_answers}
+
+-- packets, the signature's behind the others
+v1_whole : (t : TokenParts) → (v1_head t.location t.identifier ++ flat_map (λ caveat. packet (caveat_field caveat)) t.caveats) ++ v1_end t.sig ≡ v1_bytes t
+v1_whole t =
+    let location = packet (record { key = key.Location; value = t.location }) in
+    let identifier = packet (record { key = key.Identifier; value = t.identifier }) in
+    let signature : Field = record { key = key.Signature; value = t.sig } in
+    let caveats = flat_map packet (map caveat_field t.caveats) in
+    let mapped = flat_map-map packet caveat_field t.caveats in
+    let behind : flat_map packet (map caveat_field t.caveats ++ signature ∷ []) ≡ caveats ++ packet signature =
+    flat_map-append packet (map caveat_field t.caveats) (signature ∷ []) ∙ ap (λ (last : List ℕ). caveats ++ last) (append-nil (packet signature)) in
+    ap (λ (parts : List ℕ). ((location ++ identifier) ++ parts) ++ packet signature) (sym mapped)
+    ∙ append_assoc (location ++ identifier) caveats (packet signature)
+    ∙ append_assoc location identifier (caveats ++ packet signature)
+    ∙ ap (λ (rest : List ℕ). location ++ (identifier ++ rest)) (sym behind)
+
+-- sections, the end mark and the signature's field behind them
+v2_whole : (t : TokenParts) → (v2_head t.location t.identifier ++ flat_map (λ caveat. section (written_section None caveat)) t.caveats) ++ v2_end t.sig ≡ v2_bytes t
+v2_whole t =
+    let head = v2_head t.location t.identifier in
+    let last = field kind.Signature t.sig in
+    let mapped = flat_map-map section (written_section None) t.caveats in
+    ap (λ (parts : List ℕ). (head ++ parts) ++ (end_mark ++ last)) (sym mapped)
+    ∙ sym (append_assoc (head ++ flat_map section (map (written_section None) t.caveats)) end_mark last)
+
+whole : (form : DraftForm) (t : TokenParts) → in_form form (front_bytes form t ++ end_bytes form t.sig) ≡ token_bytes t (form_of form)
+unfolding token_bytes
+whole V1Text t = ap base64_of (v1_whole t)
+whole V2Binary t = v2_whole t
+whole V2Text t = ap base64_of (v2_whole t)
+
+-- what is written with the signature is the token with it
+pub signed-is_written : (form : DraftForm) (t : TokenParts) (d : DraftParts) (sig : List ℕ) → IsDraftOf form t d → signed d sig ≡ write_of (with_sig t sig) (form_of form)
+unfolding signed write_of
+signed-is_written form t d sig is =
+    let bytes : in_form d.form (d.front ++ end_bytes d.form sig) ≡ token_bytes (with_sig t sig) (form_of form) =
+    (λ i. in_form (is.form_is i) (is.written i ++ end_bytes (is.form_is i) sig)) ∙ whole form (with_sig t sig) in
+    ap (λ (text : List ℕ). if nat_lt TOKEN_MAX (length text) then Err Limit else Ok text) bytes
+
+-- what is told of the bytes with the signature
+pub told-signed : (d : DraftParts) (sig bytes : List ℕ) (result : Result (Vec ℕ Global) TokenFault) → bytes ≡ d.front ++ end_bytes d.form sig
+    → Writes (in_form d.form bytes) result → Answers (λ text. text.items) result (signed d sig)
+unfolding signed
+told-signed d sig bytes result is writes =
+    bounded_answers (in_form d.form (d.front ++ end_bytes d.form sig)) result
+    (subst (λ (whole : List ℕ). Writes (in_form d.form whole) result) is writes)
+
+-- and so the answer is that of writing
+pub answers-written : (form : DraftForm) (t : TokenParts) (d : DraftParts) (sig : List ℕ) (result : Result (Vec ℕ Global) TokenFault) → IsDraftOf form t d
+    → Answers (λ text. text.items) result (signed d sig) → Answers (λ text. text.items) result (write_of (with_sig t sig) (form_of form))
+answers-written form t d sig result is exact =
+    subst (λ (answer : Result (List ℕ) TokenRefusal). Answers (λ text. text.items) result answer) (signed-is_written form t d sig is) exact
