@@ -15,3 +15,4 @@ pub mod VerifiedLemmas
 pub mod FoldingLemmas
 pub mod SigningLemmas
 pub mod PreparedLemmas
+pub mod DraftingLemmas

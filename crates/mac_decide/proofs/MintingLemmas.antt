@@ -41,7 +41,7 @@ limit-by_test key location identifier caveats true test e = absurd (cc)
 limit-by_test key location identifier caveats false test e = rw (is_within-bare key location identifier caveats test)
 
 -- only a limit refuses
-only_limit : (t : TokenParts) (b : Bool) (refusal : TokenRefusal) → (if b then Ok t else Err Limit) ≡ Err refusal → refusal ≡ Limit
+pub only_limit : (t : TokenParts) (b : Bool) (refusal : TokenRefusal) → (if b then Ok t else Err Limit) ≡ Err refusal → refusal ≡ Limit
 only_limit t true refusal e = absurd (cc)
 only_limit t false refusal e = cc
 

@@ -1,12 +1,18 @@
 -- What is known of the replies to a run of jobs while their texts are hashed side by side (this
 -- project's own).
-use Rattle.std.specs.Prelude.{◌≡◌, ℕ, ◌<◌, List, [], ◌∷◌, slice_get, slice_index, slice_index_or, replicate, Option, Some, option_to_list, Bool, ◌||◌, if◌then◌else◌}
+use Rattle.std.specs.Prelude.{◌≡◌, ℕ, ◌<◌, List, [], ◌∷◌, slice_get, slice_index, slice_index_or, replicate, Option, Some, option_to_list, Result, Ok, Err, Bool, ◌||◌, if◌then◌else◌}
 use Rattle.std.specs.Str.{bytes_eq}
 use Rattle.mac_hmac.specs.Chain.{extended}
+use Rattle.mac_token.specs.Answers.{IsFault}
+use Rattle.mac_token.specs.Draft.{DraftParts, IsDraftOf, signed}
+use Rattle.mac_token.specs.Limits.{token_or_limit}
 use Rattle.mac_token.specs.Push.{with_sig}
 use Rattle.mac_token.specs.RawToken.{TokenParts}
+use Rattle.mac_token.specs.declared.draft.DraftForm.{DraftForm}
+use Rattle.mac_token.specs.declared.fault.TokenFault.{TokenFault}
 use Rattle.mac_wire.specs.declared.reply.Reply.{Reply}
-use Rattle.mac_decide.specs.Answer.{reply_of, verdict_reply, written_reply}
+use Rattle.mac_wire.specs.declared.reply.Reply.TheVariants.{Token as TokenReply}
+use Rattle.mac_decide.specs.Answer.{reply_of, told, verdict_reply, written_reply}
 use Rattle.mac_decide.specs.Folding.{end_of}
 use Rattle.mac_decide.specs.Reading.{caveats_verdict, is_minted}
 use Rattle.mac_decide.specs.declared.context.Context.{Context}
@@ -31,9 +37,19 @@ abbrev pub verdict_by : List ℕ → Option (List ℕ) → TokenParts → Contex
 verdict_by signature second t x =
     if is_given signature second t then caveats_verdict x 0 t.caveats else BadSignature
 
+-- a draft of this token, or Limit where a part passes its limit; want of memory aside
+abbrev pub Drafted : DraftForm → TokenParts → Result DraftParts TokenFault → Type 0
+Drafted form t (Ok draft) = IsDraftOf form t draft
+Drafted form t (Err fault) = IsFault fault (token_or_limit t)
+
+-- the reply with the token of a draft, signed, or Limit where it is too long so
+abbrev pub signed_reply : DraftParts → List ℕ → Reply
+signed_reply draft signature = told (signed draft signature) TokenReply
+
 -- the reply, once the signature is there
 abbrev pub reply_by : Purpose → List ℕ → Reply
 reply_by (purpose.Verdict second t x) signature = verdict_reply (verdict_by signature second t x)
+reply_by (purpose.Draft draft) signature = signed_reply draft signature
 reply_by (purpose.Token form t) signature = written_reply form (with_sig t signature)
 
 -- the reply that comes of what was prepared

@@ -6,6 +6,7 @@
 #![tactic(auto)]
 
 mod context;
+mod drafting;
 mod folding;
 mod job;
 pub mod laws;

@@ -6,10 +6,10 @@ ghost use Rattle.mac_decide.specs.Prepared.{comes_to, left_of, reply_by, signatu
 
 use crate::context::Context;
 use crate::folding::Folding;
-use crate::reply::{verdict_reply, written_reply};
+use crate::reply::{signed_reply, verdict_reply, written_reply};
 use crate::verdict_view::verdict_by;
 use mac_hmac::{RootKey, Sig};
-use mac_token::{Token, TokenView};
+use mac_token::{Draft, Token, TokenView};
 use mac_wire::{NoMemory, Reply, TokenForm};
 use std::alloc::Global;
 
@@ -22,7 +22,9 @@ pub enum Purpose<'a> {
         token: TokenView<'a>,
         context: Context<'a>,
     },
-    /// The token that is to have the signature, in the form that is asked for.
+    /// The token that is to have the signature, as it is written up to it.
+    Draft(Draft),
+    /// The token that is to have it, in the form that is asked for.
     Token {
         form: TokenForm,
         token: Token,
@@ -40,6 +42,7 @@ impl<'a> Purpose<'a> {
                 token,
                 context,
             } => Ok(verdict_reply(verdict_by(signature, second, &token, &context))),
+            Purpose::Draft(draft) => signed_reply(alloc, draft, signature),
             Purpose::Token { form, token } => {
                 let token = token.signed(signature.bytes());
                 written_reply(alloc, form, &token)

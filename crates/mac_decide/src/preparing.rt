@@ -17,14 +17,15 @@ ghost use Rattle.mac_decide.specs.Prepared.{comes_to};
 ghost use Rattle.mac_decide.specs.Reading.{verdict_of};
 
 use crate::context::Context;
+use crate::drafting::{draft_narrowed, draft_of_parts, draft_to_sign};
 use crate::folding::{Folding, Texts};
 use crate::minting::token_of_parts;
 use crate::prepared::{Prepared, Purpose};
-use crate::reply::{refusal_of, refused, verdict_reply};
+use crate::reply::{form_of, refusal_of, refused, verdict_reply};
 use crate::verdict::verify;
 use mac_hmac::{RootKey, Sig};
 use mac_keys::Keys;
-use mac_token::{Token, TokenFault, TokenView, bare, read_bare};
+use mac_token::{DraftForm, Token, TokenFault, TokenView, bare, read_bare};
 use mac_wire::{FieldList, NoMemory, Refusal, Request, TokenForm, parse_request};
 use std::alloc::{AllocError, Global};
 
@@ -109,6 +110,27 @@ fn prepare_mint<'a>(
     ensures { IfOk result (λ p. comes_to p ≡ answers.token_reply form
         (minted key location.now identifier.now caveats.entry)) }
 {
+    match DraftForm::of(form_of(form)) {
+        Some(draft_form) => {
+            let made = draft_of_parts(alloc, draft_form, location, identifier, &caveats);
+            draft_to_sign(made, Folding::of_mint(key, identifier, caveats))
+        }
+        None => mint_json(alloc, form, key, location, identifier, caveats),
+    }
+}
+
+/// A mint of a token in JSON, which is written from a `Token`.
+fn mint_json<'a>(
+    alloc: Global,
+    form: TokenForm,
+    key: RootKey,
+    location: &str,
+    identifier: &'a [u8],
+    caveats: FieldList<'a>,
+) -> Result<Prepared<'a>, NoMemory>
+    ensures { IfOk result (λ p. comes_to p ≡ answers.token_reply form
+        (minted key location.now identifier.now caveats.entry)) }
+{
     let mut lists = Vec::with_capacity(alloc, caveats.len())?;
     copy(&mut lists, alloc, Texts::Fields(caveats.walk()))?;
     let made = token_of_parts(alloc, location, identifier, lists, [0; 32]);
@@ -148,12 +170,34 @@ fn prepare_narrowed<'a>(
         return narrowed_json(alloc, form, bytes, caveats);
     }
     match TokenView::of(bytes) {
-        Ok(token) => narrowed_view(alloc, form, &token, caveats),
+        Ok(token) => narrowed_view(alloc, form, &token, bytes.len(), caveats),
         Err(reason) => Ok(told(refusal_of(reason))),
     }
 }
 
+/// The same of a token that lies in so many bytes.
 fn narrowed_view<'a>(
+    alloc: Global,
+    form: TokenForm,
+    token: &TokenView<'_>,
+    len: usize,
+    caveats: FieldList<'a>,
+) -> Result<Prepared<'a>, NoMemory>
+    ensures { IfOk result (λ p. comes_to p
+        ≡ answers.token_reply form (add token.now caveats.entry)) }
+{
+    match DraftForm::of(form_of(form)) {
+        Some(draft_form) => {
+            let made = draft_narrowed(alloc, draft_form, token, len, &caveats);
+            let own = Sig::from_bytes(token.sig());
+            draft_to_sign(made, Folding::of_caveats(own, caveats))
+        }
+        None => view_to_json(alloc, form, token, caveats),
+    }
+}
+
+/// The same, where the reply is JSON, which is written from a `Token`.
+fn view_to_json<'a>(
     alloc: Global,
     form: TokenForm,
     token: &TokenView<'_>,

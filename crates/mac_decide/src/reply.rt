@@ -1,15 +1,19 @@
 //! The answer to a job.
 
-ghost use Rattle.std.specs.Prelude.{◌≡◌, ◌↔◌, IfOk, OnErr, List, ℕ};
+ghost use Rattle.std.specs.Prelude.{◌≡◌, ◌↔◌, IfOk, OnErr, List, Result, ℕ};
+ghost use Rattle.mac_token.specs.Answers.{Answers as IsWritten};
+ghost use Rattle.mac_token.specs.declared.fault.TokenRefusal.{TokenRefusal};
 ghost use Rattle.mac_wire.specs.Reply.{IsReply};
 ghost use Rattle.mac_wire.specs.Request.{Asks, verify};
 ghost use Rattle.mac_decide.specs.Answer as answers;
+ghost use Rattle.mac_decide.specs.Prepared.{signed_reply};
 
 use crate::job::Job;
 use crate::preparing::prepare;
 use crate::verdict::Verdict;
+use mac_hmac::Sig;
 use mac_keys::Keys;
-use mac_token::{Form, Token, TokenFault, TokenRefusal, write};
+use mac_token::{Draft, Form, Token, TokenFault, TokenRefusal, write};
 use mac_wire::{Arrival, Bytes, NoMemory, Refusal, Reply, TokenForm};
 use std::alloc::{AllocError, Global};
 
@@ -66,14 +70,29 @@ pub(crate) fn written_reply(
 ) -> Result<Reply, NoMemory>
     ensures { IfOk result (λ r. r ≡ answers.written_reply form token.now) }
 {
-    match write(alloc, token, form_of(form)) {
+    reply_with(write(alloc, token, form_of(form)))
+}
+
+/// The reply with the token of a draft, once the signature is there.
+pub(crate) fn signed_reply(alloc: Global, draft: Draft, signature: Sig) -> Result<Reply, NoMemory>
+    ensures { IfOk result (λ r. r ≡ signed_reply draft signature) }
+{
+    reply_with(draft.sign(alloc, signature.bytes()))
+}
+
+/// The reply with what is written of a token, or why nothing is.
+fn reply_with(written: Result<Vec<u8>, TokenFault>) -> Result<Reply, NoMemory>
+    ensures { (end : Result (List ℕ) TokenRefusal) → IsWritten (λ text. text.items) written end
+        → IfOk result (λ r. r ≡ answers.told end Reply.Token) }
+{
+    match written {
         Ok(bytes) => Ok(Reply::Token(Bytes::new(bytes))),
         Err(TokenFault::Refused(reason)) => Ok(refused(refusal_of(reason))),
         Err(TokenFault::Memory) => Err(AllocError),
     }
 }
 
-fn form_of(form: TokenForm) -> Form
+pub(crate) fn form_of(form: TokenForm) -> Form
     ensures { result ≡ answers.form_of form }
 {
     match form {
