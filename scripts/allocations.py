@@ -1,5 +1,5 @@
 #!/usr/bin/env python3
-"""Counts how often `macaroond pipe` asks for memory at each verify: once for the payload that its line spells, and then to answer it.
+"""Counts how often `macaroond pipe` asks for memory at each request: once for the payload that its line spells, and then to answer it.
 Asks for the program that `make build` leaves in bin/, and for a C compiler."""
 import base64
 import os
@@ -19,8 +19,14 @@ FACTS = ["account = 3735928559", "method = GET"]
 MOMENT = 1_780_272_000
 # Two runs of so many requests: what differs between them is theirs alone.
 FEW, MANY = 1_000, 3_000
-# How often a verify may ask for memory, by the form of its token.
-MOST = {"v1-packets": 1, "v2-binary": 1, "v1-text": 2, "v2-text": 2}
+# How often a request may ask for memory: a verify by the form of its token, a mint by the form of its reply, an
+# attenuate by both. Base64 text is decoded into bytes of its own; a reply in it is made of bytes, and one in V2 binary is
+# printed in digits.
+VERIFY = {"v1-packets": 1, "v2-binary": 1, "v1-text": 2, "v2-text": 2}
+MINT = {"v2-binary": 3, "v1-text": 3, "v2-text": 3}
+MOST = {f"verify {form}": most for form, most in VERIFY.items()}
+MOST |= {f"mint {form}": most for form, most in MINT.items()}
+MOST |= {f"attenuate {old} {new}": VERIFY[old] + MINT[new] - 1 for old in VERIFY for new in MINT}
 
 
 def counter(folder):
@@ -66,21 +72,34 @@ def token(form):
     return "hex:" + base64.urlsafe_b64decode(text + "=" * (-len(text) % 4)).hex()
 
 
+def payloads():
+    """A request of each kind, by the forms that it has to do with."""
+    for form in (*VERIFY, "v2-json"):
+        yield f"verify {form}", request.verify("bank", token(form), MOMENT, *FACTS)
+    for form in (*MINT, "v2-json"):
+        yield f"mint {form}", request.mint(form, "bank", "https://bank.example/", "user:1001", *CAVEATS)
+    for old in (*VERIFY, "v2-json"):
+        for new in (*MINT, "v2-json"):
+            yield f"attenuate {old} {new}", request.attenuate(new, token(old), "amount < 100")
+
+
 def counts(library):
-    """How often memory is asked for at each verify of a token of each form."""
-    for form in (*MOST, "v2-json"):
-        verify = request.verify("bank", token(form), MOMENT, *FACTS)
-        yield form, each(verify, "granted", library)
+    """How often memory is asked for at each of these requests."""
+    for kind, payload in payloads():
+        answer = piped(payload.hex(), 1)[0].rstrip("\n")
+        if not answer.startswith("granted" if kind.startswith("verify") else "token "):
+            sys.exit(f"the pipe doesn't answer a {kind} as it should: {answer[:100]}")
+        yield kind, each(payload, answer, library)
 
 
 def faults():
-    """What a verify takes that it may not."""
+    """What a request takes that it may not."""
     with tempfile.TemporaryDirectory() as folder:
         library = counter(folder)
         if library is None:
             return []
-        return [f"a verify of {form} asks for memory {count} times and not {MOST[form]}"
-                for form, count in counts(library) if form in MOST and count > MOST[form]]
+        return [f"{kind} asks for memory {count} times and not {MOST[kind]}"
+                for kind, count in counts(library) if kind in MOST and count > MOST[kind]]
 
 
 def main():
@@ -88,8 +107,8 @@ def main():
         library = counter(folder)
         if library is None:
             sys.exit("there is no C compiler `cc`")
-        for form, count in counts(library):
-            print(f"{form}: {count}")
+        for kind, count in counts(library):
+            print(f"{kind}: {count}")
     found = faults()
     if found:
         sys.exit("\n".join(found))
