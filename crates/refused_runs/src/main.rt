@@ -7,7 +7,6 @@ mod answers;
 mod calls;
 mod outcome;
 mod pools;
-mod posts;
 mod samples;
 mod tokens;
 mod wire;

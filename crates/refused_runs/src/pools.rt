@@ -4,7 +4,6 @@ ghost use Rattle.std.specs.Prelude.{◌≡◌};
 
 use crate::answers::{is_sent, opened};
 use crate::outcome::{Outcome, Refused, made_if, once_more, stood_if};
-use crate::posts::next_post;
 use crate::samples::mint_job;
 use mac_decide::Macaroons;
 use mac_pool::{Desk, DeskFault, Gate, Line, NoGate, Pool, PoolFault, Post, Putter};
@@ -121,8 +120,8 @@ fn exchange<R: Wait>(rt: &R, alloc: Global, desk: &mut Desk<Macaroons>) -> Resul
 {
     put(rt, alloc, &mut desk.putter, 0)?;
     put(rt, alloc, &mut desk.putter, 1)?;
-    let first = is_answered(alloc, 0, next_post(rt, &mut desk.taker))?;
-    let second = is_answered(alloc, 1, next_post(rt, &mut desk.taker))?;
+    let first = is_answered(alloc, 0, desk.taker.wait(rt))?;
+    let second = is_answered(alloc, 1, desk.taker.wait(rt))?;
     Ok(match (first, second) {
         (Some(true), Some(true)) => Outcome::Made,
         (Some(true), None) | (None, Some(true)) => Outcome::Stood,
@@ -145,13 +144,17 @@ fn put<R: Wait>(
 }
 
 /// Whether the post has the answer of this place; `None` where it tells want of memory there.
-fn is_answered(alloc: Global, place: u64, post: Post<Macaroons>) -> Result<Option<bool>, Refused> {
+fn is_answered(
+    alloc: Global,
+    place: u64,
+    post: Option<Post<Macaroons>>,
+) -> Result<Option<bool>, Refused> {
     match post {
-        Post::Answered(at, answer) => {
+        Some(Post::Answered(at, answer)) => {
             let mut buffer = opened(alloc)?;
             Ok(Some(at == place && is_sent(&mut buffer, answer)))
         }
-        Post::Failed(at) if at == place => Ok(None),
-        Post::Failed(_) => Ok(Some(false)),
+        Some(Post::Failed(at)) if at == place => Ok(None),
+        _ => Ok(Some(false)),
     }
 }
