@@ -1,5 +1,5 @@
 //! Eight HMACs side by side.
-ghost use Rattle.std.specs.Prelude.{◌≡◌, ◌<◌, ◌∷◌, ℕ, [], IsTrue, slice_index_or};
+ghost use Rattle.std.specs.Prelude.{◌≡◌, ◌<◌, ◌≤◌, ◌∷◌, ℕ, [], IfSome, slice_index, slice_index_or};
 ghost use Rattle.sha256x8.specs.Lanes.{text_at};
 ghost use Rattle.mac_hmac.specs.Chain.{chain, extended};
 ghost use Rattle.mac_hmac.specs.Hmac.{block_key, hmac, xor_pad};
@@ -7,7 +7,7 @@ ghost use Rattle.mac_hmac.specs.Hmac.{block_key, hmac, xor_pad};
 use crate::hmac_state::{INNER_PAD, OUTER_PAD, padded};
 use crate::key::RootKey;
 use crate::signature::Sig;
-use sha256x8::{Begun, nested_digest_each};
+use sha256x8::{nested_digest_each, paired_digest_each};
 
 // The block of a key: zero bytes appended, and each byte XORed with the pad's.
 #[inline(always)]
@@ -35,42 +35,95 @@ fn padded_each(keys: &[[u8; 32]; 8], pad: u8) -> [[u8; 64]; 8]
     ]
 }
 
-// Whether the keys are all the same.
-#[inline(always)]
-fn are_same(keys: &[[u8; 32]; 8]) -> bool
-    ensures { IsTrue result → (j : ℕ) → j < 8
-        → slice_index_or keys.now j [] ≡ slice_index_or keys.now 0 [] }
-{
-    for key in keys {
-        if *key != keys[0] {
-            return false;
-        }
-    }
-    true
+// How many keys are told apart.
+const FEW: usize = 4;
+
+// A few keys, and which of them each of eight is.
+#[derive(Drop)]
+struct ToldApart {
+    few: [[u8; 32]; FEW],
+    which: [usize; 8],
 }
 
-// The HMAC of each text under one key, whose blocks are hashed once.
-fn hmac_each_under(key: &[u8; 32], texts: &[&[u8]; 8]) -> [[u8; 32]; 8]
-    ensures { (j : ℕ) → j < 8 → slice_index_or result j [] ≡ hmac key.now (text_at texts.now j) }
+// Where the key stands among the first so many, or their number.
+fn place_among(few: &[[u8; 32]; FEW], count: usize, key: &[u8; 32]) -> usize
+    requires { count ≤ FEW }
+    ensures most { result ≤ count }
+    ensures found { result < count → slice_index_or few.now result [] ≡ key.now }
 {
-    let begun = Begun::new(&padded_key(key, OUTER_PAD), &padded_key(key, INNER_PAD));
-    begun.digest_each(texts)
+    for place in 0..count {
+        if few[place] == *key {
+            return place;
+        }
+    }
+    count
+}
+
+// The keys, told apart where they are few.
+fn told_apart(keys: &[[u8; 32]; 8]) -> Option<ToldApart>
+    ensures { IfSome result (λ told. (j : ℕ) → j < 8 → slice_index told.which j < FEW
+        × (slice_index_or told.few (slice_index told.which j) [] ≡ slice_index_or keys.now j [])) }
+{
+    let mut few = [[0; 32]; FEW];
+    let mut which = [0; 8];
+    let mut count = 0;
+    for j in 0..8 {
+        let place = place_among(&few, count, &keys[j]);
+        if place == FEW {
+            return None;
+        }
+        if place == count {
+            few[place] = keys[j];
+            count += 1;
+        }
+        which[j] = place;
+    }
+    Some(ToldApart { few, which })
+}
+
+// The block of each of a few keys.
+#[inline(always)]
+fn padded_few(keys: &[[u8; 32]; FEW], pad: u8) -> [[u8; 64]; FEW]
+    ensures { (k : ℕ) → k < 4 → slice_index_or result k []
+        ≡ xor_pad (block_key (slice_index_or keys.now k [])) pad }
+{
+    [
+        padded_key(&keys[0], pad),
+        padded_key(&keys[1], pad),
+        padded_key(&keys[2], pad),
+        padded_key(&keys[3], pad),
+    ]
+}
+
+// The HMAC of each text under its key of a few, whose blocks are hashed together.
+fn hmac_each_of_few(told: &ToldApart, texts: &[&[u8]; 8]) -> [[u8; 32]; 8]
+    requires { (j : ℕ) → j < 8 → slice_index told.now.which j < FEW }
+    ensures { (j : ℕ) → j < 8 → slice_index_or result j []
+        ≡ hmac (slice_index_or told.now.few (slice_index told.now.which j) [])
+        (text_at texts.now j) }
+{
+    paired_digest_each(
+        &padded_few(&told.few, OUTER_PAD),
+        &padded_few(&told.few, INNER_PAD),
+        &told.which,
+        texts,
+    )
 }
 
 /// The HMAC of each text under the key of its place (RFC 2104, section 2), for eight of both. It
-/// costs a quarter less where the keys are all the same and the texts short.
+/// costs a quarter less where at most four keys differ and the texts are short.
 pub fn hmac_each(keys: &[[u8; 32]; 8], texts: &[&[u8]; 8]) -> [[u8; 32]; 8]
     ensures { (j : ℕ) → j < 8 → slice_index_or result j []
         ≡ hmac (slice_index_or keys.now j []) (text_at texts.now j) }
 {
-    if are_same(keys) {
-        return hmac_each_under(&keys[0], texts);
+    match told_apart(keys) {
+        Some(told) => hmac_each_of_few(&told, texts),
+        None => nested_digest_each(
+            &padded_each(keys, OUTER_PAD),
+            &padded_each(keys, INNER_PAD),
+            texts,
+        ),
     }
-    nested_digest_each(
-        &padded_each(keys, OUTER_PAD),
-        &padded_each(keys, INNER_PAD),
-        texts,
-    )
 }
 
 // These digests as signatures.

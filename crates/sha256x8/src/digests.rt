@@ -1,13 +1,12 @@
 //! The digests of eight messages that begin with a block each.
-ghost use Rattle.std.specs.Prelude.{◌≡◌, ℕ, ◌<◌, List, ◌++◌, [], length, slice_index_or};
+ghost use Rattle.std.specs.Prelude.{◌≡◌, ℕ, ◌+◌, ◌<◌, List, ◌++◌, [], length, slice_index, slice_index_or};
 ghost use Rattle.sha2.specs.Sha256.{compress, final_hash, initial_hash_256, sha256};
-ghost use Rattle.sha256x8.specs.Begun.{HasBegun};
 ghost use Rattle.sha256x8.specs.Lanes.{lane_state, text_at};
 ghost use Rattle.sha256x8.specs.Padded.{after_block};
 
-use crate::block::{compress, hash_in, words_of};
+use crate::block::{compress, words_of};
 use crate::padding::{greatest_count, have_block, padded_blocks};
-use crate::state::{chosen, digest_words, digests_of, initial_state, same_in_each};
+use crate::state::{chosen, digest_words, digests_of, initial_state, picked};
 
 // Takes block `index` after the first one into the hash values of the messages that have so many.
 #[inline(always)]
@@ -101,36 +100,51 @@ pub fn nested_digest_each(
     close_each(begin_each(outer_blocks), &inner)
 }
 
-/// What nested messages under the same two blocks share: the hash values after the outer block and
-/// after the inner one.
-#[derive(Clone, Copy)]
-pub struct Begun {
-    outer: [u32; 8],
-    inner: [u32; 8],
+/// The digests of eight messages, each an outer block and the digest of an inner block and a text
+/// after it, of any length, where each message has one of four pairs of such blocks: message `j`
+/// that at place `pairs[j]`. It costs a block less than `nested_digest_each`.
+pub fn paired_digest_each(
+    outer_blocks: &[[u8; 64]; 4],
+    inner_blocks: &[[u8; 64]; 4],
+    pairs: &[usize; 8],
+    texts: &[&[u8]; 8],
+) -> [[u8; 32]; 8]
+    requires { (j : ℕ) → j < 8 → slice_index pairs.now j < 4 }
+    ensures { (j : ℕ) → j < 8 → slice_index_or result j []
+        ≡ sha256 (slice_index_or outer_blocks.now (slice_index pairs.now j) []
+        ++ sha256 (slice_index_or inner_blocks.now (slice_index pairs.now j) []
+        ++ text_at texts.now j)) }
+{
+    let blocks = [
+        outer_blocks[0],
+        outer_blocks[1],
+        outer_blocks[2],
+        outer_blocks[3],
+        inner_blocks[0],
+        inner_blocks[1],
+        inner_blocks[2],
+        inner_blocks[3],
+    ];
+    are_whole(&blocks);
+    let begun = begin_each(&blocks);
+    let inner = finish_each(picked(&begun, &inner_lanes(pairs)), texts);
+    close_each(picked(&begun, pairs), &inner)
 }
 
-impl Begun {
-    /// The hash values after these blocks. It costs one block.
-    pub fn new(outer_block: &[u8; 64], inner_block: &[u8; 64]) -> Begun
-        ensures { HasBegun result outer_block.now inner_block.now }
-    {
-        is_whole(outer_block);
-        is_whole(inner_block);
-        let [outer, inner] = [*outer_block, *inner_block];
-        let state = begin_each(&[outer, inner, outer, inner, outer, inner, outer, inner]);
-        Begun {
-            outer: hash_in(&state, 0),
-            inner: hash_in(&state, 1),
-        }
-    }
-
-    /// The digests of eight messages, each the outer block and the digest of the inner block and a
-    /// text after it, of any length. It costs two blocks less than `nested_digest_each`.
-    pub fn digest_each(&self, texts: &[&[u8]; 8]) -> [[u8; 32]; 8]
-        ensures { (outer inner : List ℕ) → HasBegun self.now outer inner → (j : ℕ) → j < 8
-            → slice_index_or result j [] ≡ sha256 (outer ++ sha256 (inner ++ text_at texts.now j)) }
-    {
-        let inner = finish_each(same_in_each(self.inner), texts);
-        close_each(same_in_each(self.outer), &inner)
-    }
+// The lanes of the inner blocks of these pairs, behind the four outer ones.
+#[inline(always)]
+fn inner_lanes(pairs: &[usize; 8]) -> [usize; 8]
+    requires { (j : ℕ) → j < 8 → slice_index pairs.now j < 4 }
+    ensures { (j : ℕ) → j < 8 → slice_index result j ≡ 4 + slice_index pairs.now j }
+{
+    [
+        4 + pairs[0],
+        4 + pairs[1],
+        4 + pairs[2],
+        4 + pairs[3],
+        4 + pairs[4],
+        4 + pairs[5],
+        4 + pairs[6],
+        4 + pairs[7],
+    ]
 }

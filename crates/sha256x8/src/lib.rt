@@ -10,4 +10,4 @@ mod padding;
 mod state;
 mod word;
 
-pub use digests::{Begun, digest_each, nested_digest_each};
+pub use digests::{digest_each, nested_digest_each, paired_digest_each};
