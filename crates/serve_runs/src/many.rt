@@ -43,8 +43,8 @@ where
     )?)
 }
 
-/// So many requests that look random over three connections, of which the last is of version two, by
-/// four workers, beside their answers made one after the other.
+/// So many requests that look random over three connections, of which the last is of version two,
+/// by four workers, beside their answers made one after the other.
 pub(crate) fn many_told<R>(
     rt: &R,
     alloc: Global,
