@@ -1,10 +1,10 @@
 -- What a pool is once a pass goes out, a worker starts or the workers came back.
 use Rattle.std.proofs.Common.{◌≡◌, ℕ, ◌+◌, ◌≤◌, ◌<◌, List, ◌∷◌, ◌++◌, [], length, length-set, map, set, Option, None, Some, slice_get, sym, ◌∙◌, ap, refl, subst, arith, All}
 use Rattle.atomic_table.specs.Seated.{TableId}
-use Rattle.mac_pool.specs.Pass.{Pass}
-use Rattle.mac_pool.specs.Pool.{Slots, at_home, IsGiven, IsStarted, AreWorkers}
-use Rattle.mac_pool.specs.declared.line.TheConstants.{PASSES}
-use Rattle.mac_pool.proofs.Slots.{get_set_other, out_more, all_of_line, map_push}
+use Rattle.mac_queue.specs.Pass.{Pass}
+use Rattle.mac_pool.specs.Pool.{Slots, at_home, IsGiven, IsStarted, AreWorkers, with_home}
+use Rattle.mac_queue.specs.declared.line.TheConstants.{PASSES}
+use Rattle.mac_pool.proofs.Slots.{get_set_other, out_more, all_of_line, map_push, set_back}
 
 module _ {Job : Type 0} where
   abbrev pub slots : TableId → ℕ → List (Option (Pass Job)) → Slots Job
@@ -20,6 +20,12 @@ module _ {Job : Type 0} where
     was_home = subst (λ (m : ℕ). slice_get before m ≡ Some (Some pass)) (sym number) was;
     after_is = ap (λ (l : List (Option (Pass Job))). slots line workers l) (is ∙ ap (λ (m : ℕ). set before m None) (sym number));
   }
+
+  -- a pool whose pass went out and came home is as it was
+  pub back_home : (before given after : Slots Job) (pass : Pass Job) → IsGiven before pass given → after ≡ with_home given pass → after ≡ before
+  back_home before given after pass went came =
+      came ∙ ap (λ (pool : Slots Job). with_home pool pass) went.after_is
+      ∙ ap (λ (l : List (Option (Pass Job))). slots before.line before.workers l) (set_back before.passes pass.number (Some pass) None went.was_home)
 
   -- workers' passes under another name of their line
   pub workers_at : (one other : TableId) (passes : List (Pass Job)) → one ≡ other → AreWorkers other passes → AreWorkers one passes

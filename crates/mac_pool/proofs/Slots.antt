@@ -2,9 +2,9 @@
 use Rattle.std.proofs.Common.{◌≡◌, ◌≢◌, ℕ, zero, suc, ◌+◌, ◌<◌, ◌≤◌, ◌⊎◌, List, [], ◌∷◌, ◌++◌, length, map, set, take, Option, None, Some, slice_get, get_or, sym, ◌∙◌, ap, refl, subst, ⊎_elim, arith, length-append, append_assoc, inl, inr, All, add-one}
 use Rattle.std.proofs.lemmas.Option.{slice_get-get_or}
 use Rattle.atomic_table.specs.Seated.{TableId}
-use Rattle.mac_pool.specs.Pass.{Pass, HasClaimed}
+use Rattle.mac_queue.specs.Pass.{Pass, HasClaimed}
 use Rattle.mac_pool.specs.Pool.{at_home, AreOut, IsWorkers, AreWorkers}
-use Rattle.mac_pool.proofs.Passes.{get_push}
+use Rattle.mac_queue.proofs.Passes.{get_push}
 
 -- where one number stands to another
 data Position (k n : ℕ) : Type 0 where
@@ -45,6 +45,12 @@ module _ {A : Type 0} where
   get_set (z ∷ xs) (suc k) zero y x at = inr at
   get_set (z ∷ xs) (suc k) (suc n) y x at =
       ⊎_elim (λ (here : (n ≡ k) × (y ≡ x)). inl (ap suc here.0, here.1)) (λ (there : slice_get xs n ≡ Some x). inr there) (get_set xs k n y x at)
+
+  -- what is written back where it stood changes nothing
+  pub set_back : (xs : List A) (k : ℕ) (x y : A) → slice_get xs k ≡ Some x → set (set xs k y) k x ≡ xs
+  set_back [] k x y at = refl
+  set_back (z ∷ xs) zero x y at = cc
+  set_back (z ∷ xs) (suc k) x y at = ap (λ l. z ∷ l) (set_back xs k x y at)
 
   -- below the length there is something
   pub get_within : (xs : List A) (n : ℕ) → n < length xs → (x : A) × (slice_get xs n ≡ Some x)

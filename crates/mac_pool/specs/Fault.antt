@@ -1,19 +1,11 @@
 -- The numbers of the faults.
 use Rattle.std.specs.Prelude.{ℕ}
-use Rattle.mac_pool.specs.declared.fault.PutFault.{PutFault}
-use Rattle.mac_pool.specs.declared.fault.PutFault.TheVariants as put
 use Rattle.mac_pool.specs.declared.fault.PoolFault.{PoolFault}
 use Rattle.mac_pool.specs.declared.fault.PoolFault.TheVariants as pool
 use Rattle.mac_pool.specs.declared.fault.DeskFault.{DeskFault}
 use Rattle.mac_pool.specs.declared.fault.DeskFault.TheVariants as desk
 use Rattle.mac_pool.specs.declared.fault.HandFault.{HandFault}
 use Rattle.mac_pool.specs.declared.fault.HandFault.TheVariants as hand
-
--- the number of each reason not to put
-abbrev pub put_code : PutFault → ℕ
-put_code put.Full = 1
-put_code put.Closed = 2
-put_code put.NoMemory = 3
 
 -- the number of each reason not to start
 abbrev pub pool_code : PoolFault → ℕ

@@ -2,10 +2,10 @@
 use Rattle.std.specs.Prelude.{◌≡◌, ◌++◌, ◌≤◌, ◌<◌, ℕ, List, [], ◌∷◌, length, Option, None, Some, slice_get, slice_set, refl}
 use Rattle.std.specs.Coded.{Coded, code_by, coded×, coded_list, coded_option, coded_ℕ}
 use Rattle.atomic_table.specs.Seated.{TableId, table_id_coded}
-use Rattle.mac_pool.specs.Pass.{Pass, pass_code, IsFresh}
-use Rattle.mac_pool.specs.Tally.{IsTally}
-use Rattle.mac_pool.specs.declared.line.TheConstants.{PASSES}
-use Rattle.mac_pool.specs.declared.line.tally.Tally.{Tally}
+use Rattle.mac_queue.specs.Pass.{Pass, pass_code, IsFresh}
+use Rattle.mac_queue.specs.Tally.{IsTally}
+use Rattle.mac_queue.specs.declared.line.TheConstants.{PASSES}
+use Rattle.mac_queue.specs.declared.line.tally.Tally.{Tally}
 use Rattle.mac_pool.specs.declared.pool.TheConstants.{WORKERS_MAX}
 
 -- a pool: its line, the number of its workers, and its passes by their numbers, None where one is

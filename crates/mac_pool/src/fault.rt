@@ -1,36 +1,9 @@
-//! Why a line, a mailbox or a pool refuses.
+//! Why a pool refuses.
 
 ghost use Rattle.std.specs.Prelude.{◌≡◌};
-ghost use Rattle.mac_pool.specs.Fault.{desk_code, hand_code, pool_code, put_code};
+ghost use Rattle.mac_pool.specs.Fault.{desk_code, hand_code, pool_code};
 
 use thiserror::Error;
-
-/// Why a ticket or a post was not put.
-#[derive(Clone, Copy, Debug, PartialEq, Eq, Error)]
-pub enum PutFault {
-    /// The line or the mailbox holds as many as it can, or the pass has put as many as it may.
-    #[error("the queue is full")]
-    Full,
-    /// The line or the mailbox is closed.
-    #[error("the queue is closed")]
-    Closed,
-    /// There was no further handle on the mailbox.
-    #[error("memory ran out for a handle on the mailbox")]
-    NoMemory,
-}
-
-impl PutFault {
-    /// The fault's number: 1 to 3.
-    pub fn code(&self) -> u8
-        ensures { result ≡ put_code self.now }
-    {
-        match self {
-            PutFault::Full => 1,
-            PutFault::Closed => 2,
-            PutFault::NoMemory => 3,
-        }
-    }
-}
 
 /// Why a pool did not start.
 #[derive(Clone, Copy, Debug, PartialEq, Eq, Error)]

@@ -1,10 +1,10 @@
 //! A hand: a place at a pool from which tickets are claimed by hand, as a worker claims them.
 
 ghost use Rattle.std.specs.Prelude.{◌≡◌};
-ghost use Rattle.mac_pool.specs.Claim.{after_claim};
+ghost use Rattle.mac_queue.specs.Claim.{after_claim};
 
-use crate::line::{Claim, Line, LinePass};
 use mac_lane::Service;
+use mac_queue::{Claim, Line, LinePass};
 use std::alloc::Global;
 use std::marker::Model;
 use std::sync::{Arc, Wait};
@@ -19,7 +19,7 @@ pub struct Hand<S: Service> {
 impl<S: Service> Model for Hand<S> {
     ghost use Rattle.std.specs.Prelude.{◌≡◌};
     ghost use Rattle.std.specs.Arc.{arc_value};
-    ghost use Rattle.mac_pool.specs.Pass.{Pass, pass_code};
+    ghost use Rattle.mac_queue.specs.Pass.{Pass, pass_code};
 
     ghost Value = { Pass S.Job };
 

@@ -4,15 +4,13 @@ ghost use Rattle.std.specs.Prelude.{◌≡◌, ◌≢◌, ◌+◌, ◌≤◌, �
 ghost use Rattle.mac_pool.specs.Pool.{IsStarted, IsStopped, IsGiven, IsHome, IsBrought, AreOut, AreWorkers, at_home, with_home};
 ghost use Rattle.std.specs.Arc.{arc_value};
 ghost use Rattle.std.specs.Vec.{vec_capacity};
-ghost use Rattle.mac_pool.specs.Pass.{HasClaimed};
+ghost use Rattle.mac_queue.specs.Pass.{HasClaimed};
 
-use crate::desk::{Desk, Putter, mailbox};
 use crate::fault::{DeskFault, HandFault, PoolFault};
-use crate::gate::{Gate, NoGate};
 use crate::hand::Hand;
-use crate::line::{Line, LinePass, PASSES, Tally};
-use crate::work::{Worked, worker};
 use mac_lane::{NoMemory, Service};
+use mac_queue::{Desk, Line, LinePass, PASSES, Tally};
+use mac_worker::{Gate, NoGate, Worked, worker};
 use std::alloc::Global;
 use std::marker::{Model, PhantomData};
 use std::snapshot::Snapshot;
@@ -28,7 +26,7 @@ pub const WORKERS_MAX: usize = 16;
 pub struct FromPass<S: Service>(Snapshot<LinePass<S>>);
 
 impl<S: Service> Promise<Worked<S>> for FromPass<S> {
-    ghost use Rattle.mac_pool.specs.Pass.{HasClaimed};
+    ghost use Rattle.mac_queue.specs.Pass.{HasClaimed};
 
     ghost kept_by = { λ p worked. HasClaimed p.0.value worked.claimed worked.pass };
 }
@@ -163,14 +161,16 @@ impl<S: Service, G: Gate> Pool<S, G> {
         let Some(number) = first_home(&self.passes, WORKERS_MAX, PASSES) else {
             return Err(DeskFault::AllOut);
         };
-        let Ok((mail, taker)) = mailbox(alloc) else {
-            return Err(DeskFault::NoMemory);
-        };
         let Ok((line, pass)) = self.give(number) else {
             return Err(DeskFault::NoMemory);
         };
-        let putter = Putter { line, pass, mail };
-        Ok(Desk { putter, taker })
+        match Desk::new(alloc, line, pass) {
+            Ok(desk) => Ok(desk),
+            Err(pass) => {
+                self.take_home(pass);
+                Err(DeskFault::NoMemory)
+            }
+        }
     }
 
     /// Takes a desk back.

@@ -1,6 +1,6 @@
 -- What a run of `serve` did, for its callers.
 use Rattle.std.specs.Prelude.{◌≡◌, ◌⊎◌, ℕ, ◌+◌, ◌≤◌, Bool, if◌then◌else◌, List, ◌++◌, length, map, take, Option, Some, None, Result, Ok, Err}
-use Rattle.mac_pool.specs.Pass.{Pass, IsSamePass}
+use Rattle.mac_queue.specs.Pass.{Pass, IsSamePass}
 use Rattle.mac_keys.specs.Table.{Table}
 use Rattle.mac_wire.specs.declared.arrival.Arrival.{Arrival}
 use Rattle.mac_wire.specs.declared.arrival.Ending.{Ending}

@@ -18,7 +18,7 @@ use crate::outbound::{Outbound, OutboundFault};
 use crate::signals::Signals;
 use mac_decide::Macaroons;
 use mac_keys::KeyTable;
-use mac_pool::Desk;
+use mac_queue::Desk;
 use mac_relay::{Intake, Outlet, Totals, lane, meet};
 use mac_wire::{Ending, NoMemory, Sink, Source};
 use std::alloc::Global;

@@ -9,7 +9,7 @@ use crate::unsent::Unsent;
 use mac_decide::{Job, Macaroons, job_of};
 use mac_keys::KeyTable;
 use mac_lane::Service;
-use mac_pool::{PutFault, Putter};
+use mac_queue::{PutFault, Putter};
 use mac_relay::{AdmitFault, Intake};
 use mac_wire::{Arrival, Ending, Source};
 use std::alloc::Global;
@@ -27,7 +27,7 @@ pub struct Inbound {
 
 impl Inbound {
     ghost use Rattle.mac_relay.specs.Lane.{admitted, IsSameIntake, Knows};
-    ghost use Rattle.mac_pool.specs.Pass.{with_put, IsSamePass};
+    ghost use Rattle.mac_queue.specs.Pass.{with_put, IsSamePass};
     ghost use Rattle.mac_serve.specs.Receiving.{CountsRead, Reads, jobs_of, Receives, HasRun, GoesOn, Continues};
     ghost use Rattle.mac_serve.specs.Incoming.{HasRoom};
     ghost use Rattle.mac_wire.specs.FrameReader.{HasEnded, version_of};

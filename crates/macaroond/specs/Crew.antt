@@ -1,6 +1,6 @@
 -- What a daemon keeps of its live connections.
 use Rattle.std.specs.Prelude.{◌≡◌, ℕ, List, Option, Some, length, slice_get}
-use Rattle.mac_pool.specs.Pass.{Pass}
+use Rattle.mac_queue.specs.Pass.{Pass}
 use Rattle.mac_pool.specs.Pool.{IsHome}
 
 -- whoever is in a berth has the property

@@ -1,7 +1,7 @@
 -- The first passes of a line.
 use Rattle.std.proofs.Common.{◌≡◌, List, ◌∷◌, slice_get, ap}
 use Rattle.atomic_table.specs.Seated.{TableId}
-use Rattle.mac_pool.specs.Pass.{Pass, AreFresh}
+use Rattle.mac_queue.specs.Pass.{Pass, AreFresh}
 
 module _ {Job : Type 0} where
   -- two that stand in front are of the line

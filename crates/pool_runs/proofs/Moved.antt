@@ -1,7 +1,7 @@
 -- Desks that are written anew where they stand.
 use Rattle.std.proofs.Common.{◌≡◌, ℕ, ◌<◌, List, length, slice_set, slice_index_or, All, ap, ◌∙◌, length-set}
 use Rattle.std.proofs.lemmas.List.Elements.{All-set}
-use Rattle.mac_pool.specs.declared.desk.Desk.{Desk}
+use Rattle.mac_queue.specs.declared.desk.Desk.{Desk}
 use Rattle.pool_runs.specs.Desks.{AreMoved}
 
 module _ {S Job Reply : Type 0} where

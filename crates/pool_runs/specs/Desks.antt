@@ -1,7 +1,7 @@
 -- Desks of one pool, whatever is done at them.
 use Rattle.std.specs.Prelude.{◌≡◌, List, All}
 use Rattle.atomic_table.specs.Seated.{TableId}
-use Rattle.mac_pool.specs.declared.desk.Desk.{Desk}
+use Rattle.mac_queue.specs.declared.desk.Desk.{Desk}
 
 module _ {S Job Reply : Type 0} where
   -- each desk is at this line

@@ -1,7 +1,7 @@
 //! Single calls of a line, a mailbox and a pool, and whether they answer as they are to.
 
 ghost use Rattle.std.specs.Prelude.{◌≡◌, IfSome};
-ghost use Rattle.mac_pool.specs.Pass.{AreFresh};
+ghost use Rattle.mac_queue.specs.Pass.{AreFresh};
 
 use crate::digits::{Digits, REFUSED};
 use crate::drive::{all_home, answered, books_if, desk_of, desks_of, pool_of, put_run};

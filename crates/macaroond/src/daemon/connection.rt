@@ -1,6 +1,6 @@
 //! One connection, in threads of its own.
 ghost use Rattle.std.specs.Prelude.{◌≡◌, IfErr, IfOk};
-ghost use Rattle.mac_pool.specs.Pass.{IsSamePass};
+ghost use Rattle.mac_queue.specs.Pass.{IsSamePass};
 
 use mac_decide::Macaroons;
 use mac_keys::KeyTable;
@@ -31,7 +31,7 @@ pub struct Ended {
 pub struct SamePass(Snapshot<Desk<Macaroons>>);
 
 impl Promise<Ended> for SamePass {
-    ghost use Rattle.mac_pool.specs.Pass.{IsSamePass};
+    ghost use Rattle.mac_queue.specs.Pass.{IsSamePass};
 
     ghost kept_by = { λ p ended. IsSamePass p.0.value.putter ended.desk.putter };
 }

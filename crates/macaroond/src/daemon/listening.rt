@@ -8,7 +8,7 @@ use super::place::{PlaceFault, bound};
 use crate::choices::Mode;
 use crate::{DEVICE_FAULT, NO_MEMORY};
 use mac_keys::KeyTable;
-use mac_pool::Bell;
+use mac_queue::Bell;
 use mac_serve::ServeFault;
 use std::alloc::Global;
 use std::fs::Files;
@@ -94,13 +94,20 @@ where
     };
     let (names, workers) = (keys.len(), terms.workers);
     let told = println!(rt;
-        "listening at {}: {names} names, {workers} workers",
-        terms.path
+        "listening at {}: {names} name{}, {workers} worker{}",
+        terms.path,
+        ending(names),
+        ending(workers)
     );
     if told.is_err() {
         return DEVICE_FAULT;
     }
     attend(rt, alloc, &listener, keys, crew, &quay, terms.idle)
+}
+
+// What a noun behind this number ends in.
+fn ending(number: usize) -> &'static str {
+    if number == 1 { "" } else { "s" }
 }
 
 // Tells why there is no socket, and gives the exit status.

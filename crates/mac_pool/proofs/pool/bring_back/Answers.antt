@@ -1,8 +1,8 @@
 use Rattle.std.proofs.Common.{◌≡◌, [], ◌∷◌, ◌++◌, length, arith, ap, refl, sym, ◌∙◌, append-nil, length-append, List, map, subst}
 use Rattle.std.specs.declared.thread.PromisedHandle.{PromisedHandle}
-use Rattle.mac_pool.specs.declared.work.Worked.{Worked}
+use Rattle.mac_worker.specs.declared.work.Worked.{Worked}
 use Rattle.mac_pool.specs.declared.pool.FromPass.{FromPass}
-use Rattle.mac_pool.specs.Pass.{Pass}
+use Rattle.mac_queue.specs.Pass.{Pass}
 use Rattle.mac_pool.specs.Pool.{AreWorkers}
 use Rattle.mac_pool.proofs.Slots.{brought_is, brought_more, worker_last, workers_front, workers_push, map_push}
 use Rattle.mac_pool.proofs.pool.bring_back.Goals as goal

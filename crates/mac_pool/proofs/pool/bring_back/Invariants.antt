@@ -1,6 +1,6 @@
 use Rattle.std.proofs.Common.{◌≡◌, ◌+◌, ◌++◌, List, length, map}
 use Rattle.std.specs.Vec.{vec_capacity}
-use Rattle.mac_pool.specs.Pass.{Pass}
+use Rattle.mac_queue.specs.Pass.{Pass}
 use Rattle.mac_pool.specs.Pool.{AreWorkers}
 use Rattle.mac_pool.proofs.pool.bring_back.Given as goal
 

@@ -1,8 +1,8 @@
 use Rattle.std.proofs.Common.{◌≡◌, [], ◌++◌, List, Option, arith, ap, refl, sym, ◌∙◌, append-nil, length-append}
 use Rattle.std.specs.Vec.Iter.{into_iter_items}
-use Rattle.mac_pool.specs.Pass.{Pass}
+use Rattle.mac_queue.specs.Pass.{Pass}
 use Rattle.mac_pool.specs.Pool.{at_home}
-use Rattle.mac_pool.proofs.Balance.{empty_list}
+use Rattle.mac_queue.proofs.Balance.{empty_list}
 use Rattle.mac_pool.proofs.Slots.{home_none, home_room}
 use Rattle.mac_pool.proofs.pool.bring_home.Goals as goal
 

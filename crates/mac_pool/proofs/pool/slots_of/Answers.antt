@@ -1,7 +1,7 @@
 use Rattle.std.proofs.Common.{◌≡◌, [], ◌∷◌, ◌++◌, List, Some, map, arith, ap, sym, ◌∙◌, append-nil, append_assoc}
 use Rattle.std.specs.Vec.Iter.{into_iter_items}
-use Rattle.mac_pool.specs.Pass.{Pass}
-use Rattle.mac_pool.proofs.Balance.{empty_list}
+use Rattle.mac_queue.specs.Pass.{Pass}
+use Rattle.mac_queue.proofs.Balance.{empty_list}
 use Rattle.mac_pool.proofs.pool.slots_of.Goals as goal
 
 pub loop-pass-init : goal.loop-pass-init

@@ -1,5 +1,5 @@
 use Rattle.std.proofs.Common.{Some, Option, set, ap, sym, ◌∙◌, arith}
-use Rattle.mac_pool.specs.Pass.{Pass}
+use Rattle.mac_queue.specs.Pass.{Pass}
 use Rattle.mac_pool.proofs.Slots.{get_read, get_below}
 use Rattle.mac_pool.proofs.pool.take_out.Goals as goal
 

@@ -1,5 +1,5 @@
 use Rattle.std.proofs.Common.{List, Option, slice_get, ap, sym, ◌∙◌}
-use Rattle.mac_pool.specs.Pass.{Pass}
+use Rattle.mac_queue.specs.Pass.{Pass}
 use Rattle.mac_pool.specs.Pool.{Slots}
 use Rattle.mac_pool.proofs.pool.Pool.hand.Goals as goal
 

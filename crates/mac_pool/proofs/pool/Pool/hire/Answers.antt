@@ -2,7 +2,7 @@ use Rattle.std.proofs.Common.{◌≡◌, ℕ, ◌+◌, ◌++◌, ◌∷◌, [], 
 use Rattle.std.proofs.lemmas.List.{length-map}
 use Rattle.std.specs.Arc.{arc_value}
 use Rattle.std.specs.declared.thread.PromisedHandle.{PromisedHandle}
-use Rattle.mac_pool.specs.declared.work.Worked.{Worked}
+use Rattle.mac_worker.specs.declared.work.Worked.{Worked}
 use Rattle.mac_pool.specs.declared.pool.FromPass.{FromPass}
 use Rattle.mac_pool.specs.Pool.{Slots, IsStarted}
 use Rattle.mac_pool.proofs.Slots.{unset_homes, workers_more}

@@ -2,7 +2,7 @@ use Rattle.std.proofs.Common.{◌≡◌, ◌<◌, List, Option, Some, slice_get,
 use Rattle.std.proofs.lemmas.List.{length-map}
 use Rattle.std.specs.Arc.{arc_value}
 use Rattle.atomic_table.specs.Seated.{TableId}
-use Rattle.mac_pool.specs.Pass.{Pass, IsFresh}
+use Rattle.mac_queue.specs.Pass.{Pass, IsFresh}
 use Rattle.mac_pool.proofs.Slots.{get_within, get_map, map_get}
 use Rattle.mac_pool.proofs.pool.Pool.idle.Goals as goal
 

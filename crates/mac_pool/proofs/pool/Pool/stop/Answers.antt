@@ -1,8 +1,8 @@
 use Rattle.std.proofs.Common.{◌≡◌, ◌++◌, List, arith, ap, ◌∙◌, subst}
 use Rattle.atomic_table.specs.Seated.{TableId}
-use Rattle.mac_pool.specs.Pass.{Pass}
+use Rattle.mac_queue.specs.Pass.{Pass}
 use Rattle.mac_pool.specs.Pool.{Slots, at_home, AreWorkers, IsStopped}
-use Rattle.mac_pool.specs.Tally.{IsTally}
+use Rattle.mac_queue.specs.Tally.{IsTally}
 use Rattle.mac_pool.proofs.Slots.{at_home_short}
 use Rattle.mac_pool.proofs.Moves.{all_of_lines, workers_at}
 use Rattle.mac_pool.proofs.pool.Pool.stop.Goals as goal

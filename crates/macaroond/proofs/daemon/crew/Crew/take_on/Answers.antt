@@ -1,6 +1,6 @@
 use Rattle.std.proofs.Common.{◌≡◌, ℕ, List, Option, None, Some, slice_set, ap, ◌∙◌, subst, sym}
 use Rattle.mac_decide.specs.declared.job.Job.{Job}
-use Rattle.mac_pool.specs.Pass.{Pass}
+use Rattle.mac_queue.specs.Pass.{Pass}
 use Rattle.mac_pool.specs.Pool.{Slots, IsHome}
 use Rattle.macaroond.proofs.DeskLemmas.{home_again}
 use Rattle.macaroond.proofs.daemon.crew.Crew.take_on.Goals as goal

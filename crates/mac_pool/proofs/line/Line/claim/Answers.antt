@@ -1,5 +1,0 @@
-use Rattle.mac_pool.proofs.Balance.{claims}
-use Rattle.mac_pool.proofs.line.Line.claim.Goals as goal
-
-pub pop_as-requires-clause-rule : goal.pop_as-requires-clause-rule
-pop_as-requires-clause-rule g c = (claims _ _ c.pass.invariant.1, λ _ _ _ _. tt)

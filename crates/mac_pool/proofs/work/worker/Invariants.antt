@@ -1,5 +1,0 @@
-use Rattle.mac_pool.specs.Pass.{HasClaimed}
-use Rattle.mac_pool.proofs.work.worker.Given as goal
-
-abbrev pub invariant-loop : goal.invariant-loop
-invariant-loop g l = HasClaimed l.fn.pass l.claimed l.pass

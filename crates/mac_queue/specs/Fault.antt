@@ -1,0 +1,10 @@
+-- The numbers of the faults.
+use Rattle.std.specs.Prelude.{ℕ}
+use Rattle.mac_queue.specs.declared.fault.PutFault.{PutFault}
+use Rattle.mac_queue.specs.declared.fault.PutFault.TheVariants as put
+
+-- the number of each reason not to put
+abbrev pub put_code : PutFault → ℕ
+put_code put.Full = 1
+put_code put.Closed = 2
+put_code put.NoMemory = 3

@@ -1,0 +1,33 @@
+//! Why a line or a mailbox refuses.
+
+ghost use Rattle.std.specs.Prelude.{◌≡◌};
+ghost use Rattle.mac_queue.specs.Fault.{put_code};
+
+use thiserror::Error;
+
+/// Why a ticket or a post was not put.
+#[derive(Clone, Copy, Debug, PartialEq, Eq, Error)]
+pub enum PutFault {
+    /// The line or the mailbox holds as many as it can, or the pass has put as many as it may.
+    #[error("the queue is full")]
+    Full,
+    /// The line or the mailbox is closed.
+    #[error("the queue is closed")]
+    Closed,
+    /// There was no further handle on the mailbox.
+    #[error("memory ran out for a handle on the mailbox")]
+    NoMemory,
+}
+
+impl PutFault {
+    /// The fault's number: 1 to 3.
+    pub fn code(&self) -> u8
+        ensures { result ≡ put_code self.now }
+    {
+        match self {
+            PutFault::Full => 1,
+            PutFault::Closed => 2,
+            PutFault::NoMemory => 3,
+        }
+    }
+}

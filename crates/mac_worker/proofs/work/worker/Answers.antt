@@ -1,0 +1,36 @@
+use Rattle.std.proofs.Common.{ap, sym, ◌∙◌, subst, arith}
+use Rattle.mac_queue.specs.Pass.{Pass, HasClaimed}
+use Rattle.mac_worker.proofs.Claims.{claimed_none, claimed_one, claimed_both, few_counted}
+use Rattle.mac_worker.proofs.work.worker.Goals as goal
+
+pub loop-init : goal.loop-init
+loop-init g c = claimed_none _
+
+pub next_ticket-requires-after_bounds : goal.next_ticket-requires-after_bounds
+next_ticket-requires-after_bounds g c = λ _ _. c.loop.invariant.same.0 ∙ c.requires
+
+pub returns-in-None-next_ticket : goal.returns-in-None-next_ticket
+returns-in-None-next_ticket g c =
+    subst (λ (p : Pass g.row.S-Job.Denot). HasClaimed c.args.pass c.loop.claimed p) (sym c.in-None-next_ticket.ensures.same) c.loop.invariant
+
+pub overflow_add-claimed : goal.overflow_add-claimed
+overflow_add-claimed g c =
+    let few = few_counted _ _ _ _ _ c.loop.invariant c.in-Some-next_ticket.ensures.claimed c.in-Some-next_ticket.ensures.few in
+    omega arith
+
+pub turn_from-claimed-requires-after_bounds : goal.turn_from-claimed-requires-after_bounds
+turn_from-claimed-requires-after_bounds g c =
+    λ _ _. ap (λ (p : Pass g.row.S-Job.Denot). p.line) c.in-Some-next_ticket.ensures.claimed ∙ c.loop.invariant.same.0 ∙ c.requires
+
+pub overflow_add-claimed-in-Some-room : goal.overflow_add-claimed-in-Some-room
+overflow_add-claimed-in-Some-room g c =
+    let few = few_counted _ _ _ _ _ c.loop.invariant c.in-Some-next_ticket.ensures.claimed c.in-Some-next_ticket.ensures.few in
+    let more = c.turn_from-claimed.ensures.few in
+    omega arith
+
+pub loop-preserved-in-Some-room : goal.loop-preserved-in-Some-room
+loop-preserved-in-Some-room g c =
+    claimed_both _ _ _ _ _ (claimed_one _ _ _ _ _ c.loop.invariant c.in-Some-next_ticket.ensures.claimed) c.turn_from-claimed.ensures.claimed
+
+pub loop-preserved : goal.loop-preserved
+loop-preserved g c = claimed_one _ _ _ _ _ c.loop.invariant c.in-Some-next_ticket.ensures.claimed

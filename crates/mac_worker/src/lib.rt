@@ -1,0 +1,10 @@
+//! A worker: it claims tickets from a line, works on several at a time, and posts the answers to
+//! their mailboxes, for as long as the line is open.
+#![tactic(auto)]
+
+pub mod gate;
+pub mod laws;
+pub mod work;
+
+pub use gate::{Gate, NoGate, TURN_MAX};
+pub use work::{Worked, worker};

@@ -1,0 +1,393 @@
+//! A worker: it claims tickets, works on them, and posts the answers.
+
+ghost use Rattle.std.specs.Prelude.{◌≡◌, ◌+◌, ◌≤◌, ◌<◌, ◌^◌, [], length, IfOk, IfSome, IfNone, OnOk, OnErr, OnSome};
+ghost use Rattle.std.specs.VecDeque.{deque_len, deque_capacity};
+ghost use Rattle.mac_queue.specs.Balance.{entry_of};
+ghost use Rattle.mac_queue.specs.Pass.{with_claimed, HasClaimed};
+ghost use Rattle.mac_worker.specs.Parcel.{IsAnswerTo, AnswerEach, joined};
+ghost use Rattle.mac_worker.specs.declared.gate.TheConstants.{TURN_MAX};
+
+use crate::gate::{Gate, TURN_MAX};
+use mac_lane::{Answer, NoMemory, Service};
+use mac_queue::{Claim, Line, LinePass, Mailbox, Post, Ticket};
+use std::alloc::Global;
+use std::collections::VecDeque;
+use std::sync::{Arc, Wait};
+
+/// What a worker leaves behind.
+#[derive(Drop)]
+pub struct Worked<S: Service> {
+    /// Its pass.
+    pub pass: LinePass<S>,
+    /// How many tickets it claimed.
+    pub claimed: u64,
+}
+
+// What stays of a ticket while its job is worked on.
+#[derive(Drop)]
+pub struct Label<S: Service> {
+    pub place: u64,
+    pub mail: Arc<Mailbox<S>, Global>,
+}
+
+// A post on its way to a mailbox.
+#[derive(Drop)]
+pub struct Parcel<S: Service> {
+    pub post: Post<S>,
+    pub mail: Arc<Mailbox<S>, Global>,
+}
+
+type Tickets<S> = VecDeque<Ticket<S>>;
+
+type Parcels<S> = VecDeque<Parcel<S>>;
+
+type Mails<S> = VecDeque<Arc<Mailbox<S>, Global>>;
+
+// The room of a turn: what is claimed, what is to be posted, and the mailboxes that are to be
+// rung.
+#[derive(Drop)]
+pub struct Turn<S: Service> {
+    tickets: Tickets<S>,
+    parcels: Parcels<S>,
+    owed: Mails<S>,
+    ghost idle: { (tickets.items ≡ []) × (parcels.items ≡ []) × (owed.items ≡ []) },
+    ghost room: { (TURN_MAX ≤ deque_capacity tickets)
+        × (TURN_MAX ≤ deque_capacity parcels)
+        × (TURN_MAX ≤ deque_capacity owed) },
+}
+
+impl<S: Service> Turn<S> {
+    fn new(alloc: Global) -> Result<Turn<S>, NoMemory> {
+        let tickets = VecDeque::with_capacity(alloc, TURN_MAX)?;
+        let parcels = VecDeque::with_capacity(alloc, TURN_MAX)?;
+        let owed = VecDeque::with_capacity(alloc, TURN_MAX)?;
+        Ok(Turn {
+            tickets,
+            parcels,
+            owed,
+        })
+    }
+}
+
+/// Claims tickets and posts their answers until the line is closed and empty. A full mailbox is
+/// waited for; at a closed one the post is dropped.
+pub fn worker<S: Service, G: Gate, R: Wait>(
+    rt: &R,
+    alloc: Global,
+    line: &Line<S>,
+    mut pass: LinePass<S>,
+    gate: &G,
+) -> Worked<S>
+    requires { pass.line ≡ line.now }
+    ensures { HasClaimed pass result.claimed result.pass }
+{
+    line.enter();
+    let mut claimed = 0;
+    let mut room = Turn::new(alloc).ok();
+    for _ in rt.forever() {
+        let ticket = match next_ticket(rt, line, &mut pass) {
+            Some(ticket) => ticket,
+            None => {
+                line.leave();
+                return Worked { pass, claimed };
+            }
+        };
+        claimed += 1;
+        match &mut room {
+            Some(turn) => claimed += turn_from(rt, alloc, line, &mut pass, gate, turn, ticket),
+            None => {
+                give_up(rt, gate, ticket);
+                room = Turn::new(alloc).ok();
+            }
+        }
+    }
+    unreachable!()
+}
+
+/// Claims the oldest ticket, and sleeps while there is none. `None` once the line is closed and
+/// empty.
+fn next_ticket<S: Service, R: Wait>(
+    rt: &R,
+    line: &Line<S>,
+    pass: &mut LinePass<S>,
+) -> Option<Ticket<S>>
+    requires { pass.old.line ≡ line.now }
+    ensures claimed { IfSome result (λ ticket.
+        pass.new ≡ with_claimed pass.old (entry_of ticket)) }
+    ensures few { OnSome result (length pass.new.claimed < 2 ^ 62) }
+    ensures same { IfNone result (pass.new ≡ pass.old) }
+{
+    for _ in rt.forever() {
+        match line.claim(rt, pass) {
+            Claim::Got(ticket) => return Some(ticket),
+            Claim::Closed => return None,
+            Claim::Empty => {}
+        }
+        let notice = line.announce();
+        match line.claim(rt, pass) {
+            Claim::Got(ticket) => {
+                line.withdraw(notice);
+                return Some(ticket);
+            }
+            Claim::Closed => {
+                line.withdraw(notice);
+                return None;
+            }
+            Claim::Empty => line.sleep(rt, notice),
+        }
+    }
+    unreachable!()
+}
+
+/// Posts that there was no memory for the ticket.
+fn give_up<S: Service, G: Gate, R: Wait>(rt: &R, gate: &G, ticket: Ticket<S>) {
+    gate.before(ticket.place);
+    ticket.mail.deliver(rt, Post::Failed(ticket.place));
+    ticket.mail.ring();
+    gate.after(ticket.place);
+}
+
+/// Works on the ticket, and on others that wait, so many that no other worker idles for it.
+/// Answers how many others.
+fn turn_from<S: Service, G: Gate, R: Wait>(
+    rt: &R,
+    alloc: Global,
+    line: &Line<S>,
+    pass: &mut LinePass<S>,
+    gate: &G,
+    turn: &mut Turn<S>,
+    ticket: Ticket<S>,
+) -> u64
+    requires { pass.old.line ≡ line.now }
+    ensures claimed { HasClaimed pass.old result pass.new }
+    ensures few { result ≤ TURN_MAX }
+{
+    turn.tickets.push_back_reserved(ticket);
+    let waiting = line.waiting(rt, pass);
+    let others = turn_size(waiting, line.workers(), gate.most()) - 1;
+    let claimed = claim_more(rt, line, pass, others, &mut turn.tickets);
+    if waiting > others {
+        line.ring();
+    }
+    answer_all(alloc, gate, &mut turn.tickets, &mut turn.parcels);
+    post_all(rt, gate, &mut turn.parcels, &mut turn.owed);
+    ring_all(&mut turn.owed);
+    claimed
+}
+
+/// How many tickets a turn takes, of which one is claimed and so many wait.
+fn turn_size(waiting: usize, workers: u64, most: usize) -> usize
+    ensures least { 1 ≤ result }
+    ensures most { result ≤ TURN_MAX }
+{
+    let share = waiting.saturating_add(1) as u64 / workers.max(1);
+    let share = if share < TURN_MAX as u64 {
+        share as usize
+    } else {
+        TURN_MAX
+    };
+    share.min(most).max(1)
+}
+
+/// Claims up to so many tickets more.
+fn claim_more<S: Service, R: Wait>(
+    rt: &R,
+    line: &Line<S>,
+    pass: &mut LinePass<S>,
+    most: usize,
+    tickets: &mut Tickets<S>,
+) -> u64
+    requires line { pass.old.line ≡ line.now }
+    requires room { deque_len tickets.old + most ≤ deque_capacity tickets.old }
+    ensures claimed { HasClaimed pass.old result pass.new }
+    ensures few { result ≤ most }
+    ensures count { deque_len tickets.new ≡ deque_len tickets.old + result }
+    ensures capacity { deque_capacity tickets.new ≡ deque_capacity tickets.old }
+{
+    let mut claimed = 0;
+    for _ in 0..most {
+        let Claim::Got(ticket) = line.claim(rt, pass) else {
+            break;
+        };
+        tickets.push_back_reserved(ticket);
+        claimed += 1;
+    }
+    claimed
+}
+
+/// Works on a run of tickets, in order. All that is claimed at a time comes through here.
+fn answer_all<S: Service, G: Gate>(
+    alloc: Global,
+    gate: &G,
+    tickets: &mut Tickets<S>,
+    parcels: &mut Parcels<S>,
+)
+    requires empty { parcels.old.items ≡ [] }
+    requires room { deque_len tickets.old ≤ deque_capacity parcels.old }
+    ensures answers { AnswerEach tickets.old.items parcels.new.items }
+    ensures done { tickets.new.items ≡ [] }
+    ensures count { deque_len parcels.new ≡ deque_len tickets.old }
+    ensures capacity { (deque_capacity tickets.new ≡ deque_capacity tickets.old)
+        × (deque_capacity parcels.new ≡ deque_capacity parcels.old) }
+{
+    if tickets.len() > 1 {
+        if let Ok((labels, jobs)) = taken_apart(alloc, gate, tickets) {
+            return answer_together(alloc, labels, jobs, parcels);
+        }
+    }
+    answer_each(alloc, gate, tickets, parcels);
+}
+
+/// Works on the tickets one by one.
+fn answer_each<S: Service, G: Gate>(
+    alloc: Global,
+    gate: &G,
+    tickets: &mut Tickets<S>,
+    parcels: &mut Parcels<S>,
+)
+    requires empty { parcels.old.items ≡ [] }
+    requires room { deque_len tickets.old ≤ deque_capacity parcels.old }
+    ensures answers { AnswerEach tickets.old.items parcels.new.items }
+    ensures done { tickets.new.items ≡ [] }
+    ensures count { deque_len parcels.new ≡ deque_len tickets.old }
+    ensures capacity { (deque_capacity tickets.new ≡ deque_capacity tickets.old)
+        × (deque_capacity parcels.new ≡ deque_capacity parcels.old) }
+{
+    while let Some(ticket) = tickets.pop_front() {
+        gate.before(ticket.place);
+        parcels.push_back_reserved(answer(alloc, ticket));
+    }
+}
+
+/// Takes the tickets apart, into what stays of each and its job.
+fn taken_apart<S: Service, G: Gate>(
+    alloc: Global,
+    gate: &G,
+    tickets: &mut Tickets<S>,
+) -> Result<(Vec<Label<S>>, Vec<S::Job>), NoMemory>
+    ensures parts { IfOk result (λ parts. joined parts.0.items parts.1.items ≡ tickets.old.items) }
+    ensures even { IfOk result (λ parts. length parts.0.items ≡ length parts.1.items) }
+    ensures done { OnOk result (tickets.new.items ≡ []) }
+    ensures same { OnErr result (tickets.new ≡ tickets.old) }
+    ensures capacity { deque_capacity tickets.new ≡ deque_capacity tickets.old }
+{
+    let mut labels = Vec::with_capacity(alloc, tickets.len())?;
+    let mut jobs = Vec::with_capacity(alloc, tickets.len())?;
+    while let Some(Ticket { place, job, mail }) = tickets.pop_front() {
+        gate.before(place);
+        labels.push_reserved(Label { place, mail });
+        jobs.push_reserved(job);
+    }
+    Ok((labels, jobs))
+}
+
+/// Works on the jobs together, and one by one where there is no memory for that.
+fn answer_together<S: Service>(
+    alloc: Global,
+    labels: Vec<Label<S>>,
+    jobs: Vec<S::Job>,
+    parcels: &mut Parcels<S>,
+)
+    requires even { length labels.items ≡ length jobs.items }
+    requires empty { parcels.old.items ≡ [] }
+    requires room { length (joined labels.items jobs.items) ≤ deque_capacity parcels.old }
+    ensures answers { AnswerEach (joined labels.items jobs.items) parcels.new.items }
+    ensures capacity { deque_capacity parcels.new ≡ deque_capacity parcels.old }
+{
+    match Answer::make_all(alloc, jobs) {
+        Ok(answers) => pack(labels, answers, parcels),
+        Err(jobs) => answer_parts(alloc, labels, jobs, parcels),
+    }
+}
+
+/// Makes a parcel of each answer, the last first.
+fn pack<S: Service>(
+    mut labels: Vec<Label<S>>,
+    mut answers: Vec<Answer<S>>,
+    parcels: &mut Parcels<S>,
+)
+    requires even { length labels.items ≡ length answers.items }
+    requires empty { parcels.old.items ≡ [] }
+    requires room { length (joined labels.items answers.items) ≤ deque_capacity parcels.old }
+    ensures answers { AnswerEach (joined labels.items answers.items) parcels.new.items }
+    ensures capacity { deque_capacity parcels.new ≡ deque_capacity parcels.old }
+{
+    while let Some(answer) = answers.pop() {
+        let Some(Label { place, mail }) = labels.pop() else {
+            unreachable!()
+        };
+        let post = Post::Answered(place, answer);
+        parcels.push_front_reserved(Parcel { post, mail });
+    }
+}
+
+/// Works on the jobs one by one, the last first.
+fn answer_parts<S: Service>(
+    alloc: Global,
+    mut labels: Vec<Label<S>>,
+    mut jobs: Vec<S::Job>,
+    parcels: &mut Parcels<S>,
+)
+    requires even { length labels.items ≡ length jobs.items }
+    requires empty { parcels.old.items ≡ [] }
+    requires room { length (joined labels.items jobs.items) ≤ deque_capacity parcels.old }
+    ensures answers { AnswerEach (joined labels.items jobs.items) parcels.new.items }
+    ensures capacity { deque_capacity parcels.new ≡ deque_capacity parcels.old }
+{
+    while let Some(job) = jobs.pop() {
+        let Some(Label { place, mail }) = labels.pop() else {
+            unreachable!()
+        };
+        parcels.push_front_reserved(answer(alloc, Ticket { place, job, mail }));
+    }
+}
+
+/// Works on a ticket.
+fn answer<S: Service>(alloc: Global, ticket: Ticket<S>) -> Parcel<S>
+    ensures { IsAnswerTo ticket result }
+{
+    let Ticket { place, job, mail } = ticket;
+    let post = match Answer::make(alloc, job) {
+        Ok(answer) => Post::Answered(place, answer),
+        Err(_) => Post::Failed(place),
+    };
+    Parcel { post, mail }
+}
+
+/// Posts the parcels, in order, and wakes nobody: their mailboxes are owed a ring.
+fn post_all<S: Service, G: Gate, R: Wait>(
+    rt: &R,
+    gate: &G,
+    parcels: &mut Parcels<S>,
+    owed: &mut Mails<S>,
+)
+    requires { deque_len owed.old + deque_len parcels.old ≤ deque_capacity owed.old }
+    ensures done { parcels.new.items ≡ [] }
+    ensures capacity { (deque_capacity parcels.new ≡ deque_capacity parcels.old)
+        × (deque_capacity owed.new ≡ deque_capacity owed.old) }
+{
+    while let Some(Parcel { post, mail }) = parcels.pop_front() {
+        let place = place_of(&post);
+        mail.deliver(rt, post);
+        gate.after(place);
+        if mail.is_due(place) {
+            owed.push_back_reserved(mail);
+        }
+    }
+}
+
+fn place_of<S: Service>(post: &Post<S>) -> u64 {
+    match post {
+        Post::Answered(place, _) | Post::Failed(place) => *place,
+    }
+}
+
+/// Rings the mailboxes. A second ring of one that has not been answered costs a load or two.
+fn ring_all<S: Service>(owed: &mut Mails<S>)
+    ensures done { owed.new.items ≡ [] }
+    ensures capacity { deque_capacity owed.new ≡ deque_capacity owed.old }
+{
+    while let Some(mail) = owed.pop_front() {
+        mail.ring();
+    }
+}
