@@ -112,7 +112,7 @@ class Report:
 
     def __init__(self, said):
         self.lines = said.splitlines()
-        status = [re.match(r"fn (\S+): (?!proved$|no holes$)(.*)", it) for it in self.lines]
+        status = [re.match(rf"fn (\S+): (?!{PROVED}$|no holes$)(.*)", it) for it in self.lines]
         self.unproved = {it[1]: it[2] for it in status if it}
         self.has_ended = any(it.startswith(("logic=", "only=")) for it in self.lines)
 
@@ -139,6 +139,7 @@ def is_at(line, function):
     return at and at[1] == function.file and function.first < int(at[2]) <= function.end + 1
 
 
+PROVED = "proved(?:, may wait)?"
 LOST = re.compile(r": error: .*(can be named from here|has no field|is not in scope|\(nearest: )")
 SURE = re.compile(r"no proof|.*(: error: |this goal is false)")
 
@@ -207,7 +208,7 @@ def try_crate(crate):
     said = rt_check(ROOT / "crates" / crate)
     if "\nlogic=proved" not in said:
         return [Verdict("as it stands", False, "NOT PROVED")]
-    proved, bodies, found = re.findall(r"^fn (\S+): proved$", said, re.M), [], []
+    proved, bodies, found = re.findall(rf"^fn (\S+): {PROVED}$", said, re.M), [], []
     with tempfile.TemporaryDirectory(prefix="wrong-bodies-") as room:
         copy = Copy(crate, Path(room), proved)
         for edit in edits_of(crate):
