@@ -2,8 +2,7 @@
 -- what `chosen` promises.
 use Rattle.std.specs.Prelude.{◌≡◌, ◌⊎◌, ℕ, List, Option, Some, None, codes, Result, Ok, Err}
 use Rattle.clap.specs.Values.{IsUnsignedIn}
-use Rattle.clap.specs.Words.{App, Row, Text, app_of, first_of, one_of, with_subcommand}
-use Rattle.clap.specs.declared.builder.command.Command.{Command}
+use Rattle.clap.specs.Words.{Row, Text, first_of, one_of}
 use Rattle.macaroond.specs.declared.choices.Choice.{Choice}
 use Rattle.macaroond.specs.declared.options.OptionFault.{OptionFault}
 use Rattle.macaroond.specs.declared.options.OptionFault.TheVariants as fault
@@ -66,7 +65,3 @@ Chooses name rows (Ok choice) = (choice_name choice ≡ name) × HasValues choic
 Chooses name rows (Err fault.UnknownMode) =
     (name ≡ codes "listen") × (mode_given (first_of (codes "mode") rows) ≡ None)
 Chooses name rows (Err fault.NoMemory) = Unit {0}
-
--- the second command is the first with one more subcommand
-abbrev pub AddsCommand : Command → App → Command → Type 0
-AddsCommand program sub whole = app_of whole ≡ with_subcommand (app_of program) sub.top

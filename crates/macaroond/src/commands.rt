@@ -4,8 +4,8 @@ ghost use Rattle.clap.specs.Words.{app_of, rule_of};
 ghost use Rattle.macaroond.specs.Arguments.{number, option, required};
 ghost use Rattle.macaroond.specs.CommandLine.{command_line, listen_command, pipe_command};
 ghost use Rattle.macaroond.specs.CommandLine.{serve_command};
-ghost use Rattle.macaroond.specs.Options.{AddsCommand};
 
+use crate::parts::{added, valued};
 use crate::people::with_people;
 use clap::builder::ValueParser;
 use clap::{Arg, Command};
@@ -95,61 +95,48 @@ pub fn command<'a>(alloc: Global) -> Result<Command<'a>, AllocError>
         .version(VERSION)
         .subcommand_required(true)
         .disable_help_subcommand(true);
-    let program = with_pipe(alloc, program)?;
-    let program = with_serve(alloc, program)?;
-    let program = with_listen(alloc, program)?;
+    let program = added(program, pipe(alloc))?;
+    let program = added(program, serve(alloc)?)?;
+    let program = added(program, listen(alloc)?)?;
     with_people(alloc, program)
 }
 
-fn with_pipe<'a>(alloc: Global, program: Command<'a>) -> Result<Command<'a>, AllocError>
-    ensures { IfOk result (AddsCommand program.entry pipe_command) }
+fn pipe<'a>(alloc: Global) -> Command<'a>
+    ensures { app_of result ≡ pipe_command }
 {
-    let pipe = Command::new(alloc, "pipe")
+    Command::new(alloc, "pipe")
         .about("Answers the requests on standard input, one line each")
-        .after_help(PIPE_HELP);
-    program.subcommand(pipe)
+        .after_help(PIPE_HELP)
 }
 
-fn with_serve<'a>(alloc: Global, program: Command<'a>) -> Result<Command<'a>, AllocError>
-    ensures { IfOk result (AddsCommand program.entry serve_command) }
+fn serve<'a>(alloc: Global) -> Result<Command<'a>, AllocError>
+    ensures { IfOk result (λ serve. app_of serve ≡ serve_command) }
 {
-    let workers = count(alloc, "workers", WORKERS_MAX)
-        .required(true)
-        .help("How many threads answer requests, from 1 to 16");
-    let accept = count(alloc, "accept", ACCEPT_MAX)
-        .required(true)
-        .help("How many connections are served, from 1 to 1000");
-    let serve = Command::new(alloc, "serve")
+    let workers = "How many threads answer requests, from 1 to 16";
+    let accept = "How many connections are served, from 1 to 1000";
+    Command::new(alloc, "serve")
         .about("Answers the requests of so many connections over a Unix socket")
         .after_help(SERVE_HELP)
         .arg(path(alloc, "socket", SOCKET_HELP))?
         .arg(path(alloc, "keys", KEYS_HELP))?
-        .arg(workers)?
-        .arg(accept)?;
-    program.subcommand(serve)
+        .arg(count(alloc, "workers", WORKERS_MAX, workers).required(true))?
+        .arg(count(alloc, "accept", ACCEPT_MAX, accept).required(true))
 }
 
-fn with_listen<'a>(alloc: Global, program: Command<'a>) -> Result<Command<'a>, AllocError>
-    ensures { IfOk result (AddsCommand program.entry listen_command) }
+fn listen<'a>(alloc: Global) -> Result<Command<'a>, AllocError>
+    ensures { IfOk result (λ listen. app_of listen ≡ listen_command) }
 {
-    let workers = count(alloc, "workers", WORKERS_MAX).help(
-        "How many threads answer requests, from 1 to 16 [default: one a processor]",
-    );
-    let mode = valued(alloc, "mode", "DIGITS").help(
-        "Who may connect: 600 the owner, 660 the group too, 666 everyone [default: 600]",
-    );
-    let idle = count(alloc, "idle", IDLE_MAX).help(
-        "Ends a connection that makes no progress for so many seconds [default: never]",
-    );
-    let listen = Command::new(alloc, "listen")
+    let workers = "How many threads answer requests, from 1 to 16 [default: one a processor]";
+    let mode = "Who may connect: 600 the owner, 660 the group too, 666 everyone [default: 600]";
+    let idle = "Ends a connection that makes no progress for so many seconds [default: never]";
+    Command::new(alloc, "listen")
         .about("Answers requests over a Unix socket until it is stopped")
         .after_help(LISTEN_HELP)
         .arg(path(alloc, "socket", SOCKET_HELP))?
         .arg(path(alloc, "keys", KEYS_HELP))?
-        .arg(workers)?
-        .arg(mode)?
-        .arg(idle)?;
-    program.subcommand(listen)
+        .arg(count(alloc, "workers", WORKERS_MAX, workers))?
+        .arg(valued(alloc, "mode", "DIGITS", mode))?
+        .arg(count(alloc, "idle", IDLE_MAX, idle))
 }
 
 // A required option that takes a path.
@@ -157,21 +144,13 @@ fn path<'a>(alloc: Global, name: &'a str, help: &'a str) -> Arg<'a>
     ensures rule { rule_of result ≡ required (option name.entry.now) }
     ensures local { result.global ≡ false }
 {
-    valued(alloc, name, "PATH").required(true).help(help)
+    valued(alloc, name, "PATH", help).required(true)
 }
 
 // An option that takes a number from 1 to `most`.
-fn count<'a>(alloc: Global, name: &'a str, most: u64) -> Arg<'a>
+fn count<'a>(alloc: Global, name: &'a str, most: u64, help: &'a str) -> Arg<'a>
     ensures rule { rule_of result ≡ number most (option name.entry.now) }
     ensures local { result.global ≡ false }
 {
-    valued(alloc, name, "COUNT").value_parser(ValueParser::unsigned(1, most))
-}
-
-// An option that takes a value.
-fn valued<'a>(alloc: Global, name: &'a str, value: &'a str) -> Arg<'a>
-    ensures rule { rule_of result ≡ option name.entry.now }
-    ensures local { result.global ≡ false }
-{
-    Arg::new(alloc, name).long(name).value_name(value)
+    valued(alloc, name, "COUNT", help).value_parser(ValueParser::unsigned(1, most))
 }

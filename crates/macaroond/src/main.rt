@@ -17,6 +17,7 @@ mod input;
 pub mod laws;
 mod lines;
 mod options;
+mod parts;
 mod people;
 mod piping;
 mod reply_line;

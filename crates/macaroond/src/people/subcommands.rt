@@ -1,12 +1,12 @@
 //! The subcommands for people, as `clap` is told them.
 ghost use Rattle.std.specs.Prelude.{◌≡◌, false, true, IfOk};
 ghost use Rattle.clap.specs.Words.{app_of, new_app, rule_of, with_rule};
-ghost use Rattle.clap.specs.Words.{with_subcommand};
 ghost use Rattle.macaroond.specs.Arguments.{option, required};
 ghost use Rattle.macaroond.specs.People.{attenuate_command, inspect_command, keygen_command};
 ghost use Rattle.macaroond.specs.People.{mint_command, repeated, verify_command, with_key};
 ghost use Rattle.macaroond.specs.People.{with_people, word};
 
+use crate::parts::{added, valued};
 use clap::builder::ValueParser;
 use clap::{Arg, ArgAction, Command};
 use std::alloc::{AllocError, Global};
@@ -193,15 +193,6 @@ fn inspect<'a>(alloc: Global) -> Result<Command<'a>, AllocError>
     with_arg(command, word(alloc, "token", "TOKEN", TOKEN_HELP))
 }
 
-// The program with one more subcommand.
-fn added<'a>(program: Command<'a>, command: Command<'a>) -> Result<Command<'a>, AllocError>
-    requires { (app_of command).top.is_plain ≡ true }
-    ensures { IfOk result (λ whole.
-        app_of whole ≡ with_subcommand (app_of program.entry) (app_of command.entry).top) }
-{
-    program.subcommand(command)
-}
-
 // A subcommand without its arguments.
 fn subcommand<'a>(alloc: Global, name: &'a str, about: &'a str, help: &'a str) -> Command<'a>
     ensures { app_of result ≡ new_app name.entry.now }
@@ -242,17 +233,6 @@ fn asked<'a>(alloc: Global, name: &'a str, value: &'a str, help: &'a str) -> Arg
     ensures local { result.global ≡ false }
 {
     valued(alloc, name, value, help).required(true)
-}
-
-// An option that takes a value.
-fn valued<'a>(alloc: Global, name: &'a str, value: &'a str, help: &'a str) -> Arg<'a>
-    ensures rule { rule_of result ≡ option name.entry.now }
-    ensures local { result.global ≡ false }
-{
-    Arg::new(alloc, name)
-        .long(name)
-        .value_name(value)
-        .help(help)
 }
 
 // A word that has to be given, without a name.

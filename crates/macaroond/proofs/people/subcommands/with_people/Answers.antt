@@ -1,7 +1,7 @@
 use Rattle.std.proofs.Common.{◌≡◌, ◌∙◌, ap, ap₂}
 use Rattle.std.proofs.lemmas.Result.{IfOk-weaker}
 use Rattle.clap.specs.Words.{App, app_of, with_subcommand}
-use Rattle.macaroond.specs.People.{attenuate_command, inspect_command, keygen_command, mint_command, verify_command}
+use Rattle.macaroond.specs.People.{attenuate_command, keygen_command, mint_command, verify_command}
 use Rattle.macaroond.proofs.people.subcommands.with_people.Goals as goal
 
 -- a program with one more subcommand

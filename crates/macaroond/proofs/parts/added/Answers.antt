@@ -1,6 +1,6 @@
 use Rattle.std.proofs.Common.{◌≡◌, ◌&&◌, Bool, false, not, refl, true}
 use Rattle.std.proofs.lemmas.Result.{IfOk-weaker}
-use Rattle.macaroond.proofs.people.subcommands.added.Goals as goal
+use Rattle.macaroond.proofs.parts.added.Goals as goal
 
 -- of four tests that all pass the third does
 third_passes : (a b g r : Bool) → (a && (b && (not g && r))) ≡ true → g ≡ false
