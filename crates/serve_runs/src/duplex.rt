@@ -5,7 +5,7 @@ ghost use Rattle.std.specs.Prelude.{true};
 
 use crate::fault::RunFault;
 use crate::flags::Flags;
-use crate::report::{report_text, tally_text};
+use crate::report::met_text;
 use crate::serving::{ROOM, by_a_pool};
 use crate::streams::{FIRST_REPLY, TWO_FRAMES};
 use mac_pool::Gate;
@@ -101,21 +101,26 @@ where
     let flags = Flags::new();
     let gate = Arc::new(alloc, Meeting { flags })?;
     let theirs = Arc::try_clone(&gate)?;
-    let mut source = Waiting {
-        inner: MemSource::new(Vec::from_slice(alloc, TWO_FRAMES)?, FIRST_FRAME, 0),
-        meeting: &gate,
+    let (mut source, mut sink) = ends_of(alloc, &gate)?;
+    let (report, tally) = by_a_pool(rt, alloc, 2, theirs, &mut source, &mut sink)?;
+    met_text(alloc, &gate.flags, tally, report, sink.inner.bytes())
+}
+
+/// The devices, which meet at a gate.
+fn ends_of<'a>(
+    alloc: Global,
+    meeting: &'a Meeting,
+) -> Result<(Waiting<'a>, Telling<'a>), RunFault> {
+    let source = MemSource::new(Vec::from_slice(alloc, TWO_FRAMES)?, FIRST_FRAME, 0);
+    let sink = MemSink::new(alloc, ROOM, ROOM, 0)?;
+    let waiting = Waiting {
+        inner: source,
+        meeting,
         has_given: false,
     };
-    let mut sink = Telling {
-        inner: MemSink::new(alloc, ROOM, ROOM, 0)?,
-        meeting: &gate,
+    let telling = Telling {
+        inner: sink,
+        meeting,
     };
-    let (report, tally) = by_a_pool(rt, alloc, 2, theirs, &mut source, &mut sink)?;
-    let Telling { inner, meeting } = sink;
-    if !meeting.flags.are_met() {
-        return Err(RunFault::Wrong);
-    }
-    let told = report_text(alloc, report, inner.bytes())?;
-    let books = tally_text(alloc, tally)?;
-    Ok(format!(in alloc; "{} {}", books.as_str(), told.as_str())?)
+    Ok((waiting, telling))
 }

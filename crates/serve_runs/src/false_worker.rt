@@ -5,11 +5,12 @@ ghost use Rattle.std.specs.Prelude.{◌≡◌, IfOk};
 use crate::fault::RunFault;
 use crate::flags::TURNS;
 use crate::report::{Report, fault_number, tally_text};
-use crate::serving::{Ended, ROOM, attended, books, caller_at};
+use crate::serving::{Caller, Devices, ROOM, Told, attended, books, desk_of, with_books};
 use crate::streams::{FIRST_REPLY, TWO_FRAMES, TWO_REPLIES, key_table};
 use mac_decide::Macaroons;
+use mac_keys::KeyTable;
 use mac_lane::{Answer, Service};
-use mac_pool::{Claim, Hand, NoGate, Pool, Post, Ticket};
+use mac_pool::{Claim, Hand, NoGate, Pool, Post, Tally, Ticket};
 use std::alloc::Global;
 use std::sync::Wait;
 use std::thread;
@@ -32,16 +33,23 @@ enum Posts {
     Failed,
 }
 
+/// The names of what it posts.
+const POSTS: &[(&str, Posts)] = &[
+    ("backwards", Posts::Backwards),
+    ("others_first", Posts::OthersFirst),
+    ("others_last", Posts::OthersLast),
+    ("twice", Posts::Twice),
+    ("far_away", Posts::FarAway),
+    ("failed", Posts::Failed),
+];
+
 fn posts_of(name: &str) -> Result<Posts, RunFault> {
-    match name.as_bytes() {
-        b"backwards" => Ok(Posts::Backwards),
-        b"others_first" => Ok(Posts::OthersFirst),
-        b"others_last" => Ok(Posts::OthersLast),
-        b"twice" => Ok(Posts::Twice),
-        b"far_away" => Ok(Posts::FarAway),
-        b"failed" => Ok(Posts::Failed),
-        _ => Err(RunFault::NoRun),
+    for (known, posts) in POSTS {
+        if *known == name {
+            return Ok(*posts);
+        }
     }
+    Err(RunFault::NoRun)
 }
 
 /// What comes of two frames by a worker that posts so.
@@ -50,32 +58,67 @@ where
     R: Threads + Wait + Sync,
 {
     let posts = posts_of(name)?;
-    let keys = key_table(alloc)?;
-    let keys = &keys;
-    let mut pool = idle_pool(alloc)?;
     let stream = Vec::from_slice(alloc, TWO_FRAMES)?;
-    let caller = caller_at(alloc, &mut pool, stream, ROOM, 64)?;
-    let hand = hand_of(alloc, &mut pool)?;
-    let (ended, working) = thread::join(
-        rt,
-        move || -> Ended
-            ensures { result.desk.putter.line ≡ caller.desk.putter.line }
-        { attended(rt, alloc, keys, caller) },
-        move || -> (bool, Hand<Macaroons>)
-            ensures { result.1.line ≡ hand.line }
-        { work(rt, alloc, hand, posts) },
-    );
-    let Ended { report, sink, desk } = ended;
-    pool.home(desk);
-    pool.hand_back(working.1);
-    let tally = books(rt, pool)?;
-    if !working.0 || !TWO_REPLIES.starts_with(sink.bytes()) {
+    let mut devices = Devices::new(alloc, stream, ROOM, 64)?;
+    let (report, tally) = by_hand(rt, alloc, &mut devices, posts)?;
+    posted_text(alloc, tally, posts, report, devices.sink.bytes())
+}
+
+/// The books of a pool, the fault, and which replies were sent.
+fn posted_text(
+    alloc: Global,
+    tally: Tally,
+    posts: Posts,
+    report: Report,
+    bytes: &[u8],
+) -> Result<String, RunFault> {
+    if !TWO_REPLIES.starts_with(bytes) {
         return Err(RunFault::Wrong);
     }
     let fault = fault_number(report.fault);
     let sent = sent_text(posts, report)?;
     let books = tally_text(alloc, tally)?;
     Ok(format!(in alloc; "{} fault {fault} {sent}", books.as_str())?)
+}
+
+/// Serves a connection by a pool without workers, and a hand that posts.
+fn by_hand<R: Threads + Wait + Sync>(
+    rt: &R,
+    alloc: Global,
+    devices: &mut Devices,
+    posts: Posts,
+) -> Result<(Report, Tally), RunFault> {
+    let keys = key_table(alloc)?;
+    let mut pool = idle_pool(alloc)?;
+    let told = at_a_hand(rt, alloc, &keys, &mut pool, devices, posts);
+    with_books(told, books(rt, pool))
+}
+
+/// Serves a connection at a desk of the pool, while a hand posts.
+fn at_a_hand<R: Threads + Wait + Sync>(
+    rt: &R,
+    alloc: Global,
+    keys: &KeyTable,
+    pool: &mut Pool<Macaroons, NoGate>,
+    devices: &mut Devices,
+    posts: Posts,
+) -> Result<Report, RunFault> {
+    let hand = hand_of(alloc, pool)?;
+    let desk = desk_of(alloc, pool)?;
+    let caller = Caller { devices, desk };
+    let (told, working) = thread::join(
+        rt,
+        move || -> Told
+            ensures { result.desk.putter.line ≡ caller.entry.desk.putter.line }
+        { attended(rt, alloc, keys, caller) },
+        move || -> Worked
+            ensures { result.hand.line ≡ hand.line }
+        { work(rt, alloc, hand, posts) },
+    );
+    pool.home(told.desk);
+    pool.hand_back(working.hand);
+    working.done?;
+    Ok(told.report)
 }
 
 /// Which replies were sent. Where the first answer comes twice, its reply may be out before the
@@ -110,35 +153,45 @@ fn hand_of(alloc: Global, pool: &mut Pool<Macaroons, NoGate>) -> Result<Hand<Mac
     }
 }
 
-/// Claims both tickets, and posts. Whether that could be done.
-fn work<R: Wait>(
+/// Whether the hand claimed both tickets and posted, and the hand.
+#[derive(Drop)]
+struct Worked {
+    done: Result<(), RunFault>,
+    hand: Hand<Macaroons>,
+}
+
+fn work<R: Wait>(rt: &R, alloc: Global, mut hand: Hand<Macaroons>, posts: Posts) -> Worked
+    ensures { result.hand.line ≡ hand.line }
+{
+    let done = claim_and_post(rt, alloc, &mut hand, posts);
+    Worked { done, hand }
+}
+
+/// Claims both tickets, and posts.
+fn claim_and_post<R: Wait>(
     rt: &R,
     alloc: Global,
-    mut hand: Hand<Macaroons>,
+    hand: &mut Hand<Macaroons>,
     posts: Posts,
-) -> (bool, Hand<Macaroons>)
-    ensures { result.1.line ≡ hand.line }
+) -> Result<(), RunFault>
+    ensures { hand.new.line ≡ hand.old.line }
 {
-    let first = next_ticket(rt, &mut hand);
-    let second = next_ticket(rt, &mut hand);
-    let is_done = match (first, second) {
-        (Some(first), Some(second)) => post_all(rt, alloc, &first, &second, posts).is_ok(),
-        _ => false,
-    };
-    (is_done, hand)
+    let first = next_ticket(rt, hand)?;
+    let second = next_ticket(rt, hand)?;
+    post_all(rt, alloc, &first, &second, posts)
 }
 
 /// The next ticket, looked for some ten million times.
-fn next_ticket<R: Wait>(rt: &R, hand: &mut Hand<Macaroons>) -> Option<Ticket<Macaroons>>
+fn next_ticket<R: Wait>(rt: &R, hand: &mut Hand<Macaroons>) -> Result<Ticket<Macaroons>, RunFault>
     ensures { hand.new.line ≡ hand.old.line }
 {
     for _ in 0..TURNS {
         if let Claim::Got(ticket) = hand.claim(rt) {
-            return Some(ticket);
+            return Ok(ticket);
         }
         thread::yield_now();
     }
-    None
+    Err(RunFault::Wrong)
 }
 
 fn post_all<R: Wait>(

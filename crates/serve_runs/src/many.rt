@@ -1,15 +1,17 @@
 //! Several connections at one pool.
 
-ghost use Rattle.std.specs.Prelude.{◌≡◌, IfOk};
+ghost use Rattle.std.specs.Prelude.{◌≡◌};
 
 use crate::fault::RunFault;
-use crate::report::{report_text, tally_text};
+use crate::report::{Report, outcome_text, report_text, tally_text};
 use crate::requests::{Asked, Kinds, requests_of};
-use crate::serving::{Caller, Ended, ROOM, attended, books, both_attended, caller_at, pool_of};
+use crate::serving::{
+    Caller, Devices, ROOM, Told, attended, books, both_attended, desk_of, pool_of, with_books,
+};
 use crate::streams::{key_table, stream_of};
 use mac_decide::Macaroons;
 use mac_keys::KeyTable;
-use mac_pool::{NoGate, Pool};
+use mac_pool::{NoGate, Pool, Tally};
 use mac_wire::Version;
 use std::alloc::Global;
 use std::sync::{Arc, Wait};
@@ -24,23 +26,69 @@ pub(crate) fn two_told<R>(rt: &R, alloc: Global, one: &str, other: &str) -> Resu
 where
     R: Threads + Wait + Sync + Copy + Send + 'static,
 {
-    let keys = key_table(alloc)?;
+    let mut first = Devices::new(alloc, stream_of(alloc, one)?, ROOM, 1)?;
+    let mut second = Devices::new(alloc, stream_of(alloc, other)?, ROOM, 1)?;
+    let (reports, tally) = two_by_a_pool(rt, alloc, &mut first, &mut second)?;
+    two_text(
+        alloc,
+        tally,
+        reports,
+        first.sink.bytes(),
+        second.sink.bytes(),
+    )
+}
+
+/// The books of a pool, and what its two connections told and wrote.
+fn two_text(
+    alloc: Global,
+    tally: Tally,
+    reports: (Report, Report),
+    first: &[u8],
+    second: &[u8],
+) -> Result<String, RunFault> {
+    let before = outcome_text(alloc, tally, reports.0, first)?;
+    let behind = report_text(alloc, reports.1, second)?;
+    Ok(format!(in alloc; "{}; {}", before.as_str(), behind.as_str())?)
+}
+
+/// Serves two connections by a pool of two workers.
+fn two_by_a_pool<R>(
+    rt: &R,
+    alloc: Global,
+    one: &mut Devices,
+    other: &mut Devices,
+) -> Result<((Report, Report), Tally), RunFault>
+where
+    R: Threads + Wait + Sync + Copy + Send + 'static,
+{
     let gate = Arc::new(alloc, NoGate)?;
+    let keys = key_table(alloc)?;
     let mut pool = pool_of(rt, alloc, 2, gate)?;
-    let first = caller_at(alloc, &mut pool, stream_of(alloc, one)?, ROOM, 1)?;
-    let second = caller_at(alloc, &mut pool, stream_of(alloc, other)?, ROOM, 1)?;
-    let (first, second) = both_attended(rt, alloc, &keys, first, second);
+    let told = two_at_desks(rt, alloc, &keys, &mut pool, one, other);
+    with_books(told, books(rt, pool))
+}
+
+/// Serves two connections at desks of the pool.
+fn two_at_desks<R: Threads + Wait + Sync>(
+    rt: &R,
+    alloc: Global,
+    keys: &KeyTable,
+    pool: &mut Pool<Macaroons, NoGate>,
+    one: &mut Devices,
+    other: &mut Devices,
+) -> Result<(Report, Report), RunFault> {
+    let first = Caller {
+        devices: one,
+        desk: desk_of(alloc, pool)?,
+    };
+    let second = Caller {
+        devices: other,
+        desk: desk_of(alloc, pool)?,
+    };
+    let (first, second) = both_attended(rt, alloc, keys, first, second);
     pool.home(first.desk);
     pool.home(second.desk);
-    let books = tally_text(alloc, books(rt, pool)?)?;
-    let first = report_text(alloc, first.report, first.sink.bytes())?;
-    let second = report_text(alloc, second.report, second.sink.bytes())?;
-    Ok(format!(in alloc;
-        "{} {}; {}",
-        books.as_str(),
-        first.as_str(),
-        second.as_str()
-    )?)
+    Ok((first.report, second.report))
 }
 
 /// So many requests that look random over three connections, of which the last is of version two,
@@ -55,64 +103,150 @@ where
     R: Threads + Wait + Sync + Copy + Send + 'static,
 {
     let keys = key_table(alloc)?;
-    let gate = Arc::new(alloc, NoGate)?;
-    let mut pool = pool_of(rt, alloc, 4, gate)?;
-    let share = requests / 3;
-    let (one, first) = asking(alloc, &keys, &mut pool, Version::One, share, seed)?;
-    let (two, second) = asking(alloc, &keys, &mut pool, Version::One, share, seed ^ 0x5555)?;
-    let rest = requests - 2 * share;
-    let (three, third) = asking(alloc, &keys, &mut pool, Version::Two, rest, seed ^ 0xaaaa)?;
-    let (one, two, three) = three_attended(rt, alloc, &keys, one, two, three);
-    let are_met = first.is_met(&one) && second.is_met(&two) && third.is_met(&three);
-    let kinds = first.kinds.and(second.kinds).and(third.kinds);
-    pool.home(one.desk);
-    pool.home(two.desk);
-    pool.home(three.desk);
-    let books = tally_text(alloc, books(rt, pool)?)?;
+    let mut asking = three_asking(alloc, &keys, requests, seed)?;
+    let (reports, tally) = three_by_a_pool(rt, alloc, &keys, &mut asking)?;
+    many_text(alloc, tally, asking.kinds(), asking.are_met(reports))
+}
+
+/// The books of a pool, and that all replies were as due.
+fn many_text(alloc: Global, tally: Tally, kinds: Kinds, are_met: bool) -> Result<String, RunFault> {
     if !are_met || !kinds.are_mixed() {
         return Err(RunFault::Wrong);
     }
+    let books = tally_text(alloc, tally)?;
     Ok(format!(in alloc; "{} {} replies as due", books.as_str(), kinds.count())?)
 }
 
-/// What is due at a connection.
-#[derive(Drop)]
-struct Due {
-    bytes: Vec<u8>,
-    kinds: Kinds,
+/// What three connections told.
+#[derive(Clone, Copy)]
+struct ThreeReports {
+    one: Report,
+    two: Report,
+    three: Report,
 }
 
-impl Due {
-    /// Whether the connection ended well, and wrote what is due.
-    fn is_met(&self, ended: &Ended) -> bool {
-        let report = ended.report;
-        report.fault.is_none()
-            && report.arrived == self.kinds.count()
-            && report.sent == self.kinds.count()
-            && ended.sink.bytes() == self.bytes.as_slice()
+/// Three connections, and what is due there.
+#[derive(Drop)]
+struct ThreeAsking {
+    one: Asking,
+    two: Asking,
+    three: Asking,
+}
+
+impl ThreeAsking {
+    fn kinds(&self) -> Kinds {
+        self.one.kinds.and(self.two.kinds).and(self.three.kinds)
+    }
+
+    /// Whether all connections ended well, and wrote what is due.
+    fn are_met(&self, reports: ThreeReports) -> bool {
+        self.one.is_met(reports.one)
+            && self.two.is_met(reports.two)
+            && self.three.is_met(reports.three)
     }
 }
 
-/// A connection of so many requests that look random, and what is due there.
-fn asking(
+/// A connection, and what is due there.
+#[derive(Drop)]
+struct Asking {
+    devices: Devices,
+    due: Vec<u8>,
+    kinds: Kinds,
+}
+
+impl Asking {
+    /// Whether the connection ended well, and wrote what is due.
+    fn is_met(&self, report: Report) -> bool {
+        report.fault.is_none()
+            && report.arrived == self.kinds.count()
+            && report.sent == self.kinds.count()
+            && self.devices.sink.bytes() == self.due.as_slice()
+    }
+}
+
+/// Connections of so many requests that look random, and what is due there.
+fn three_asking(
     alloc: Global,
     keys: &KeyTable,
-    pool: &mut Pool<Macaroons, NoGate>,
+    requests: u64,
+    seed: u64,
+) -> Result<ThreeAsking, RunFault> {
+    let share = requests / 3;
+    let rest = requests - 2 * share;
+    let one = asking_for(alloc, keys, Version::One, share, seed)?;
+    let two = asking_for(alloc, keys, Version::One, share, seed ^ 0x5555)?;
+    let three = asking_for(alloc, keys, Version::Two, rest, seed ^ 0xaaaa)?;
+    Ok(ThreeAsking { one, two, three })
+}
+
+/// A connection of so many requests that look random, and what is due there.
+fn asking_for(
+    alloc: Global,
+    keys: &KeyTable,
     version: Version,
     count: u64,
     seed: u64,
-) -> Result<(Caller, Due), RunFault>
-    ensures line { pool.new.line ≡ pool.old.line }
-    ensures at { IfOk result (λ asking. asking.0.desk.putter.line ≡ pool.old.line) }
-{
+) -> Result<Asking, RunFault> {
     let Asked {
         stream,
         due,
         kinds,
         ..
     } = requests_of(alloc, keys, version, count, seed)?;
-    let caller = caller_at(alloc, pool, stream, due.len(), PIECE)?;
-    Ok((caller, Due { bytes: due, kinds }))
+    let devices = Devices::new(alloc, stream, due.len(), PIECE)?;
+    Ok(Asking {
+        devices,
+        due,
+        kinds,
+    })
+}
+
+/// Serves three connections by a pool of four workers.
+fn three_by_a_pool<R>(
+    rt: &R,
+    alloc: Global,
+    keys: &KeyTable,
+    asking: &mut ThreeAsking,
+) -> Result<(ThreeReports, Tally), RunFault>
+where
+    R: Threads + Wait + Sync + Copy + Send + 'static,
+{
+    let gate = Arc::new(alloc, NoGate)?;
+    let mut pool = pool_of(rt, alloc, 4, gate)?;
+    let told = three_at_desks(rt, alloc, keys, &mut pool, asking);
+    with_books(told, books(rt, pool))
+}
+
+/// Serves three connections at desks of the pool.
+fn three_at_desks<R: Threads + Wait + Sync>(
+    rt: &R,
+    alloc: Global,
+    keys: &KeyTable,
+    pool: &mut Pool<Macaroons, NoGate>,
+    asking: &mut ThreeAsking,
+) -> Result<ThreeReports, RunFault> {
+    let ThreeAsking { one, two, three } = asking;
+    let one = Caller {
+        devices: &mut one.devices,
+        desk: desk_of(alloc, pool)?,
+    };
+    let two = Caller {
+        devices: &mut two.devices,
+        desk: desk_of(alloc, pool)?,
+    };
+    let three = Caller {
+        devices: &mut three.devices,
+        desk: desk_of(alloc, pool)?,
+    };
+    let (one, two, three) = three_attended(rt, alloc, keys, one, two, three);
+    pool.home(one.desk);
+    pool.home(two.desk);
+    pool.home(three.desk);
+    Ok(ThreeReports {
+        one: one.report,
+        two: two.report,
+        three: three.report,
+    })
 }
 
 /// Serves three connections at once.
@@ -123,19 +257,19 @@ fn three_attended<R: Threads + Wait + Sync>(
     one: Caller,
     two: Caller,
     three: Caller,
-) -> (Ended, Ended, Ended)
-    ensures one { result.0.desk.putter.line ≡ one.desk.putter.line }
-    ensures two { result.1.desk.putter.line ≡ two.desk.putter.line }
-    ensures three { result.2.desk.putter.line ≡ three.desk.putter.line }
+) -> (Told, Told, Told)
+    ensures one { result.0.desk.putter.line ≡ one.entry.desk.putter.line }
+    ensures two { result.1.desk.putter.line ≡ two.entry.desk.putter.line }
+    ensures three { result.2.desk.putter.line ≡ three.entry.desk.putter.line }
 {
     let (one, others) = thread::join(
         rt,
-        move || -> Ended
-            ensures { result.desk.putter.line ≡ one.desk.putter.line }
+        move || -> Told
+            ensures { result.desk.putter.line ≡ one.entry.desk.putter.line }
         { attended(rt, alloc, keys, one) },
-        move || -> (Ended, Ended)
-            ensures two { result.0.desk.putter.line ≡ two.desk.putter.line }
-            ensures three { result.1.desk.putter.line ≡ three.desk.putter.line }
+        move || -> (Told, Told)
+            ensures two { result.0.desk.putter.line ≡ two.entry.desk.putter.line }
+            ensures three { result.1.desk.putter.line ≡ three.entry.desk.putter.line }
         { both_attended(rt, alloc, keys, two, three) },
     );
     (one, others.0, others.1)

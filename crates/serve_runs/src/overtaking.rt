@@ -2,11 +2,10 @@
 
 use crate::fault::RunFault;
 use crate::flags::Flags;
-use crate::report::{report_text, tally_text};
-use crate::serving::{ROOM, by_a_pool};
+use crate::report::met_text;
+use crate::serving::{Devices, ROOM, by_a_pool};
 use crate::streams::TWO_FRAMES;
 use mac_pool::Gate;
-use mac_wire::{MemSink, MemSource};
 use std::alloc::Global;
 use std::sync::{Arc, Wait};
 use std::thread::Threads;
@@ -40,13 +39,9 @@ where
     let flags = Flags::new();
     let gate = Arc::new(alloc, Overtaken { flags })?;
     let theirs = Arc::try_clone(&gate)?;
-    let mut source = MemSource::new(Vec::from_slice(alloc, TWO_FRAMES)?, 64, 0);
-    let mut sink = MemSink::new(alloc, ROOM, 64, 0)?;
-    let (report, tally) = by_a_pool(rt, alloc, 2, theirs, &mut source, &mut sink)?;
-    if !gate.flags.are_met() {
-        return Err(RunFault::Wrong);
-    }
-    let told = report_text(alloc, report, sink.bytes())?;
-    let books = tally_text(alloc, tally)?;
-    Ok(format!(in alloc; "{} {}", books.as_str(), told.as_str())?)
+    let stream = Vec::from_slice(alloc, TWO_FRAMES)?;
+    let mut devices = Devices::new(alloc, stream, ROOM, 64)?;
+    let Devices { source, sink } = &mut devices;
+    let (report, tally) = by_a_pool(rt, alloc, 2, theirs, source, sink)?;
+    met_text(alloc, &gate.flags, tally, report, devices.sink.bytes())
 }

@@ -1,6 +1,7 @@
 //! What came of a connection, in words.
 
 use crate::fault::RunFault;
+use crate::flags::Flags;
 use mac_pool::Tally;
 use mac_serve::ServeFault;
 use mac_wire::Ending;
@@ -57,4 +58,30 @@ pub(crate) fn tally_text(alloc: Global, tally: Tally) -> Result<String, RunFault
         "put {} claimed {} left {}",
         tally.put, tally.claimed, tally.left
     )?)
+}
+
+/// The books of a pool, and what its one connection told and wrote.
+pub(crate) fn outcome_text(
+    alloc: Global,
+    tally: Tally,
+    report: Report,
+    bytes: &[u8],
+) -> Result<String, RunFault> {
+    let told = report_text(alloc, report, bytes)?;
+    let books = tally_text(alloc, tally)?;
+    Ok(format!(in alloc; "{} {}", books.as_str(), told.as_str())?)
+}
+
+/// The same, once both flags came.
+pub(crate) fn met_text(
+    alloc: Global,
+    flags: &Flags,
+    tally: Tally,
+    report: Report,
+    bytes: &[u8],
+) -> Result<String, RunFault> {
+    if !flags.are_met() {
+        return Err(RunFault::Wrong);
+    }
+    outcome_text(alloc, tally, report, bytes)
 }

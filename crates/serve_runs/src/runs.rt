@@ -20,6 +20,22 @@ where
     }
 }
 
+/// What a run's name stands for.
+#[derive(Clone, Copy)]
+enum Kind {
+    Stream,
+    Overtaking,
+    Duplex,
+    Cuts,
+    FailingReads,
+    FailingWrites,
+    Posts,
+    Two,
+    Many,
+    Load,
+    Made,
+}
+
 /// The runs: a name, and what it takes behind colons. `streams.rt` names the streams.
 ///
 /// ```text
@@ -35,31 +51,55 @@ where
 /// load:KIND:WORKERS:REQUESTS  requests of one kind, to be timed: mint, verify or empty
 /// made:KIND:REQUESTS          what is done for it before it is served
 /// ```
+const RUNS: &[(&str, Kind)] = &[
+    ("stream", Kind::Stream),
+    ("overtaking", Kind::Overtaking),
+    ("duplex", Kind::Duplex),
+    ("cuts", Kind::Cuts),
+    ("failing_reads", Kind::FailingReads),
+    ("failing_writes", Kind::FailingWrites),
+    ("posts", Kind::Posts),
+    ("two", Kind::Two),
+    ("many", Kind::Many),
+    ("load", Kind::Load),
+    ("made", Kind::Made),
+];
+
+/// What a name stands for.
+fn kind_of(name: &str) -> Result<Kind, RunFault> {
+    for (known, kind) in RUNS {
+        if *known == name {
+            return Ok(*kind);
+        }
+    }
+    Err(RunFault::NoRun)
+}
+
+/// What a word's run comes to.
 fn run<R>(rt: &R, alloc: Global, word: &str) -> Result<String, RunFault>
 where
     R: Threads + Wait + Sync + Copy + Send + 'static,
 {
     let (name, rest) = divided(word);
     let (first, behind) = divided(rest);
-    match name.as_bytes() {
-        b"stream" => {
+    match kind_of(name)? {
+        Kind::Stream => {
             let (workers, piece) = numbers(behind)?;
             serving::stream_told(rt, alloc, first, workers as usize, piece as usize)
         }
-        b"overtaking" => overtaking::overtaking_told(rt, alloc),
-        b"duplex" => duplex::duplex_told(rt, alloc),
-        b"cuts" => tables::cuts_told(rt, alloc, version(rest)?),
-        b"failing_reads" => tables::reads_told(rt, alloc, version(rest)?),
-        b"failing_writes" => tables::writes_told(rt, alloc, version(rest)?),
-        b"posts" => false_worker::false_worker_told(rt, alloc, rest),
-        b"two" => many::two_told(rt, alloc, first, behind),
-        b"many" => many::many_told(rt, alloc, number(first)?, number(behind)?),
-        b"load" => {
+        Kind::Overtaking => overtaking::overtaking_told(rt, alloc),
+        Kind::Duplex => duplex::duplex_told(rt, alloc),
+        Kind::Cuts => tables::cuts_told(rt, alloc, version(rest)?),
+        Kind::FailingReads => tables::reads_told(rt, alloc, version(rest)?),
+        Kind::FailingWrites => tables::writes_told(rt, alloc, version(rest)?),
+        Kind::Posts => false_worker::false_worker_told(rt, alloc, rest),
+        Kind::Two => many::two_told(rt, alloc, first, behind),
+        Kind::Many => many::many_told(rt, alloc, number(first)?, number(behind)?),
+        Kind::Load => {
             let (workers, count) = numbers(behind)?;
             load::load_told(rt, alloc, first, workers as usize, count)
         }
-        b"made" => load::made_told(alloc, first, number(behind)?),
-        _ => Err(RunFault::NoRun),
+        Kind::Made => load::made_told(alloc, first, number(behind)?),
     }
 }
 

@@ -3,7 +3,7 @@
 ghost use Rattle.std.specs.Prelude.{◌≡◌, ◌≤◌, IfOk};
 
 use crate::fault::RunFault;
-use crate::report::{Report, report_text, tally_text};
+use crate::report::{Report, outcome_text};
 use crate::streams::{key_table, stream_of};
 use mac_decide::Macaroons;
 use mac_keys::KeyTable;
@@ -17,19 +17,33 @@ use std::thread::Threads;
 /// How many bytes a memory sink has room for, at least.
 pub(crate) const ROOM: usize = 1_000;
 
-/// A connection that is to be served: its devices, and its desk.
+/// The devices of a connection.
 #[derive(Drop)]
-pub(crate) struct Caller {
+pub(crate) struct Devices {
     pub source: MemSource,
     pub sink: MemSink,
-    pub desk: Desk<Macaroons>,
 }
 
-/// A connection that has ended.
+impl Devices {
+    /// Those of a stream, which read and write in pieces of so many bytes.
+    pub(crate) fn new(
+        alloc: Global,
+        stream: Vec<u8>,
+        room: usize,
+        piece: usize,
+    ) -> Result<Devices, RunFault>
+        requires { 1 ≤ piece }
+    {
+        let source = MemSource::new(stream, piece, 0);
+        let sink = MemSink::new(alloc, room, piece, 0)?;
+        Ok(Devices { source, sink })
+    }
+}
+
+/// A connection that is to be served: its devices, and its desk.
 #[derive(Drop)]
-pub(crate) struct Ended {
-    pub report: Report,
-    pub sink: MemSink,
+pub(crate) struct Caller<'a> {
+    pub devices: &'a mut Devices,
     pub desk: Desk<Macaroons>,
 }
 
@@ -119,6 +133,15 @@ fn told_by(fault: Option<ServeFault>, served: Served) -> Told
     Told { report, desk }
 }
 
+/// What was told of connections, and the books of their pool. A refusal goes first: where a desk
+/// was refused, another may have been dropped, and the books are wrong.
+pub(crate) fn with_books<T: Copy>(
+    told: Result<T, RunFault>,
+    books: Result<Tally, RunFault>,
+) -> Result<(T, Tally), RunFault> {
+    Ok((told?, books?))
+}
+
 /// Serves a connection by a pool of its own, to whose workers the gate belongs.
 pub(crate) fn by_a_pool<R, G, In: Source, Out: Sink>(
     rt: &R,
@@ -134,28 +157,23 @@ where
 {
     let keys = key_table(alloc)?;
     let mut pool = pool_of(rt, alloc, workers, gate)?;
-    let desk = desk_of(alloc, &mut pool)?;
-    let left = served(rt, alloc, source, sink, &keys, desk);
-    pool.home(left.desk);
-    Ok((left.report, books(rt, pool)?))
+    let told = at_a_desk(rt, alloc, &keys, &mut pool, source, sink);
+    with_books(told, books(rt, pool))
 }
 
-/// A connection with this stream, which is read and written in pieces of so many bytes.
-pub(crate) fn caller_at<G: Gate>(
+/// Serves a connection at a desk of the pool.
+fn at_a_desk<R: Threads + Wait + Sync, G: Gate, In: Source, Out: Sink>(
+    rt: &R,
     alloc: Global,
+    keys: &KeyTable,
     pool: &mut Pool<Macaroons, G>,
-    stream: Vec<u8>,
-    room: usize,
-    piece: usize,
-) -> Result<Caller, RunFault>
-    requires { 1 ≤ piece }
-    ensures line { pool.new.line ≡ pool.old.line }
-    ensures at { IfOk result (λ caller. caller.desk.putter.line ≡ pool.old.line) }
-{
-    let source = MemSource::new(stream, piece, 0);
-    let sink = MemSink::new(alloc, room, piece, 0)?;
+    source: &mut In,
+    sink: &mut Out,
+) -> Result<Report, RunFault> {
     let desk = desk_of(alloc, pool)?;
-    Ok(Caller { source, sink, desk })
+    let told = served(rt, alloc, source, sink, keys, desk);
+    pool.home(told.desk);
+    Ok(told.report)
 }
 
 /// Serves a connection to its end.
@@ -164,16 +182,18 @@ pub(crate) fn attended<R: Threads + Wait + Sync>(
     alloc: Global,
     keys: &KeyTable,
     caller: Caller,
-) -> Ended
-    ensures { result.desk.putter.line ≡ caller.desk.putter.line }
+) -> Told
+    ensures { result.desk.putter.line ≡ caller.entry.desk.putter.line }
 {
-    let Caller {
-        mut source,
-        mut sink,
+    let Caller { devices, desk } = caller;
+    served(
+        rt,
+        alloc,
+        &mut devices.source,
+        &mut devices.sink,
+        keys,
         desk,
-    } = caller;
-    let Told { report, desk } = served(rt, alloc, &mut source, &mut sink, keys, desk);
-    Ended { report, sink, desk }
+    )
 }
 
 /// Serves two connections at once.
@@ -183,17 +203,17 @@ pub(crate) fn both_attended<R: Threads + Wait + Sync>(
     keys: &KeyTable,
     one: Caller,
     other: Caller,
-) -> (Ended, Ended)
-    ensures one { result.0.desk.putter.line ≡ one.desk.putter.line }
-    ensures other { result.1.desk.putter.line ≡ other.desk.putter.line }
+) -> (Told, Told)
+    ensures one { result.0.desk.putter.line ≡ one.entry.desk.putter.line }
+    ensures other { result.1.desk.putter.line ≡ other.entry.desk.putter.line }
 {
     std::thread::join(
         rt,
-        move || -> Ended
-            ensures { result.desk.putter.line ≡ one.desk.putter.line }
+        move || -> Told
+            ensures { result.desk.putter.line ≡ one.entry.desk.putter.line }
         { attended(rt, alloc, keys, one) },
-        move || -> Ended
-            ensures { result.desk.putter.line ≡ other.desk.putter.line }
+        move || -> Told
+            ensures { result.desk.putter.line ≡ other.entry.desk.putter.line }
         { attended(rt, alloc, keys, other) },
     )
 }
@@ -210,10 +230,8 @@ where
     R: Threads + Wait + Sync + Copy + Send + 'static,
 {
     let gate = Arc::new(alloc, NoGate)?;
-    let mut source = MemSource::new(stream_of(alloc, name)?, piece.max(1), 0);
-    let mut sink = MemSink::new(alloc, ROOM, piece.max(1), 0)?;
-    let (report, tally) = by_a_pool(rt, alloc, workers, gate, &mut source, &mut sink)?;
-    let told = report_text(alloc, report, sink.bytes())?;
-    let books = tally_text(alloc, tally)?;
-    Ok(format!(in alloc; "{} {}", books.as_str(), told.as_str())?)
+    let mut devices = Devices::new(alloc, stream_of(alloc, name)?, ROOM, piece.max(1))?;
+    let Devices { source, sink } = &mut devices;
+    let (report, tally) = by_a_pool(rt, alloc, workers, gate, source, sink)?;
+    outcome_text(alloc, tally, report, devices.sink.bytes())
 }

@@ -69,36 +69,49 @@ fn behind_hello(alloc: Global, frames: &[u8]) -> Result<Vec<u8>, AllocError> {
     Ok(stream)
 }
 
+/// The streams: a name, the version, what stands behind its front, and how many zeros behind that.
+const STREAMS: &[(&str, Version, &[u8], usize)] = &[
+    // A mint, and an empty payload.
+    ("two_frames", Version::One, TWO_FRAMES, 0),
+    // Two empty payloads.
+    ("empty_frames", Version::One, &[], 8),
+    // A payload of 65,536 zeros.
+    ("greatest_frame", Version::One, &[0, 1, 0, 0], FRAME_MAX),
+    // The length of a payload of 65,537 bytes, and an empty payload.
+    ("longer_frame", Version::One, &[0, 1, 0, 1], 4),
+    // Three bytes of a length.
+    ("half_length", Version::One, &[], 3),
+    // A stream of version two without a frame.
+    ("hello", Version::Two, &[], 0),
+    // A stream of version two with the two frames.
+    ("hello_two", Version::Two, TWO_FRAMES, 0),
+    // One with the length of a payload of 65,537 bytes.
+    ("hello_longer", Version::Two, &[0, 1, 0, 1], 0),
+    // One with a byte of a length.
+    ("hello_torn", Version::Two, &[0], 0),
+];
+
 /// The stream of a name.
-///
-/// ```text
-/// two_frames      a mint, and an empty payload
-/// empty_frames    two empty payloads
-/// greatest_frame  a payload of 65,536 zeros
-/// longer_frame    the length of a payload of 65,537 bytes, and an empty payload
-/// half_length     three bytes of a length
-/// hello           a stream of version two without a frame
-/// hello_two       a stream of version two with the two frames
-/// hello_longer    one with the length of a payload of 65,537 bytes
-/// hello_torn      one with a byte of a length
-/// ```
 pub(crate) fn stream_of(alloc: Global, name: &str) -> Result<Vec<u8>, RunFault> {
-    match name.as_bytes() {
-        b"two_frames" => Ok(Vec::from_slice(alloc, TWO_FRAMES)?),
-        b"empty_frames" => Ok(Vec::from_slice(alloc, &[0; 8])?),
-        b"greatest_frame" => Ok(greatest_frame(alloc)?),
-        b"longer_frame" => Ok(Vec::from_slice(alloc, &[0, 1, 0, 1, 0, 0, 0, 0])?),
-        b"half_length" => Ok(Vec::from_slice(alloc, &[0; 3])?),
-        b"hello" => Ok(behind_hello(alloc, &[])?),
-        b"hello_two" => Ok(behind_hello(alloc, TWO_FRAMES)?),
-        b"hello_longer" => Ok(behind_hello(alloc, &[0, 1, 0, 1])?),
-        b"hello_torn" => Ok(behind_hello(alloc, &[0])?),
-        _ => Err(RunFault::NoRun),
+    for (known, version, bytes, zeros) in STREAMS {
+        if *known == name {
+            return Ok(made_stream(alloc, *version, bytes, *zeros)?);
+        }
     }
+    Err(RunFault::NoRun)
 }
 
-fn greatest_frame(alloc: Global) -> Result<Vec<u8>, AllocError> {
-    let mut stream = Vec::from_slice(alloc, &(FRAME_MAX as u32).to_be_bytes())?;
-    stream.resize(4 + FRAME_MAX, 0)?;
+/// A stream of this version, with these bytes and so many zeros.
+fn made_stream(
+    alloc: Global,
+    version: Version,
+    bytes: &[u8],
+    zeros: usize,
+) -> Result<Vec<u8>, AllocError> {
+    let mut stream = match version {
+        Version::One => Vec::from_slice(alloc, bytes)?,
+        Version::Two => behind_hello(alloc, bytes)?,
+    };
+    stream.resize(stream.len().saturating_add(zeros), 0)?;
     Ok(stream)
 }

@@ -86,23 +86,10 @@ impl Table {
         let Some(group) = self.group else {
             return Ok(());
         };
-        let Group { first, last, row } = group;
-        let ending = ending_name(row.ending);
-        let end = group.row_at(last, self.step).written;
         if !self.text.is_empty() {
             self.text.push_str("; ")?;
         }
-        let runs = range_text(alloc, first, last)?;
-        let written = range_text(alloc, row.written, end)?;
-        let told = format!(in alloc;
-            "{}: fault {} {ending} sent {} written {} failed {} {}",
-            runs.as_str(),
-            row.fault,
-            row.sent,
-            written.as_str(),
-            row.reads_failed,
-            row.writes_failed
-        )?;
+        let told = group_text(alloc, group, self.step)?;
         self.text.push_str(told.as_str())
     }
 
@@ -112,6 +99,24 @@ impl Table {
         let Table { text, .. } = self;
         Ok(text)
     }
+}
+
+/// The runs of a group, and what each came to.
+fn group_text(alloc: Global, group: Group, step: u64) -> Result<String, AllocError> {
+    let Group { first, last, row } = group;
+    let ending = ending_name(row.ending);
+    let end = group.row_at(last, step).written;
+    let runs = range_text(alloc, first, last)?;
+    let written = range_text(alloc, row.written, end)?;
+    format!(in alloc;
+        "{}: fault {} {ending} sent {} written {} failed {} {}",
+        runs.as_str(),
+        row.fault,
+        row.sent,
+        written.as_str(),
+        row.reads_failed,
+        row.writes_failed
+    )
 }
 
 /// The numbers from one to another.
