@@ -5,10 +5,10 @@ use mac_wire::{FieldList, Refusal, Request, key_name, parse_request};
 
 /// Tells what a case comes to, if it is one of these kinds.
 pub(crate) fn tells(case: &mut Case<'_>, kind: &str) -> bool {
-    match kind.as_bytes() {
-        b"request" => request(case),
-        b"name" => name(case),
-        b"fronts" => fronts(case),
+    match kind {
+        "request" => request(case),
+        "name" => name(case),
+        "fronts" => fronts(case),
         _ => return false,
     }
     true

@@ -16,14 +16,14 @@ use std::alloc::Global;
 
 /// Tells what a case comes to, if it is one of these kinds.
 pub(crate) fn tells(case: &mut Case<'_>, kind: &str) -> bool {
-    match kind.as_bytes() {
-        b"time" => bound(case),
-        b"satisfied" => is_satisfied(case),
-        b"add" => narrowed(case),
-        b"token" => agreement(case),
-        b"length" => written_length(case),
-        b"answer" => reply(case),
-        b"answers" => replies(case),
+    match kind {
+        "time" => bound(case),
+        "satisfied" => is_satisfied(case),
+        "add" => narrowed(case),
+        "token" => agreement(case),
+        "length" => written_length(case),
+        "answer" => reply(case),
+        "answers" => replies(case),
         _ => return false,
     }
     true

@@ -5,11 +5,11 @@ use mac_wire::{MemSink, MemSource, ReaderSource, Sink, Source, WriterSink, send_
 
 /// Tells what a case comes to, if it is one of these kinds.
 pub(crate) fn tells(case: &mut Case<'_>, kind: &str) -> bool {
-    match kind.as_bytes() {
-        b"reads" => memory_reads(case),
-        b"reader" => reader_reads(case),
-        b"sends" => memory_sends(case),
-        b"writes" => writer_writes(case),
+    match kind {
+        "reads" => memory_reads(case),
+        "reader" => reader_reads(case),
+        "sends" => memory_sends(case),
+        "writes" => writer_writes(case),
         _ => return false,
     }
     true

@@ -7,12 +7,12 @@ use mac_hmac::{
 
 /// Tells what a case comes to, if it is one of these kinds.
 pub(crate) fn tells(case: &mut Case<'_>, kind: &str) -> bool {
-    match kind.as_bytes() {
-        b"hmac" => keyed(case),
-        b"root" => root(case),
-        b"start" => started(case),
-        b"chain" => chained(case),
-        b"same" => compared(case),
+    match kind {
+        "hmac" => keyed(case),
+        "root" => root(case),
+        "start" => started(case),
+        "chain" => chained(case),
+        "same" => compared(case),
         _ => return false,
     }
     true

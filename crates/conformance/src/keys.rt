@@ -5,9 +5,9 @@ use mac_keys::{KeyFault, KeyTable, Keys};
 
 /// Tells what a case comes to, if it is one of these kinds.
 pub(crate) fn tells(case: &mut Case<'_>, kind: &str) -> bool {
-    match kind.as_bytes() {
-        b"keys" => names(case),
-        b"key" => found(case),
+    match kind {
+        "keys" => names(case),
+        "key" => found(case),
         _ => return false,
     }
     true

@@ -12,10 +12,10 @@ use mac_lane::{Answer, Event, Next, OpenFault, Reorder, SettleFault, World};
 
 /// Tells what a case comes to, if it is one of these kinds.
 pub(crate) fn tells(case: &mut Case<'_>, kind: &str) -> bool {
-    match kind.as_bytes() {
-        b"lane" => outcomes(case),
-        b"buffer" => calls(case),
-        b"buffer_texts" => fault_texts(case),
+    match kind {
+        "lane" => outcomes(case),
+        "buffer" => calls(case),
+        "buffer_texts" => fault_texts(case),
         _ => return false,
     }
     true
@@ -94,11 +94,11 @@ fn calls(case: &mut Case<'_>) {
 
 /// Makes the call that the next words spell, and appends what it comes to.
 fn say_call(case: &mut Case<'_>, buffer: &mut Reorder<Digits>) {
-    match case.word().as_bytes() {
-        b"open" => say_opened(case, buffer),
-        b"settle" => say_settled(case, buffer),
-        b"next" => say_sent(case, buffer),
-        b"close" => {
+    match case.word() {
+        "open" => say_opened(case, buffer),
+        "settle" => say_settled(case, buffer),
+        "next" => say_sent(case, buffer),
+        "close" => {
             buffer.close();
             case.say("closed");
         }

@@ -7,14 +7,14 @@ use mac_token::{
 
 /// Tells what a case comes to, if it is one of these kinds.
 pub(crate) fn tells(case: &mut Case<'_>, kind: &str) -> bool {
-    match kind.as_bytes() {
-        b"read" => read_parts(case),
-        b"raw" => raw_parts(case),
-        b"code" => code(case),
-        b"rewrite" => rewritten(case),
-        b"push" => longer(case),
-        b"texts" => fault_texts(case),
-        b"cuts" => cut_codes(case),
+    match kind {
+        "read" => read_parts(case),
+        "raw" => raw_parts(case),
+        "code" => code(case),
+        "rewrite" => rewritten(case),
+        "push" => longer(case),
+        "texts" => fault_texts(case),
+        "cuts" => cut_codes(case),
         _ => return false,
     }
     true

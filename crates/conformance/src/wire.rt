@@ -12,16 +12,16 @@ use std::alloc::Global;
 
 /// Tells what a case comes to, if it is one of these kinds.
 pub(crate) fn tells(case: &mut Case<'_>, kind: &str) -> bool {
-    match kind.as_bytes() {
-        b"frames" => frames(case),
-        b"feeds" => feeds(case),
-        b"replies" => replies(case, Version::One, 0),
-        b"placed" => {
+    match kind {
+        "frames" => frames(case),
+        "feeds" => feeds(case),
+        "replies" => replies(case, Version::One, 0),
+        "placed" => {
             let first = case.number();
             replies(case, Version::Two, first);
         }
-        b"whole" => whole(case),
-        b"faults" => fault_texts(case),
+        "whole" => whole(case),
+        "faults" => fault_texts(case),
         _ => return false,
     }
     true
@@ -156,11 +156,11 @@ fn reply_of(case: &mut Case<'_>, word: &str) -> Option<Reply>
     ensures { IfSome result IsReply }
 {
     let (name, value) = word.split_once('=').unwrap_or((word, "-"));
-    match name.as_bytes() {
-        b"granted" => Some(Reply::Granted),
-        b"token" => token_reply(case.spelled(value)),
-        b"refused" => refusal_reply(value),
-        b"index" => match value.parse::<u16>() {
+    match name {
+        "granted" => Some(Reply::Granted),
+        "token" => token_reply(case.spelled(value)),
+        "refused" => refusal_reply(value),
+        "index" => match value.parse::<u16>() {
             Ok(index) => Some(Reply::Unsatisfied(index)),
             Err(_) => None,
         },

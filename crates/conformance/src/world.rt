@@ -53,20 +53,20 @@ fn events(case: &mut Case<'_>, table: &KeyTable) -> Vec<Event<Macaroons>> {
 
 fn event(case: &mut Case<'_>, table: &KeyTable) -> Event<Macaroons> {
     let word = case.word();
-    match word.as_bytes() {
-        b"arrive" => Event::Arrive(case.small(), job(case, table)),
-        b"oversize" => Event::Arrive(case.small(), job_of(table, Arrival::Oversize)),
+    match word {
+        "arrive" => Event::Arrive(case.small(), job(case, table)),
+        "oversize" => Event::Arrive(case.small(), job_of(table, Arrival::Oversize)),
         _ => event_of(case, word),
     }
 }
 
 /// The event without a job that a word names, by the words behind it.
 pub(crate) fn event_of<S: Service>(case: &mut Case<'_>, word: &str) -> Event<S> {
-    match word.as_bytes() {
-        b"claim" => Event::Claim(case.small(), case.small(), case.number()),
-        b"finish" => Event::Finish(case.small()),
-        b"send" => Event::Send(case.small()),
-        b"close" => Event::Close(case.small()),
+    match word {
+        "claim" => Event::Claim(case.small(), case.small(), case.number()),
+        "finish" => Event::Finish(case.small()),
+        "send" => Event::Send(case.small()),
+        "close" => Event::Close(case.small()),
         _ => {
             case.fail(CaseFault::NoCase);
             Event::Close(0)
