@@ -21,12 +21,12 @@ const TURNS: u32 = 10_000_000;
 
 /// The row of a name.
 pub(crate) fn row<R: Threads>(rt: &R, alloc: Global, name: &str) -> Result<Outcome, RunFault> {
-    match name.as_bytes() {
-        b"full" => full(alloc),
-        b"threads" => threads(rt, alloc),
-        b"closed" => closed(alloc),
-        b"refused" => refused(alloc),
-        b"ends" => right_if(intake_ends(alloc)? && outlet_ends(alloc)?),
+    match name {
+        "full" => full(alloc),
+        "threads" => threads(rt, alloc),
+        "closed" => closed(alloc),
+        "refused" => refused(alloc),
+        "ends" => right_if(intake_ends(alloc)? && outlet_ends(alloc)?),
         _ => Err(RunFault::NoRun),
     }
 }

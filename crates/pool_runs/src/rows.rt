@@ -31,15 +31,15 @@ pub(crate) fn row<R>(rt: &R, alloc: Global, name: &str) -> Result<Outcome, RunFa
 where
     R: Threads + Wait + Copy + Send + Sync + 'static,
 {
-    match name.as_bytes() {
-        b"full" => full(rt, alloc),
-        b"closed" => closed(rt, alloc),
-        b"refused_work" => refused_work(rt, alloc),
-        b"exchange" => exchange(rt, alloc),
-        b"desks" => desks(rt, alloc),
-        b"desk_out" => desk_out(rt, alloc),
-        b"mailbox" => mailbox(rt, alloc),
-        b"rung" => rung(rt, alloc),
+    match name {
+        "full" => full(rt, alloc),
+        "closed" => closed(rt, alloc),
+        "refused_work" => refused_work(rt, alloc),
+        "exchange" => exchange(rt, alloc),
+        "desks" => desks(rt, alloc),
+        "desk_out" => desk_out(rt, alloc),
+        "mailbox" => mailbox(rt, alloc),
+        "rung" => rung(rt, alloc),
         _ => Err(RunFault::NoRun),
     }
 }

@@ -68,19 +68,19 @@ where
     R: Threads + Wait + Clock + Copy + Send + Sync + 'static,
 {
     let (name, rest) = word.split_once(':').unwrap_or((word, ""));
-    match name.as_bytes() {
-        b"hand_over" => hand_over::totals(alloc, number(rest)?),
-        b"lane" => lanes::row(rt, alloc, rest),
-        b"tickets" => {
+    match name {
+        "hand_over" => hand_over::totals(alloc, number(rest)?),
+        "lane" => lanes::row(rt, alloc, rest),
+        "tickets" => {
             let (workers, runs) = numbers(rest)?;
             tickets::books(rt, alloc, workers as usize, runs)
         }
-        b"idle" => {
+        "idle" => {
             let (workers, millis) = numbers(rest)?;
             tickets::idle_books(rt, alloc, workers as usize, millis)
         }
-        b"hammer" => hammer::books(rt, alloc, number(rest)?),
-        b"start" => rows::start(rt, alloc, number(rest)? as usize),
+        "hammer" => hammer::books(rt, alloc, number(rest)?),
+        "start" => rows::start(rt, alloc, number(rest)? as usize),
         _ => rows::row(rt, alloc, name),
     }
 }

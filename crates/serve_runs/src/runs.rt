@@ -110,9 +110,9 @@ fn divided(word: &str) -> (&str, &str) {
 
 /// The version that a word names.
 fn version(word: &str) -> Result<Version, RunFault> {
-    match word.as_bytes() {
-        b"one" => Ok(Version::One),
-        b"two" => Ok(Version::Two),
+    match word {
+        "one" => Ok(Version::One),
+        "two" => Ok(Version::Two),
         _ => Err(RunFault::NoRun),
     }
 }
