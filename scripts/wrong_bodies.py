@@ -7,8 +7,8 @@ in that file; further pairs apply to what the earlier ones made.
 
 Many are tried in one check of a copy of the crate, at most one for each function. That a caller
 fails because its callee does is no refusal of the caller's body. An edit of anything but functions'
-bodies is tried alone, and so is a body that a check of several didn't see refused. The tree itself
-is checked only as it stands, so that its out/ is fresh.
+bodies is tried alone; those that a check of several didn't see refused are tried again, at last
+each alone. The tree itself is checked only as it stands, so that its out/ is fresh.
 """
 import argparse
 import os
@@ -178,16 +178,20 @@ def judged(body, report, source):
 
 
 def tried(batch, copy):
-    """A verdict on each body of the batch; one that isn't refused among others is tried again."""
+    """A verdict on each body of the batch; those that aren't refused among others are tried again.
+
+    A function that calls one whose body is wrong too is not always asked for its own goals.
+    """
     report = copy.check(batch)
     if len(batch) > 1 and not report.has_ended:
         return [it for part in parted(batch, report) for it in tried(part, copy)]
-    found = []
-    for body in batch:
-        verdict = judged(body, report, copy.source)
-        is_sure = verdict.is_refused or len(batch) == 1
-        found += [verdict] if is_sure else tried([body], copy)
-    return found
+    found = [judged(body, report, copy.source) for body in batch]
+    again = [body for body, verdict in zip(batch, found) if not verdict.is_refused]
+    if not again or len(batch) == 1:
+        return found
+    parts = [again] if len(again) < len(batch) else [[it] for it in again]
+    refused = [it for it in found if it.is_refused]
+    return refused + [it for part in parts for it in tried(part, copy)]
 
 
 def parted(batch, report):

@@ -24,14 +24,11 @@ const MOMENT: u64 = 1_780_272_000;
 
 /// The payload of a kind: a mint of three caveats, a verify of a V2 binary of three, or nothing.
 fn payload_of(alloc: Global, kind: &str) -> Result<Vec<u8>, RunFault> {
-    if kind == "mint" {
-        Ok(minting(alloc)?)
-    } else if kind == "verify" {
-        verifying(alloc)
-    } else if kind == "empty" {
-        Ok(Vec::new(alloc))
-    } else {
-        Err(RunFault::NoRun)
+    match kind {
+        "mint" => Ok(minting(alloc)?),
+        "verify" => verifying(alloc),
+        "empty" => Ok(Vec::new(alloc)),
+        _ => Err(RunFault::NoRun),
     }
 }
 
