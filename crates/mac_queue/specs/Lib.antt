@@ -1,5 +1,3 @@
-pub mod Fault
-pub mod Post
 pub mod Lists
 pub mod Pass
 pub mod Balance

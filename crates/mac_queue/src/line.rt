@@ -7,12 +7,11 @@ ghost use Rattle.mac_queue.specs.Pass.{with_put, AreFresh};
 ghost use Rattle.crossbeam_queue.specs.Passes.{view as what, IsPassOf};
 
 use self::account::{Account, Balance, Claims, Cut, Puts};
-use crate::bell::{Bell, Notice};
-use crate::fault::PutFault;
 use crate::ticket::Ticket;
 use crossbeam_queue::protocol::Free;
 use crossbeam_queue::{Pass, RuledArrayQueue};
 use mac_lane::{NoMemory, Service};
+use mac_mail::{Bell, Notice, PutFault};
 use std::alloc::Global;
 use std::marker::Model;
 use std::sync::Wait;

@@ -1,7 +1,7 @@
 //! What stands in the line.
 
-use crate::mailbox::Mailbox;
 use mac_lane::Service;
+use mac_mail::Mailbox;
 use std::alloc::Global;
 use std::sync::Arc;
 

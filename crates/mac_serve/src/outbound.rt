@@ -7,7 +7,7 @@ use crate::signals::Signals;
 use mac_decide::{Macaroons, laws};
 use mac_lane::Next;
 use mac_lane::laws::equal_jobs_hold_the_same;
-use mac_queue::{Post, Taker};
+use mac_mail::{Post, Taker};
 use mac_relay::Outlet;
 use mac_wire::{Sink, Version, append_reply, send_all, whole_frames};
 use std::alloc::Global;

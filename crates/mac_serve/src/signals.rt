@@ -1,6 +1,6 @@
 //! What the two halves of a connection tell each other while they run.
 
-use mac_queue::{Bell, Notice};
+use mac_mail::{Bell, Notice};
 use std::sync::Wait;
 use std::sync::atomic::{AtomicBool, AtomicU64, Ordering};
 use std::time::Duration;

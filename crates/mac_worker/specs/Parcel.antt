@@ -1,6 +1,6 @@
 -- What a worker makes of tickets.
 use Rattle.std.specs.Prelude.{◌≡◌, ◌⊎◌, ⊤, List, [], ◌∷◌, None, Some}
-use Rattle.mac_queue.specs.Post.{entry_of}
+use Rattle.mac_mail.specs.Post.{entry_of}
 use Rattle.mac_queue.specs.declared.ticket.Ticket.{Ticket}
 use Rattle.mac_worker.specs.declared.work.Label.{Label}
 use Rattle.mac_worker.specs.declared.work.Parcel.{Parcel}

@@ -9,7 +9,8 @@ ghost use Rattle.mac_worker.specs.declared.gate.TheConstants.{TURN_MAX};
 
 use crate::gate::{Gate, TURN_MAX};
 use mac_lane::{Answer, NoMemory, Service};
-use mac_queue::{Claim, Line, LinePass, Mailbox, Post, Ticket};
+use mac_mail::{Mailbox, Post};
+use mac_queue::{Claim, Line, LinePass, Ticket};
 use std::alloc::Global;
 use std::collections::VecDeque;
 use std::sync::{Arc, Wait};

@@ -8,7 +8,7 @@ use super::place::{PlaceFault, bound};
 use crate::choices::Mode;
 use crate::{DEVICE_FAULT, NO_MEMORY};
 use mac_keys::KeyTable;
-use mac_queue::Bell;
+use mac_mail::Bell;
 use mac_serve::ServeFault;
 use std::alloc::Global;
 use std::fs::Files;

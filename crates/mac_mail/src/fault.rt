@@ -1,7 +1,7 @@
 //! Why a line or a mailbox refuses.
 
 ghost use Rattle.std.specs.Prelude.{◌≡◌};
-ghost use Rattle.mac_queue.specs.Fault.{put_code};
+ghost use Rattle.mac_mail.specs.Fault.{put_code};
 
 use thiserror::Error;
 

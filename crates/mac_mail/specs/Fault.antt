@@ -1,7 +1,7 @@
 -- The numbers of the faults.
 use Rattle.std.specs.Prelude.{ℕ}
-use Rattle.mac_queue.specs.declared.fault.PutFault.{PutFault}
-use Rattle.mac_queue.specs.declared.fault.PutFault.TheVariants as put
+use Rattle.mac_mail.specs.declared.fault.PutFault.{PutFault}
+use Rattle.mac_mail.specs.declared.fault.PutFault.TheVariants as put
 
 -- the number of each reason not to put
 abbrev pub put_code : PutFault → ℕ

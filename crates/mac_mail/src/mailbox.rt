@@ -1,7 +1,7 @@
 //! A mailbox: posts wait here for the one who takes them.
 
 ghost use Rattle.std.specs.Prelude.{◌≡◌, Option, [], ◌∷◌, ◌++◌, IfErr, IfOk, IfSome, IfNone};
-ghost use Rattle.mac_queue.specs.Post.{entry_of};
+ghost use Rattle.mac_mail.specs.Post.{entry_of};
 ghost use Rattle.crossbeam_queue.specs.Passes.{view, IsSamePass};
 
 use crate::bell::{Bell, Notice};
