@@ -19,24 +19,24 @@ $(notdir $(wildcard crates/*)):
 demo:
 	scripts/demo.sh
 
-# Proves and builds the programs, and leaves them as bin/macaroond and bin/hash_blocks. With CPU=x86-64-v3 they ask for
+# Proves and builds the programs, and leaves them as bin/macaroond and bin/time_blocks. With CPU=x86-64-v3 they ask for
 # such a processor, and look for it as they start.
 build:
 	cd crates/macaroond && rt run $(CPU:%=--cpu=%) -- --help > /dev/null
-	cd crates/hash_blocks && rt run $(CPU:%=--cpu=%) -- 0 > /dev/null
+	cd crates/time_blocks && rt run $(CPU:%=--cpu=%) -- 0 > /dev/null
 	mkdir -p bin
-	cp crates/macaroond/out/macaroond crates/hash_blocks/out/hash_blocks bin/
+	cp crates/macaroond/out/macaroond crates/time_blocks/out/time_blocks bin/
 
-# The same for bin/pool_runs, which drives the ring and the pool, bin/serve_runs, which drives serve over memory,
-# bin/refused_runs, which makes single calls, and bin/conformance.
+# The same for bin/try_pool, which drives the ring and the pool, bin/try_serve, which drives serve over memory,
+# bin/try_refused, which makes single calls, and bin/try_cases.
 build-runs:
-	cd crates/pool_runs && rt run > /dev/null
-	cd crates/serve_runs && rt run > /dev/null
-	cd crates/refused_runs && rt run > /dev/null
-	cd crates/conformance && rt run > /dev/null < stdin
+	cd crates/try_pool && rt run > /dev/null
+	cd crates/try_serve && rt run > /dev/null
+	cd crates/try_refused && rt run > /dev/null
+	cd crates/try_cases && rt run > /dev/null < stdin
 	mkdir -p bin
-	cp crates/pool_runs/out/pool_runs crates/serve_runs/out/serve_runs bin/
-	cp crates/refused_runs/out/refused_runs crates/conformance/out/conformance bin/
+	cp crates/try_pool/out/try_pool crates/try_serve/out/try_serve bin/
+	cp crates/try_refused/out/try_refused crates/try_cases/out/try_cases bin/
 
 # Each request for memory refused in turn, and each call of a device failed, of the programs and the daemon. After
 # make build build-runs, and with a C compiler.

@@ -59,7 +59,7 @@ def seconds(command, text=""):
 
 def block_seconds():
     """What a block of SHA-256 costs."""
-    program = TOP / "bin" / "hash_blocks"
+    program = TOP / "bin" / "time_blocks"
     return min(seconds([program, str(BLOCKS_TIMED)])[0] for _ in range(TRIALS)) / BLOCKS_TIMED
 
 
@@ -135,10 +135,10 @@ def serve_seconds(kind):
         trials = []
         for _ in range(TRIALS):
             begin = time.monotonic()
-            taken, printed = seconds([TOP / "bin" / "serve_runs", run])
+            taken, printed = seconds([TOP / "bin" / "try_serve", run])
             trials.append((taken, time.monotonic() - begin))
             if name == "load" and printed != f"arrived {SERVED} sent {SERVED}\n":
-                sys.exit(f"serve_runs doesn't answer as it should: {run}")
+                sys.exit(f"try_serve doesn't answer as it should: {run}")
         least[name] = [min(column) for column in zip(*trials)]
     return [(whole - front) / SERVED for whole, front in zip(least["load"], least["made"])]
 
@@ -155,10 +155,10 @@ def print_serve():
 
 
 def run_seconds(run, told):
-    """The processor time of a run of `pool_runs`, which answers as it is told."""
-    trials = [seconds([TOP / "bin" / "pool_runs", run]) for _ in range(THREAD_TRIALS)]
+    """The processor time of a run of `try_pool`, which answers as it is told."""
+    trials = [seconds([TOP / "bin" / "try_pool", run]) for _ in range(THREAD_TRIALS)]
     if any(printed != told + "\n" for _, printed in trials):
-        sys.exit(f"pool_runs doesn't answer as it should: {run}")
+        sys.exit(f"try_pool doesn't answer as it should: {run}")
     return min(taken for taken, _ in trials)
 
 
@@ -185,7 +185,7 @@ def print_ring_and_pool():
 
 
 def stop_unless_built():
-    programs = ["bin/macaroond", "bin/hash_blocks", "bin/pool_runs", "bin/serve_runs"]
+    programs = ["bin/macaroond", "bin/time_blocks", "bin/try_pool", "bin/try_serve"]
     lacking = " and ".join(name for name in programs if not os.access(TOP / name, os.X_OK))
     if lacking:
         sys.exit(f"no {lacking}: run `make build build-runs` first, which proves and builds the programs")

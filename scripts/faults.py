@@ -24,7 +24,7 @@ CRATES = pipe_runs.TOP / "crates"
 NO_MEMORY = Ended(4, b"", b"fault 4\n")
 NO_MEMORY_FOR_PEOPLE = Ended(4, b"", b"error: memory ran out\n")
 DEVICE = b"fault 3\n"
-# Calls of refused_runs that take no memory.
+# Calls of try_refused that take no memory.
 WITHOUT_MEMORY = {"bare:v1", "bare:v2", "bare:json"}
 BARE = b"made", b"refused, and made once more", b"refused elsewhere"
 MINT = bytes.fromhex("01010462616e6b000e687474703a2f2f6d7962616e6b2f001677652075736564206f757220736563726574206b657900")
@@ -88,9 +88,9 @@ def together(what, rows):
 
 
 def calls():
-    """Single calls of the crates, by refused_runs."""
-    for word in (CRATES / "refused_runs" / "args").read_text().split():
-        command = [BIN / "refused_runs", word]
+    """Single calls of the crates, by try_refused."""
+    for word in (CRATES / "try_refused" / "args").read_text().split():
+        command = [BIN / "try_refused", word]
 
         def judge(ended):
             if ended and ended.status and not ended.output:
@@ -105,7 +105,7 @@ def calls():
 
 
 def report(text):
-    """Fault, ending, replies and bytes of a report of serve_runs, or None."""
+    """Fault, ending, replies and bytes of a report of try_serve, or None."""
     told = re.fullmatch(r"fault (\d) (\w+) arrived (\d+) sent (\d+) written (\d+): ([0-9a-f]*)", text)
     return told and (int(told[1]), told[2], int(told[4]), bytes.fromhex(told[6]))
 
@@ -124,7 +124,7 @@ def served(told):
 
 def serve(word, connections):
     """Connections over memory: the frames of the first replies; the books of the pool are whole."""
-    command = [BIN / "serve_runs", word]
+    command = [BIN / "try_serve", word]
 
     def judge(ended):
         if ended and (ended.status, ended.output) == (0, b"refused\n") or ended and ended.status and not ended.output:
@@ -141,8 +141,8 @@ def serve(word, connections):
 
 
 def rows():
-    """A few rows of conformance of each kind: the row's answer, or an end for want of memory."""
-    folder, seen = CRATES / "conformance", collections.Counter()
+    """A few rows of try_cases of each kind: the row's answer, or an end for want of memory."""
+    folder, seen = CRATES / "try_cases", collections.Counter()
     for line, due in zip((folder / "stdin").read_bytes().splitlines(), (folder / "stdout").read_bytes().splitlines()):
         kind = line.split()[0]
         if kind == b"#" or len(line) > 2_000 or seen[kind] >= 2:
@@ -156,8 +156,8 @@ def rows():
                 return "refused to what the row is read by, or to one of two that it compares"
             return "want of memory" if ended and ended.status == 1 and not ended.output else None
 
-        command = [BIN / "conformance"]
-        yield in_turn(f"conformance: {line[:60].decode()}", lambda n: watched(command, line + b"\n", "refuse", n), judge)
+        command = [BIN / "try_cases"]
+        yield in_turn(f"try_cases: {line[:60].decode()}", lambda n: watched(command, line + b"\n", "refuse", n), judge)
 
 
 def devices():
@@ -201,7 +201,7 @@ def many():
     yield serve("stream:two_frames:1:64", 1)
     yield serve("stream:two_frames:2:1", 1)
     yield serve("two:two_frames:two_frames", 2)
-    yield together("conformance", rows())
+    yield together("try_cases", rows())
     yield from devices()
     yield from faulty_daemon.devices()
     yield faulty_daemon.starts()

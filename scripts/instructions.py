@@ -1,6 +1,6 @@
 #!/usr/bin/env python3
 """Counts what `macaroond pipe` executes for a request, beside what its SHA-256 does: by valgrind,
-over bin/macaroond and bin/hash_blocks.
+over bin/macaroond and bin/time_blocks.
 
 A count doesn't depend on what else the machine does. What a request takes is the difference between
 two runs, so that starting the program and reading the keys count for nothing.
@@ -28,7 +28,7 @@ def instructions(command, text=""):
 
 def block_instructions():
     """How many a block of SHA-256 takes."""
-    program = bench.TOP / "bin" / "hash_blocks"
+    program = bench.TOP / "bin" / "time_blocks"
     few, many = (instructions([program, count]) for count in (FEW_BLOCKS, MANY_BLOCKS))
     return (many - few) / (MANY_BLOCKS - FEW_BLOCKS)
 

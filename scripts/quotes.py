@@ -1,4 +1,4 @@
-"""Code that the pages on calling a crate quote: it stands in `conformance`, which the gate proves."""
+"""Code that the pages on calling a crate quote: it stands in `try_cases`, which the gate proves."""
 import re
 import textwrap
 
@@ -7,11 +7,11 @@ from pipe_runs import TOP
 
 def faults():
     """Which quoted blocks stand nowhere."""
-    sources = [path.read_text() for path in TOP.glob("crates/conformance/src/*.rt")]
+    sources = [path.read_text() for path in TOP.glob("crates/try_cases/src/*.rt")]
     found = []
     for page in sorted(TOP.glob("crates/*/CALLING.md")):
         for block in re.findall(r"^```rust\n(.*?)^```", page.read_text(), re.MULTILINE | re.DOTALL):
             if not any(block in source for source in sources):
-                quoted = f"{page.relative_to(TOP)} quotes what stands nowhere in conformance:"
+                quoted = f"{page.relative_to(TOP)} quotes what stands nowhere in try_cases:"
                 found.append(f"{quoted}\n{textwrap.indent(block, '  ')}")
     return found

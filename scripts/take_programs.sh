@@ -3,6 +3,6 @@
 set -eu
 cd "$(dirname "$0")/.."
 mkdir -p bin
-for program in macaroond hash_blocks pool_runs serve_runs refused_runs conformance; do
+for program in macaroond time_blocks try_pool try_serve try_refused try_cases; do
     cp "crates/$program/out/$program" bin/
 done

@@ -2,7 +2,7 @@
 use Rattle.std.proofs.Common.{◌≡◌, ℕ, arith, ◌+◌, ◌<◌, ◌≤◌, List, [], ◌∷◌, ◌++◌, append_assoc, length, map, slice_get, slice_index, slice_set, get_or, sym, ap, ◌∙◌}
 use Rattle.std.proofs.lemmas.List.{get_or_default}
 use Rattle.std.proofs.lemmas.Option.{slice_get-get_or}
-use Rattle.mac_lane.proofs.Staffed.{slice_get-set_other}
+use Rattle.mac_order.proofs.Staffed.{slice_get-set_other}
 use Rattle.mac_hmac.specs.Chain.{extended}
 use Rattle.mac_wire.specs.declared.reply.Reply.{Reply}
 use Rattle.mac_decide.specs.Prepared.{AreNext, comes_to, left_of, signature_of}

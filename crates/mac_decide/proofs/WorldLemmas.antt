@@ -2,11 +2,11 @@
 use Rattle.std.proofs.Common.{◌≡◌, ℕ, List, [], ◌∷◌, map, Some, refl, ap, subst, ◌∙◌}
 use Rattle.std.specs.Prelude.{slice_get}
 use Rattle.mac_keys.specs.Table.{Table}
-use Rattle.mac_lane.specs.History.{IsBeginningOf, reached}
-use Rattle.mac_lane.specs.State.{Connection}
-use Rattle.mac_lane.specs.declared.event.Event.{Event}
-use Rattle.mac_lane.proofs.Beginnings.{IsAnswered, answered-moved}
-use Rattle.mac_lane.proofs.Kept.{reached-kept}
+use Rattle.mac_order.specs.History.{IsBeginningOf, reached}
+use Rattle.mac_order.specs.State.{Connection}
+use Rattle.mac_order.specs.declared.event.Event.{Event}
+use Rattle.mac_order.proofs.Beginnings.{IsAnswered, answered-moved}
+use Rattle.mac_order.proofs.Kept.{reached-kept}
 use Rattle.mac_wire.specs.declared.arrival.Arrival.{Arrival}
 use Rattle.mac_wire.specs.declared.reply.Reply.{Reply}
 use Rattle.mac_decide.specs.Answer.{reply_of, answer_of}

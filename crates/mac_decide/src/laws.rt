@@ -1,9 +1,9 @@
 //! Laws of the definitions, as functions whose contracts state them.
 
 ghost use Rattle.std.specs.Prelude.{◌≡◌, ◌↔◌, ℕ, ◌≤◌, ℤ, List, [], ◌∷◌, ◌++◌, Option, All, Contains, map as map_list};
-ghost use Rattle.mac_lane.specs.declared.event.Event as event;
-ghost use Rattle.mac_lane.specs.History.{IsBeginningOf, Reaches};
-ghost use Rattle.mac_lane.specs.State.{Connection};
+ghost use Rattle.mac_order.specs.declared.event.Event as event;
+ghost use Rattle.mac_order.specs.History.{IsBeginningOf, Reaches};
+ghost use Rattle.mac_order.specs.State.{Connection};
 ghost use Rattle.mac_token.specs.RawToken.{TokenParts, IsToken};
 ghost use Rattle.mac_token.specs.Read.{read_of};
 ghost use Rattle.mac_decide.specs.declared.context.Context.{Context as PlainContext};
@@ -25,7 +25,7 @@ ghost use Rattle.mac_decide.specs.Time.{IsTimeLimit, IsLowerBound};
 ghost use Rattle.mac_decide.specs.Verdict.{Satisfied, Accepts, IsVerdict};
 
 use crate::macaroons::Macaroons;
-use mac_lane::Service;
+use mac_order::Service;
 use mac_wire::{Arrival, Reply};
 
 /// Attenuation only narrows: a token minted under one of the keys is accepted with caveats added

@@ -10,7 +10,7 @@ use crate::reply::answer;
 use crate::side_by_side::answer_all;
 use mac_hmac::RootKey;
 use mac_keys::Keys;
-use mac_lane::Service;
+use mac_order::Service;
 use mac_wire::{Arrival, NoMemory, Reply};
 use std::alloc::Global;
 

@@ -10,7 +10,7 @@ use crate::post::Post;
 use crossbeam_queue::protocol::{Free, Lesson, Outcome, Protocol};
 use crossbeam_queue::{Pass, RuledArrayQueue};
 use crossbeam_utils::CachePadded;
-use mac_lane::{NoMemory, Service};
+use mac_order::{NoMemory, Service};
 use std::alloc::Global;
 use std::collections::LinkedList;
 use std::marker::Model;

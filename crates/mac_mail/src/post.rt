@@ -1,6 +1,6 @@
 //! What a worker posts.
 
-use mac_lane::{Answer, Service};
+use mac_order::{Answer, Service};
 
 /// What a worker posts to a mailbox. That an answer's reply is the definition's for its job is
 /// kept by the answer's type.

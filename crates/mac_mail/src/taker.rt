@@ -7,7 +7,7 @@ ghost use Rattle.mac_mail.specs.Post.{entry_of};
 use crate::bell::Notice;
 use crate::mailbox::{MailPass, Mailbox};
 use crate::post::Post;
-use mac_lane::{NoMemory, Service};
+use mac_order::{NoMemory, Service};
 use std::alloc::Global;
 use std::marker::Model;
 use std::sync::atomic::Ordering::SeqCst;

@@ -3,7 +3,7 @@
 ghost use Rattle.std.specs.Prelude.{◌≡◌};
 ghost use Rattle.mac_queue.specs.Claim.{after_claim};
 
-use mac_lane::Service;
+use mac_order::Service;
 use mac_queue::{Claim, Line, LinePass};
 use std::alloc::Global;
 use std::marker::Model;

@@ -8,7 +8,7 @@ ghost use Rattle.mac_queue.specs.Pass.{HasClaimed};
 
 use crate::fault::{DeskFault, HandFault, PoolFault};
 use crate::hand::Hand;
-use mac_lane::{NoMemory, Service};
+use mac_order::{NoMemory, Service};
 use mac_queue::{Desk, Line, LinePass, PASSES, Tally};
 use mac_worker::{Gate, NoGate, Worked, worker};
 use std::alloc::Global;

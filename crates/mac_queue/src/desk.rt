@@ -6,8 +6,8 @@ ghost use Rattle.mac_queue.specs.Pass.{with_put};
 
 use crate::line::{Line, LinePass};
 use crate::ticket::Ticket;
-use mac_lane::Service;
 use mac_mail::{Mailbox, PutFault, Taker};
+use mac_order::Service;
 use std::alloc::Global;
 use std::marker::Model;
 use std::sync::{Arc, Wait};

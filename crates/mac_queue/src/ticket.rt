@@ -1,7 +1,7 @@
 //! What stands in the line.
 
-use mac_lane::Service;
 use mac_mail::Mailbox;
+use mac_order::Service;
 use std::alloc::Global;
 use std::sync::Arc;
 

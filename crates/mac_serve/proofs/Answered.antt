@@ -9,10 +9,10 @@ use Rattle.std.proofs.lemmas.Bool.Decides.{eqb_tells}
 use Rattle.std.proofs.lemmas.Bool.Decides.{nat_tests}
 use Rattle.std.proofs.lemmas.List.{take-append-drop, drop_more}
 use Rattle.std.proofs.lemmas.List.Elements.{Contains-append_left, Contains-push}
-use Rattle.mac_lane.specs.Buffer.{Buffer, settle_fault}
-use Rattle.mac_lane.proofs.Waiting.{tied, get-insert_other, get-remove_same, get-remove_other}
-use Rattle.mac_lane.specs.declared.reorder.TheConstants.{SLOTS}
-use Rattle.mac_lane.specs.declared.fault.SettleFault.{SettleFault}
+use Rattle.mac_order.specs.Buffer.{Buffer, settle_fault}
+use Rattle.mac_order.proofs.Waiting.{tied, get-insert_other, get-remove_same, get-remove_other}
+use Rattle.mac_order.specs.declared.reorder.TheConstants.{SLOTS}
+use Rattle.mac_order.specs.declared.fault.SettleFault.{SettleFault}
 use Rattle.mac_decide.specs.declared.job.Job.{Job}
 use Rattle.mac_serve.specs.Posts.{AreAnswered, IsForeign, TookForeign}
 

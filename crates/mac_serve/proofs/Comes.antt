@@ -2,9 +2,9 @@
 use Rattle.std.proofs.Common.{◌≡◌, ℕ, Bool, true, false, if◌then◌else◌, List, [], ◌∷◌, refl, sym, subst}
 use Rattle.std.specs.Prelude.{Option, Some, None}
 use Rattle.std.specs.FinMap.{get}
-use Rattle.mac_lane.specs.Buffer.{Buffer, next_of, meeting, sent_off, closed_off}
-use Rattle.mac_lane.specs.declared.next.Next.{Next}
-use Rattle.mac_lane.specs.declared.next.Next.TheVariants.{Reply, Stranger, Closed, Waiting}
+use Rattle.mac_order.specs.Buffer.{Buffer, next_of, meeting, sent_off, closed_off}
+use Rattle.mac_order.specs.declared.next.Next.{Next}
+use Rattle.mac_order.specs.declared.next.Next.TheVariants.{Reply, Stranger, Closed, Waiting}
 
 -- a reply that leaves: the first slip and the answer that waits at its place are one job's
 pub record Leaves {Job : Type 0} (same : Job → Job → Bool) (buffer after : Buffer Job) : Type 0 where

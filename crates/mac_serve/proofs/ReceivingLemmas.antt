@@ -6,7 +6,7 @@ use Rattle.std.specs.declared.vec.Vec.{Vec}
 use Rattle.std.proofs.Math.Seq.{take-append-add, take-length}
 use Rattle.std.proofs.lemmas.List.{take-append-le}
 use Rattle.std.proofs.lemmas.List.{map-append}
-use Rattle.mac_relay.specs.Lane.{admitted, IsSameIntake}
+use Rattle.mac_ring.specs.Lane.{admitted, IsSameIntake}
 use Rattle.mac_queue.specs.Pass.{Pass, IsSamePass, with_put}
 use Rattle.mac_keys.specs.Table.{Table}
 use Rattle.mac_wire.specs.declared.arrival.Arrival.{Arrival}

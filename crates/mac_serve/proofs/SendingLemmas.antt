@@ -7,12 +7,12 @@ use Rattle.std.specs.declared.vec.Vec.{Vec}
 use Rattle.std.specs.declared.alloc.Global.{Global}
 use Rattle.std.proofs.lemmas.Option.{slice_get-map}
 use Rattle.std.specs.Option.{option_map}
-use Rattle.mac_relay.proofs.Releases.{item_is}
+use Rattle.mac_ring.proofs.Releases.{item_is}
 use Rattle.std.proofs.lemmas.List.{append-nil, map-append, take-append-le, length-append, length-map, length-take-le, append_cancel_left}
-use Rattle.mac_lane.specs.Buffer.{Buffer, fresh_buffer, settled, settle_fault, sent_off, closed_off}
-use Rattle.mac_lane.specs.declared.fault.SettleFault.{SettleFault}
-use Rattle.mac_relay.specs.Lane.{Exit, received, IsSameOutlet, IsKept}
-use Rattle.mac_relay.specs.declared.numbered.Numbered.{Numbered}
+use Rattle.mac_order.specs.Buffer.{Buffer, fresh_buffer, settled, settle_fault, sent_off, closed_off}
+use Rattle.mac_order.specs.declared.fault.SettleFault.{SettleFault}
+use Rattle.mac_ring.specs.Lane.{Exit, received, IsSameOutlet, IsKept}
+use Rattle.mac_ring.specs.declared.numbered.Numbered.{Numbered}
 use Rattle.mac_wire.specs.declared.reply.Reply.{Reply}
 use Rattle.mac_wire.specs.Frame.{frame, framed}
 use Rattle.mac_wire.specs.Reply.{IsReply, placed_payload, payloads_from, reply_payloads, reply_frame}

@@ -1,7 +1,7 @@
 -- The posts that the outbound half of a connection took: each as its place and, unless memory ran
 -- out, the job that it answers.
 use Rattle.std.specs.Prelude.{◌≡◌, ◌≢◌, ◌⊎◌, ℕ, ◌+◌, ◌<◌, ◌≤◌, List, ◌∷◌, ◌++◌, Option, Some, Contains, slice_get}
-use Rattle.mac_lane.specs.declared.reorder.TheConstants.{SLOTS}
+use Rattle.mac_order.specs.declared.reorder.TheConstants.{SLOTS}
 use Rattle.mac_decide.specs.declared.job.Job.{Job}
 
 -- for each of the first places there was a post with the job that stands there

@@ -1,7 +1,7 @@
 -- How the outbound half of a connection stands, and how it ends.
 use Rattle.std.specs.Prelude.{◌≡◌, ◌≢◌, ℕ, ◌+◌, ◌≤◌, false, List, ◌++◌, length, map, take, Option, Some, Contains, Result, Ok, Err}
 use Rattle.std.specs.FinMap.{get}
-use Rattle.mac_relay.specs.Lane.{received, IsKept, IsSameOutlet}
+use Rattle.mac_ring.specs.Lane.{received, IsKept, IsSameOutlet}
 use Rattle.mac_wire.specs.declared.reply.Reply.{Reply}
 use Rattle.mac_wire.specs.Frame.{framed}
 use Rattle.mac_wire.specs.Reply.{reply_payloads}

@@ -2,8 +2,8 @@
 
 ghost use Rattle.std.specs.Prelude.{◌≡◌, ◌≢◌, ◌++◌, ℕ, List, [], Option, None, IsTrue, IfOk, OnOk};
 ghost use Rattle.mac_decide.specs.declared.job.Job.{Job};
-ghost use Rattle.mac_lane.specs.Buffer.{fresh_buffer};
-ghost use Rattle.mac_relay.specs.Lane.{admitted, received, waiting, IsLane, IsSameIntake};
+ghost use Rattle.mac_order.specs.Buffer.{fresh_buffer};
+ghost use Rattle.mac_ring.specs.Lane.{admitted, received, waiting, IsLane, IsSameIntake};
 ghost use Rattle.mac_wire.specs.FrameReader.{HasRead, version_of};
 ghost use Rattle.mac_wire.specs.Stream.{version_or_one};
 ghost use Rattle.mac_serve.specs.Incoming.{HasRoom};
@@ -19,7 +19,7 @@ use crate::signals::Signals;
 use mac_decide::Macaroons;
 use mac_keys::KeyTable;
 use mac_queue::Desk;
-use mac_relay::{Intake, Outlet, Totals, lane, meet};
+use mac_ring::{Intake, Outlet, Totals, lane, meet};
 use mac_wire::{Ending, NoMemory, Sink, Source};
 use std::alloc::Global;
 use std::sync::Wait;

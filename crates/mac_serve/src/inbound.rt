@@ -8,10 +8,10 @@ use crate::signals::Signals;
 use crate::unsent::Unsent;
 use mac_decide::{Job, Macaroons, job_of};
 use mac_keys::KeyTable;
-use mac_lane::Service;
 use mac_mail::PutFault;
+use mac_order::Service;
 use mac_queue::Putter;
-use mac_relay::{AdmitFault, Intake};
+use mac_ring::{AdmitFault, Intake};
 use mac_wire::{Arrival, Ending, Source};
 use std::alloc::Global;
 use std::sync::Wait;
@@ -27,7 +27,7 @@ pub struct Inbound {
 }
 
 impl Inbound {
-    ghost use Rattle.mac_relay.specs.Lane.{admitted, IsSameIntake, Knows};
+    ghost use Rattle.mac_ring.specs.Lane.{admitted, IsSameIntake, Knows};
     ghost use Rattle.mac_queue.specs.Pass.{with_put, IsSamePass};
     ghost use Rattle.mac_serve.specs.Receiving.{CountsRead, Reads, jobs_of, Receives, HasRun, GoesOn, Continues};
     ghost use Rattle.mac_serve.specs.Incoming.{HasRoom};

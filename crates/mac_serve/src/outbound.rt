@@ -5,10 +5,10 @@ ghost use Rattle.mac_decide.specs.declared.job.Job.{Job};
 
 use crate::signals::Signals;
 use mac_decide::{Macaroons, laws};
-use mac_lane::Next;
-use mac_lane::laws::equal_jobs_hold_the_same;
 use mac_mail::{Post, Taker};
-use mac_relay::Outlet;
+use mac_order::Next;
+use mac_order::laws::equal_jobs_hold_the_same;
+use mac_ring::Outlet;
 use mac_wire::{Sink, Version, append_reply, send_all, whole_frames};
 use std::alloc::Global;
 use std::sync::Wait;
@@ -54,8 +54,8 @@ pub struct Outbound {
 }
 
 impl Outbound {
-    ghost use Rattle.mac_relay.specs.Lane.{received};
-    ghost use Rattle.mac_lane.specs.Buffer.{fresh_buffer};
+    ghost use Rattle.mac_ring.specs.Lane.{received};
+    ghost use Rattle.mac_order.specs.Buffer.{fresh_buffer};
     ghost use Rattle.mac_serve.specs.Posts.{TookForeign};
     ghost use Rattle.mac_serve.specs.Sending.{Holds, Stands, Fell, Sends, Releases, CountsWrite, IsSame, out_text, next};
 

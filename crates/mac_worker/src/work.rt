@@ -8,8 +8,8 @@ ghost use Rattle.mac_worker.specs.Parcel.{IsAnswerTo, AnswerEach, joined};
 ghost use Rattle.mac_worker.specs.declared.gate.TheConstants.{TURN_MAX};
 
 use crate::gate::{Gate, TURN_MAX};
-use mac_lane::{Answer, NoMemory, Service};
 use mac_mail::{Mailbox, Post};
+use mac_order::{Answer, NoMemory, Service};
 use mac_queue::{Claim, Line, LinePass, Ticket};
 use std::alloc::Global;
 use std::collections::VecDeque;

@@ -6,7 +6,7 @@ ghost use Rattle.mac_queue.specs.Balance.{account, entry_of};
 
 use crate::ticket::Ticket;
 use crossbeam_queue::protocol::{Join, Lesson, Outcome, Protocol, Split};
-use mac_lane::Service;
+use mac_order::Service;
 use std::collections::LinkedList;
 
 // What a pass has put and claimed, and its parts of the right to know the whole. No value is

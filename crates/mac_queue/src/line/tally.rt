@@ -5,7 +5,7 @@ ghost use Rattle.mac_queue.specs.Tally.{IsTally};
 
 use super::account::{Sum, Total};
 use super::{Line, LinePass, PASSES};
-use mac_lane::Service;
+use mac_order::Service;
 use std::sync::Wait;
 
 /// How many tickets were put, how many of them were claimed, and how many are left in the line.

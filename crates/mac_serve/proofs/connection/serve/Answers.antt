@@ -1,9 +1,9 @@
 -- What the two halves did, and what their ends showed when they met.
 use Rattle.std.proofs.Common.{◌≡◌, ◌∙◌, ◌++◌, List, [], ℕ, None, Some, eqb, ap, sym, append-nil, length}
 use Rattle.std.proofs.lemmas.Bool.{eqb-true}
-use Rattle.mac_relay.specs.Lane.{admitted, received, waiting}
-use Rattle.mac_relay.specs.declared.totals.Totals.{Totals}
-use Rattle.mac_lane.specs.Buffer.{Buffer}
+use Rattle.mac_ring.specs.Lane.{admitted, received, waiting}
+use Rattle.mac_ring.specs.declared.totals.Totals.{Totals}
+use Rattle.mac_order.specs.Buffer.{Buffer}
 use Rattle.mac_decide.specs.declared.job.Job.{Job}
 use Rattle.mac_serve.specs.Sending.{next}
 use Rattle.mac_serve.proofs.ServingLemmas.{nothing-served, has-served, released-count}

@@ -1,5 +1,5 @@
 use Rattle.std.proofs.Common.{◌≡◌, ℕ, List}
-use Rattle.mac_relay.specs.Lane.{IsSameIntake}
+use Rattle.mac_ring.specs.Lane.{IsSameIntake}
 use Rattle.mac_wire.specs.declared.version.Version.{Version}
 use Rattle.mac_serve.specs.declared.inbound.Inbound.{Inbound}
 use Rattle.mac_serve.specs.Incoming.{HasRoom}

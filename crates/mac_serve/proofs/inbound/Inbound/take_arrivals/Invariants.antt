@@ -1,6 +1,6 @@
 use Rattle.std.proofs.Common.{◌≡◌, ◌++◌, length}
 use Rattle.std.specs.Vec.Iter.{into_iter_items, into_iter_len}
-use Rattle.mac_relay.specs.Lane.{IsSameIntake}
+use Rattle.mac_ring.specs.Lane.{IsSameIntake}
 use Rattle.mac_serve.specs.Receiving.{TakesIn, jobs_of}
 use Rattle.mac_serve.proofs.inbound.Inbound.take_arrivals.Given as goal
 

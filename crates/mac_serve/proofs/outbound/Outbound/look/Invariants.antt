@@ -1,7 +1,7 @@
 use Rattle.std.proofs.Common.{◌≡◌, ◌-◌, List, ℕ, length}
 use Rattle.std.specs.Prelude.{Option}
 use Rattle.mac_decide.specs.declared.job.Job.{Job}
-use Rattle.mac_relay.specs.declared.outlet.TheConstants.{OPEN_SLIPS_MAX}
+use Rattle.mac_ring.specs.declared.outlet.TheConstants.{OPEN_SLIPS_MAX}
 use Rattle.mac_serve.specs.Sending.{Stands, out_text, IsSame}
 use Rattle.mac_serve.proofs.outbound.Outbound.look.Given as goal
 

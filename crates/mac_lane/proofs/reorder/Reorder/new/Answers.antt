@@ -1,7 +1,0 @@
--- Empty slots hold no answer.
-use Rattle.std.proofs.Common.{refl}
-use Rattle.mac_lane.proofs.Waiting.{answers_in-replicate}
-use Rattle.mac_lane.proofs.reorder.Reorder.new.Goals as goal
-
-pub returns : goal.returns
-returns g c = rw (c.in_ok-with_capacity.ensures.items, c.in_ok-empty_slots.ensures, answers_in-replicate) refl

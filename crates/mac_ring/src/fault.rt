@@ -1,0 +1,29 @@
+//! Why an intake admits no job.
+
+ghost use Rattle.std.specs.Prelude.{◌≡◌};
+ghost use Rattle.mac_ring.specs.Fault.{admit_code};
+
+use thiserror::Error;
+
+/// Why an intake did not admit a job.
+#[derive(Clone, Copy, Debug, PartialEq, Eq, Error)]
+pub enum AdmitFault {
+    /// No slip of the ring is free.
+    #[error("all 64 slips of the ring hold a job")]
+    Full,
+    /// The place would be the greatest that a number can name, which is never given.
+    #[error("the lane has no place left to give")]
+    Last,
+}
+
+impl AdmitFault {
+    /// The fault's number: 1 or 2.
+    pub fn code(&self) -> u8
+        ensures { result ≡ admit_code self.now }
+    {
+        match self {
+            AdmitFault::Full => 1,
+            AdmitFault::Last => 2,
+        }
+    }
+}

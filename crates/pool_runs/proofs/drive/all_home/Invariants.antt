@@ -1,9 +1,0 @@
-use Rattle.std.proofs.Common.{◌≡◌, length}
-use Rattle.pool_runs.specs.Desks.{AreAt}
-use Rattle.pool_runs.proofs.drive.all_home.Given as goal
-
-abbrev pub invariant-loop-desk : goal.invariant-loop-desk
-invariant-loop-desk l = (l.pool.line ≡ l.fn.pool.line) × AreAt l.fn.pool.line l.desks.items
-
-abbrev pub decreases-loop-desk : goal.decreases-loop-desk
-decreases-loop-desk l = length l.desks.items

@@ -1,4 +1,0 @@
-use Rattle.pool_runs.proofs.hammer.hammer.Goals as goal
-
-pub loop-round-preserved : goal.loop-round-preserved
-loop-round-preserved g c = λ line all. c.turn-is_right.ensures line (c.loop-round.invariant line all)

@@ -1,5 +1,0 @@
-use Rattle.pool_runs.specs.Desks.{AreMoved}
-use Rattle.pool_runs.proofs.hammer.hammer.Given as goal
-
-abbrev pub invariant-loop-round : goal.invariant-loop-round
-invariant-loop-round g l = AreMoved l.fn.desks.items l.desks.items

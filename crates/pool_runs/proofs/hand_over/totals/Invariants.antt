@@ -1,6 +1,0 @@
--- Both ends stay those of the lane.
-use Rattle.mac_relay.specs.Lane.{IsLane}
-use Rattle.pool_runs.proofs.hand_over.totals.Given as goal
-
-abbrev pub invariant-loop-job : goal.invariant-loop-job
-invariant-loop-job l = IsLane l.intake l.outlet

@@ -1,5 +1,0 @@
-use Rattle.std.proofs.Common.{◌≡◌}
-use Rattle.pool_runs.proofs.tickets.go_through.Given as goal
-
-abbrev pub invariant-loop-run : goal.invariant-loop-run
-invariant-loop-run g l = l.desk.putter.line ≡ l.fn.desk.putter.line
