@@ -1,4 +1,4 @@
-//! Why a line or a mailbox refuses.
+//! Why a queue or a mailbox refuses.
 
 ghost use Rattle.std.specs.Prelude.{◌≡◌};
 ghost use Rattle.mac_mail.specs.Fault.{put_code};
@@ -8,10 +8,10 @@ use thiserror::Error;
 /// Why a ticket or a post was not put.
 #[derive(Clone, Copy, Debug, PartialEq, Eq, Error)]
 pub enum PutFault {
-    /// The line or the mailbox holds as many as it can, or the pass has put as many as it may.
+    /// The queue or the mailbox holds as many as it can, or the pass has put as many as it may.
     #[error("the queue is full")]
     Full,
-    /// The line or the mailbox is closed.
+    /// The queue or the mailbox is closed.
     #[error("the queue is closed")]
     Closed,
     /// There was no further handle on the mailbox.

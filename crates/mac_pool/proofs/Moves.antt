@@ -3,44 +3,44 @@ use Rattle.std.proofs.Common.{◌≡◌, ℕ, ◌+◌, ◌≤◌, ◌<◌, List,
 use Rattle.atomic_table.specs.Seated.{TableId}
 use Rattle.mac_queue.specs.Pass.{Pass}
 use Rattle.mac_pool.specs.Pool.{Slots, at_home, IsGiven, IsStarted, AreWorkers, with_home}
-use Rattle.mac_queue.specs.declared.line.TheConstants.{PASSES}
-use Rattle.mac_pool.proofs.Slots.{get_set_other, out_more, all_of_line, map_push, set_back}
+use Rattle.mac_queue.specs.declared.queue.TheConstants.{PASSES}
+use Rattle.mac_pool.proofs.Slots.{get_set_other, out_more, all_of_queue, map_push, set_back}
 
 module _ {Job : Type 0} where
   abbrev pub slots : TableId → ℕ → List (Option (Pass Job)) → Slots Job
-  slots line workers passes = record { line = line; workers = workers; passes = passes }
+  slots queue workers passes = record { queue = queue; workers = workers; passes = passes }
 
   abbrev pub AreKept : TableId → List (Option (Pass Job)) → Type 0
-  AreKept line passes = (n : ℕ) (pass : Pass Job) → slice_get passes n ≡ Some (Some pass) → (pass.line ≡ line) × (pass.number ≡ n)
+  AreKept queue passes = (n : ℕ) (pass : Pass Job) → slice_get passes n ≡ Some (Some pass) → (pass.queue ≡ queue) × (pass.number ≡ n)
 
-  pub given_is : (line : TableId) (workers n : ℕ) (before after : List (Option (Pass Job))) (pass : Pass Job) → pass.line ≡ line → pass.number ≡ n → slice_get before n ≡ Some (Some pass) → after ≡ set before n None
-      → IsGiven (slots line workers before) pass (slots line workers after)
-  given_is line workers n before after pass mine number was is = record {
-    line_is = mine;
+  pub given_is : (queue : TableId) (workers n : ℕ) (before after : List (Option (Pass Job))) (pass : Pass Job) → pass.queue ≡ queue → pass.number ≡ n → slice_get before n ≡ Some (Some pass) → after ≡ set before n None
+      → IsGiven (slots queue workers before) pass (slots queue workers after)
+  given_is queue workers n before after pass mine number was is = record {
+    queue_is = mine;
     was_home = subst (λ (m : ℕ). slice_get before m ≡ Some (Some pass)) (sym number) was;
-    after_is = ap (λ (l : List (Option (Pass Job))). slots line workers l) (is ∙ ap (λ (m : ℕ). set before m None) (sym number));
+    after_is = ap (λ (l : List (Option (Pass Job))). slots queue workers l) (is ∙ ap (λ (m : ℕ). set before m None) (sym number));
   }
 
   -- a pool whose pass went out and came home is as it was
   pub back_home : (before given after : Slots Job) (pass : Pass Job) → IsGiven before pass given → after ≡ with_home given pass → after ≡ before
   back_home before given after pass went came =
       came ∙ ap (λ (pool : Slots Job). with_home pool pass) went.after_is
-      ∙ ap (λ (l : List (Option (Pass Job))). slots before.line before.workers l) (set_back before.passes pass.number (Some pass) None went.was_home)
+      ∙ ap (λ (l : List (Option (Pass Job))). slots before.queue before.workers l) (set_back before.passes pass.number (Some pass) None went.was_home)
 
-  -- workers' passes under another name of their line
+  -- workers' passes under another name of their queue
   pub workers_at : (one other : TableId) (passes : List (Pass Job)) → one ≡ other → AreWorkers other passes → AreWorkers one passes
   workers_at one other passes same were = subst (λ (z : TableId). AreWorkers z passes) (sym same) were
 
-  -- all that is brought back and all that is at home is of the line, under each of its names
-  pub all_of_lines : (line one other : TableId) (brought all : List (Pass Job)) (passes : List (Option (Pass Job))) → one ≡ line → other ≡ line → all ≡ brought ++ at_home passes → AreWorkers one brought → AreKept line passes
-      → All (λ (pass : Pass Job). pass.line ≡ other) all
-  all_of_lines line one other brought all passes one_is other_is all_is idle kept =
-      subst (λ (l : List (Pass Job)). All (λ (pass : Pass Job). pass.line ≡ other) l) (sym all_is)
-      (subst (λ (z : TableId). All (λ (pass : Pass Job). pass.line ≡ z) (brought ++ at_home passes)) (sym other_is)
-      (all_of_line line brought passes (workers_at line one brought (sym one_is) idle) kept))
+  -- all that is brought back and all that is at home is of the queue, under each of its names
+  pub all_of_queues : (queue one other : TableId) (brought all : List (Pass Job)) (passes : List (Option (Pass Job))) → one ≡ queue → other ≡ queue → all ≡ brought ++ at_home passes → AreWorkers one brought → AreKept queue passes
+      → All (λ (pass : Pass Job). pass.queue ≡ other) all
+  all_of_queues queue one other brought all passes one_is other_is all_is idle kept =
+      subst (λ (l : List (Pass Job)). All (λ (pass : Pass Job). pass.queue ≡ other) l) (sym all_is)
+      (subst (λ (z : TableId). All (λ (pass : Pass Job). pass.queue ≡ z) (brought ++ at_home passes)) (sym other_is)
+      (all_of_queue queue brought passes (workers_at queue one brought (sym one_is) idle) kept))
 
-  started_next : (line : TableId) (n : ℕ) (passes : List (Option (Pass Job))) → n < PASSES → IsStarted n (slots line n passes) → IsStarted (n + 1) (slots line (n + 1) (set passes n None))
-  started_next line n passes below was =
+  started_next : (queue : TableId) (n : ℕ) (passes : List (Option (Pass Job))) → n < PASSES → IsStarted n (slots queue n passes) → IsStarted (n + 1) (slots queue (n + 1) (set passes n None))
+  started_next queue n passes below was =
       let fit : length passes ≡ PASSES = was.slots_fit in
       record {
         count = refl;
@@ -52,12 +52,12 @@ module _ {Job : Type 0} where
       }
 
   -- one worker more
-  pub started_more : (line : TableId) (workers n m : ℕ) (before after : List (Option (Pass Job))) → n < PASSES → IsStarted workers (slots line n before) → m ≡ n + 1 → after ≡ set before n None → IsStarted (workers + 1) (slots line m after)
-  started_more line workers n m before after below was m_is after_is =
-      let next = started_next line n before below (subst (λ (w : ℕ). IsStarted w (slots line n before)) (sym was.count) was) in
-      let named : IsStarted (workers + 1) (slots line (n + 1) (set before n None)) = subst (λ (w : ℕ). IsStarted (w + 1) (slots line (n + 1) (set before n None))) was.count next in
-      subst (λ (k : ℕ). IsStarted (workers + 1) (slots line k after)) (sym m_is)
-      (subst (λ (l : List (Option (Pass Job))). IsStarted (workers + 1) (slots line (n + 1) l)) (sym after_is) named)
+  pub started_more : (queue : TableId) (workers n m : ℕ) (before after : List (Option (Pass Job))) → n < PASSES → IsStarted workers (slots queue n before) → m ≡ n + 1 → after ≡ set before n None → IsStarted (workers + 1) (slots queue m after)
+  started_more queue workers n m before after below was m_is after_is =
+      let next = started_next queue n before below (subst (λ (w : ℕ). IsStarted w (slots queue n before)) (sym was.count) was) in
+      let named : IsStarted (workers + 1) (slots queue (n + 1) (set before n None)) = subst (λ (w : ℕ). IsStarted (w + 1) (slots queue (n + 1) (set before n None))) was.count next in
+      subst (λ (k : ℕ). IsStarted (workers + 1) (slots queue k after)) (sym m_is)
+      (subst (λ (l : List (Option (Pass Job))). IsStarted (workers + 1) (slots queue (n + 1) l)) (sym after_is) named)
 
   -- who is at home where the next worker's pass is has done nothing
   pub next_idle : (pool : Slots Job) (workers number : ℕ) (pass : Pass Job) → IsStarted workers pool → workers ≤ number → number < PASSES → slice_get pool.passes number ≡ Some (Some pass) → pass.put ≡ []

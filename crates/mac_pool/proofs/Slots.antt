@@ -147,51 +147,51 @@ module _ {Job : Type 0} where
   at_home_short (Some pass ∷ slots) = let r = at_home_short slots in omega arith
 
   -- a worker's pass that is brought back has put nothing
-  pub brought_is : (line : TableId) (given back : Pass Job) (n : ℕ) → IsWorkers line given → HasClaimed given n back → IsWorkers line back
-  brought_is line given back n was has = (has.same.0 ∙ was.0, has.put ∙ was.1)
+  pub brought_is : (queue : TableId) (given back : Pass Job) (n : ℕ) → IsWorkers queue given → HasClaimed given n back → IsWorkers queue back
+  brought_is queue given back n was has = (has.same.0 ∙ was.0, has.put ∙ was.1)
 
   -- the last of passes that have put nothing, and those before it
-  pub worker_last : (line : TableId) (rest : List (Pass Job)) (pass : Pass Job) → AreWorkers line (rest ++ pass ∷ []) → IsWorkers line pass
-  worker_last line rest pass all = all (length rest) pass (get_last rest pass)
+  pub worker_last : (queue : TableId) (rest : List (Pass Job)) (pass : Pass Job) → AreWorkers queue (rest ++ pass ∷ []) → IsWorkers queue pass
+  worker_last queue rest pass all = all (length rest) pass (get_last rest pass)
 
-  pub workers_front : (line : TableId) (rest : List (Pass Job)) (pass : Pass Job) → AreWorkers line (rest ++ pass ∷ []) → AreWorkers line rest
-  workers_front line rest pass all number other at = all number other (get_front rest (pass ∷ []) number other at)
+  pub workers_front : (queue : TableId) (rest : List (Pass Job)) (pass : Pass Job) → AreWorkers queue (rest ++ pass ∷ []) → AreWorkers queue rest
+  workers_front queue rest pass all number other at = all number other (get_front rest (pass ∷ []) number other at)
 
   -- a pass more is brought
   pub brought_more : (before brought all more : List (Pass Job)) (pass : Pass Job) → more ≡ all ++ pass ∷ [] → all ≡ before ++ brought → more ≡ before ++ (brought ++ pass ∷ [])
   brought_more before brought all more pass is was = is ∙ ap (λ (l : List (Pass Job)). l ++ pass ∷ []) was ∙ append_assoc before brought (pass ∷ [])
 
-  pub workers_push : (line : TableId) (passes : List (Pass Job)) (pass : Pass Job) → AreWorkers line passes → IsWorkers line pass → AreWorkers line (passes ++ pass ∷ [])
-  workers_push line passes pass all one n other at =
+  pub workers_push : (queue : TableId) (passes : List (Pass Job)) (pass : Pass Job) → AreWorkers queue passes → IsWorkers queue pass → AreWorkers queue (passes ++ pass ∷ [])
+  workers_push queue passes pass all one n other at =
       ⊎_elim (λ (there : slice_get passes n ≡ Some other). all n other there)
-      (λ (here : (n ≡ length passes) × (pass ≡ other)). subst (λ (p : Pass Job). IsWorkers line p) here.1 one)
+      (λ (here : (n ≡ length passes) × (pass ≡ other)). subst (λ (p : Pass Job). IsWorkers queue p) here.1 one)
       (get_push passes pass other n at)
 
   -- a pass that comes home to the slot of its number keeps the slots in order
-  pub set_homes : (line : TableId) (slots : List (Option (Pass Job))) (k : ℕ) (new : Pass Job) → new.line ≡ line → new.number ≡ k
-      → ((n : ℕ) (pass : Pass Job) → slice_get slots n ≡ Some (Some pass) → (pass.line ≡ line) × (pass.number ≡ n))
-      → (n : ℕ) (pass : Pass Job) → slice_get (set slots k (Some new)) n ≡ Some (Some pass) → (pass.line ≡ line) × (pass.number ≡ n)
-  set_homes line slots k new mine number all n pass at = ⊎_elim
+  pub set_homes : (queue : TableId) (slots : List (Option (Pass Job))) (k : ℕ) (new : Pass Job) → new.queue ≡ queue → new.number ≡ k
+      → ((n : ℕ) (pass : Pass Job) → slice_get slots n ≡ Some (Some pass) → (pass.queue ≡ queue) × (pass.number ≡ n))
+      → (n : ℕ) (pass : Pass Job) → slice_get (set slots k (Some new)) n ≡ Some (Some pass) → (pass.queue ≡ queue) × (pass.number ≡ n)
+  set_homes queue slots k new mine number all n pass at = ⊎_elim
       (λ (here : (n ≡ k) × (Some new ≡ Some pass)).
       let same : new ≡ pass = cc (here.1) in
-      (sym (ap (λ (p : Pass Job). p.line) same) ∙ mine, sym (ap (λ (p : Pass Job). p.number) same) ∙ number ∙ sym here.0))
+      (sym (ap (λ (p : Pass Job). p.queue) same) ∙ mine, sym (ap (λ (p : Pass Job). p.number) same) ∙ number ∙ sym here.0))
       (λ (there : slice_get slots n ≡ Some (Some pass)). all n pass there)
       (get_set slots k n (Some new) (Some pass) at)
 
   -- a pass that goes out leaves the other slots in order
-  pub unset_homes : (line : TableId) (slots : List (Option (Pass Job))) (k : ℕ)
-      → ((n : ℕ) (pass : Pass Job) → slice_get slots n ≡ Some (Some pass) → (pass.line ≡ line) × (pass.number ≡ n))
-      → (n : ℕ) (pass : Pass Job) → slice_get (set slots k None) n ≡ Some (Some pass) → (pass.line ≡ line) × (pass.number ≡ n)
-  unset_homes line slots k all n pass at = ⊎_elim
+  pub unset_homes : (queue : TableId) (slots : List (Option (Pass Job))) (k : ℕ)
+      → ((n : ℕ) (pass : Pass Job) → slice_get slots n ≡ Some (Some pass) → (pass.queue ≡ queue) × (pass.number ≡ n))
+      → (n : ℕ) (pass : Pass Job) → slice_get (set slots k None) n ≡ Some (Some pass) → (pass.queue ≡ queue) × (pass.number ≡ n)
+  unset_homes queue slots k all n pass at = ⊎_elim
       (λ (here : (n ≡ k) × (None ≡ Some pass)). absurd (cc (here.1)))
       (λ (there : slice_get slots n ≡ Some (Some pass)). all n pass there)
       (get_set slots k n None (Some pass) at)
 
-  -- all that is brought back and all that is at home is of the line
-  pub all_of_line : (line : TableId) (brought : List (Pass Job)) (slots : List (Option (Pass Job))) → AreWorkers line brought
-      → ((n : ℕ) (pass : Pass Job) → slice_get slots n ≡ Some (Some pass) → (pass.line ≡ line) × (pass.number ≡ n))
-      → All (λ (pass : Pass Job). pass.line ≡ line) (brought ++ at_home slots)
-  all_of_line line brought slots idle homes k d below =
+  -- all that is brought back and all that is at home is of the queue
+  pub all_of_queue : (queue : TableId) (brought : List (Pass Job)) (slots : List (Option (Pass Job))) → AreWorkers queue brought
+      → ((n : ℕ) (pass : Pass Job) → slice_get slots n ≡ Some (Some pass) → (pass.queue ≡ queue) × (pass.number ≡ n))
+      → All (λ (pass : Pass Job). pass.queue ≡ queue) (brought ++ at_home slots)
+  all_of_queue queue brought slots idle homes k d below =
       let all = brought ++ at_home slots in
       let pass = get_or all k d in
       ⊎_elim (λ (here : slice_get brought k ≡ Some pass). (idle k pass here).0)
@@ -201,8 +201,8 @@ module _ {Job : Type 0} where
       (get_both brought (at_home slots) k pass (slice_get-get_or all k d below))
 
   -- one worker more
-  pub workers_more : (line : TableId) (given all : List (Pass Job)) (pass : Pass Job) → all ≡ given ++ pass ∷ [] → AreWorkers line given → IsWorkers line pass → AreWorkers line all
-  workers_more line given all pass is were one = subst (λ (l : List (Pass Job)). AreWorkers line l) (sym is) (workers_push line given pass were one)
+  pub workers_more : (queue : TableId) (given all : List (Pass Job)) (pass : Pass Job) → all ≡ given ++ pass ∷ [] → AreWorkers queue given → IsWorkers queue pass → AreWorkers queue all
+  workers_more queue given all pass is were one = subst (λ (l : List (Pass Job)). AreWorkers queue l) (sym is) (workers_push queue given pass were one)
 
   -- one slot more was looked at, and is empty
   pub out_next : (slots : List (Option (Pass Job))) (from n : ℕ) → slice_get slots n ≡ Some None → AreOut from n slots → AreOut from (n + 1) slots

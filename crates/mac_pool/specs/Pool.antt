@@ -4,14 +4,14 @@ use Rattle.std.specs.Coded.{Coded, code_by, coded×, coded_list, coded_option, c
 use Rattle.atomic_table.specs.Seated.{TableId, table_id_coded}
 use Rattle.mac_queue.specs.Pass.{Pass, pass_code, IsFresh}
 use Rattle.mac_queue.specs.Tally.{IsTally}
-use Rattle.mac_queue.specs.declared.line.TheConstants.{PASSES}
-use Rattle.mac_queue.specs.declared.line.tally.Tally.{Tally}
+use Rattle.mac_queue.specs.declared.queue.TheConstants.{PASSES}
+use Rattle.mac_queue.specs.declared.queue.tally.Tally.{Tally}
 use Rattle.mac_pool.specs.declared.pool.TheConstants.{WORKERS_MAX}
 
--- a pool: its line, the number of its workers, and its passes by their numbers, None where one is
+-- a pool: its queue, the number of its workers, and its passes by their numbers, None where one is
 -- out
 pub record Slots (Job : Type 0) : Type 0 where
-  pub line : TableId
+  pub queue : TableId
   pub workers : ℕ
   pub passes : List (Option (Pass Job))
 
@@ -19,8 +19,8 @@ abbrev pub slots_code : {Job : Type 0} → Coded Job → Coded (Slots Job)
 slots_code {Job} job =
     code_by (TableId × (ℕ × List (Option (Pass Job))))
     (coded× table_id_coded (coded× coded_ℕ (coded_list (coded_option (pass_code job)))))
-    (λ p. (p.line, (p.workers, p.passes)))
-    (λ p. record { line = p.0; workers = p.1.0; passes = p.1.1 })
+    (λ p. (p.queue, (p.workers, p.passes)))
+    (λ p. record { queue = p.0; workers = p.1.0; passes = p.1.1 })
     (λ _. refl)
 
 module _ {Job : Type 0} where
@@ -41,7 +41,7 @@ module _ {Job : Type 0} where
 
   -- the pass was at home, and is out now
   pub record IsGiven (before : Slots Job) (pass : Pass Job) (after : Slots Job) : Type 0 where
-    pub line_is : pass.line ≡ before.line
+    pub queue_is : pass.queue ≡ before.queue
     pub was_home : slice_get before.passes pass.number ≡ Some (Some pass)
     pub after_is : after ≡ record before { passes = slice_set before.passes pass.number None }
 
@@ -49,33 +49,33 @@ module _ {Job : Type 0} where
   abbrev pub with_home : Slots Job → Pass Job → Slots Job
   with_home pool pass = record pool { passes = slice_set pool.passes pass.number (Some pass) }
 
-  -- a pass of this line that has put nothing
+  -- a pass of this queue that has put nothing
   abbrev pub IsWorkers : TableId → Pass Job → Type 0
-  IsWorkers line pass = (pass.line ≡ line) × (pass.put ≡ [])
+  IsWorkers queue pass = (pass.queue ≡ queue) × (pass.put ≡ [])
 
-  -- each is a pass of this line that has put nothing
+  -- each is a pass of this queue that has put nothing
   abbrev pub AreWorkers : TableId → List (Pass Job) → Type 0
-  AreWorkers line passes =
-      (number : ℕ) (pass : Pass Job) → slice_get passes number ≡ Some pass → IsWorkers line pass
+  AreWorkers queue passes =
+      (number : ℕ) (pass : Pass Job) → slice_get passes number ≡ Some pass → IsWorkers queue pass
 
--- so many passes of this line came, which put nothing, behind those that were there
-pub record IsBrought {Job : Type 0} (line : TableId) (count : ℕ)
+-- so many passes of this queue came, which put nothing, behind those that were there
+pub record IsBrought {Job : Type 0} (queue : TableId) (count : ℕ)
     (before after : List (Pass Job)) : Type 0 where
   pub brought : List (Pass Job)
   pub after_is : after ≡ before ++ brought
   pub count_is : length brought ≡ count
-  pub idle : AreWorkers line brought
+  pub idle : AreWorkers queue brought
 
 -- how the fields fit together: a slot for each pass, at home only in the slot of its number, the
 -- passes that were given to workers, and room for all
-pub record IsKept {Job : Type 0} (line : TableId) (given : List (Pass Job)) (threads_room : ℕ)
+pub record IsKept {Job : Type 0} (queue : TableId) (given : List (Pass Job)) (threads_room : ℕ)
     (slots : List (Option (Pass Job))) (all : List (Pass Job)) (all_room : ℕ) : Type 0 where
   pub slots_fit : length slots ≡ PASSES
   pub homes : (number : ℕ) (pass : Pass Job) → slice_get slots number ≡ Some (Some pass)
-      → (pass.line ≡ line) × (pass.number ≡ number)
+      → (pass.queue ≡ queue) × (pass.number ≡ number)
   pub given_fit : length given ≤ WORKERS_MAX
   pub given_room : WORKERS_MAX ≤ threads_room
-  pub given_are : AreWorkers line given
+  pub given_are : AreWorkers queue given
   pub all_empty : all ≡ []
   pub all_fits : PASSES ≤ all_room
 
@@ -86,12 +86,12 @@ pub record IsStarted {Job : Type 0} (workers : ℕ) (pool : Slots Job) : Type 0 
   pub out : AreOut 0 workers pool.passes
   pub homes : (number : ℕ) → workers ≤ number → number < PASSES →
       (pass : Pass Job)
-      × (slice_get pool.passes number ≡ Some (Some pass)) × IsFresh pool.line number pass
+      × (slice_get pool.passes number ≡ Some (Some pass)) × IsFresh pool.queue number pass
 
 -- the tally is of the pool's passes: those that its workers brought back, which put nothing, and
 -- those that were at home
 pub record IsStopped {Job : Type 0} (pool : Slots Job) (tally : Tally) : Type 0 where
   pub brought : List (Pass Job)
   pub count : length brought ≡ pool.workers
-  pub idle : AreWorkers pool.line brought
+  pub idle : AreWorkers pool.queue brought
   pub tally_is : IsTally (brought ++ at_home pool.passes) tally

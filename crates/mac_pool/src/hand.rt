@@ -4,7 +4,7 @@ ghost use Rattle.std.specs.Prelude.{◌≡◌};
 ghost use Rattle.mac_queue.specs.Claim.{after_claim};
 
 use mac_order::Service;
-use mac_queue::{Claim, Line, LinePass};
+use mac_queue::{Claim, Queue, QueuePass};
 use std::alloc::Global;
 use std::marker::Model;
 use std::sync::{Arc, Wait};
@@ -12,8 +12,8 @@ use std::sync::{Arc, Wait};
 /// Claims tickets in a worker's stead. Contracts see its pass.
 #[derive(Drop)]
 pub struct Hand<S: Service> {
-    pub(crate) line: Arc<Line<S>, Global>,
-    pub(crate) pass: LinePass<S>,
+    pub(crate) queue: Arc<Queue<S>, Global>,
+    pub(crate) pass: QueuePass<S>,
 }
 
 impl<S: Service> Model for Hand<S> {
@@ -27,7 +27,7 @@ impl<S: Service> Model for Hand<S> {
 
     ghost view = { λ h. h.pass };
 
-    ghost invariant = { λ h. h.pass.line ≡ arc_value h.line };
+    ghost invariant = { λ h. h.pass.queue ≡ arc_value h.queue };
 }
 
 impl<S: Service> Hand<S> {
@@ -35,14 +35,14 @@ impl<S: Service> Hand<S> {
     pub fn claim<R: Wait>(&mut self, rt: &R) -> Claim<S>
         ensures { self.new ≡ after_claim self.old result }
     {
-        self.line.claim(rt, &mut self.pass)
+        self.queue.claim(rt, &mut self.pass)
     }
 
     /// The pass of the hand, which ends with it.
-    pub(crate) fn into_pass(self) -> LinePass<S>
+    pub(crate) fn into_pass(self) -> QueuePass<S>
         ensures { result ≡ self }
     {
-        let Hand { line: _, pass } = self;
+        let Hand { queue: _, pass } = self;
         pass
     }
 }

@@ -1,4 +1,4 @@
-//! A pool of a service: up to 16 workers in threads of their own claim tickets from one line, and
+//! A pool of a service: up to 16 workers in threads of their own claim tickets from one queue, and
 //! up to 64 desks put them there and take the answers, without a lock.
 #![tactic(auto)]
 
@@ -10,7 +10,7 @@ pub mod pool;
 pub use fault::{DeskFault, HandFault, PoolFault};
 pub use hand::Hand;
 pub use mac_queue::{
-    Claim, Desk, Line, LinePass, Mailbox, Post, PutFault, Putter, Taker, Tally, Ticket,
+    Claim, Desk, Mailbox, Post, PutFault, Putter, Queue, QueuePass, Taker, Tally, Ticket,
 };
 pub use mac_worker::{Gate, NoGate, Worked, worker};
 pub use pool::{Pool, WORKERS_MAX};

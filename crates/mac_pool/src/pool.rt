@@ -1,4 +1,4 @@
-//! A pool: a line with workers in threads of their own, and desks for connections.
+//! A pool: a queue with workers in threads of their own, and desks for connections.
 
 ghost use Rattle.std.specs.Prelude.{◌≡◌, ◌≢◌, ◌+◌, ◌≤◌, ◌<◌, ◌⊎◌, ◌↔◌, ◌++◌, [], Option, Some, None, Ok, Err, IfOk, IfErr, IsErr, MatchOption, OnOk, OnErr, IfSome, map, take, length, slice_get, slice_set};
 ghost use Rattle.mac_pool.specs.Pool.{IsStarted, IsStopped, IsGiven, IsHome, IsBrought, AreOut, AreWorkers, at_home, with_home};
@@ -9,7 +9,7 @@ ghost use Rattle.mac_queue.specs.Pass.{HasClaimed};
 use crate::fault::{DeskFault, HandFault, PoolFault};
 use crate::hand::Hand;
 use mac_order::{NoMemory, Service};
-use mac_queue::{Desk, Line, LinePass, PASSES, Tally};
+use mac_queue::{Desk, PASSES, Queue, QueuePass, Tally};
 use mac_worker::{Gate, NoGate, Worked, worker};
 use std::alloc::Global;
 use std::marker::{Model, PhantomData};
@@ -23,7 +23,7 @@ pub const WORKERS_MAX: usize = 16;
 
 // What a worker's thread leaves behind comes from the pass that it was given.
 #[derive(Drop)]
-pub struct FromPass<S: Service>(Snapshot<LinePass<S>>);
+pub struct FromPass<S: Service>(Snapshot<QueuePass<S>>);
 
 impl<S: Service> Promise<Worked<S>> for FromPass<S> {
     ghost use Rattle.mac_queue.specs.Pass.{HasClaimed};
@@ -33,17 +33,17 @@ impl<S: Service> Promise<Worked<S>> for FromPass<S> {
 
 type Thread<S> = PromisedHandle<Worked<S>, FromPass<S>>;
 
-type Slots<S> = Vec<Option<LinePass<S>>>;
+type Slots<S> = Vec<Option<QueuePass<S>>>;
 
-/// A line with its workers and its 80 passes, each at home or out with a worker, a desk or a hand.
+/// A queue with its workers and its 80 passes, each at home or out with a worker, a desk or a hand.
 /// A pool that is dropped leaves its workers asleep: stop it instead.
 #[derive(Drop)]
 pub struct Pool<S: Service, G: Gate> {
-    line: Arc<Line<S>, Global>,
+    queue: Arc<Queue<S>, Global>,
     workers: Vec<Thread<S>>,
     passes: Slots<S>,
-    // The room for what `stop` hands to the line's tally.
-    all: Vec<LinePass<S>>,
+    // The room for what `stop` hands to the queue's tally.
+    all: Vec<QueuePass<S>>,
     gate: PhantomData<G>,
 }
 
@@ -60,13 +60,13 @@ impl<S: Service, G: Gate> Model for Pool<S, G> {
     ghost use Rattle.mac_pool.specs.Pool.{IsKept};
 
     ghost view = { λ p. record {
-      line = arc_value p.line;
+      queue = arc_value p.queue;
       workers = length p.workers.items;
       passes = p.passes.items;
     } };
 
     ghost invariant = { λ p.
-        IsKept (arc_value p.line) (map (λ w. w.promise.0.value) p.workers.items)
+        IsKept (arc_value p.queue) (map (λ w. w.promise.0.value) p.workers.items)
         (vec_capacity p.workers) p.passes.items p.all.items (vec_capacity p.all) };
 }
 
@@ -107,13 +107,13 @@ impl<S: Service, G: Gate> Pool<S, G> {
     fn idle(alloc: Global) -> Result<Pool<S, G>, NoMemory>
         ensures { IfOk result (λ pool. IsStarted 0 pool) }
     {
-        let (row, fresh) = Line::new(alloc)?;
+        let (row, fresh) = Queue::new(alloc)?;
         let passes = slots_of(alloc, fresh)?;
-        let line = Arc::new(alloc, row)?;
+        let queue = Arc::new(alloc, row)?;
         let workers = Vec::with_capacity(alloc, WORKERS_MAX)?;
         let all = Vec::with_capacity(alloc, PASSES)?;
         Ok(Pool {
-            line,
+            queue,
             workers,
             passes,
             all,
@@ -135,14 +135,14 @@ impl<S: Service, G: Gate> Pool<S, G> {
             × (self.new.workers ≡ self.old.workers + 1)) }
         ensures fault { result ≢ Err PoolFault.Count }
     {
-        let Ok(line) = Arc::try_clone(&self.line) else {
+        let Ok(queue) = Arc::try_clone(&self.queue) else {
             return Err(PoolFault::NoMemory);
         };
         let Ok(gate) = Arc::try_clone(gate) else {
             return Err(PoolFault::NoMemory);
         };
         let pass = take_out(&mut self.passes, self.workers.len());
-        match started(*rt, alloc, line, pass, gate) {
+        match started(*rt, alloc, queue, pass, gate) {
             Some(thread) => {
                 self.workers.push_reserved(thread);
                 Ok(())
@@ -161,10 +161,10 @@ impl<S: Service, G: Gate> Pool<S, G> {
         let Some(number) = first_home(&self.passes, WORKERS_MAX, PASSES) else {
             return Err(DeskFault::AllOut);
         };
-        let Ok((line, pass)) = self.give(number) else {
+        let Ok((queue, pass)) = self.give(number) else {
             return Err(DeskFault::NoMemory);
         };
-        match Desk::new(alloc, line, pass) {
+        match Desk::new(alloc, queue, pass) {
             Ok(desk) => Ok(desk),
             Err(pass) => {
                 self.take_home(pass);
@@ -175,7 +175,7 @@ impl<S: Service, G: Gate> Pool<S, G> {
 
     /// Takes a desk back.
     pub fn home(&mut self, desk: Desk<S>)
-        requires { desk.putter.line ≡ self.old.line }
+        requires { desk.putter.queue ≡ self.old.queue }
         ensures { self.new ≡ with_home self.old desk.putter }
     {
         self.take_home(desk.into_pass());
@@ -191,41 +191,41 @@ impl<S: Service, G: Gate> Pool<S, G> {
         let Some(number) = first_home(&self.passes, 0, WORKERS_MAX) else {
             return Err(HandFault::AllOut);
         };
-        let Ok((line, pass)) = self.give(number) else {
+        let Ok((queue, pass)) = self.give(number) else {
             return Err(HandFault::NoMemory);
         };
-        Ok(Hand { line, pass })
+        Ok(Hand { queue, pass })
     }
 
     /// Takes a hand back.
     pub fn hand_back(&mut self, hand: Hand<S>)
-        requires { hand.line ≡ self.old.line }
+        requires { hand.queue ≡ self.old.queue }
         ensures { self.new ≡ with_home self.old hand }
     {
         self.take_home(hand.into_pass());
     }
 
-    /// Gives the pass of this number, with a handle on its line.
-    fn give(&mut self, number: usize) -> Result<(Arc<Line<S>, Global>, LinePass<S>), NoMemory>
+    /// Gives the pass of this number, with a handle on its queue.
+    fn give(&mut self, number: usize) -> Result<(Arc<Queue<S>, Global>, QueuePass<S>), NoMemory>
         requires home { IsHome number self.old.passes }
         ensures given { IfOk result (λ given. IsGiven self.old given.1 self.new
-            × (given.1.number ≡ number) × (given.1.line ≡ arc_value given.0)) }
+            × (given.1.number ≡ number) × (given.1.queue ≡ arc_value given.0)) }
         ensures same { OnErr result (self.new ≡ self.old) }
     {
-        let line = Arc::try_clone(&self.line)?;
+        let queue = Arc::try_clone(&self.queue)?;
         let pass = take_out(&mut self.passes, number);
-        Ok((line, pass))
+        Ok((queue, pass))
     }
 
-    fn take_home(&mut self, pass: LinePass<S>)
-        requires { pass.line ≡ self.old.line }
+    fn take_home(&mut self, pass: QueuePass<S>)
+        requires { pass.queue ≡ self.old.queue }
         ensures { self.new ≡ with_home self.old pass }
     {
         let number = pass.number();
         self.passes[number] = Some(pass);
     }
 
-    /// Ends the workers, and tells the books of the line. While a desk or a hand is out, the pool
+    /// Ends the workers, and tells the books of the queue. While a desk or a hand is out, the pool
     /// comes back as it was.
     pub fn stop<R: Threads + Wait>(self, rt: &R) -> Result<Tally, Pool<S, G>>
         ensures out { IsErr result ↔ (length (at_home self.passes) + self.workers ≢ PASSES) }
@@ -236,29 +236,29 @@ impl<S: Service, G: Gate> Pool<S, G> {
             return Err(self);
         }
         let Pool {
-            line,
+            queue,
             workers,
             passes,
             mut all,
             gate: _,
         } = self;
-        line.close();
-        bring_back(rt, &line, workers, &mut all);
+        queue.close();
+        bring_back(rt, &queue, workers, &mut all);
         bring_home(passes, &mut all);
-        Ok(line.tally(rt, all))
+        Ok(queue.tally(rt, all))
     }
 
     /// Ends the workers.
     fn dismiss<R: Threads>(self, rt: &R) {
         let Pool {
-            line,
+            queue,
             workers,
             passes: _,
             mut all,
             gate: _,
         } = self;
-        line.close();
-        bring_back(rt, &line, workers, &mut all);
+        queue.close();
+        bring_back(rt, &queue, workers, &mut all);
     }
 }
 
@@ -279,8 +279,8 @@ impl<S: Service> Pool<S, NoGate> {
 fn started<S, G, R>(
     rt: R,
     alloc: Global,
-    line: Arc<Line<S>, Global>,
-    pass: LinePass<S>,
+    queue: Arc<Queue<S>, Global>,
+    pass: QueuePass<S>,
     gate: Arc<G, Global>,
 ) -> Option<Thread<S>>
 where
@@ -289,14 +289,14 @@ where
     S::Reply: 'static,
     G: Gate + 'static,
     R: Threads + Wait + Copy + Send + 'static,
-    requires line { pass.line ≡ arc_value line }
+    requires queue { pass.queue ≡ arc_value queue }
     ensures { IfSome result (λ thread. thread.promise.0.value ≡ pass) }
 {
     let promise = FromPass(Snapshot::of(&pass));
     let work = move || -> Worked<S>
-        requires { pass.line ≡ arc_value line }
+        requires { pass.queue ≡ arc_value queue }
         ensures { HasClaimed pass result.claimed result.pass }
-    { worker(&rt, alloc, &line, pass, &*gate) };
+    { worker(&rt, alloc, &queue, pass, &*gate) };
     thread::spawn_with(&rt, promise, work).ok()
 }
 
@@ -316,7 +316,7 @@ fn first_home<S: Service>(slots: &Slots<S>, from: usize, to: usize) -> Option<us
 }
 
 /// Takes the pass of this number out.
-fn take_out<S: Service>(slots: &mut Slots<S>, number: usize) -> LinePass<S>
+fn take_out<S: Service>(slots: &mut Slots<S>, number: usize) -> QueuePass<S>
     requires home { IsHome number slots.old.items }
     ensures was { slice_get slots.old.items number ≡ Some (Some result) }
     ensures out { slots.new.items ≡ slice_set slots.old.items number None }
@@ -344,14 +344,14 @@ fn home_count<S: Service>(slots: &Slots<S>) -> usize
 /// Waits for the workers, and keeps their passes.
 fn bring_back<S: Service, R: Threads>(
     rt: &R,
-    line: &Line<S>,
+    queue: &Queue<S>,
     mut workers: Vec<Thread<S>>,
-    all: &mut Vec<LinePass<S>>,
+    all: &mut Vec<QueuePass<S>>,
 )
     requires room { length all.old.items + length workers.items ≤ vec_capacity all.old }
-    requires given { AreWorkers line.now (map (λ worker. worker.promise.0.value) workers.items) }
+    requires given { AreWorkers queue.now (map (λ worker. worker.promise.0.value) workers.items) }
     ensures capacity { vec_capacity all.new ≡ vec_capacity all.old }
-    ensures brought { IsBrought line.now (length workers.items) all.old.items all.new.items }
+    ensures brought { IsBrought queue.now (length workers.items) all.old.items all.new.items }
 {
     while let Some(thread) = workers.pop() {
         all.push_reserved(thread.join(rt).pass);
@@ -359,7 +359,7 @@ fn bring_back<S: Service, R: Threads>(
 }
 
 /// Keeps the passes that are at home.
-fn bring_home<S: Service>(slots: Slots<S>, all: &mut Vec<LinePass<S>>)
+fn bring_home<S: Service>(slots: Slots<S>, all: &mut Vec<QueuePass<S>>)
     requires room { length all.old.items + length (at_home slots.items) ≤ vec_capacity all.old }
     ensures { all.new.items ≡ all.old.items ++ at_home slots.items }
 {
@@ -371,7 +371,7 @@ fn bring_home<S: Service>(slots: Slots<S>, all: &mut Vec<LinePass<S>>)
 }
 
 /// Each pass in a slot of its own.
-fn slots_of<S: Service>(alloc: Global, passes: Vec<LinePass<S>>) -> Result<Slots<S>, NoMemory>
+fn slots_of<S: Service>(alloc: Global, passes: Vec<QueuePass<S>>) -> Result<Slots<S>, NoMemory>
     ensures { IfOk result (λ slots. slots.items ≡ map Some passes.items) }
 {
     let mut slots = Vec::with_capacity(alloc, PASSES)?;

@@ -1,4 +1,4 @@
--- Each step of a pass keeps the balance of the line.
+-- Each step of a pass keeps the balance of the queue.
 use Rattle.std.proofs.Common.{◌≡◌, ◌≢◌, ℕ, ◌+◌, ◌-◌, ◌*◌, ◌^◌, ◌≤◌, ◌<◌, List, [], ◌∷◌, ◌++◌, length, length-append, set, sym, refl, ap, arith, subst, ⊎_elim}
 use Rattle.std.proofs.lemmas.List.Sums.{sum_by-cons, sum_by-append, sum_by_push}
 use Rattle.std.specs.List.{sum_by}
@@ -6,8 +6,8 @@ use mathlib.Core.Option.{some, some-ne-none}
 use lib.ListN.{get_elem?}
 use Rattle.crossbeam_queue.specs.Fifo.{Pushes, Pops, Forks, Merges, Learns}
 use Rattle.crossbeam_queue.proofs.Lists.{at_set, at_snoc}
-use Rattle.mac_queue.specs.declared.line.account.Account.{Account}
-use Rattle.mac_queue.specs.declared.line.TheConstants.{PASSES, PUTS_MAX}
+use Rattle.mac_queue.specs.declared.queue.account.Account.{Account}
+use Rattle.mac_queue.specs.declared.queue.TheConstants.{PASSES, PUTS_MAX}
 use Rattle.mac_queue.specs.declared.ticket.Ticket.{Ticket}
 use Rattle.mac_queue.specs.Balance.{account, entry_of, IsWithin, IsBalanced, IsAll}
 use Rattle.mac_queue.proofs.Totals.{total_set, part_of_total, total_within, total_nothing, ones}

@@ -12,11 +12,11 @@ module _ {Item : Type 0} where
   get_push (first ∷ items) last item (suc place) at =
       ⊎_elim (λ (there : slice_get items place ≡ Some item). inl there) (λ (here : (place ≡ length items) × (last ≡ item)). inr (ap suc here.0, here.1)) (get_push items last item place at)
 
-pub fresh_push : {Job : Type 0} (line : TableId) (number : ℕ) (passes : List (Pass Job)) (pass : Pass Job) → AreFresh line passes → length passes ≡ number → IsFresh line number pass → AreFresh line (passes ++ pass ∷ [])
-fresh_push {Job} line number passes pass fresh count mine place other at =
+pub fresh_push : {Job : Type 0} (queue : TableId) (number : ℕ) (passes : List (Pass Job)) (pass : Pass Job) → AreFresh queue passes → length passes ≡ number → IsFresh queue number pass → AreFresh queue (passes ++ pass ∷ [])
+fresh_push {Job} queue number passes pass fresh count mine place other at =
     ⊎_elim (λ (there : slice_get passes place ≡ Some other). fresh place other there)
     (λ (here : (place ≡ length passes) × (pass ≡ other)).
-    subst (λ (y : ℕ × Pass Job). IsFresh line y.0 y.1) (λ i. ((sym count ∙ sym here.0) i, here.1 i)) mine)
+    subst (λ (y : ℕ × Pass Job). IsFresh queue y.0 y.1) (λ i. ((sym count ∙ sym here.0) i, here.1 i)) mine)
     (get_push passes pass other place at)
 
 -- what holds of each holds of the first and of the others

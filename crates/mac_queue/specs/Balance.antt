@@ -1,11 +1,11 @@
--- The rule of the line: what all passes put is what they claimed together with what the queue
+-- The rule of the queue: what all passes put is what they claimed together with what the array
 -- holds.
 use Rattle.std.specs.Prelude.{◌≡◌, ℕ, ◌+◌, ◌*◌, ◌≤◌, List, [], length}
 use Rattle.std.specs.List.{sum_by}
 use mathlib.Core.Option.{some}
 use lib.ListN.{get_elem?}
-use Rattle.mac_queue.specs.declared.line.account.Account.{Account}
-use Rattle.mac_queue.specs.declared.line.TheConstants.{PASSES, PUTS_MAX}
+use Rattle.mac_queue.specs.declared.queue.account.Account.{Account}
+use Rattle.mac_queue.specs.declared.queue.TheConstants.{PASSES, PUTS_MAX}
 use Rattle.mac_queue.specs.declared.ticket.Ticket.{Ticket}
 
 -- a ticket as its place and its job
@@ -21,7 +21,7 @@ module _ {Job : Type 0} where
   IsWithin a = (length a.put ≤ a.parts * PUTS_MAX) × (a.parts ≡ 0 → a.claimed ≡ [])
 
 -- the parts are as many as the passes, and however entries are weighed, what was put weighs as much
--- as what was claimed and what the queue holds
+-- as what was claimed and what the array holds
 pub record IsBalanced {S Job Reply : Type 0} (tickets : List (Ticket S Job Reply))
     (accounts : List (Account Job)) : Type 0 where
   pub parts : sum_by (λ (a : Account Job). a.parts) accounts ≡ PASSES
@@ -32,7 +32,7 @@ pub record IsBalanced {S Job Reply : Type 0} (tickets : List (Ticket S Job Reply
       + sum_by (λ (ticket : Ticket S Job Reply). weight (entry_of ticket)) tickets
 
 -- however entries are weighed, what this pass put weighs as much as what it claimed and what the
--- queue holds
+-- array holds
 abbrev pub IsAll : {S Job Reply : Type 0} → Account Job → List (Ticket S Job Reply) → Type 0
 IsAll {S} {Job} {Reply} a tickets =
     (weight : ℕ × Job → ℕ) →

@@ -1,8 +1,8 @@
 -- What a claim does to the pass that makes it.
 use Rattle.mac_queue.specs.Balance.{entry_of}
 use Rattle.mac_queue.specs.Pass.{Pass, with_claimed}
-use Rattle.mac_queue.specs.declared.line.Claim.{Claim}
-use Rattle.mac_queue.specs.declared.line.Claim.TheVariants.{Got, Empty, Closed}
+use Rattle.mac_queue.specs.declared.queue.Claim.{Claim}
+use Rattle.mac_queue.specs.declared.queue.Claim.TheVariants.{Got, Empty, Closed}
 
 -- a pass after a claim: the entry of a ticket that was got is one more, and else the pass is as it
 -- was

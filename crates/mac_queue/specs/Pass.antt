@@ -1,13 +1,13 @@
--- What contracts see of a pass to the line.
+-- What contracts see of a pass to the queue.
 use Rattle.std.specs.Prelude.{◌≡◌, ℕ, List, [], ◌∷◌, ◌++◌, length, Some, slice_get, refl}
 use Rattle.std.specs.List.{flat_map}
 use Rattle.std.specs.Coded.{Coded, code_by, coded×, coded_list, coded_ℕ}
 use Rattle.atomic_table.specs.Seated.{TableId, table_id_coded}
 
--- a pass: its line, its seat there, its number, and the entries that it put and that it claimed,
+-- a pass: its queue, its seat there, its number, and the entries that it put and that it claimed,
 -- each a place and the job there
 pub record Pass (Job : Type 0) : Type 0 where
-  pub line : TableId
+  pub queue : TableId
   pub seat : ℕ
   pub number : ℕ
   pub put : List (ℕ × Job)
@@ -18,9 +18,9 @@ pass_code {Job} job =
     code_by (TableId × (ℕ × (ℕ × (List (ℕ × Job) × List (ℕ × Job)))))
     (coded× table_id_coded (coded× coded_ℕ (coded× coded_ℕ
     (coded× (coded_list (coded× coded_ℕ job)) (coded_list (coded× coded_ℕ job))))))
-    (λ p. (p.line, (p.seat, (p.number, (p.put, p.claimed)))))
+    (λ p. (p.queue, (p.seat, (p.number, (p.put, p.claimed)))))
     (λ p. record {
-      line = p.0;
+      queue = p.0;
       seat = p.1.0;
       number = p.1.1.0;
       put = p.1.1.1.0;
@@ -40,7 +40,7 @@ module _ {Job : Type 0} where
   -- one and the same pass, whatever it has put or claimed in between
   abbrev pub IsSamePass : Pass Job → Pass Job → Type 0
   IsSamePass before after =
-      (after.line ≡ before.line) × (after.seat ≡ before.seat) × (after.number ≡ before.number)
+      (after.queue ≡ before.queue) × (after.seat ≡ before.seat) × (after.number ≡ before.number)
 
   -- the entries that the passes put, and those that they claimed, one pass after another
   abbrev pub all_put : List (Pass Job) → List (ℕ × Job)
@@ -58,14 +58,14 @@ pub record HasClaimed {Job : Type 0} (before : Pass Job) (count : ℕ)
   pub claimed : after.claimed ≡ before.claimed ++ more
   pub number : length more ≡ count
 
--- a pass of this line and this number that has done nothing
-pub record IsFresh {Job : Type 0} (line : TableId) (number : ℕ) (pass : Pass Job) : Type 0 where
-  pub line_is : pass.line ≡ line
+-- a pass of this queue and this number that has done nothing
+pub record IsFresh {Job : Type 0} (queue : TableId) (number : ℕ) (pass : Pass Job) : Type 0 where
+  pub queue_is : pass.queue ≡ queue
   pub number_is : pass.number ≡ number
   pub put_is : pass.put ≡ []
   pub claimed_is : pass.claimed ≡ []
 
 -- the passes are fresh, and have the numbers 0, 1, 2 and so on
 abbrev pub AreFresh : {Job : Type 0} → TableId → List (Pass Job) → Type 0
-AreFresh {Job} line passes =
-    (number : ℕ) (pass : Pass Job) → slice_get passes number ≡ Some pass → IsFresh line number pass
+AreFresh {Job} queue passes =
+    (number : ℕ) (pass : Pass Job) → slice_get passes number ≡ Some pass → IsFresh queue number pass

@@ -2,7 +2,7 @@
 use Rattle.std.specs.Prelude.{◌≡◌, ℕ, List, length}
 use Rattle.mac_queue.specs.Lists.{IsSplitInto}
 use Rattle.mac_queue.specs.Pass.{Pass, all_put, all_claimed}
-use Rattle.mac_queue.specs.declared.line.tally.Tally.{Tally}
+use Rattle.mac_queue.specs.declared.queue.tally.Tally.{Tally}
 
 -- what the passes put is, each as often, what they claimed together with what is left; the numbers
 -- are these lists' lengths

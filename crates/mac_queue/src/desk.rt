@@ -4,7 +4,7 @@ ghost use Rattle.std.specs.Prelude.{◌≡◌, [], IfOk, IfErr, OnOk, OnErr};
 ghost use Rattle.std.specs.Arc.{arc_value};
 ghost use Rattle.mac_queue.specs.Pass.{with_put};
 
-use crate::line::{Line, LinePass};
+use crate::queue::{Queue, QueuePass};
 use crate::ticket::Ticket;
 use mac_mail::{Mailbox, PutFault, Taker};
 use mac_order::Service;
@@ -21,11 +21,11 @@ pub struct Desk<S: Service> {
     pub taker: Taker<S>,
 }
 
-/// Puts jobs into the line, for posts to its desk. Contracts see its pass.
+/// Puts jobs into the queue, for posts to its desk. Contracts see its pass.
 #[derive(Drop)]
 pub struct Putter<S: Service> {
-    line: Arc<Line<S>, Global>,
-    pass: LinePass<S>,
+    queue: Arc<Queue<S>, Global>,
+    pass: QueuePass<S>,
     mail: Arc<Mailbox<S>, Global>,
 }
 
@@ -40,35 +40,35 @@ impl<S: Service> Model for Putter<S> {
 
     ghost view = { λ p. p.pass };
 
-    ghost invariant = { λ p. p.pass.line ≡ arc_value p.line };
+    ghost invariant = { λ p. p.pass.queue ≡ arc_value p.queue };
 }
 
 impl<S: Service> Desk<S> {
-    /// A desk at this line, with a fresh mailbox. Takes all the memory that the desk ever takes;
+    /// A desk at this queue, with a fresh mailbox. Takes all the memory that the desk ever takes;
     /// where it is refused, the pass comes back.
     pub fn new(
         alloc: Global,
-        line: Arc<Line<S>, Global>,
-        pass: LinePass<S>,
-    ) -> Result<Desk<S>, LinePass<S>>
-        requires { pass.line ≡ arc_value line }
+        queue: Arc<Queue<S>, Global>,
+        pass: QueuePass<S>,
+    ) -> Result<Desk<S>, QueuePass<S>>
+        requires { pass.queue ≡ arc_value queue }
         ensures desk { IfOk result (λ desk. (desk.putter ≡ pass) × (desk.taker ≡ [])) }
         ensures back { IfErr result (λ back. back ≡ pass) }
     {
         let Ok((taker, mail)) = Taker::new(alloc) else {
             return Err(pass);
         };
-        let putter = Putter { line, pass, mail };
+        let putter = Putter { queue, pass, mail };
         Ok(Desk { putter, taker })
     }
 
     /// The pass of the desk, which ends with it.
-    pub fn into_pass(self) -> LinePass<S>
+    pub fn into_pass(self) -> QueuePass<S>
         ensures { result ≡ self.putter }
     {
         let Desk { putter, taker: _ } = self;
         let Putter {
-            line: _,
+            queue: _,
             pass,
             mail: _,
         } = putter;
@@ -77,7 +77,7 @@ impl<S: Service> Desk<S> {
 }
 
 impl<S: Service> Putter<S> {
-    /// Puts the job at its place into the line. It takes no memory but one more handle on the
+    /// Puts the job at its place into the queue. It takes no memory but one more handle on the
     /// mailbox.
     pub fn put<R: Wait>(
         &mut self,
@@ -93,7 +93,7 @@ impl<S: Service> Putter<S> {
             return Err((PutFault::NoMemory, job));
         };
         let ticket = Ticket { place, job, mail };
-        match self.line.put(rt, &mut self.pass, ticket) {
+        match self.queue.put(rt, &mut self.pass, ticket) {
             Ok(()) => Ok(()),
             Err((fault, ticket)) => Err((fault, ticket.job)),
         }

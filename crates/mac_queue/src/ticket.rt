@@ -1,4 +1,4 @@
-//! What stands in the line.
+//! What stands in the queue.
 
 use mac_mail::Mailbox;
 use mac_order::Service;

@@ -10,7 +10,7 @@ use Rattle.rtrb.specs.declared.consumer.Consumer.{Consumer}
 use Rattle.mac_order.specs.Buffer.{Buffer, next_of, meeting, sent_off, closed_off}
 use Rattle.mac_order.specs.declared.next.Next.{Next}
 use Rattle.mac_order.specs.declared.next.Next.TheVariants.{Reply, Stranger, Closed}
-use Rattle.mac_ring.specs.Lane.{Exit, IsKept, Releases, received, released, replied}
+use Rattle.mac_ring.specs.Ring.{Exit, IsKept, Releases, received, released, replied}
 
 -- a list whose rest from an index on begins with an item
 module _ {Item : Type 0} (items : List Item) (index : ℕ) (item : Item) (rest : List Item) (is : drop index items ≡ item ∷ rest) where

@@ -1,3 +1,3 @@
 pub mod Fault
-pub mod Lane
+pub mod Exhausted
 pub mod Stored

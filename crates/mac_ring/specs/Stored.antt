@@ -3,7 +3,7 @@ use Rattle.std.specs.Prelude.{refl}
 use Rattle.std.specs.Coded.{Coded, code_by, coded×}
 use Rattle.rtrb.specs.declared.consumer.Consumer.{Consumer}
 use Rattle.mac_order.specs.Buffer.{Buffer}
-use Rattle.mac_ring.specs.Lane.{Exit}
+use Rattle.mac_ring.specs.Ring.{Exit}
 
 abbrev pub exit_code : {Job A P : Type 0} → Coded (Consumer Job A P) → Coded (Buffer Job)
     → Coded (Exit Job A P)

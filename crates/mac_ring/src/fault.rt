@@ -12,7 +12,7 @@ pub enum AdmitFault {
     #[error("all 64 slips of the ring hold a job")]
     Full,
     /// The place would be the greatest that a number can name, which is never given.
-    #[error("the lane has no place left to give")]
+    #[error("the ring has no place left to give")]
     Last,
 }
 

@@ -1,9 +1,9 @@
-//! The end of a lane that admits jobs.
+//! The end of a ring that admits jobs.
 
 ghost use Rattle.std.specs.Prelude.{◌≡◌, ◌+◌, ◌-◌, ◌^◌, ◌<◌, ◌≤◌, [], ◌∷◌, ◌++◌, length, IsOk, OnOk, OnErr, IfOk, IfErr, IfSome, MatchResult, None, Some};
 ghost use Rattle.rtrb.specs.Ring.{sent, producer_capacity};
 ghost use Rattle.mac_ring.specs.Fault.{admit_fault};
-ghost use Rattle.mac_ring.specs.Lane.{admitted, free_slips, IsSameIntake, Knows, all_admitted, Finishes};
+ghost use Rattle.mac_ring.specs.Ring.{admitted, free_slips, IsSameIntake, Knows, all_admitted, Finishes};
 
 use crate::fault::AdmitFault;
 use crate::mark::Finished;
@@ -14,7 +14,7 @@ use rtrb::Producer;
 use std::alloc::Global;
 use std::marker::Model;
 
-/// The end of a lane that admits jobs. It moves to the thread that reads them. Contracts see its
+/// The end of a ring that admits jobs. It moves to the thread that reads them. Contracts see its
 /// end of the ring.
 #[derive(Drop)]
 pub struct Intake<S: Service> {
@@ -51,7 +51,7 @@ impl<S: Service> Intake<S> {
     /// Puts the job into the ring, and gives its place. One atomic store, and a load where no slip
     /// is known to be free.
     pub fn admit(&mut self, job: S::Job) -> Result<u64, (AdmitFault, S::Job)>
-        ensures lane { IsSameIntake self.old self.new }
+        ensures ring { IsSameIntake self.old self.new }
         ensures fault { MatchResult result
             (λ place. admit_fault (free_slips self.new + 1) place ≡ None)
             (λ e. admit_fault (free_slips self.new) (length (admitted self.old)) ≡ Some e.0) }

@@ -1,4 +1,4 @@
-//! The limits of a lane, as numbers.
+//! The limits of a ring, as numbers.
 
 ghost use Rattle.std.specs.Prelude.{◌≡◌};
 

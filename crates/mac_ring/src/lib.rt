@@ -1,4 +1,4 @@
-//! A lane: the ring that carries a connection's jobs from its intake to its outlet, each end in a
+//! A ring: the ring that carries a connection's jobs from its intake to its outlet, each end in a
 //! thread of its own. No call waits, and what the outlet releases are the replies to what the
 //! intake admitted.
 #![tactic(auto)]
@@ -16,5 +16,5 @@ pub use fault::AdmitFault;
 pub use intake::Intake;
 pub use mark::Finished;
 pub use outlet::{OPEN_SLIPS_MAX, Outlet};
-pub use ring::{RING_SLIPS_MAX, lane};
+pub use ring::{RING_SLIPS_MAX, make_ring};
 pub use totals::{Totals, meet};

@@ -1,9 +1,9 @@
-//! The end of a lane that releases replies.
+//! The end of a ring that releases replies.
 
 ghost use Rattle.std.specs.Prelude.{◌≡◌, ◌<◌, ◌++◌, ◌↔◌, true, [], length, map, IsTrue, IsFalse, OnOk, OnErr, IfErr, MatchResult, None, Some};
 ghost use Rattle.rtrb.specs.Ring as ring;
 ghost use Rattle.mac_order.specs.Buffer.{fresh_buffer, settle_fault, settled, next_of, closed_off};
-ghost use Rattle.mac_ring.specs.Lane.{received, waiting, released, may_look, Takes, Rests, Looks, IsKept, Releases, replied, all_admitted, IsMarkOf};
+ghost use Rattle.mac_ring.specs.Ring.{received, waiting, released, may_look, Takes, Rests, Looks, IsKept, Releases, replied, all_admitted, IsMarkOf};
 
 use crate::mark::Finished;
 use crate::numbered::Numbered;
@@ -15,7 +15,7 @@ use std::marker::Model;
 /// The most slips that an outlet has open.
 pub const OPEN_SLIPS_MAX: usize = 64;
 
-/// The end of a lane that releases replies. It moves to the thread that writes them. Contracts see
+/// The end of a ring that releases replies. It moves to the thread that writes them. Contracts see
 /// its end of the ring and its reorder buffer.
 #[derive(Drop)]
 pub struct Outlet<S: Service> {
@@ -28,7 +28,7 @@ impl<S: Service> Model for Outlet<S> {
     ghost use Rattle.mac_ring.specs.declared.numbered.Numbered.{Numbered};
     ghost use Rattle.std.specs.Coded.{codes};
     ghost use Rattle.mac_order.specs.Stored.{buffer_code};
-    ghost use Rattle.mac_ring.specs.Lane.{Exit, IsKept};
+    ghost use Rattle.mac_ring.specs.Ring.{Exit, IsKept};
     ghost use Rattle.mac_ring.specs.Stored.{exit_code};
 
     ghost Value = { Exit S.Job Global Numbered };
@@ -112,7 +112,7 @@ impl<S: Service> Outlet<S> {
         self.buffer.close();
     }
 
-    /// How many jobs the lane's intake has admitted in all, now that it has finished. What the ring
+    /// How many jobs the ring's intake has admitted in all, now that it has finished. What the ring
     /// still holds is known from then on.
     pub fn drain(&mut self, mark: &mut Finished<S>) -> u64
         requires mark { IsMarkOf mark.old self.old }

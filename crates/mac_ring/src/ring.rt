@@ -1,8 +1,8 @@
-//! The ring between the two ends of a lane.
+//! The ring between the two ends of a ring.
 
 ghost use Rattle.std.specs.Prelude.{◌≡◌, ◌<◌, ◌-◌, ◌^◌, [], length, IfOk};
 ghost use Rattle.mac_order.specs.Buffer.{fresh_buffer};
-ghost use Rattle.mac_ring.specs.Lane.{IsLane, admitted, free_slips, received, waiting};
+ghost use Rattle.mac_ring.specs.Ring.{IsRing, admitted, free_slips, received, waiting};
 
 use crate::intake::Intake;
 use crate::numbered::Numbered;
@@ -14,9 +14,9 @@ use std::alloc::Global;
 /// The most slips that a ring holds.
 pub const RING_SLIPS_MAX: usize = 64;
 
-/// A lane with nothing in it. Takes all the memory that the lane ever takes.
-pub fn lane<S: Service>(alloc: Global) -> Result<(Intake<S>, Outlet<S>), NoMemory>
-    ensures lane { IfOk result (λ ends. IsLane ends.0 ends.1) }
+/// A ring with nothing in it. Takes all the memory that the ring ever takes.
+pub fn make_ring<S: Service>(alloc: Global) -> Result<(Intake<S>, Outlet<S>), NoMemory>
+    ensures ring { IfOk result (λ ends. IsRing ends.0 ends.1) }
     ensures intake { IfOk result (λ ends.
         (admitted ends.0 ≡ []) × (free_slips ends.0 ≡ RING_SLIPS_MAX)) }
     ensures outlet { IfOk result (λ ends. (received ends.1 ≡ []) ×

@@ -1,15 +1,15 @@
-//! Both ends of a lane, in one thread again.
+//! Both ends of a ring, in one thread again.
 
 ghost use Rattle.std.specs.Prelude.{◌≡◌, ◌≤◌, ◌+◌, ◌++◌, length, map, take};
 ghost use Rattle.mac_order.specs.History.{IsReached};
-ghost use Rattle.mac_ring.specs.Lane.{IsLane, admitted, free_slips, received, waiting, released, Knows, Looks, IsKept};
+ghost use Rattle.mac_ring.specs.Ring.{IsRing, admitted, free_slips, received, waiting, released, Knows, Looks, IsKept};
 
 use crate::intake::Intake;
 use crate::outlet::Outlet;
 use crate::ring::RING_SLIPS_MAX;
 use mac_order::{Service, laws};
 
-/// What a lane has done so far.
+/// What a ring has done so far.
 #[derive(Clone, Copy, Debug, PartialEq, Eq)]
 pub struct Totals {
     /// How many jobs were admitted.
@@ -18,9 +18,9 @@ pub struct Totals {
     pub released: u64,
 }
 
-/// Lets the two ends of a lane learn of one another, and tells what the lane has done so far.
+/// Lets the two ends of a ring learn of one another, and tells what the ring has done so far.
 pub fn meet<S: Service>(intake: &mut Intake<S>, outlet: &mut Outlet<S>) -> Totals
-    requires lane { IsLane intake.old outlet.old }
+    requires ring { IsRing intake.old outlet.old }
     ensures intake { Knows intake.old intake.new }
     ensures outlet { Looks outlet.old outlet.new }
     ensures rest { received outlet.new ++ waiting outlet.new ≡ admitted intake.new }

@@ -6,7 +6,7 @@ use Rattle.std.specs.declared.vec.Vec.{Vec}
 use Rattle.std.proofs.Math.Seq.{take-append-add, take-length}
 use Rattle.std.proofs.lemmas.List.{take-append-le}
 use Rattle.std.proofs.lemmas.List.{map-append}
-use Rattle.mac_ring.specs.Lane.{admitted, IsSameIntake}
+use Rattle.mac_ring.specs.Ring.{admitted, IsSameIntake}
 use Rattle.mac_queue.specs.Pass.{Pass, IsSamePass, with_put}
 use Rattle.mac_keys.specs.Table.{Table}
 use Rattle.mac_wire.specs.declared.arrival.Arrival.{Arrival}
@@ -37,22 +37,22 @@ took-nothing a = record { admitted_is = search rules; put_is = search rules }
 
 -- what is put behind these jobs stands behind them
 put-more : (jobs more : List Job) (a b : Inbound) → TakesIn jobs a b
-    → record b.putter { put = b.putter.put ++ placed (length (admitted b.lane)) more }
-    ≡ record a.putter { put = a.putter.put ++ placed (length (admitted a.lane)) (jobs ++ more) }
+    → record b.putter { put = b.putter.put ++ placed (length (admitted b.ring)) more }
+    ≡ record a.putter { put = a.putter.put ++ placed (length (admitted a.ring)) (jobs ++ more) }
 put-more jobs more a b first =
     let before : List (ℕ × Job) = a.putter.put in
-    let here : ℕ = length (admitted a.lane) in
-    let grown : length (admitted b.lane) ≡ here + length jobs = ap length first.admitted_is ∙ length-append (admitted a.lane) jobs in
-    let lists : (before ++ placed here jobs) ++ placed (length (admitted b.lane)) more ≡ before ++ placed here (jobs ++ more) =
-    append_assoc before (placed here jobs) (placed (length (admitted b.lane)) more)
+    let here : ℕ = length (admitted a.ring) in
+    let grown : length (admitted b.ring) ≡ here + length jobs = ap length first.admitted_is ∙ length-append (admitted a.ring) jobs in
+    let lists : (before ++ placed here jobs) ++ placed (length (admitted b.ring)) more ≡ before ++ placed here (jobs ++ more) =
+    append_assoc before (placed here jobs) (placed (length (admitted b.ring)) more)
     ∙ ap (λ (l : List (ℕ × Job)). before ++ l) (ap (λ (n : ℕ). placed here jobs ++ placed n more) grown ∙ sym (placed-append here jobs more)) in
-    ap (λ (p : Pass Job). record p { put = p.put ++ placed (length (admitted b.lane)) more }) first.put_is
+    ap (λ (p : Pass Job). record p { put = p.put ++ placed (length (admitted b.ring)) more }) first.put_is
     ∙ ap (λ (l : List (ℕ × Job)). record a.putter { put = l }) lists
 
 -- first these jobs, and then those
 pub takes-in-more : (jobs more : List Job) (a b c : Inbound) → TakesIn jobs a b → TakesIn more b c → TakesIn (jobs ++ more) a c
 takes-in-more jobs more a b c first then = record {
-  admitted_is = then.admitted_is ∙ ap (λ (l : List Job). l ++ more) first.admitted_is ∙ append_assoc (admitted a.lane) jobs more;
+  admitted_is = then.admitted_is ∙ ap (λ (l : List Job). l ++ more) first.admitted_is ∙ append_assoc (admitted a.ring) jobs more;
   put_is = then.put_is ∙ put-more jobs more a b first;
 }
 
@@ -70,12 +70,12 @@ put-nothing : (a : Inbound) → a.putter ≡ record a.putter { put = a.putter.pu
 put-nothing a = ap (λ (l : List (ℕ × Job)). record a.putter { put = l }) (sym (append-nil a.putter.put))
 
 -- nothing was admitted
-pub takes-none : (jobs : List Job) (a b : Inbound) → admitted b.lane ≡ admitted a.lane → b.putter ≡ a.putter → TakesSome jobs a b
+pub takes-none : (jobs : List Job) (a b : Inbound) → admitted b.ring ≡ admitted a.ring → b.putter ≡ a.putter → TakesSome jobs a b
 unfolding placed
-takes-none jobs a b lane putter = record {
+takes-none jobs a b ring putter = record {
   count = 0;
   there = omega arith;
-  admitted_is = lane ∙ search rules;
+  admitted_is = ring ∙ search rules;
   puts = 0;
   put_behind = inl refl;
   put_is = putter ∙ put-nothing a;
@@ -87,23 +87,23 @@ takes-some-more jobs more a b c first then =
       count = length jobs + then.count;
       there = omega (arith, then.there, length-append jobs more);
       admitted_is = then.admitted_is ∙ ap (λ (l : List Job). l ++ take then.count more) first.admitted_is
-          ∙ append_assoc (admitted a.lane) jobs (take then.count more)
-          ∙ ap (λ (l : List Job). admitted a.lane ++ l) (sym (take-append-add jobs more then.count));
+          ∙ append_assoc (admitted a.ring) jobs (take then.count more)
+          ∙ ap (λ (l : List Job). admitted a.ring ++ l) (sym (take-append-add jobs more then.count));
       puts = length jobs + then.puts;
       put_behind = behind-more (length jobs) then.puts then.count then.put_behind;
       put_is = then.put_is ∙ put-more jobs (take then.puts more) a b first
-          ∙ ap (λ (l : List Job). record a.putter { put = a.putter.put ++ placed (length (admitted a.lane)) l }) (sym (take-append-add jobs more then.puts));
+          ∙ ap (λ (l : List Job). record a.putter { put = a.putter.put ++ placed (length (admitted a.ring)) l }) (sym (take-append-add jobs more then.puts));
     }
 
 pub takes-some-longer : (jobs more : List Job) (a b : Inbound) → TakesSome jobs a b → TakesSome (jobs ++ more) a b
 takes-some-longer jobs more a b took = record {
   count = took.count;
   there = omega (arith, took.there, length-append jobs more);
-  admitted_is = took.admitted_is ∙ ap (λ (l : List Job). admitted a.lane ++ l) (sym (take-append-le took.count jobs more took.there));
+  admitted_is = took.admitted_is ∙ ap (λ (l : List Job). admitted a.ring ++ l) (sym (take-append-le took.count jobs more took.there));
   puts = took.puts;
   put_behind = took.put_behind;
   put_is = took.put_is
-      ∙ ap (λ (l : List Job). record a.putter { put = a.putter.put ++ placed (length (admitted a.lane)) l })
+      ∙ ap (λ (l : List Job). record a.putter { put = a.putter.put ++ placed (length (admitted a.ring)) l })
       (sym (take-append-le took.puts jobs more (omega (arith, took.there, behind-few took.puts took.count took.put_behind))));
 }
 
@@ -112,32 +112,32 @@ pub takes-some-all : (jobs : List Job) (a b : Inbound) → TakesIn jobs a b → 
 takes-some-all jobs a b took = record {
   count = length jobs;
   there = omega arith;
-  admitted_is = took.admitted_is ∙ ap (λ (l : List Job). admitted a.lane ++ l) (sym (take-length jobs));
+  admitted_is = took.admitted_is ∙ ap (λ (l : List Job). admitted a.ring ++ l) (sym (take-length jobs));
   puts = length jobs;
   put_behind = inl refl;
   put_is = took.put_is
-      ∙ ap (λ (l : List Job). record a.putter { put = a.putter.put ++ placed (length (admitted a.lane)) l }) (sym (take-length jobs));
+      ∙ ap (λ (l : List Job). record a.putter { put = a.putter.put ++ placed (length (admitted a.ring)) l }) (sym (take-length jobs));
 }
 
 -- the pass stays one pass
 pub same-after : (jobs : List Job) (a b : Inbound) → TakesSome jobs a b → IsSamePass a.putter b.putter
 same-after jobs a b took =
-    (ap (λ (p : Pass Job). p.line) took.put_is, ap (λ (p : Pass Job). p.seat) took.put_is, ap (λ (p : Pass Job). p.number) took.put_is)
+    (ap (λ (p : Pass Job). p.queue) took.put_is, ap (λ (p : Pass Job). p.seat) took.put_is, ap (λ (p : Pass Job). p.number) took.put_is)
 
 -- a job that was admitted, and put or not
 pub receives-put : {T : Type 0} (result : Result T InboundFault) (job : Job) (place : ℕ) (before mid after : Inbound)
-    → admitted mid.lane ≡ admitted before.lane ++ job ∷ [] → mid.putter ≡ before.putter → after.lane ≡ mid.lane → place ≡ length (admitted before.lane)
+    → admitted mid.ring ≡ admitted before.ring ++ job ∷ [] → mid.putter ≡ before.putter → after.ring ≡ mid.ring → place ≡ length (admitted before.ring)
     → OnOk result (after.putter ≡ with_put mid.putter (place, job)) → OnErr result (after.putter ≡ mid.putter)
     → Receives (job ∷ []) result before after
 unfolding placed
-receives-put (Ok x) job place before mid after is_admitted is_putter is_lane is_place put kept = record {
-  admitted_is = ap admitted is_lane ∙ is_admitted;
+receives-put (Ok x) job place before mid after is_admitted is_putter is_ring is_place put kept = record {
+  admitted_is = ap admitted is_ring ∙ is_admitted;
   put_is = put ∙ ap (λ (p : Pass Job). with_put p (place, job)) is_putter ∙ ap (λ (n : ℕ). with_put before.putter (n, job)) is_place;
 }
-receives-put (Err why) job place before mid after is_admitted is_putter is_lane is_place put kept = record {
+receives-put (Err why) job place before mid after is_admitted is_putter is_ring is_place put kept = record {
   count = 1;
   there = omega arith;
-  admitted_is = ap admitted is_lane ∙ is_admitted;
+  admitted_is = ap admitted is_ring ∙ is_admitted;
   puts = 0;
   put_behind = inr refl;
   put_is = kept ∙ is_putter ∙ put-nothing before;
@@ -184,7 +184,7 @@ gives-up tells table version given given' reader a b why on =
     gave_up : (why : InboundFault) → TakesIn (jobs_of table (arrivals_of on.stream).arrived) a b → Ran table on.stream (Err why) a b
     gave_up fault.Read all = all
     gave_up fault.NoMemory all = takes-some-all (jobs_of table (arrivals_of on.stream).arrived) a b all
-    gave_up fault.Lane all = takes-some-all (jobs_of table (arrivals_of on.stream).arrived) a b all
+    gave_up fault.Exhausted all = takes-some-all (jobs_of table (arrivals_of on.stream).arrived) a b all
     gave_up fault.Stopped all = takes-some-all (jobs_of table (arrivals_of on.stream).arrived) a b all
 
 -- a run that is given up where nothing more came
@@ -232,7 +232,7 @@ goes-further tells table version given mid given' reader reader' a b result on r
           version_is = told_some (on.stream ++ bytes) version (told_more on.stream bytes version on.told);
           ran = subst (λ (jobs : List Job). TakesSome jobs a b) (sym (map-append (job_under table) on.handed rest) ∙ ap (jobs_of table) (sym is)) some;
         }
-    by_result (Err fault.Lane) (nothing, told) = gives-up-there tells table version given mid given' reader a b fault.Lane on nothing
+    by_result (Err fault.Exhausted) (nothing, told) = gives-up-there tells table version given mid given' reader a b fault.Exhausted on nothing
     by_result (Err fault.Stopped) reads = absurd reads
 
 -- the arrivals that were pending are taken in
@@ -262,7 +262,7 @@ goes-no-further tells table version given given' reader pending a b c why on no_
     by_fault : (why : InboundFault) → why ≢ fault.Read → TakesSome (jobs_of table (arrivals_of on.stream).arrived) a c → Ran table on.stream (Err why) a c
     by_fault fault.Read no_read all = absurd (no_read refl)
     by_fault fault.NoMemory no_read all = all
-    by_fault fault.Lane no_read all = all
+    by_fault fault.Exhausted no_read all = all
     by_fault fault.Stopped no_read all = all
 
 -- a run whose stream has ended
@@ -310,7 +310,7 @@ begins tells table given given' reader a more (first ∷ rest, gave, some, read)
 nothing-taken : (table : Table) (stream : List ℕ) (a : Inbound) (why : InboundFault) → why ≢ fault.Read → Ran table stream (Err why) a a
 nothing-taken table stream a fault.Read no_read = absurd (no_read refl)
 nothing-taken table stream a fault.NoMemory no_read = takes-none (jobs_of table (arrivals_of stream).arrived) a a refl refl
-nothing-taken table stream a fault.Lane no_read = takes-none (jobs_of table (arrivals_of stream).arrived) a a refl refl
+nothing-taken table stream a fault.Exhausted no_read = takes-none (jobs_of table (arrivals_of stream).arrived) a a refl refl
 nothing-taken table stream a fault.Stopped no_read = takes-none (jobs_of table (arrivals_of stream).arrived) a a refl refl
 
 -- the first read failed
@@ -323,8 +323,8 @@ began-badly tells table given given' reader a fault.Read (nothing, told) =
     no-jobs table a = subst (λ (arrivals : List Arrival). TakesIn (jobs_of table arrivals) a a) (sym nothing_arrived) (took-nothing a)
 began-badly tells table given given' reader a fault.NoMemory (bytes, gave, told) =
     record { stream = bytes; gave = gave; version_is = known-version reader bytes told; ran = nothing-taken table bytes a fault.NoMemory (λ is. absurd cc) }
-began-badly tells table given given' reader a fault.Lane (nothing, told) =
-    record { stream = []; gave = nothing; version_is = known-version reader [] told; ran = nothing-taken table [] a fault.Lane (λ is. absurd cc) }
+began-badly tells table given given' reader a fault.Exhausted (nothing, told) =
+    record { stream = []; gave = nothing; version_is = known-version reader [] told; ran = nothing-taken table [] a fault.Exhausted (λ is. absurd cc) }
 began-badly tells table given given' reader a fault.Stopped reads = absurd reads
 
 -- a run that did not begin, whatever the first read gave
@@ -381,8 +381,8 @@ pub receives-residual : {T : Type 0} (jobs : List Job) (r : Result T InboundFaul
 receives-residual jobs (Ok x) why a b is some = absurd is
 receives-residual jobs (Err e) why a b is some = some
 
--- the intake of one lane
-pub same-intake : (a b c : Inbound) → IsSameIntake a.lane b.lane → IsSameIntake b.lane c.lane → IsSameIntake a.lane c.lane
+-- the intake of one ring
+pub same-intake : (a b c : Inbound) → IsSameIntake a.ring b.ring → IsSameIntake b.ring c.ring → IsSameIntake a.ring c.ring
 same-intake a b c h k = ((k.0.0 ∙ h.0.0, k.0.1 ∙ h.0.1, k.0.2 ∙ h.0.2, k.0.3 ∙ h.0.3), k.1 ∙ h.1)
 
 -- an ending that is told where reading stopped

@@ -11,7 +11,7 @@ use Rattle.mac_ring.proofs.Releases.{item_is}
 use Rattle.std.proofs.lemmas.List.{append-nil, map-append, take-append-le, length-append, length-map, length-take-le, append_cancel_left}
 use Rattle.mac_order.specs.Buffer.{Buffer, fresh_buffer, settled, settle_fault, sent_off, closed_off}
 use Rattle.mac_order.specs.declared.fault.SettleFault.{SettleFault}
-use Rattle.mac_ring.specs.Lane.{Exit, received, IsSameOutlet, IsKept}
+use Rattle.mac_ring.specs.Ring.{Exit, received, IsSameOutlet, IsKept}
 use Rattle.mac_ring.specs.declared.numbered.Numbered.{Numbered}
 use Rattle.mac_wire.specs.declared.reply.Reply.{Reply}
 use Rattle.mac_wire.specs.Frame.{frame, framed}
@@ -35,27 +35,27 @@ abbrev Entry : Type 0
 Entry = ℕ × Option Job
 
 -- only received jobs were released
-released-within : (before : List Entry) (o : Outbound) → Holds before o → next o ≤ length (received o.lane)
+released-within : (before : List Entry) (o : Outbound) → Holds before o → next o ≤ length (received o.ring)
 released-within before o h =
     let g = h.gathered in
     let size = ap length g.parts in
-    omega (arith, size, length-payloads o.version 0 (replies o), length-map (received o.lane) answer_to, length-append g.out (g.held ++ g.others), length-append g.held g.others, g.is_next)
+    omega (arith, size, length-payloads o.version 0 (replies o), length-map (received o.ring) answer_to, length-append g.out (g.held ++ g.others), length-append g.held g.others, g.is_next)
 
 sent-released : (before : List Entry) (o : Outbound) → Holds before o → o.sent ≤ next o
 sent-released before o h = let g = h.gathered in omega (arith, g.is_sent, g.is_next)
 
 -- a half that has sent nothing
-kept-new : (lane : Exit Job Global Numbered) → lane.buffer ≡ fresh_buffer → received lane ≡ [] → IsKept lane
-kept-new lane fresh empty =
-    let at : lane.buffer.next ≡ 0 = ap (λ (b : Buffer Job). b.next) fresh in
-    let none : length (received lane) ≡ 0 = ap length empty in
+kept-new : (ring : Exit Job Global Numbered) → ring.buffer ≡ fresh_buffer → received ring ≡ [] → IsKept ring
+kept-new ring fresh empty =
+    let at : ring.buffer.next ≡ 0 = ap (λ (b : Buffer Job). b.next) fresh in
+    let none : length (received ring) ≡ 0 = ap length empty in
     record {
       sent = omega (arith, at);
       window = omega (arith, none);
-      slips = λ _. ap (λ (b : Buffer Job). b.slips) fresh ∙ sym (ap (λ (n : ℕ). drop n (received lane)) at ∙ empty);
+      slips = λ _. ap (λ (b : Buffer Job). b.slips) fresh ∙ sym (ap (λ (n : ℕ). drop n (received ring)) at ∙ empty);
     }
 
-pub stands-new : (o : Outbound) → o.lane.buffer ≡ fresh_buffer → received o.lane ≡ [] → o.sent ≡ 0 → o.written ≡ 0 → o.gathered.items ≡ [] → Stands o.taker o
+pub stands-new : (o : Outbound) → o.ring.buffer ≡ fresh_buffer → received o.ring ≡ [] → o.sent ≡ 0 → o.written ≡ 0 → o.gathered.items ≡ [] → Stands o.taker o
 stands-new o fresh empty sent written none =
     let at : next o ≡ 0 = ap (λ (b : Buffer Job). b.next) fresh in
     record {
@@ -63,23 +63,23 @@ stands-new o fresh empty sent written none =
         gathered = rw (at, sent, written, none) (gathered-none (payloads o));
         posts = [];
         taken = sym (append-nil o.taker);
-        answered = rw at (none-answered (received o.lane));
+        answered = rw at (none-answered (received o.ring));
       };
-      kept = kept-new o.lane fresh empty;
+      kept = kept-new o.ring fresh empty;
       live = ap (λ (b : Buffer Job). b.closed) fresh;
       waiting = λ place job is. absurd (
-          let nothing : get o.lane.buffer.answers place ≡ None = ap (λ (b : Buffer Job). get b.answers place) fresh ∙ get-empty nat_cmp place in
+          let nothing : get o.ring.buffer.answers place ≡ None = ap (λ (b : Buffer Job). get b.answers place) fresh ∙ get-empty nat_cmp place in
           let no : None ≡ Some job = sym nothing ∙ is in cc);
     }
 
 -- more jobs were received
-pub stands-grown : (before : List Entry) (o : Outbound) (lane : Exit Job Global Numbered) (more : List Job) → Stands before o → IsKept lane
-    → received lane ≡ received o.lane ++ more → lane.buffer.next ≡ o.lane.buffer.next → lane.buffer.closed ≡ o.lane.buffer.closed → lane.buffer.answers ≡ o.lane.buffer.answers
-    → Stands before (record o { lane = lane }) × (out_text (record o { lane = lane }) ≡ out_text o)
-stands-grown before o lane more s kept grown same_next same_closed same_answers =
+pub stands-grown : (before : List Entry) (o : Outbound) (ring : Exit Job Global Numbered) (more : List Job) → Stands before o → IsKept ring
+    → received ring ≡ received o.ring ++ more → ring.buffer.next ≡ o.ring.buffer.next → ring.buffer.closed ≡ o.ring.buffer.closed → ring.buffer.answers ≡ o.ring.buffer.answers
+    → Stands before (record o { ring = ring }) × (out_text (record o { ring = ring }) ≡ out_text o)
+stands-grown before o ring more s kept grown same_next same_closed same_answers =
     let behind : List (List ℕ) = payloads_from o.version (length (replies o)) (map answer_to more) in
-    let longer : reply_payloads o.version (map answer_to (received lane)) ≡ payloads o ++ behind =
-    ap (reply_payloads o.version) (ap (map answer_to) grown ∙ map-append answer_to (received o.lane) more) ∙ payloads-append o.version 0 (replies o) (map answer_to more)
+    let longer : reply_payloads o.version (map answer_to (received ring)) ≡ payloads o ++ behind =
+    ap (reply_payloads o.version) (ap (map answer_to) grown ∙ map-append answer_to (received o.ring) more) ∙ payloads-append o.version 0 (replies o) (map answer_to more)
     ∙ ap (λ (n : ℕ). payloads o ++ payloads_from o.version n (map answer_to more)) (omega arith) in
     let old = gathered-sent (payloads o) (next o) o.sent o.written o.gathered.items s.holds.gathered in
     let g = gathered-longer (payloads o) behind (next o) o.sent o.written o.gathered.items s.holds.gathered in (
@@ -88,7 +88,7 @@ stands-grown before o lane more s kept grown same_next same_closed same_answers 
           gathered = rw (longer, same_next) g;
           posts = s.holds.posts;
           taken = s.holds.taken;
-          answered = rw (grown, same_next) (answered-longer (received o.lane) more (next o) s.holds.posts (released-within before o s.holds) s.holds.answered);
+          answered = rw (grown, same_next) (answered-longer (received o.ring) more (next o) s.holds.posts (released-within before o s.holds) s.holds.answered);
         };
         kept = kept;
         live = same_closed ∙ s.live;
@@ -100,26 +100,26 @@ stands-grown before o lane more s kept grown same_next same_closed same_answers 
     )
 
 -- an answer was settled
-pub stands-settled : (before taken : List Entry) (o : Outbound) (lane : Exit Job Global Numbered) (place : ℕ) (job : Job) → Stands before o → IsKept lane
-    → taken ≡ o.taker ++ (place, Some job) ∷ [] → received lane ≡ received o.lane → lane.buffer ≡ settled o.lane.buffer place job
-    → Stands before (record o { lane = lane; taker = taken })
-stands-settled before taken o lane place job s kept one_more same is_settled =
+pub stands-settled : (before taken : List Entry) (o : Outbound) (ring : Exit Job Global Numbered) (place : ℕ) (job : Job) → Stands before o → IsKept ring
+    → taken ≡ o.taker ++ (place, Some job) ∷ [] → received ring ≡ received o.ring → ring.buffer ≡ settled o.ring.buffer place job
+    → Stands before (record o { ring = ring; taker = taken })
+stands-settled before taken o ring place job s kept one_more same is_settled =
     let posts = s.holds.posts in
-    let same_next : lane.buffer.next ≡ next o = ap (λ (b : Buffer Job). b.next) is_settled in
+    let same_next : ring.buffer.next ≡ next o = ap (λ (b : Buffer Job). b.next) is_settled in
     record {
       holds = record {
         gathered = rw (same, same_next) s.holds.gathered;
         posts = posts ++ (place, Some job) ∷ [];
         taken = one_more ∙ ap (λ (l : List Entry). l ++ (place, Some job) ∷ []) s.holds.taken ∙ append_assoc before posts ((place, Some job) ∷ []);
-        answered = rw (same, same_next) (answered-more (received o.lane) (next o) posts ((place, Some job) ∷ []) s.holds.answered);
+        answered = rw (same, same_next) (answered-more (received o.ring) (next o) posts ((place, Some job) ∷ []) s.holds.answered);
       };
       kept = kept;
       live = ap (λ (b : Buffer Job). b.closed) is_settled ∙ s.live;
-      waiting = λ at other is. waiting-settled o.lane.buffer.answers place job posts s.waiting at other (ap (λ (b : Buffer Job). get b.answers at) (sym is_settled) ∙ is);
+      waiting = λ at other is. waiting-settled o.ring.buffer.answers place job posts s.waiting at other (ap (λ (b : Buffer Job). get b.answers at) (sym is_settled) ∙ is);
     }
 
 -- the half ends as it holds, after a stranger where one is told
-pub fell-with : (before : List Entry) (o : Outbound) (why : OutboundFault) (h : Holds before o) → (why ≡ fault.Stranger → TookForeign (received o.lane) o.sent h.posts) → Fell before why o
+pub fell-with : (before : List Entry) (o : Outbound) (why : OutboundFault) (h : Holds before o) → (why ≡ fault.Stranger → TookForeign (received o.ring) o.sent h.posts) → Fell before why o
 fell-with before o why h foreign =
     let g = h.gathered in
     let frames = gathered-whole (payloads o) (next o) o.sent o.written o.gathered.items g in
@@ -129,7 +129,7 @@ fell-with before o why h foreign =
       whole = λ other. (gathered-sent (payloads o) (next o) o.sent o.written o.gathered.items g).1;
       posts = h.posts;
       taken = h.taken;
-      answered = answered-fewer (received o.lane) o.sent (next o) h.posts (sent-released before o h) h.answered;
+      answered = answered-fewer (received o.ring) o.sent (next o) h.posts (sent-released before o h) h.answered;
       foreign = foreign;
     }
 
@@ -145,54 +145,54 @@ fell-failed before taken o place s one_more =
       gathered = s.holds.gathered;
       posts = posts ++ (place, None) ∷ [];
       taken = one_more ∙ ap (λ (l : List Entry). l ++ (place, None) ∷ []) s.holds.taken ∙ append_assoc before posts ((place, None) ∷ []);
-      answered = answered-more (received o.lane) (next o) posts ((place, None) ∷ []) s.holds.answered;
+      answered = answered-more (received o.ring) (next o) posts ((place, None) ∷ []) s.holds.answered;
     }) (λ is. absurd cc)
 
 -- an answer couldn't be settled
-pub fell-unsettled : (before taken : List Entry) (o : Outbound) (lane : Exit Job Global Numbered) (place : ℕ) (job : Job) (why : SettleFault) → Stands before o
-    → taken ≡ o.taker ++ (place, Some job) ∷ [] → received lane ≡ received o.lane → lane.buffer ≡ o.lane.buffer → settle_fault o.lane.buffer place ≡ Some why
-    → Fell before fault.Stranger (record o { lane = lane; taker = taken })
-fell-unsettled before taken o lane place job why s one_more same same_buffer is =
+pub fell-unsettled : (before taken : List Entry) (o : Outbound) (ring : Exit Job Global Numbered) (place : ℕ) (job : Job) (why : SettleFault) → Stands before o
+    → taken ≡ o.taker ++ (place, Some job) ∷ [] → received ring ≡ received o.ring → ring.buffer ≡ o.ring.buffer → settle_fault o.ring.buffer place ≡ Some why
+    → Fell before fault.Stranger (record o { ring = ring; taker = taken })
+fell-unsettled before taken o ring place job why s one_more same same_buffer is =
     let posts = s.holds.posts in
-    let same_next : lane.buffer.next ≡ next o = ap (λ (b : Buffer Job). b.next) same_buffer in
-    let now : Outbound = record o { lane = lane; taker = taken } in
+    let same_next : ring.buffer.next ≡ next o = ap (λ (b : Buffer Job). b.next) same_buffer in
+    let now : Outbound = record o { ring = ring; taker = taken } in
     let h : Holds before now = record {
       gathered = rw (same, same_next) s.holds.gathered;
       posts = posts ++ (place, Some job) ∷ [];
       taken = one_more ∙ ap (λ (l : List Entry). l ++ (place, Some job) ∷ []) s.holds.taken ∙ append_assoc before posts ((place, Some job) ∷ []);
-      answered = rw (same, same_next) (answered-more (received o.lane) (next o) posts ((place, Some job) ∷ []) s.holds.answered);
+      answered = rw (same, same_next) (answered-more (received o.ring) (next o) posts ((place, Some job) ∷ []) s.holds.answered);
     } in
-    fell-with before now fault.Stranger h (λ _. rw same (took-last (received o.lane) o.sent posts place job
-    (settle-foreign (received o.lane) o.sent o.lane.buffer place job why posts s.live (sent-released before o s.holds) (released-within before o s.holds) s.holds.answered s.waiting is)))
+    fell-with before now fault.Stranger h (λ _. rw same (took-last (received o.ring) o.sent posts place job
+    (settle-foreign (received o.ring) o.sent o.ring.buffer place job why posts s.live (sent-released before o s.holds) (released-within before o s.holds) s.holds.answered s.waiting is)))
 
 -- the same half, at three times
 same-outlet : (a b c : Exit Job Global Numbered) → IsSameOutlet a b → IsSameOutlet b c → IsSameOutlet a c
 same-outlet a b c h k = ((k.0.0 ∙ h.0.0, k.0.1 ∙ h.0.1, k.0.2 ∙ h.0.2, k.0.3 ∙ h.0.3), k.1 ∙ h.1)
 
 pub same-half : (a b c : Outbound) → IsSame a b → IsSame b c → IsSame a c
-same-half a b c h k = (same-outlet a.lane b.lane c.lane h.0 k.0, k.1 ∙ h.1)
+same-half a b c h k = (same-outlet a.ring b.ring c.ring h.0 k.0, k.1 ∙ h.1)
 
-pub same-outlet-half : (a b : Outbound) (lane : Exit Job Global Numbered) → IsSame a b → IsSameOutlet b.lane lane → IsSame a (record b { lane = lane })
-same-outlet-half a b lane h k = (same-outlet a.lane b.lane lane h.0 k, h.1)
+pub same-outlet-half : (a b : Outbound) (ring : Exit Job Global Numbered) → IsSame a b → IsSameOutlet b.ring ring → IsSame a (record b { ring = ring })
+same-outlet-half a b ring h k = (same-outlet a.ring b.ring ring h.0 k, h.1)
 
-pub same-kept : (a b c : Outbound) → IsSame a b → c.lane ≡ b.lane → c.version ≡ b.version → IsSame a c
-same-kept a b c h lane version = (subst (λ (l : Exit Job Global Numbered). IsSameOutlet a.lane l) (sym lane) h.0, version ∙ h.1)
+pub same-kept : (a b c : Outbound) → IsSame a b → c.ring ≡ b.ring → c.version ≡ b.version → IsSame a c
+same-kept a b c h ring version = (subst (λ (l : Exit Job Global Numbered). IsSameOutlet a.ring l) (sym ring) h.0, version ∙ h.1)
 
 -- the slip at the front is the job that was received at the next place
-slip-received : (before : List Entry) (o : Outbound) (slip : Job) (rest : List Job) → Stands before o → o.lane.buffer.slips ≡ slip ∷ rest
-    → slice_get (received o.lane) (next o) ≡ Some slip
-slip-received before o slip rest s is = item_is (received o.lane) (next o) slip rest (sym (s.kept.slips s.live) ∙ is)
+slip-received : (before : List Entry) (o : Outbound) (slip : Job) (rest : List Job) → Stands before o → o.ring.buffer.slips ≡ slip ∷ rest
+    → slice_get (received o.ring) (next o) ≡ Some slip
+slip-received before o slip rest s is = item_is (received o.ring) (next o) slip rest (sym (s.kept.slips s.live) ∙ is)
 
 -- a reply was released
-pub stands-released : (before : List Entry) (o : Outbound) (lane : Exit Job Global Numbered) (gathered : Vec ℕ Global) (slip answer : Job) (rest : List Job)
-    → Stands before o → IsKept lane → received lane ≡ received o.lane → o.lane.buffer.slips ≡ slip ∷ rest → get o.lane.buffer.answers (next o) ≡ Some answer → answer ≡ slip
-    → lane.buffer ≡ sent_off o.lane.buffer rest → gathered.items ≡ o.gathered.items ++ reply_frame o.version (next o) (answer_to slip)
-    → Stands before (record o { lane = lane; gathered = gathered })
-stands-released before o lane gathered slip answer rest s kept same slips settled_is equal after more =
+pub stands-released : (before : List Entry) (o : Outbound) (ring : Exit Job Global Numbered) (gathered : Vec ℕ Global) (slip answer : Job) (rest : List Job)
+    → Stands before o → IsKept ring → received ring ≡ received o.ring → o.ring.buffer.slips ≡ slip ∷ rest → get o.ring.buffer.answers (next o) ≡ Some answer → answer ≡ slip
+    → ring.buffer ≡ sent_off o.ring.buffer rest → gathered.items ≡ o.gathered.items ++ reply_frame o.version (next o) (answer_to slip)
+    → Stands before (record o { ring = ring; gathered = gathered })
+stands-released before o ring gathered slip answer rest s kept same slips settled_is equal after more =
     let posts = s.holds.posts in
     let at = slip-received before o slip rest s slips in
-    let next_is : lane.buffer.next ≡ next o + 1 = ap (λ (b : Buffer Job). b.next) after in
-    let reply_at : slice_get (replies o) (next o) ≡ Some (answer_to slip) = slice_get-map answer_to (received o.lane) (next o) ∙ ap (option_map answer_to) at in
+    let next_is : ring.buffer.next ≡ next o + 1 = ap (λ (b : Buffer Job). b.next) after in
+    let reply_at : slice_get (replies o) (next o) ≡ Some (answer_to slip) = slice_get-map answer_to (received o.ring) (next o) ∙ ap (option_map answer_to) at in
     let payload_at : slice_get (payloads o) (next o) ≡ Some (placed_payload o.version (next o) (answer_to slip)) =
     payload-at o.version 0 (next o) (replies o) ∙ ap (option_map (placed_payload o.version (0 + next o))) reply_at
     ∙ ap (λ (n : ℕ). Some (placed_payload o.version n (answer_to slip))) (omega arith) in
@@ -203,17 +203,17 @@ stands-released before o lane gathered slip answer rest s kept same slips settle
         gathered = rw (same, next_is) (gathered-one (payloads o) (next o) o.sent o.written o.gathered.items gathered.items (placed_payload o.version (next o) (answer_to slip)) s.holds.gathered payload_at more);
         posts = posts;
         taken = s.holds.taken;
-        answered = rw (same, next_is) (answered-next (received o.lane) (next o) posts slip s.holds.answered at here);
+        answered = rw (same, next_is) (answered-next (received o.ring) (next o) posts slip s.holds.answered at here);
       };
       kept = kept;
       live = ap (λ (b : Buffer Job). b.closed) after;
-      waiting = λ place job is. waiting-released o.lane.buffer.answers (next o) posts s.waiting place job (ap (λ (b : Buffer Job). get b.answers place) (sym after) ∙ is);
+      waiting = λ place job is. waiting-released o.ring.buffer.answers (next o) posts s.waiting place job (ap (λ (b : Buffer Job). get b.answers place) (sym after) ∙ is);
     }
 
 -- memory ran out for the frame of a reply
-pub fell-released : (before : List Entry) (o : Outbound) (lane : Exit Job Global Numbered) (gathered : Vec ℕ Global) → Stands before o → received lane ≡ received o.lane
-    → Fell before fault.NoMemory (record o { lane = lane; gathered = gathered })
-fell-released before o lane gathered s same =
+pub fell-released : (before : List Entry) (o : Outbound) (ring : Exit Job Global Numbered) (gathered : Vec ℕ Global) → Stands before o → received ring ≡ received o.ring
+    → Fell before fault.NoMemory (record o { ring = ring; gathered = gathered })
+fell-released before o ring gathered s same =
     let fell = fell-held before o fault.NoMemory s.holds (λ is. absurd cc) in
     record {
       frames = rw same fell.frames;
@@ -226,26 +226,26 @@ fell-released before o lane gathered s same =
     }
 
 -- an answer to another job closed the buffer
-pub holds-stranger : (before : List Entry) (o : Outbound) (lane : Exit Job Global Numbered) (answer job : Job) → Stands before o → received lane ≡ received o.lane
-    → lane.buffer ≡ closed_off o.lane.buffer → get o.lane.buffer.answers (next o) ≡ Some answer → slice_get (received o.lane) (next o) ≡ Some job → (job ≡ answer → ⊥)
-    → (h : Holds before (record o { lane = lane })) × ((sent : ℕ) → TookForeign (received lane) sent h.posts)
-holds-stranger before o lane answer job s same after settled_is at unlike =
+pub holds-stranger : (before : List Entry) (o : Outbound) (ring : Exit Job Global Numbered) (answer job : Job) → Stands before o → received ring ≡ received o.ring
+    → ring.buffer ≡ closed_off o.ring.buffer → get o.ring.buffer.answers (next o) ≡ Some answer → slice_get (received o.ring) (next o) ≡ Some job → (job ≡ answer → ⊥)
+    → (h : Holds before (record o { ring = ring })) × ((sent : ℕ) → TookForeign (received ring) sent h.posts)
+holds-stranger before o ring answer job s same after settled_is at unlike =
     let posts = s.holds.posts in
-    let next_is : lane.buffer.next ≡ next o = ap (λ (b : Buffer Job). b.next) after in (
+    let next_is : ring.buffer.next ≡ next o = ap (λ (b : Buffer Job). b.next) after in (
       record {
         gathered = rw (same, next_is) s.holds.gathered;
         posts = posts;
         taken = s.holds.taken;
         answered = rw (same, next_is) s.holds.answered;
       },
-      λ sent. rw same (took-other (received o.lane) sent posts (next o) answer job (s.waiting (next o) answer settled_is) at unlike),
+      λ sent. rw same (took-other (received o.ring) sent posts (next o) answer job (s.waiting (next o) answer settled_is) at unlike),
     )
 
 -- nothing was released
-pub stands-waiting : (before : List Entry) (o : Outbound) (lane : Exit Job Global Numbered) → Stands before o → IsKept lane → received lane ≡ received o.lane → lane.buffer ≡ o.lane.buffer
-    → Stands before (record o { lane = lane })
-stands-waiting before o lane s kept same after =
-    (stands-grown before o lane [] s kept (same ∙ sym (append-nil (received o.lane)))
+pub stands-waiting : (before : List Entry) (o : Outbound) (ring : Exit Job Global Numbered) → Stands before o → IsKept ring → received ring ≡ received o.ring → ring.buffer ≡ o.ring.buffer
+    → Stands before (record o { ring = ring })
+stands-waiting before o ring s kept same after =
+    (stands-grown before o ring [] s kept (same ∙ sym (append-nil (received o.ring)))
     (ap (λ (b : Buffer Job). b.next) after) (ap (λ (b : Buffer Job). b.closed) after) (ap (λ (b : Buffer Job). b.answers) after)).0
 
 -- all that was gathered went out
@@ -285,7 +285,7 @@ pub fell-cut : (before : List Entry) (o : Outbound) (bytes : List ℕ) (count wh
 fell-cut before o bytes count whole sent written h fits bound few is counts sent_is written_is =
     let g = h.gathered in
     let size : length bytes ≡ count = ap length is ∙ length-take-le count o.gathered.items (omega arith) in
-    let all = later-fit g.out (g.held ++ g.others) (rw g.parts at (payloads_fit o.version 0 (replies o) (all-fit fits (received o.lane)))) in
+    let all = later-fit g.out (g.held ++ g.others) (rw g.parts at (payloads_fit o.version 0 (replies o) (all-fit fits (received o.ring)))) in
     let held : All Fits g.held = All-from_recursion Fits g.held (earlier-fit g.held g.others all) in
     let begins : bytes ≡ take (length bytes) (framed g.held) = is ∙ ap (take count) g.is_gathered ∙ ap (λ (n : ℕ). take n (framed g.held)) (sym size) in
     let has : HasWhole g.held count whole = rw size at (counts g.held held begins) in
@@ -310,29 +310,29 @@ fell-cut before o bytes count whole sent written h fits bound few is counts sent
       whole = λ other. absurd (other refl);
       posts = h.posts;
       taken = h.taken;
-      answered = rw exact (answered-fewer (received o.lane) (o.sent + whole) (next o) h.posts fewer h.answered);
+      answered = rw exact (answered-fewer (received o.ring) (o.sent + whole) (next o) h.posts fewer h.answered);
       foreign = λ no. absurd cc;
     }
 
 -- what was flushed goes on as it stood
-pub stands-held : (before : List Entry) (o after : Outbound) → Stands before o → Holds before after → after.lane ≡ o.lane → after.taker ≡ o.taker → Stands before after
-stands-held before o after s h lane taker =
+pub stands-held : (before : List Entry) (o after : Outbound) → Stands before o → Holds before after → after.ring ≡ o.ring → after.taker ≡ o.taker → Stands before after
+stands-held before o after s h ring taker =
     let same : h.posts ≡ s.holds.posts = append_cancel_left before h.posts s.holds.posts (sym h.taken ∙ taker ∙ s.holds.taken) in
     record {
       holds = h;
-      kept = subst (λ (l : Exit Job Global Numbered). IsKept l) (sym lane) s.kept;
-      live = ap (λ (l : Exit Job Global Numbered). l.buffer.closed) lane ∙ s.live;
+      kept = subst (λ (l : Exit Job Global Numbered). IsKept l) (sym ring) s.kept;
+      live = ap (λ (l : Exit Job Global Numbered). l.buffer.closed) ring ∙ s.live;
       waiting = λ place job is. subst (λ (posts : List Entry). Contains posts (place, Some job)) (sym same)
-          (s.waiting place job (ap (λ (l : Exit Job Global Numbered). get l.buffer.answers place) (sym lane) ∙ is));
+          (s.waiting place job (ap (λ (l : Exit Job Global Numbered). get l.buffer.answers place) (sym ring) ∙ is));
     }
 
 -- what was flushed after a stranger ends with it
-pub fell-stranger : (before : List Entry) (o after : Outbound) (h : Holds before o) → ((sent : ℕ) → TookForeign (received o.lane) sent h.posts) → Holds before after
-    → after.lane ≡ o.lane → after.taker ≡ o.taker → Fell before fault.Stranger after
-fell-stranger before o after h took held lane taker =
+pub fell-stranger : (before : List Entry) (o after : Outbound) (h : Holds before o) → ((sent : ℕ) → TookForeign (received o.ring) sent h.posts) → Holds before after
+    → after.ring ≡ o.ring → after.taker ≡ o.taker → Fell before fault.Stranger after
+fell-stranger before o after h took held ring taker =
     let same : held.posts ≡ h.posts = append_cancel_left before held.posts h.posts (sym held.taken ∙ taker ∙ h.taken) in
-    fell-with before after fault.Stranger held (λ _. subst (λ (posts : List Entry). TookForeign (received after.lane) after.sent posts) (sym same)
-    (subst (λ (l : Exit Job Global Numbered). TookForeign (received l) after.sent h.posts) (sym lane) (took after.sent)))
+    fell-with before after fault.Stranger held (λ _. subst (λ (posts : List Entry). TookForeign (received after.ring) after.sent posts) (sym same)
+    (subst (λ (l : Exit Job Global Numbered). TookForeign (received l) after.sent h.posts) (sym ring) (took after.sent)))
 
 -- a fault that is passed on
 pub sends-residual : {T : Type 0} (before : List Entry) (r : Result T OutboundFault) (why : OutboundFault) (o : Outbound) → IsErrAnd r (λ e. e ≡ why) → Fell before why o → Sends before r o

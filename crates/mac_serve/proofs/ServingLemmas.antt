@@ -3,7 +3,7 @@ use Rattle.std.proofs.Common.{◌≡◌, ◌≢◌, inl, inr, ℕ, ◌≤◌, Bo
 use Rattle.std.specs.Prelude.{Option, Some, None, Result, Ok, Err, OnOk}
 use Rattle.std.proofs.lemmas.List.{map-append, take_all, take-append-le, take-append-drop, length-append, length-map, length-take-le}
 use Rattle.std.proofs.lemmas.List.Concat.{flat_map-append}
-use Rattle.mac_ring.specs.Lane.{admitted, received}
+use Rattle.mac_ring.specs.Ring.{admitted, received}
 use Rattle.mac_queue.specs.Pass.{Pass, IsSamePass}
 use Rattle.mac_keys.specs.Table.{Table}
 use Rattle.mac_wire.specs.declared.arrival.Arrival.{Arrival}
@@ -56,7 +56,7 @@ ran-some : (table : Table) (stream : List ℕ) (result : Result Ending InboundFa
 ran-some table stream (Ok end) start i ran = takes-some-all (jobs_of table (arrivals_of stream).arrived) start i ran.0
 ran-some table stream (Err reading.Read) start i ran = takes-some-all (jobs_of table (arrivals_of stream).arrived) start i ran
 ran-some table stream (Err reading.NoMemory) start i ran = ran
-ran-some table stream (Err reading.Lane) start i ran = ran
+ran-some table stream (Err reading.Exhausted) start i ran = ran
 ran-some table stream (Err reading.Stopped) start i ran = ran
 
 -- what a connection tells
@@ -70,7 +70,7 @@ told o i count end = record {
 }
 
 -- where the jobs that an outbound half received are the first of those of these arrivals
-module _ (table : Table) (version : Version) (arrivals : List Arrival) (o : Outbound) (more : List Job) (is : received o.lane ++ more ≡ jobs_of table arrivals)
+module _ (table : Table) (version : Version) (arrivals : List Arrival) (o : Outbound) (more : List Job) (is : received o.ring ++ more ≡ jobs_of table arrivals)
     (same : o.version ≡ version) where
   -- the frames behind those of the replies to them
   abbrev behind : List (List ℕ)
@@ -79,7 +79,7 @@ module _ (table : Table) (version : Version) (arrivals : List Arrival) (o : Outb
   longer : reply_payloads version (answers table arrivals) ≡ payloads o ++ behind
   longer =
       ap (λ (v : Version). reply_payloads v (answers table arrivals)) (sym same)
-      ∙ ap (reply_payloads o.version) (sym (answers-are table arrivals) ∙ ap (map answer_to) (sym is) ∙ map-append answer_to (received o.lane) more)
+      ∙ ap (reply_payloads o.version) (sym (answers-are table arrivals) ∙ ap (map answer_to) (sym is) ∙ map-append answer_to (received o.ring) more)
       ∙ payloads-append o.version 0 (replies o) (map answer_to more)
       ∙ ap (λ (n : ℕ). payloads o ++ payloads_from o.version n (map answer_to more)) (omega arith)
 
@@ -103,18 +103,18 @@ module _ (table : Table) (version : Version) (arrivals : List Arrival) (o : Outb
       (whole-longer (payloads o) behind o.written o.sent frames within)
 
   -- no more were sent than received
-  sent-received : o.sent ≤ length (payloads o) → o.sent ≤ length (received o.lane)
-  sent-received there = omega (arith, there, length-payloads o.version 0 (replies o), length-map (received o.lane) answer_to)
+  sent-received : o.sent ≤ length (payloads o) → o.sent ≤ length (received o.ring)
+  sent-received there = omega (arith, there, length-payloads o.version 0 (replies o), length-map (received o.ring) answer_to)
 
--- What two halves did that ran over one lane, from its beginning: the source gave a stream, the sink took what went out, and the ends met.
+-- What two halves did that ran over one ring, from its beginning: the source gave a stream, the sink took what went out, and the ends met.
 module _ (tells_in tells_out : Bool) (table : Table) (given given' wrote wrote' stream : List ℕ) (pass : Pass Job) (taken : List Entry)
     (start i : Inbound) (o : Outbound) (rest : List Job) (count : ℕ)
     (gave : Gave tells_in given given' stream)
     (took : IsTrue tells_out → wrote' ≡ wrote ++ out_text o)
-    (empty : admitted start.lane ≡ [])
+    (empty : admitted start.ring ≡ [])
     (putter : start.putter ≡ pass)
-    (met : received o.lane ++ rest ≡ admitted i.lane)
-    (counted : count ≡ length (admitted i.lane))
+    (met : received o.ring ++ rest ≡ admitted i.ring)
+    (counted : count ≡ length (admitted i.ring))
     (same : o.version ≡ (arrivals_of stream).version) where
   abbrev version : Version
   version = (arrivals_of stream).version
@@ -128,12 +128,12 @@ module _ (tells_in tells_out : Bool) (table : Table) (given given' wrote wrote' 
   abbrev Serves : Option ServeFault → Ending → Type 0
   Serves why end = HasServed tells_in tells_out table given given' wrote wrote' pass taken why (told o i count end)
 
-  first : (t : TakesSome jobs start i) → admitted i.lane ≡ take t.count jobs
+  first : (t : TakesSome jobs start i) → admitted i.ring ≡ take t.count jobs
   first t = t.admitted_is ∙ ap (λ (l : List Job). l ++ take t.count jobs) empty
 
-  goes-on : (t : TakesSome jobs start i) → received o.lane ++ (rest ++ drop t.count jobs) ≡ jobs
+  goes-on : (t : TakesSome jobs start i) → received o.ring ++ (rest ++ drop t.count jobs) ≡ jobs
   goes-on t =
-      sym (append_assoc (received o.lane) rest (drop t.count jobs))
+      sym (append_assoc (received o.ring) rest (drop t.count jobs))
       ∙ ap (λ (l : List Job). l ++ drop t.count jobs) (met ∙ first t) ∙ take-append-drop t.count jobs
 
   few : (t : TakesSome jobs start i) → count ≤ length arrived
@@ -142,11 +142,11 @@ module _ (tells_in tells_out : Bool) (table : Table) (given given' wrote wrote' 
       let parts = ap length (take-append-drop t.count jobs) in
       omega (arith, counted, size, parts, length-append (take t.count jobs) (drop t.count jobs), length-map arrived (job_under table))
 
-  -- what is put into an empty lane stands at the places from 0 on
-  put-first : (js : List Job) → record start.putter { put = start.putter.put ++ placed (length (admitted start.lane)) js }
+  -- what is put into an empty ring stands at the places from 0 on
+  put-first : (js : List Job) → record start.putter { put = start.putter.put ++ placed (length (admitted start.ring)) js }
       ≡ record pass { put = pass.put ++ placed 0 js }
   put-first js =
-      ap (λ (p : Pass Job). record p { put = p.put ++ placed (length (admitted start.lane)) js }) putter
+      ap (λ (p : Pass Job). record p { put = p.put ++ placed (length (admitted start.ring)) js }) putter
       ∙ ap (λ (l : List Job). record pass { put = pass.put ++ placed (length l) js }) empty
 
   -- what is the same for each fault
@@ -154,7 +154,7 @@ module _ (tells_in tells_out : Bool) (table : Table) (given given' wrote wrote' 
       → (why ≡ Some fault.Stranger → w ≡ sending.Stranger) → Sent table (arrivals_of stream) pass (out_text o) why (told o i count end) → Serves why end
   serves why end w fell t strange row =
       let more : List Job = rest ++ drop t.count jobs in
-      let is : received o.lane ++ more ≡ jobs = goes-on t in
+      let is : received o.ring ++ more ≡ jobs = goes-on t in
       record {
         stream = stream;
         gave = gave;
@@ -165,7 +165,7 @@ module _ (tells_in tells_out : Bool) (table : Table) (given given' wrote wrote' 
         whole = whole_of table version arrived o more is same fell.within fell.frames;
         admitted = few t;
         answered_few = (let size = ap length met in
-            omega (arith, counted, size, sent-received table version arrived o more is same fell.frames.there, length-append (received o.lane) rest));
+            omega (arith, counted, size, sent-received table version arrived o more is same fell.frames.there, length-append (received o.ring) rest));
         same_pool = subst (λ (p : Pass Job). IsSamePass p i.putter) putter (same-after jobs start i t);
         puts = t.puts;
         put_behind = subst (λ (n : ℕ). IsBehind t.puts n) (sym (counted ∙ ap length (first t) ∙ length-take-le t.count jobs t.there)) t.put_behind;
@@ -173,9 +173,9 @@ module _ (tells_in tells_out : Bool) (table : Table) (given given' wrote wrote' 
         posts = fell.posts;
         taken_is = fell.taken;
         answered = subst (λ (js : List Job). AreAnswered js o.sent fell.posts) is
-            (answered-longer (received o.lane) more o.sent fell.posts (sent-received table version arrived o more is same fell.frames.there) fell.answered);
+            (answered-longer (received o.ring) more o.sent fell.posts (sent-received table version arrived o more is same fell.frames.there) fell.answered);
         foreign = λ told. subst (λ (js : List Job). TookForeign js o.sent fell.posts) is
-            (took-longer (received o.lane) more o.sent fell.posts (fell.foreign (strange told)));
+            (took-longer (received o.ring) more o.sent fell.posts (fell.foreign (strange told)));
       }
 
   -- the frames of the first replies went out
@@ -193,10 +193,10 @@ module _ (tells_in tells_out : Bool) (table : Table) (given given' wrote wrote' 
   }
 
   -- all went out, where all jobs were taken in and each reply was released
-  sent-all : (end : Ending) → Fell taken sending.Lane o → TakesIn jobs start i → o.sent ≡ count → SentAll table version arrived pass (out_text o) (told o i count end)
+  sent-all : (end : Ending) → Fell taken sending.Exhausted o → TakesIn jobs start i → o.sent ≡ count → SentAll table version arrived pass (out_text o) (told o i count end)
   sent-all end fell t sent =
       let s : TakesSome jobs start i = takes-some-all jobs start i t in
-      let all : admitted i.lane ≡ jobs = t.admitted_is ∙ ap (λ (l : List Job). l ++ jobs) empty in
+      let all : admitted i.ring ≡ jobs = t.admitted_is ∙ ap (λ (l : List Job). l ++ jobs) empty in
       let size = ap length all in
       let has : count ≡ length arrived = omega (arith, counted, size, length-map arrived (job_under table)) in
       record {
@@ -223,35 +223,35 @@ module _ (tells_in tells_out : Bool) (table : Table) (given given' wrote wrote' 
       serves-some fault.NoMemory sending.NoMemory (λ is. absurd cc) (λ is. absurd cc) (λ row. row) fell (ran-some table stream read start i ran)
   rows (Err sending.Stranger) read all fell all_sent ran due =
       serves-some fault.Stranger sending.Stranger (λ is. absurd cc) (λ is. refl) (λ row. row) fell (ran-some table stream read start i ran)
-  rows (Err sending.Lane) read all fell all_sent ran due =
-      serves-some fault.Lane sending.Lane (λ is. absurd cc) (λ is. absurd cc) (λ row. row) fell (ran-some table stream read start i ran)
+  rows (Err sending.Exhausted) read all fell all_sent ran due =
+      serves-some fault.Exhausted sending.Exhausted (λ is. absurd cc) (λ is. absurd cc) (λ row. row) fell (ran-some table stream read start i ran)
   rows (Ok x) (Err reading.NoMemory) all s all_sent ran due =
-      serves-some fault.NoMemory sending.Lane (λ is. absurd cc) (λ is. absurd cc) (λ row. row) (fell-held taken o sending.Lane s.holds (λ is. absurd cc)) ran
-  rows (Ok x) (Err reading.Lane) all s all_sent ran due =
-      serves-some fault.Lane sending.Lane (λ is. absurd cc) (λ is. absurd cc) (λ row. row) (fell-held taken o sending.Lane s.holds (λ is. absurd cc)) ran
+      serves-some fault.NoMemory sending.Exhausted (λ is. absurd cc) (λ is. absurd cc) (λ row. row) (fell-held taken o sending.Exhausted s.holds (λ is. absurd cc)) ran
+  rows (Ok x) (Err reading.Exhausted) all s all_sent ran due =
+      serves-some fault.Exhausted sending.Exhausted (λ is. absurd cc) (λ is. absurd cc) (λ row. row) (fell-held taken o sending.Exhausted s.holds (λ is. absurd cc)) ran
   rows (Ok x) (Err reading.Stopped) all s all_sent ran due =
-      serves-some fault.Lane sending.Lane (λ is. absurd cc) (λ is. absurd cc) (λ row. row) (fell-held taken o sending.Lane s.holds (λ is. absurd cc)) ran
+      serves-some fault.Exhausted sending.Exhausted (λ is. absurd cc) (λ is. absurd cc) (λ row. row) (fell-held taken o sending.Exhausted s.holds (λ is. absurd cc)) ran
   rows (Ok x) (Err reading.Read) false s all_sent ran due =
-      serves-some fault.Lane sending.Lane (λ is. absurd cc) (λ is. absurd cc) (λ row. row) (fell-held taken o sending.Lane s.holds (λ is. absurd cc))
+      serves-some fault.Exhausted sending.Exhausted (λ is. absurd cc) (λ is. absurd cc) (λ row. row) (fell-held taken o sending.Exhausted s.holds (λ is. absurd cc))
       (takes-some-all jobs start i ran)
   rows (Ok x) (Err reading.Read) true s all_sent ran due =
-      let fell = fell-held taken o sending.Lane s.holds (λ is. absurd cc) in
-      serves (Some fault.Read) ending.Broken sending.Lane fell (takes-some-all jobs start i ran) (λ is. absurd cc)
+      let fell = fell-held taken o sending.Exhausted s.holds (λ is. absurd cc) in
+      serves (Some fault.Read) ending.Broken sending.Exhausted fell (takes-some-all jobs start i ran) (λ is. absurd cc)
       (sent-all ending.Broken fell ran (all_sent ∙ sym (due refl)), refl)
   rows (Ok x) (Ok end) false s all_sent ran due =
-      serves-some fault.Lane sending.Lane (λ is. absurd cc) (λ is. absurd cc) (λ row. row) (fell-held taken o sending.Lane s.holds (λ is. absurd cc))
+      serves-some fault.Exhausted sending.Exhausted (λ is. absurd cc) (λ is. absurd cc) (λ row. row) (fell-held taken o sending.Exhausted s.holds (λ is. absurd cc))
       (takes-some-all jobs start i ran.0)
   rows (Ok x) (Ok ending.Clean) true s all_sent ran due =
-      let fell = fell-held taken o sending.Lane s.holds (λ is. absurd cc) in
-      serves None ending.Clean sending.Lane fell (takes-some-all jobs start i ran.0) (λ is. absurd cc)
+      let fell = fell-held taken o sending.Exhausted s.holds (λ is. absurd cc) in
+      serves None ending.Clean sending.Exhausted fell (takes-some-all jobs start i ran.0) (λ is. absurd cc)
       (sent-all ending.Clean fell ran.0 (all_sent ∙ sym (due refl)), sym ran.1, inl ran.1)
   rows (Ok x) (Ok ending.Oversize) true s all_sent ran due =
-      let fell = fell-held taken o sending.Lane s.holds (λ is. absurd cc) in
-      serves None ending.Oversize sending.Lane fell (takes-some-all jobs start i ran.0) (λ is. absurd cc)
+      let fell = fell-held taken o sending.Exhausted s.holds (λ is. absurd cc) in
+      serves None ending.Oversize sending.Exhausted fell (takes-some-all jobs start i ran.0) (λ is. absurd cc)
       (sent-all ending.Oversize fell ran.0 (all_sent ∙ sym (due refl)), sym ran.1, inr ran.1)
   rows (Ok x) (Ok ending.Torn) true s all_sent ran due =
-      let fell = fell-held taken o sending.Lane s.holds (λ is. absurd cc) in
-      serves (Some fault.Torn) ending.Torn sending.Lane fell (takes-some-all jobs start i ran.0) (λ is. absurd cc)
+      let fell = fell-held taken o sending.Exhausted s.holds (λ is. absurd cc) in
+      serves (Some fault.Torn) ending.Torn sending.Exhausted fell (takes-some-all jobs start i ran.0) (λ is. absurd cc)
       (sent-all ending.Torn fell ran.0 (all_sent ∙ sym (due refl)), sym ran.1, ran.1)
   rows (Ok x) (Ok ending.Broken) true s all_sent ran due = absurd (ran.2 refl)
 

@@ -2,7 +2,7 @@
 use Rattle.std.specs.Prelude.{◌≡◌, ◌≢◌, ◌⊎◌, ℕ, ◌+◌, ◌<◌, ◌≤◌, Bool, IsTrue, List, [], ◌∷◌, ◌++◌, length, map, take, Option, Some, None, Result, Ok, Err}
 use Rattle.std.specs.declared.alloc.Global.{Global}
 use Rattle.std.specs.declared.vec.Vec.{Vec}
-use Rattle.mac_ring.specs.Lane.{admitted}
+use Rattle.mac_ring.specs.Ring.{admitted}
 use Rattle.mac_keys.specs.Table.{Table}
 use Rattle.mac_wire.specs.declared.arrival.Arrival.{Arrival}
 use Rattle.mac_wire.specs.declared.arrival.Ending.{Ending}
@@ -39,7 +39,7 @@ Reads tells before after stream handed (Err fault.Read) reader =
     Gave tells before after [] × HasTold reader stream
 Reads tells before after stream handed (Err fault.NoMemory) reader =
     (bytes : List ℕ) × Gave tells before after bytes × HasTold reader (stream ++ bytes)
-Reads tells before after stream handed (Err fault.Lane) reader =
+Reads tells before after stream handed (Err fault.Exhausted) reader =
     Gave tells before after [] × HasTold reader stream
 Reads tells before after stream handed (Err fault.Stopped) reader = ⊥
 
@@ -48,7 +48,7 @@ abbrev pub CountsRead : {T : Type 0} → Result T InboundFault → ℕ → ℕ �
 CountsRead (Ok x) old new = new ≡ old
 CountsRead (Err fault.Read) old new = new ≡ old + 1
 CountsRead (Err fault.NoMemory) old new = new ≡ old
-CountsRead (Err fault.Lane) old new = new ≡ old
+CountsRead (Err fault.Exhausted) old new = new ≡ old
 CountsRead (Err fault.Stopped) old new = new ≡ old
 
 -- the jobs of arrivals under a table
@@ -64,22 +64,22 @@ placed place (job ∷ jobs) = (place, job) ∷ placed (place + 1) jobs
 abbrev pub IsBehind : ℕ → ℕ → Type 0
 IsBehind few count = (count ≡ few) ⊎ (count ≡ few + 1)
 
--- from the one state to the other these jobs were admitted, and put into the line at their places
+-- from the one state to the other these jobs were admitted, and put into the queue at their places
 pub record TakesIn (jobs : List Job) (before after : Inbound) : Type 0 where
-  pub admitted_is : admitted after.lane ≡ admitted before.lane ++ jobs
+  pub admitted_is : admitted after.ring ≡ admitted before.ring ++ jobs
   pub put_is : after.putter
-      ≡ record before.putter { put = before.putter.put ++ placed (length (admitted before.lane)) jobs }
+      ≡ record before.putter { put = before.putter.put ++ placed (length (admitted before.ring)) jobs }
 
 -- from the one state to the other some of these jobs, the first ones, were admitted, and all of
--- them put into the line at their places, or all but the last
+-- them put into the queue at their places, or all but the last
 pub record TakesSome (jobs : List Job) (before after : Inbound) : Type 0 where
   pub count : ℕ
   pub there : count ≤ length jobs
-  pub admitted_is : admitted after.lane ≡ admitted before.lane ++ take count jobs
+  pub admitted_is : admitted after.ring ≡ admitted before.ring ++ take count jobs
   pub puts : ℕ
   pub put_behind : IsBehind puts count
   pub put_is : after.putter ≡ record before.putter {
-    put = before.putter.put ++ placed (length (admitted before.lane)) (take puts jobs);
+    put = before.putter.put ++ placed (length (admitted before.ring)) (take puts jobs);
   }
 
 -- what a step did with these jobs: it took in all, or some where it failed
@@ -97,7 +97,7 @@ Ran table stream (Err fault.Read) before after =
     TakesIn (jobs_of table (arrivals_of stream).arrived) before after
 Ran table stream (Err fault.NoMemory) before after =
     TakesSome (jobs_of table (arrivals_of stream).arrived) before after
-Ran table stream (Err fault.Lane) before after =
+Ran table stream (Err fault.Exhausted) before after =
     TakesSome (jobs_of table (arrivals_of stream).arrived) before after
 Ran table stream (Err fault.Stopped) before after =
     TakesSome (jobs_of table (arrivals_of stream).arrived) before after

@@ -1,7 +1,7 @@
 -- How the outbound half of a connection stands, and how it ends.
 use Rattle.std.specs.Prelude.{◌≡◌, ◌≢◌, ℕ, ◌+◌, ◌≤◌, false, List, ◌++◌, length, map, take, Option, Some, Contains, Result, Ok, Err}
 use Rattle.std.specs.FinMap.{get}
-use Rattle.mac_ring.specs.Lane.{received, IsKept, IsSameOutlet}
+use Rattle.mac_ring.specs.Ring.{received, IsKept, IsSameOutlet}
 use Rattle.mac_wire.specs.declared.reply.Reply.{Reply}
 use Rattle.mac_wire.specs.Frame.{framed}
 use Rattle.mac_wire.specs.Reply.{reply_payloads}
@@ -20,9 +20,9 @@ use Rattle.mac_serve.specs.Posts.{AreAnswered, TookForeign}
 abbrev pub answer_to : Job → Reply
 answer_to job = reply_of job.arrival job.key
 
--- the replies to the jobs that came through the lane
+-- the replies to the jobs that came through the ring
 abbrev pub replies : Outbound → List Reply
-replies o = map answer_to (received o.lane)
+replies o = map answer_to (received o.ring)
 
 -- the payloads of their frames, in the version of the stream
 abbrev pub payloads : Outbound → List (List ℕ)
@@ -30,15 +30,15 @@ payloads o = reply_payloads o.version (replies o)
 
 -- the place whose reply is released next
 abbrev pub next : Outbound → ℕ
-next o = o.lane.buffer.next
+next o = o.ring.buffer.next
 
 -- the bytes that went out
 abbrev pub out_text : Outbound → List ℕ
 out_text o = take o.written (framed (payloads o))
 
--- the half is still that of the same lane, and frames replies in the same version
+-- the half is still that of the same ring, and frames replies in the same version
 abbrev pub IsSame : Outbound → Outbound → Type 0
-IsSame before after = IsSameOutlet before.lane after.lane × (after.version ≡ before.version)
+IsSame before after = IsSameOutlet before.ring after.ring × (after.version ≡ before.version)
 
 -- The half holds what it should, where its taker took `before` earlier: replies are released and
 -- gathered in order, and each that was released had its post.
@@ -46,14 +46,14 @@ pub record Holds (before : List (ℕ × Option Job)) (o : Outbound) : Type 0 whe
   pub gathered : Gathered (payloads o) (next o) o.sent o.written o.gathered.items
   pub posts : List (ℕ × Option Job)
   pub taken : o.taker ≡ before ++ posts
-  pub answered : AreAnswered (received o.lane) (next o) posts
+  pub answered : AreAnswered (received o.ring) (next o) posts
 
 -- it goes on: its buffer is open, and each answer that waits came by a post
 pub record Stands (before : List (ℕ × Option Job)) (o : Outbound) : Type 0 where
   pub holds : Holds before o
-  pub kept : IsKept o.lane
-  pub live : o.lane.buffer.closed ≡ false
-  pub waiting : (place : ℕ) (job : Job) → get o.lane.buffer.answers place ≡ Some job
+  pub kept : IsKept o.ring
+  pub live : o.ring.buffer.closed ≡ false
+  pub waiting : (place : ℕ) (job : Job) → get o.ring.buffer.answers place ≡ Some job
       → Contains holds.posts (place, Some job)
 
 -- It ended by this fault: `sent` replies went out whole, and but for a fault of the sink nothing
@@ -64,8 +64,8 @@ pub record Fell (before : List (ℕ × Option Job)) (why : OutboundFault) (o : O
   pub whole : why ≢ fault.Write → out_text o ≡ framed (take o.sent (payloads o))
   pub posts : List (ℕ × Option Job)
   pub taken : o.taker ≡ before ++ posts
-  pub answered : AreAnswered (received o.lane) o.sent posts
-  pub foreign : why ≡ fault.Stranger → TookForeign (received o.lane) o.sent posts
+  pub answered : AreAnswered (received o.ring) o.sent posts
+  pub foreign : why ≡ fault.Stranger → TookForeign (received o.ring) o.sent posts
 
 -- how a step ended
 abbrev pub Sends : {T : Type 0} → List (ℕ × Option Job) → Result T OutboundFault → Outbound → Type 0
@@ -77,7 +77,7 @@ abbrev pub CountsWrite : {T : Type 0} → Result T OutboundFault → ℕ → ℕ
 CountsWrite (Err fault.Write) old new = new ≡ old + 1
 CountsWrite (Err fault.NoMemory) old new = new ≡ old
 CountsWrite (Err fault.Stranger) old new = new ≡ old
-CountsWrite (Err fault.Lane) old new = new ≡ old
+CountsWrite (Err fault.Exhausted) old new = new ≡ old
 CountsWrite (Ok x) old new = new ≡ old
 
 -- what came of asking for the next reply: where an answer was to another job, the buffer is closed,
@@ -86,5 +86,5 @@ abbrev pub Releases : List (ℕ × Option Job) → Due → Outbound → Type 0
 Releases before due.Gathered o = Stands before o
 Releases before due.Waiting o = Stands before o
 Releases before due.Stranger o =
-    (h : Holds before o) × ((sent : ℕ) → TookForeign (received o.lane) sent h.posts)
+    (h : Holds before o) × ((sent : ℕ) → TookForeign (received o.ring) sent h.posts)
 Releases before due.NoMemory o = Fell before fault.NoMemory o

@@ -26,7 +26,7 @@ use Rattle.mac_serve.specs.declared.incoming.InboundFault.TheVariants as reading
 abbrev pub answers : Table → List Arrival → List Reply
 answers table arrivals = map (answer_of table) arrivals
 
--- every arrival was admitted, put into the line at its place, and its reply was sent in the
+-- every arrival was admitted, put into the queue at its place, and its reply was sent in the
 -- stream's version, and nothing else was written
 pub record SentAll (table : Table) (version : Version) (arrivals : List Arrival) (pass : Pass Job)
     (output : List ℕ) (served : Served) : Type 0 where
@@ -65,11 +65,11 @@ Sent table a pass output (Some fault.NoMemory) served =
     SentSome table a.version a.arrived output served
 Sent table a pass output (Some fault.Stranger) served =
     SentSome table a.version a.arrived output served
-Sent table a pass output (Some fault.Lane) served =
+Sent table a pass output (Some fault.Exhausted) served =
     SentSome table a.version a.arrived output served
 
 -- What a run did: it read a stream, and wrote bytes. So many jobs of its arrivals were admitted, so
--- many bytes written, and so many replies went out whole. The admitted jobs were put into the line
+-- many bytes written, and so many replies went out whole. The admitted jobs were put into the queue
 -- at their places, or all but the last. For each reply that went out the desk took a post with that
 -- place's job. A stranger is told only where a post was foreign.
 pub record HasServed (tells_in tells_out : Bool) (table : Table)
@@ -120,7 +120,7 @@ CountsServed (Some fault.Read) read read' write write' = (read' ≡ read + 1) ×
 CountsServed (Some fault.Write) read read' write write' = MayCount read read' × (write' ≡ write + 1)
 CountsServed (Some fault.NoMemory) read read' write write' = MayCount read read' × (write' ≡ write)
 CountsServed (Some fault.Stranger) read read' write write' = MayCount read read' × (write' ≡ write)
-CountsServed (Some fault.Lane) read read' write write' = MayCount read read' × (write' ≡ write)
+CountsServed (Some fault.Exhausted) read read' write write' = MayCount read read' × (write' ≡ write)
 
 -- the fault, if any, and the ending that a stream's ending tells once all is sent
 abbrev pub ended_as : Ending → Option ServeFault × Ending
@@ -137,13 +137,13 @@ abbrev pub outcome_of : {T : Type 0} → Result T OutboundFault → Result Endin
 outcome_of (Err sending.Write) read all = (Some fault.Write, ending.Broken)
 outcome_of (Err sending.NoMemory) read all = (Some fault.NoMemory, ending.Broken)
 outcome_of (Err sending.Stranger) read all = (Some fault.Stranger, ending.Broken)
-outcome_of (Err sending.Lane) read all = (Some fault.Lane, ending.Broken)
+outcome_of (Err sending.Exhausted) read all = (Some fault.Exhausted, ending.Broken)
 outcome_of (Ok sent) (Err reading.NoMemory) all = (Some fault.NoMemory, ending.Broken)
 outcome_of (Ok sent) (Err reading.Read) all =
-    (Some (if all then fault.Read else fault.Lane), ending.Broken)
-outcome_of (Ok sent) (Err reading.Lane) all = (Some fault.Lane, ending.Broken)
-outcome_of (Ok sent) (Err reading.Stopped) all = (Some fault.Lane, ending.Broken)
-outcome_of (Ok sent) (Ok end) all = if all then ended_as end else (Some fault.Lane, ending.Broken)
+    (Some (if all then fault.Read else fault.Exhausted), ending.Broken)
+outcome_of (Ok sent) (Err reading.Exhausted) all = (Some fault.Exhausted, ending.Broken)
+outcome_of (Ok sent) (Err reading.Stopped) all = (Some fault.Exhausted, ending.Broken)
+outcome_of (Ok sent) (Ok end) all = if all then ended_as end else (Some fault.Exhausted, ending.Broken)
 
 -- the number of a fault
 abbrev pub serve_code : ServeFault → ℕ
@@ -152,4 +152,4 @@ serve_code fault.Write = 2
 serve_code fault.NoMemory = 3
 serve_code fault.Torn = 4
 serve_code fault.Stranger = 5
-serve_code fault.Lane = 6
+serve_code fault.Exhausted = 6

@@ -3,7 +3,7 @@
 ghost use Rattle.std.specs.Prelude.{◌≡◌, ◌≢◌, ◌++◌, ℕ, List, [], Option, None, IsTrue, IfOk, OnOk};
 ghost use Rattle.mac_decide.specs.declared.job.Job.{Job};
 ghost use Rattle.mac_order.specs.Buffer.{fresh_buffer};
-ghost use Rattle.mac_ring.specs.Lane.{admitted, received, waiting, IsLane, IsSameIntake};
+ghost use Rattle.mac_ring.specs.Ring.{admitted, received, waiting, IsRing, IsSameIntake};
 ghost use Rattle.mac_wire.specs.FrameReader.{HasRead, version_of};
 ghost use Rattle.mac_wire.specs.Stream.{version_or_one};
 ghost use Rattle.mac_serve.specs.Incoming.{HasRoom};
@@ -19,7 +19,7 @@ use crate::signals::Signals;
 use mac_decide::Macaroons;
 use mac_keys::KeyTable;
 use mac_queue::Desk;
-use mac_ring::{Intake, Outlet, Totals, lane, meet};
+use mac_ring::{Intake, Outlet, Totals, make_ring, meet};
 use mac_wire::{Ending, NoMemory, Sink, Source};
 use std::alloc::Global;
 use std::sync::Wait;
@@ -77,7 +77,7 @@ pub fn serve<R: Threads + Wait + Sync, In: Source, Out: Sink>(
         &mut inbound,
         &mut outbound,
     );
-    let totals = meet(&mut inbound.lane, &mut outbound.lane);
+    let totals = meet(&mut inbound.ring, &mut outbound.ring);
     let (fault, ending) = outcome(sending, reading, totals.admitted == totals.released);
     let Inbound { putter, .. } = inbound;
     let Outbound {
@@ -101,14 +101,14 @@ pub fn serve<R: Threads + Wait + Sync, In: Source, Out: Sink>(
 
 /// What a connection's halves are made of.
 fn parts(alloc: Global) -> Result<(Intake<Macaroons>, Outlet<Macaroons>, Incoming), NoMemory>
-    ensures lane { IfOk result (λ p. IsLane p.0 p.1) }
+    ensures ring { IfOk result (λ p. IsRing p.0 p.1) }
     ensures intake { IfOk result (λ p. admitted p.0 ≡ []) }
     ensures outlet { IfOk result (λ p.
         (received p.1 ≡ []) × (waiting p.1 ≡ []) × (p.1.buffer ≡ fresh_buffer)) }
     ensures nothing { IfOk result (λ p. HasRead p.2.reader [] []) }
     ensures room { IfOk result (λ p. HasRoom p.2) }
 {
-    let (intake, outlet) = lane(alloc)?;
+    let (intake, outlet) = make_ring(alloc)?;
     let incoming = Incoming::new(alloc)?;
     Ok((intake, outlet, incoming))
 }
@@ -133,7 +133,7 @@ fn run_both<R: Threads + Wait + Sync, In: Source, Out: Sink>(
         → Stands before outbound.old → Out.written sink.old ≡ head ++ out_text outbound.old
         → Out.written sink.new ≡ head ++ out_text outbound.new }
     ensures write_faults { CountsWrite result.0 (Out.faults sink.old) (Out.faults sink.new) }
-    ensures intake { IsSameIntake inbound.old.lane inbound.new.lane }
+    ensures intake { IsSameIntake inbound.old.ring inbound.new.ring }
     ensures run { (given : List ℕ)
         → Reads In.tells given (In.taken source.old) [] [] incoming.old.first
         incoming.old.reader
@@ -180,12 +180,12 @@ fn outcome(
         (Err(OutboundFault::Write), _) => ServeFault::Write,
         (Err(OutboundFault::NoMemory), _) => ServeFault::NoMemory,
         (Err(OutboundFault::Stranger), _) => ServeFault::Stranger,
-        (Err(OutboundFault::Lane), _) => ServeFault::Lane,
+        (Err(OutboundFault::Exhausted), _) => ServeFault::Exhausted,
         (Ok(()), Err(InboundFault::NoMemory)) => ServeFault::NoMemory,
         (Ok(()), Err(InboundFault::Read)) if is_all_sent => ServeFault::Read,
         (Ok(()), Ok(Ending::Torn)) if is_all_sent => return (Some(ServeFault::Torn), Ending::Torn),
         (Ok(()), Ok(ending)) if is_all_sent => return (None, ending),
-        _ => ServeFault::Lane,
+        _ => ServeFault::Exhausted,
     };
     (Some(fault), Ending::Broken)
 }

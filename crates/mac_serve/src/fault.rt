@@ -23,9 +23,9 @@ pub enum ServeFault {
     /// An answer came that was not due.
     #[error("an answer came that was not due")]
     Stranger,
-    /// There is no further place in the lane, the line is closed, or a count is used up.
-    #[error("the lane or the line took no more")]
-    Lane,
+    /// There is no further place in the ring, the queue is closed, or a count is used up.
+    #[error("the ring or the queue took no more")]
+    Exhausted,
 }
 
 impl ServeFault {
@@ -39,7 +39,7 @@ impl ServeFault {
             ServeFault::NoMemory => 3,
             ServeFault::Torn => 4,
             ServeFault::Stranger => 5,
-            ServeFault::Lane => 6,
+            ServeFault::Exhausted => 6,
         }
     }
 }

@@ -17,17 +17,17 @@ use std::alloc::Global;
 use std::sync::Wait;
 use std::{mem, thread};
 
-/// The half of a connection that reads requests: its end of the lane, and its way into the line of
+/// The half of a connection that reads requests: its end of the ring, and its way into the queue of
 /// jobs.
 #[derive(Drop)]
 pub struct Inbound {
-    pub lane: Intake<Macaroons>,
+    pub ring: Intake<Macaroons>,
     pub putter: Putter<Macaroons>,
     unsent: Unsent,
 }
 
 impl Inbound {
-    ghost use Rattle.mac_ring.specs.Lane.{admitted, IsSameIntake, Knows};
+    ghost use Rattle.mac_ring.specs.Ring.{admitted, IsSameIntake, Knows};
     ghost use Rattle.mac_queue.specs.Pass.{with_put, IsSamePass};
     ghost use Rattle.mac_serve.specs.Receiving.{CountsRead, Reads, jobs_of, Receives, HasRun, GoesOn, Continues};
     ghost use Rattle.mac_serve.specs.Incoming.{HasRoom};
@@ -37,11 +37,11 @@ impl Inbound {
     ghost use Rattle.mac_wire.specs.declared.version.Version.{Version};
 
     /// A half that has read nothing.
-    pub fn new(lane: Intake<Macaroons>, putter: Putter<Macaroons>) -> Inbound
-        ensures { (result.lane ≡ lane) × (result.putter ≡ putter) }
+    pub fn new(ring: Intake<Macaroons>, putter: Putter<Macaroons>) -> Inbound
+        ensures { (result.ring ≡ ring) × (result.putter ≡ putter) }
     {
         Inbound {
-            lane,
+            ring,
             putter,
             unsent: Unsent::new(),
         }
@@ -49,38 +49,38 @@ impl Inbound {
 
     /// Admits the job, where the ring and the bytes of the jobs without reply leave room for it.
     fn try_admit(&mut self, job: Job, signals: &Signals) -> Result<u64, (AdmitFault, Job)>
-        ensures lane { IsSameIntake self.old.lane self.new.lane }
+        ensures ring { IsSameIntake self.old.ring self.new.ring }
         ensures putter { self.new.putter ≡ self.old.putter }
-        ensures place { IfOk result (λ place. place ≡ length (admitted self.old.lane)) }
+        ensures place { IfOk result (λ place. place ≡ length (admitted self.old.ring)) }
         ensures admitted { OnOk result
-            (admitted self.new.lane ≡ admitted self.old.lane ++ job ∷ []) }
+            (admitted self.new.ring ≡ admitted self.old.ring ++ job ∷ []) }
         ensures refused { IfErr result (λ e.
-            (admitted self.new.lane ≡ admitted self.old.lane) × (e.1 ≡ job)) }
+            (admitted self.new.ring ≡ admitted self.old.ring) × (e.1 ≡ job)) }
     {
         let length = payload_length(&job);
         if !self.unsent.has_room(length, signals.sent()) {
             return Err((AdmitFault::Full, job));
         }
-        let place = self.lane.admit(job)?;
+        let place = self.ring.admit(job)?;
         self.unsent.push(length);
         Ok(place)
     }
 
     /// Admits the job, once there is room for it.
     fn admit<R: Wait>(&mut self, rt: &R, job: Job, signals: &Signals) -> Result<u64, InboundFault>
-        ensures lane { IsSameIntake self.old.lane self.new.lane }
+        ensures ring { IsSameIntake self.old.ring self.new.ring }
         ensures putter { self.new.putter ≡ self.old.putter }
-        ensures place { IfOk result (λ place. place ≡ length (admitted self.old.lane)) }
+        ensures place { IfOk result (λ place. place ≡ length (admitted self.old.ring)) }
         ensures admitted { OnOk result
-            (admitted self.new.lane ≡ admitted self.old.lane ++ job ∷ []) }
-        ensures refused { OnErr result (admitted self.new.lane ≡ admitted self.old.lane) }
+            (admitted self.new.ring ≡ admitted self.old.ring ++ job ∷ []) }
+        ensures refused { OnErr result (admitted self.new.ring ≡ admitted self.old.ring) }
         ensures no_read { result ≢ Err InboundFault.Read }
     {
         let mut job = job;
         for _ in rt.forever() {
             match self.try_admit(job, signals) {
                 Ok(place) => return Ok(place),
-                Err((AdmitFault::Last, _)) => return Err(InboundFault::Lane),
+                Err((AdmitFault::Last, _)) => return Err(InboundFault::Exhausted),
                 Err((AdmitFault::Full, back)) => job = back,
             }
             let notice = signals.announce(self.unsent.wanted());
@@ -100,7 +100,7 @@ impl Inbound {
         unreachable!()
     }
 
-    /// Puts the job at its place into the line.
+    /// Puts the job at its place into the queue.
     fn put<R: Wait>(
         &mut self,
         rt: &R,
@@ -108,7 +108,7 @@ impl Inbound {
         job: Job,
         signals: &Signals,
     ) -> Result<(), InboundFault>
-        ensures lane { self.new.lane ≡ self.old.lane }
+        ensures ring { self.new.ring ≡ self.old.ring }
         ensures put { OnOk result (self.new.putter ≡ with_put self.old.putter (place, job)) }
         ensures same { OnErr result (self.new.putter ≡ self.old.putter) }
         ensures no_read { result ≢ Err InboundFault.Read }
@@ -117,7 +117,7 @@ impl Inbound {
         for _ in rt.forever() {
             match self.putter.put(rt, place, job) {
                 Ok(()) => return Ok(()),
-                Err((PutFault::Closed, _)) => return Err(InboundFault::Lane),
+                Err((PutFault::Closed, _)) => return Err(InboundFault::Exhausted),
                 Err((PutFault::NoMemory, _)) => return Err(InboundFault::NoMemory),
                 Err((PutFault::Full, back)) => job = back,
             }
@@ -129,7 +129,7 @@ impl Inbound {
         unreachable!()
     }
 
-    /// Admits the job of an arrival, and puts it into the line.
+    /// Admits the job of an arrival, and puts it into the queue.
     fn take_arrival<R: Wait>(
         &mut self,
         rt: &R,
@@ -138,7 +138,7 @@ impl Inbound {
         keys: &KeyTable,
         signals: &Signals,
     ) -> Result<(), InboundFault>
-        ensures lane { IsSameIntake self.old.lane self.new.lane }
+        ensures ring { IsSameIntake self.old.ring self.new.ring }
         ensures receives { Receives (job_under keys.now arrival ∷ []) result self.old self.new }
         ensures no_read { result ≢ Err InboundFault.Read }
     {
@@ -148,7 +148,7 @@ impl Inbound {
         self.put(rt, place, job, signals)
     }
 
-    /// Admits the jobs of arrivals, and puts them into the line.
+    /// Admits the jobs of arrivals, and puts them into the queue.
     fn take_arrivals<R: Wait>(
         &mut self,
         rt: &R,
@@ -157,7 +157,7 @@ impl Inbound {
         keys: &KeyTable,
         signals: &Signals,
     ) -> Result<(), InboundFault>
-        ensures lane { IsSameIntake self.old.lane self.new.lane }
+        ensures ring { IsSameIntake self.old.ring self.new.ring }
         ensures receives { Receives (jobs_of keys.now arrivals.items) result self.old self.new }
         ensures no_read { result ≢ Err InboundFault.Read }
     {
@@ -208,7 +208,7 @@ impl Inbound {
         signals: &Signals,
     ) -> Result<(), InboundFault>
         requires { HasRoom incoming.old }
-        ensures lane { IsSameIntake self.old.lane self.new.lane }
+        ensures ring { IsSameIntake self.old.ring self.new.ring }
         ensures goes_on { (version : Version) (given : List ℕ) (start : Inbound)
             → GoesOn In.tells keys.now version given (In.taken source.old)
             incoming.old.reader first.items start self.old
@@ -243,7 +243,7 @@ impl Inbound {
         signals: &Signals,
     ) -> Result<Ending, InboundFault>
         requires { HasRoom incoming.old }
-        ensures lane { IsSameIntake self.old.lane self.new.lane }
+        ensures ring { IsSameIntake self.old.ring self.new.ring }
         ensures run { (given : List ℕ)
             → Reads In.tells given (In.taken source.old) [] [] incoming.old.first
             incoming.old.reader
@@ -280,7 +280,7 @@ impl Inbound {
         signals: &Signals,
     ) -> Result<Ending, InboundFault>
         requires { HasRoom incoming.old }
-        ensures lane { IsSameIntake self.old.lane self.new.lane }
+        ensures ring { IsSameIntake self.old.ring self.new.ring }
         ensures run { (given : List ℕ)
             → Reads In.tells given (In.taken source.old) [] [] incoming.old.first
             incoming.old.reader

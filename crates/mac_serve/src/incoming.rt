@@ -21,9 +21,9 @@ pub enum InboundFault {
     Read,
     /// Memory was refused.
     NoMemory,
-    /// There is no further place in the lane, or no place in the line, or the source's failures
+    /// There is no further place in the ring, or no place in the queue, or the source's failures
     /// can't be counted any more.
-    Lane,
+    Exhausted,
     /// The outbound half had ended.
     Stopped,
 }
@@ -101,7 +101,7 @@ impl Incoming {
         ensures faults { CountsRead result (In.faults source.old) (In.faults source.new) }
     {
         if source.faults() == u64::MAX {
-            return Err(InboundFault::Lane);
+            return Err(InboundFault::Exhausted);
         }
         let count = match source.read(self.piece.as_mut_slice()) {
             Ok(0) => return Ok(None),

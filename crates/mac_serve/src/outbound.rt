@@ -26,7 +26,7 @@ pub enum OutboundFault {
     /// An answer came that was not due.
     Stranger,
     /// The bytes written can't be counted any more.
-    Lane,
+    Exhausted,
 }
 
 /// What came of asking for the next reply.
@@ -41,11 +41,11 @@ enum Due {
     NoMemory,
 }
 
-/// The half of a connection that sends replies: its end of the lane, and the mailbox of its
+/// The half of a connection that sends replies: its end of the ring, and the mailbox of its
 /// answers. Replies are gathered and written many at a time.
 #[derive(Drop)]
 pub struct Outbound {
-    pub lane: Outlet<Macaroons>,
+    pub ring: Outlet<Macaroons>,
     pub taker: Taker<Macaroons>,
     pub version: Version,
     pub gathered: Vec<u8>,
@@ -54,7 +54,7 @@ pub struct Outbound {
 }
 
 impl Outbound {
-    ghost use Rattle.mac_ring.specs.Lane.{received};
+    ghost use Rattle.mac_ring.specs.Ring.{received};
     ghost use Rattle.mac_order.specs.Buffer.{fresh_buffer};
     ghost use Rattle.mac_serve.specs.Posts.{TookForeign};
     ghost use Rattle.mac_serve.specs.Sending.{Holds, Stands, Fell, Sends, Releases, CountsWrite, IsSame, out_text, next};
@@ -62,19 +62,19 @@ impl Outbound {
     /// A half that has sent nothing, for a stream of this version.
     pub fn new(
         alloc: Global,
-        lane: Outlet<Macaroons>,
+        ring: Outlet<Macaroons>,
         taker: Taker<Macaroons>,
         version: Version,
     ) -> Outbound
-        requires fresh { lane.buffer ≡ fresh_buffer }
-        requires empty { received lane ≡ [] }
-        ensures lane { result.lane ≡ lane }
+        requires fresh { ring.buffer ≡ fresh_buffer }
+        requires empty { received ring ≡ [] }
+        ensures ring { result.ring ≡ ring }
         ensures version { result.version ≡ version }
         ensures stands { Stands taker result }
         ensures none { out_text result ≡ [] }
     {
         Outbound {
-            lane,
+            ring,
             taker,
             version,
             gathered: Vec::new(alloc),
@@ -90,7 +90,7 @@ impl Outbound {
             → Stands before self.new × (out_text self.new ≡ out_text self.old) }
     {
         let mut found = false;
-        while self.lane.look() {
+        while self.ring.look() {
             found = true;
         }
         found
@@ -109,7 +109,7 @@ impl Outbound {
         };
         match post {
             Post::Failed(_) => Err(OutboundFault::NoMemory),
-            Post::Answered(place, answer) => match self.lane.settle(place, answer) {
+            Post::Answered(place, answer) => match self.ring.settle(place, answer) {
                 Ok(()) => Ok(true),
                 Err(_) => Err(OutboundFault::Stranger),
             },
@@ -143,7 +143,7 @@ impl Outbound {
     {
         laws::replies_can_be_sent();
         equal_jobs_hold_the_same::<Macaroons>();
-        match self.lane.release() {
+        match self.ring.release() {
             Next::Reply(place, reply) => {
                 match append_reply(&mut self.gathered, &reply, self.version, place) {
                     Ok(()) => Due::Gathered,
@@ -159,7 +159,7 @@ impl Outbound {
     /// Writes what is gathered.
     fn flush<W: Sink>(&mut self, sink: &mut W) -> Result<(), OutboundFault>
         requires { W.faults sink.old < u64.MAX }
-        ensures same { (self.new.lane ≡ self.old.lane) × (self.new.taker ≡ self.old.taker)
+        ensures same { (self.new.ring ≡ self.old.ring) × (self.new.taker ≡ self.old.taker)
             × (self.new.version ≡ self.old.version) }
         ensures holds { (before : List (ℕ × Option Job)) → Holds before self.old
             → MatchResult result (λ _. Holds before self.new)
@@ -173,9 +173,9 @@ impl Outbound {
         ensures faults { CountsWrite result (W.faults sink.old) (W.faults sink.new) }
     {
         laws::replies_can_be_sent();
-        let due = self.lane.next_place();
+        let due = self.ring.next_place();
         let Some(written) = self.written.checked_add(self.gathered.len() as u64) else {
-            return Err(OutboundFault::Lane);
+            return Err(OutboundFault::Exhausted);
         };
         match send_all(sink, self.gathered.as_slice()) {
             Ok(()) => {
@@ -263,7 +263,7 @@ impl Outbound {
                 signals.make_room(self.sent);
                 continue;
             }
-            let notice = self.taker.announce_due(self.lane.next_place());
+            let notice = self.taker.announce_due(self.ring.next_place());
             let has_ended = signals.has_inbound_ended();
             match self.turn(rt, sink) {
                 Ok(true) => self.taker.withdraw(notice),
@@ -286,7 +286,7 @@ impl Outbound {
 
     /// Whether answers will come for the slips that are open.
     fn awaits_answers(&self, signals: &Signals) -> bool {
-        self.lane.open_slips() > 0 && !signals.has_inbound_failed()
+        self.ring.open_slips() > 0 && !signals.has_inbound_failed()
     }
 
     /// Sends where the failures of the sink can be counted.
@@ -306,7 +306,7 @@ impl Outbound {
         ensures faults { CountsWrite result (W.faults sink.old) (W.faults sink.new) }
     {
         if sink.faults() == u64::MAX {
-            return Err(OutboundFault::Lane);
+            return Err(OutboundFault::Exhausted);
         }
         self.send_until_done(rt, sink, signals)
     }

@@ -17,7 +17,7 @@ module _ {Job : Type 0} where
 
   pub claimed_one : (first second third : Pass Job) (n : ℕ) (entry : ℕ × Job) → HasClaimed first n second → third ≡ with_claimed second entry → HasClaimed first (n + 1) third
   claimed_one first second third n entry a is = claimed_both first second third n 1 a record {
-    same = (ap (λ (p : Pass Job). p.line) is, ap (λ (p : Pass Job). p.seat) is, ap (λ (p : Pass Job). p.number) is);
+    same = (ap (λ (p : Pass Job). p.queue) is, ap (λ (p : Pass Job). p.seat) is, ap (λ (p : Pass Job). p.number) is);
     put = ap (λ (p : Pass Job). p.put) is;
     more = entry ∷ [];
     claimed = ap (λ (p : Pass Job). p.claimed) is;

@@ -1,5 +1,5 @@
-//! A worker: it claims tickets from a line, works on several at a time, and posts the answers to
-//! their mailboxes, for as long as the line is open.
+//! A worker: it claims tickets from a queue, works on several at a time, and posts the answers to
+//! their mailboxes, for as long as the queue is open.
 #![tactic(auto)]
 
 pub mod gate;

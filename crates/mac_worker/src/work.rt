@@ -10,7 +10,7 @@ ghost use Rattle.mac_worker.specs.declared.gate.TheConstants.{TURN_MAX};
 use crate::gate::{Gate, TURN_MAX};
 use mac_mail::{Mailbox, Post};
 use mac_order::{Answer, NoMemory, Service};
-use mac_queue::{Claim, Line, LinePass, Ticket};
+use mac_queue::{Claim, Queue, QueuePass, Ticket};
 use std::alloc::Global;
 use std::collections::VecDeque;
 use std::sync::{Arc, Wait};
@@ -19,7 +19,7 @@ use std::sync::{Arc, Wait};
 #[derive(Drop)]
 pub struct Worked<S: Service> {
     /// Its pass.
-    pub pass: LinePass<S>,
+    pub pass: QueuePass<S>,
     /// How many tickets it claimed.
     pub claimed: u64,
 }
@@ -70,32 +70,32 @@ impl<S: Service> Turn<S> {
     }
 }
 
-/// Claims tickets and posts their answers until the line is closed and empty. A full mailbox is
+/// Claims tickets and posts their answers until the queue is closed and empty. A full mailbox is
 /// waited for; at a closed one the post is dropped.
 pub fn worker<S: Service, G: Gate, R: Wait>(
     rt: &R,
     alloc: Global,
-    line: &Line<S>,
-    mut pass: LinePass<S>,
+    queue: &Queue<S>,
+    mut pass: QueuePass<S>,
     gate: &G,
 ) -> Worked<S>
-    requires { pass.line ≡ line.now }
+    requires { pass.queue ≡ queue.now }
     ensures { HasClaimed pass result.claimed result.pass }
 {
-    line.enter();
+    queue.enter();
     let mut claimed = 0;
     let mut room = Turn::new(alloc).ok();
     for _ in rt.forever() {
-        let ticket = match next_ticket(rt, line, &mut pass) {
+        let ticket = match next_ticket(rt, queue, &mut pass) {
             Some(ticket) => ticket,
             None => {
-                line.leave();
+                queue.leave();
                 return Worked { pass, claimed };
             }
         };
         claimed += 1;
         match &mut room {
-            Some(turn) => claimed += turn_from(rt, alloc, line, &mut pass, gate, turn, ticket),
+            Some(turn) => claimed += turn_from(rt, alloc, queue, &mut pass, gate, turn, ticket),
             None => {
                 give_up(rt, gate, ticket);
                 room = Turn::new(alloc).ok();
@@ -105,36 +105,36 @@ pub fn worker<S: Service, G: Gate, R: Wait>(
     unreachable!()
 }
 
-/// Claims the oldest ticket, and sleeps while there is none. `None` once the line is closed and
+/// Claims the oldest ticket, and sleeps while there is none. `None` once the queue is closed and
 /// empty.
 fn next_ticket<S: Service, R: Wait>(
     rt: &R,
-    line: &Line<S>,
-    pass: &mut LinePass<S>,
+    queue: &Queue<S>,
+    pass: &mut QueuePass<S>,
 ) -> Option<Ticket<S>>
-    requires { pass.old.line ≡ line.now }
+    requires { pass.old.queue ≡ queue.now }
     ensures claimed { IfSome result (λ ticket.
         pass.new ≡ with_claimed pass.old (entry_of ticket)) }
     ensures few { OnSome result (length pass.new.claimed < 2 ^ 62) }
     ensures same { IfNone result (pass.new ≡ pass.old) }
 {
     for _ in rt.forever() {
-        match line.claim(rt, pass) {
+        match queue.claim(rt, pass) {
             Claim::Got(ticket) => return Some(ticket),
             Claim::Closed => return None,
             Claim::Empty => {}
         }
-        let notice = line.announce();
-        match line.claim(rt, pass) {
+        let notice = queue.announce();
+        match queue.claim(rt, pass) {
             Claim::Got(ticket) => {
-                line.withdraw(notice);
+                queue.withdraw(notice);
                 return Some(ticket);
             }
             Claim::Closed => {
-                line.withdraw(notice);
+                queue.withdraw(notice);
                 return None;
             }
-            Claim::Empty => line.sleep(rt, notice),
+            Claim::Empty => queue.sleep(rt, notice),
         }
     }
     unreachable!()
@@ -153,22 +153,22 @@ fn give_up<S: Service, G: Gate, R: Wait>(rt: &R, gate: &G, ticket: Ticket<S>) {
 fn turn_from<S: Service, G: Gate, R: Wait>(
     rt: &R,
     alloc: Global,
-    line: &Line<S>,
-    pass: &mut LinePass<S>,
+    queue: &Queue<S>,
+    pass: &mut QueuePass<S>,
     gate: &G,
     turn: &mut Turn<S>,
     ticket: Ticket<S>,
 ) -> u64
-    requires { pass.old.line ≡ line.now }
+    requires { pass.old.queue ≡ queue.now }
     ensures claimed { HasClaimed pass.old result pass.new }
     ensures few { result ≤ TURN_MAX }
 {
     turn.tickets.push_back_reserved(ticket);
-    let waiting = line.waiting(rt, pass);
-    let others = turn_size(waiting, line.workers(), gate.most()) - 1;
-    let claimed = claim_more(rt, line, pass, others, &mut turn.tickets);
+    let waiting = queue.waiting(rt, pass);
+    let others = turn_size(waiting, queue.workers(), gate.most()) - 1;
+    let claimed = claim_more(rt, queue, pass, others, &mut turn.tickets);
     if waiting > others {
-        line.ring();
+        queue.ring();
     }
     answer_all(alloc, gate, &mut turn.tickets, &mut turn.parcels);
     post_all(rt, gate, &mut turn.parcels, &mut turn.owed);
@@ -193,12 +193,12 @@ fn turn_size(waiting: usize, workers: u64, most: usize) -> usize
 /// Claims up to so many tickets more.
 fn claim_more<S: Service, R: Wait>(
     rt: &R,
-    line: &Line<S>,
-    pass: &mut LinePass<S>,
+    queue: &Queue<S>,
+    pass: &mut QueuePass<S>,
     most: usize,
     tickets: &mut Tickets<S>,
 ) -> u64
-    requires line { pass.old.line ≡ line.now }
+    requires queue { pass.old.queue ≡ queue.now }
     requires room { deque_len tickets.old + most ≤ deque_capacity tickets.old }
     ensures claimed { HasClaimed pass.old result pass.new }
     ensures few { result ≤ most }
@@ -207,7 +207,7 @@ fn claim_more<S: Service, R: Wait>(
 {
     let mut claimed = 0;
     for _ in 0..most {
-        let Claim::Got(ticket) = line.claim(rt, pass) else {
+        let Claim::Got(ticket) = queue.claim(rt, pass) else {
             break;
         };
         tickets.push_back_reserved(ticket);

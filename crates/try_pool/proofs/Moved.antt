@@ -5,17 +5,17 @@ use Rattle.mac_queue.specs.declared.desk.Desk.{Desk}
 use Rattle.try_pool.specs.Desks.{AreMoved}
 
 module _ {S Job Reply : Type 0} where
-  -- a desk that is written where one of the same line stood
+  -- a desk that is written where one of the same queue stood
   pub written : (before desks : List (Desk S Job Reply)) (number : ℕ) (was desk default : Desk S Job Reply)
       → AreMoved before desks × (length desks ≡ length before)
       → number < length desks
       → was ≡ slice_index_or desks number default
-      → desk.putter.line ≡ was.putter.line
+      → desk.putter.queue ≡ was.putter.queue
       → AreMoved before (slice_set desks number desk) × (length (slice_set desks number desk) ≡ length before)
   written before desks number was desk default kept below value same = (
-    (λ line all.
-        let here = kept.0 line all in
-        let at = same ∙ ap (λ (d : Desk S Job Reply). d.putter.line) value ∙ here number default below in
-        All-set (λ (d : Desk S Job Reply). d.putter.line ≡ line) desks number desk at here),
+    (λ queue all.
+        let here = kept.0 queue all in
+        let at = same ∙ ap (λ (d : Desk S Job Reply). d.putter.queue) value ∙ here number default below in
+        All-set (λ (d : Desk S Job Reply). d.putter.queue ≡ queue) desks number desk at here),
     length-set desks number desk ∙ kept.1,
   )

@@ -30,8 +30,8 @@ where
 
 /// A desk, if there is memory.
 pub(crate) fn desk_of(alloc: Global, pool: &mut FreePool) -> Result<Desk<Digits>, RunFault>
-    ensures line { pool.new.line ≡ pool.old.line }
-    ensures at { IfOk result (λ desk. desk.putter.line ≡ pool.old.line) }
+    ensures queue { pool.new.queue ≡ pool.old.queue }
+    ensures at { IfOk result (λ desk. desk.putter.queue ≡ pool.old.queue) }
 {
     match pool.desk(alloc) {
         Ok(desk) => Ok(desk),
@@ -41,8 +41,8 @@ pub(crate) fn desk_of(alloc: Global, pool: &mut FreePool) -> Result<Desk<Digits>
 
 /// So many desks, or as many as there are.
 pub(crate) fn desks_of(alloc: Global, pool: &mut FreePool, count: usize) -> Desks
-    ensures line { pool.new.line ≡ pool.old.line }
-    ensures at { AreAt pool.old.line result.items }
+    ensures queue { pool.new.queue ≡ pool.old.queue }
+    ensures at { AreAt pool.old.queue result.items }
 {
     let mut desks = Vec::new(alloc);
     for _ in 0..count {
@@ -56,15 +56,15 @@ pub(crate) fn desks_of(alloc: Global, pool: &mut FreePool, count: usize) -> Desk
 
 /// Puts the desk with the others, if there is room.
 fn keep(desks: &mut Desks, desk: Desk<Digits>)
-    ensures { Kept desk.putter.line desks.old.items desks.new.items }
+    ensures { Kept desk.putter.queue desks.old.items desks.new.items }
 {
     let _ = desks.push(desk);
 }
 
 /// Takes the desks back.
 pub(crate) fn all_home(pool: &mut FreePool, mut desks: Desks)
-    requires { AreAt pool.old.line desks.items }
-    ensures { pool.new.line ≡ pool.old.line }
+    requires { AreAt pool.old.queue desks.items }
+    ensures { pool.new.queue ≡ pool.old.queue }
 {
     while let Some(desk) = desks.pop() {
         pool.home(desk);
@@ -83,14 +83,14 @@ pub(crate) fn books_if<R: Threads + Wait>(
     }
 }
 
-/// Puts the job at its place, once there is room. Whether the line took it.
+/// Puts the job at its place, once there is room. Whether the queue took it.
 pub(crate) fn put_waiting<R: Wait>(
     rt: &R,
     putter: &mut Putter<Digits>,
     place: u64,
     job: u64,
 ) -> bool
-    ensures { putter.new.line ≡ putter.old.line }
+    ensures { putter.new.queue ≡ putter.old.queue }
 {
     for _ in rt.forever() {
         match putter.put(rt, place, job) {
@@ -102,9 +102,9 @@ pub(crate) fn put_waiting<R: Wait>(
     unreachable!()
 }
 
-/// Puts so many jobs from one place on, each the number of its place. Whether the line took all.
+/// Puts so many jobs from one place on, each the number of its place. Whether the queue took all.
 pub(crate) fn put_run<R: Wait>(rt: &R, putter: &mut Putter<Digits>, from: u64, count: u64) -> bool
-    ensures { putter.new.line ≡ putter.old.line }
+    ensures { putter.new.queue ≡ putter.old.queue }
 {
     let mut is_put = true;
     for number in 0..count {

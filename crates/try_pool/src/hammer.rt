@@ -82,7 +82,7 @@ fn turn<R: Wait + Clock>(rt: &R, desks: &mut Desks, round: u64, dice: &mut Dice)
 
 /// Some jobs for a desk, behind a burst for it.
 fn give<R: Wait>(rt: &R, desk: &mut Desk<Digits>, from: u64, count: u64, is_burst: bool) -> bool
-    ensures { desk.new.putter.line ≡ desk.old.putter.line }
+    ensures { desk.new.putter.queue ≡ desk.old.putter.queue }
 {
     let is_right = !is_burst || burst(rt, desk, from);
     is_right && put_run(rt, &mut desk.putter, from, count)
@@ -90,7 +90,7 @@ fn give<R: Wait>(rt: &R, desk: &mut Desk<Digits>, from: u64, count: u64, is_burs
 
 /// More jobs for a desk than its mailbox holds, and their answers.
 fn burst<R: Wait>(rt: &R, desk: &mut Desk<Digits>, from: u64) -> bool
-    ensures { desk.new.putter.line ≡ desk.old.putter.line }
+    ensures { desk.new.putter.queue ≡ desk.old.putter.queue }
 {
     put_run(rt, &mut desk.putter, from, BURST) && take_run(rt, &mut desk.taker, from, BURST)
 }

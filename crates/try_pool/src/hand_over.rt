@@ -1,23 +1,23 @@
 //! Slips that go through a ring, both ends in one thread.
 
-ghost use Rattle.mac_ring.specs.Lane.{IsSameIntake, IsSameOutlet};
+ghost use Rattle.mac_ring.specs.Ring.{IsSameIntake, IsSameOutlet};
 
 use crate::digits::Digits;
 use crate::fault::RunFault;
 use crate::runs::Outcome;
 use mac_order::{Answer, Next};
-use mac_ring::{Intake, Outlet, lane, meet};
+use mac_ring::{Intake, Outlet, make_ring, meet};
 use std::alloc::Global;
 
-/// What a lane has done once so many slips went through it, one at a time.
+/// What a ring has done once so many slips went through it, one at a time.
 pub(crate) fn totals(alloc: Global, slips: u64) -> Result<Outcome, RunFault> {
-    let (mut intake, mut outlet) = lane::<Digits>(alloc)?;
+    let (mut intake, mut outlet) = make_ring::<Digits>(alloc)?;
     let mut is_right = true;
     for job in 0..slips {
         is_right &= hand_over(alloc, &mut intake, &mut outlet, job);
     }
     if is_right {
-        Ok(Outcome::Lane(meet(&mut intake, &mut outlet)))
+        Ok(Outcome::Exhausted(meet(&mut intake, &mut outlet)))
     } else {
         Err(RunFault::Wrong)
     }

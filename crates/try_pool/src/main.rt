@@ -7,7 +7,7 @@ mod drive;
 mod fault;
 mod hammer;
 mod hand_over;
-mod lanes;
+mod rings;
 mod rows;
 mod runs;
 mod tickets;

@@ -1,4 +1,4 @@
-//! Single calls of a line, a mailbox and a pool, and whether they answer as they are to.
+//! Single calls of a queue, a mailbox and a pool, and whether they answer as they are to.
 
 ghost use Rattle.std.specs.Prelude.{◌≡◌, IfSome};
 ghost use Rattle.mac_queue.specs.Pass.{AreFresh};
@@ -8,7 +8,7 @@ use crate::drive::{all_home, answered, books_if, desk_of, desks_of, pool_of, put
 use crate::fault::RunFault;
 use crate::runs::Outcome;
 use mac_pool::{
-    Claim, Desk, DeskFault, Hand, Line, LinePass, Mailbox, Pool, PoolFault, Post, PutFault, Taker,
+    Claim, Desk, DeskFault, Hand, Mailbox, Pool, PoolFault, Post, PutFault, Queue, QueuePass, Taker,
 };
 use std::alloc::Global;
 use std::sync::atomic::AtomicBool;
@@ -20,7 +20,7 @@ use std::thread::Threads;
 /// How many desks a pool has.
 const DESKS: usize = 64;
 
-/// How many tickets a line holds.
+/// How many tickets a queue holds.
 const TICKETS: u64 = 8192;
 
 /// How many posts a mailbox holds.
@@ -52,7 +52,7 @@ pub(crate) fn right_if(is_right: bool) -> Result<Outcome, RunFault> {
     }
 }
 
-/// Puts at a line from which nobody claims, until one is refused.
+/// Puts at a queue from which nobody claims, until one is refused.
 fn full<R: Threads + Wait>(rt: &R, alloc: Global) -> Result<Outcome, RunFault> {
     let Ok(mut pool) = Pool::by_hand(alloc) else {
         return Err(RunFault::Refused);
@@ -65,69 +65,69 @@ fn full<R: Threads + Wait>(rt: &R, alloc: Global) -> Result<Outcome, RunFault> {
 
 /// Whether 8,192 jobs go in and the next is handed back.
 fn fills<R: Wait>(rt: &R, desk: &mut Desk<Digits>) -> bool
-    ensures { desk.new.putter.line ≡ desk.old.putter.line }
+    ensures { desk.new.putter.queue ≡ desk.old.putter.queue }
 {
     let is_put = put_run(rt, &mut desk.putter, 0, TICKETS);
     is_put && desk.putter.put(rt, 7, 8) == Err((PutFault::Full, 8))
 }
 
-/// Puts at a closed line, of a ticket and of a job.
+/// Puts at a closed queue, of a ticket and of a job.
 fn closed<R: Wait>(rt: &R, alloc: Global) -> Result<Outcome, RunFault> {
-    let (line, passes) = Line::<Digits>::new(alloc)?;
-    let Some((first, mut second)) = two_of(&line, passes) else {
+    let (queue, passes) = Queue::<Digits>::new(alloc)?;
+    let Some((first, mut second)) = two_of(&queue, passes) else {
         return Err(RunFault::Wrong);
     };
-    let line = Arc::new(alloc, line)?;
-    let theirs = Arc::try_clone(&line)?;
+    let queue = Arc::new(alloc, queue)?;
+    let theirs = Arc::try_clone(&queue)?;
     let Ok(mut desk) = Desk::new(alloc, theirs, first) else {
         return Err(RunFault::Refused);
     };
     let is_put = put_run(rt, &mut desk.putter, 5, 2);
-    let is_refused = refuses_a_ticket(rt, &line, &mut second);
+    let is_refused = refuses_a_ticket(rt, &queue, &mut second);
     let is_late = desk.putter.put(rt, 7, 8) == Err((PutFault::Closed, 8));
-    let is_left = claims(rt, &line, &mut second, 6);
+    let is_left = claims(rt, &queue, &mut second, 6);
     right_if(is_put && is_refused && is_late && is_left)
 }
 
-/// The first two passes of a line.
+/// The first two passes of a queue.
 fn two_of(
-    line: &Line<Digits>,
-    passes: Vec<LinePass<Digits>>,
-) -> Option<(LinePass<Digits>, LinePass<Digits>)>
-    requires { AreFresh line.now passes.items }
-    ensures { IfSome result (λ two. (two.0.line ≡ line.now) × (two.1.line ≡ line.now)) }
+    queue: &Queue<Digits>,
+    passes: Vec<QueuePass<Digits>>,
+) -> Option<(QueuePass<Digits>, QueuePass<Digits>)>
+    requires { AreFresh queue.now passes.items }
+    ensures { IfSome result (λ two. (two.0.queue ≡ queue.now) × (two.1.queue ≡ queue.now)) }
 {
-    let _line = line;
+    let _queue = queue;
     let mut passes = passes.into_iter();
     let first = passes.next()?;
     let second = passes.next()?;
     Some((first, second))
 }
 
-/// Claims a ticket, closes the line and puts the ticket again. Whether it is handed back.
-fn refuses_a_ticket<R: Wait>(rt: &R, line: &Line<Digits>, pass: &mut LinePass<Digits>) -> bool
-    requires { pass.old.line ≡ line.now }
-    ensures { pass.new.line ≡ pass.old.line }
+/// Claims a ticket, closes the queue and puts the ticket again. Whether it is handed back.
+fn refuses_a_ticket<R: Wait>(rt: &R, queue: &Queue<Digits>, pass: &mut QueuePass<Digits>) -> bool
+    requires { pass.old.queue ≡ queue.now }
+    ensures { pass.new.queue ≡ pass.old.queue }
 {
-    let Claim::Got(ticket) = line.claim(rt, pass) else {
+    let Claim::Got(ticket) = queue.claim(rt, pass) else {
         return false;
     };
-    line.close();
-    match line.put(rt, pass, ticket) {
+    queue.close();
+    match queue.put(rt, pass, ticket) {
         Err((PutFault::Closed, back)) => back.place == 5 && back.job == 5,
         _ => false,
     }
 }
 
-/// Whether the ticket of this place is claimed, and the closed line is empty then.
-fn claims<R: Wait>(rt: &R, line: &Line<Digits>, pass: &mut LinePass<Digits>, place: u64) -> bool
-    requires { pass.old.line ≡ line.now }
+/// Whether the ticket of this place is claimed, and the closed queue is empty then.
+fn claims<R: Wait>(rt: &R, queue: &Queue<Digits>, pass: &mut QueuePass<Digits>, place: u64) -> bool
+    requires { pass.old.queue ≡ queue.now }
 {
-    let is_got = match line.claim(rt, pass) {
+    let is_got = match queue.claim(rt, pass) {
         Claim::Got(ticket) => ticket.place == place,
         _ => false,
     };
-    is_got && matches!(line.claim(rt, pass), Claim::Closed)
+    is_got && matches!(queue.claim(rt, pass), Claim::Closed)
 }
 
 /// One worker meets want of memory at the second of three jobs, and goes on.
@@ -145,7 +145,7 @@ where
 }
 
 fn fails_once<R: Wait>(rt: &R, desk: &mut Desk<Digits>) -> bool
-    ensures { desk.new.putter.line ≡ desk.old.putter.line }
+    ensures { desk.new.putter.queue ≡ desk.old.putter.queue }
 {
     let is_put = desk.putter.put(rt, 0, 5).is_ok()
         && desk.putter.put(rt, 1, REFUSED).is_ok()
@@ -169,10 +169,10 @@ where
     let (one, other) = thread::join(
         rt,
         move || -> (bool, Desk<Digits>)
-            ensures { result.1.putter.line ≡ one.putter.line }
+            ensures { result.1.putter.queue ≡ one.putter.queue }
         { put_at(rt, one, 2) },
         move || -> (bool, Desk<Digits>)
-            ensures { result.1.putter.line ≡ other.putter.line }
+            ensures { result.1.putter.queue ≡ other.putter.queue }
         { put_at(rt, other, 3) },
     );
     pool.home(one.1);
@@ -183,7 +183,7 @@ where
 
 /// Puts so many jobs at a desk.
 fn put_at<R: Wait>(rt: &R, mut desk: Desk<Digits>, count: u64) -> (bool, Desk<Digits>)
-    ensures { result.1.putter.line ≡ desk.putter.line }
+    ensures { result.1.putter.queue ≡ desk.putter.queue }
 {
     let is_put = put_run(rt, &mut desk.putter, 0, count);
     (is_put, desk)
@@ -205,7 +205,7 @@ fn has_claimed<R: Wait>(
 }
 
 fn claims_by<R: Wait>(rt: &R, hand: &mut Hand<Digits>, count: u64) -> bool
-    ensures { hand.new.line ≡ hand.old.line }
+    ensures { hand.new.queue ≡ hand.old.queue }
 {
     let mut is_claimed = true;
     for _ in 0..count {

@@ -1,7 +1,7 @@
 //! The runs, and what does each.
 
 use crate::fault::RunFault;
-use crate::{hammer, hand_over, lanes, rows, tickets};
+use crate::{hammer, hand_over, rings, rows, tickets};
 use mac_pool::Tally;
 use mac_ring::Totals;
 use std::alloc::{AllocError, Global};
@@ -14,8 +14,8 @@ use std::thread::Threads;
 pub(crate) enum Outcome {
     /// The books of a pool that has ended.
     Books(Tally),
-    /// What a lane has done.
-    Lane(Totals),
+    /// What a ring has done.
+    Exhausted(Totals),
     /// All was answered as it is to be.
     Right,
 }
@@ -30,7 +30,7 @@ where
             "put {} claimed {} left {}",
             tally.put, tally.claimed, tally.left
         ),
-        Ok(Outcome::Lane(totals)) => format!(in alloc;
+        Ok(Outcome::Exhausted(totals)) => format!(in alloc;
             "admitted {} released {}",
             totals.admitted, totals.released
         ),
@@ -45,16 +45,16 @@ where
 ///
 /// ```text
 /// hand_over:SLIPS          slips through a ring, one at a time, both ends in one thread
-/// lane:full                64 slips in a ring, one that is refused, and one once there is room
-/// lane:threads             65 slips through a ring, each end in a thread
-/// lane:closed              a close with a slip open and two in the ring
-/// lane:refused             settles that the outlet's buffer refuses, and a stranger's answer
-/// lane:ends                an intake that ends first, and an outlet that does
+/// ring:full                64 slips in a ring, one that is refused, and one once there is room
+/// ring:threads             65 slips through a ring, each end in a thread
+/// ring:closed              a close with a slip open and two in the ring
+/// ring:refused             settles that the outlet's buffer refuses, and a stranger's answer
+/// ring:ends                an intake that ends first, and an outlet that does
 /// tickets:WORKERS:RUNS     runs of 64 tickets from one putter through the workers and back
 /// idle:WORKERS:MILLIS      workers that have nothing to do for so long
 /// hammer:ROUNDS            two threads, 64 desks, four workers, pauses by chance
 /// full                     8,192 tickets, and one that is refused
-/// closed                   puts at a closed line
+/// closed                   puts at a closed queue
 /// refused_work             a job in the middle whose work meets want of memory
 /// exchange                 two desks put 2 and 3, each in a thread; two hands claim 3 of them
 /// desks                    64 desks, and one that is refused
@@ -70,7 +70,7 @@ where
     let (name, rest) = word.split_once(':').unwrap_or((word, ""));
     match name {
         "hand_over" => hand_over::totals(alloc, number(rest)?),
-        "lane" => lanes::row(rt, alloc, rest),
+        "ring" => rings::row(rt, alloc, rest),
         "tickets" => {
             let (workers, runs) = numbers(rest)?;
             tickets::books(rt, alloc, workers as usize, runs)

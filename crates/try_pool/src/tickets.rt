@@ -40,7 +40,7 @@ where
 /// Puts so many runs of jobs, and takes their answers one run later. Whether the places that were
 /// answered add up to those that were put.
 fn go_through<R: Wait>(rt: &R, desk: &mut Desk<Digits>, runs: u64) -> bool
-    ensures { desk.new.putter.line ≡ desk.old.putter.line }
+    ensures { desk.new.putter.queue ≡ desk.old.putter.queue }
 {
     let mut is_put = true;
     let mut taken: u64 = 0;

@@ -25,8 +25,8 @@ where
 /// push attenuate                          a token of three caveats more, and of one
 /// feed sink                               frames, and a device over memory
 /// make make_all                           the answer of a job, and of eight
-/// buffer world lane arrive finish run     the core, and the ring
-/// line by_hand start desk worker          the pool
+/// buffer world ring arrive finish run     the core, and the ring
+/// queue by_hand start desk worker          the pool
 /// ```
 fn of_call<R>(rt: &R, alloc: Global, word: &str) -> Option<Result<Outcome, Refused>>
 where
@@ -42,11 +42,11 @@ where
         "make_all" => answers::makes_all(alloc),
         "buffer" => Ok(worlds::makes_buffers(alloc)),
         "world" => Ok(worlds::makes_worlds(alloc)),
-        "lane" => Ok(worlds::makes_lanes(alloc)),
+        "ring" => Ok(worlds::makes_rings(alloc)),
         "arrive" => worlds::arrives(alloc),
         "finish" => worlds::finishes(alloc),
         "run" => worlds::runs(alloc),
-        "line" => Ok(pools::makes_lines(alloc)),
+        "queue" => Ok(pools::makes_queues(alloc)),
         "by_hand" => Ok(pools::makes_by_hand(rt, alloc)),
         "start" => pools::starts(rt, alloc),
         "desk" => pools::desks(rt, alloc),

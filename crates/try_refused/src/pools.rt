@@ -6,7 +6,7 @@ use crate::answers::{is_sent, opened};
 use crate::outcome::{Outcome, Refused, made_if, once_more, stood_if};
 use crate::samples::mint_job;
 use mac_decide::Macaroons;
-use mac_pool::{Desk, DeskFault, Gate, Line, NoGate, Pool, PoolFault, Post, Putter};
+use mac_pool::{Desk, DeskFault, Gate, NoGate, Pool, PoolFault, Post, Putter, Queue};
 use std::alloc::Global;
 use std::sync::{Arc, Wait};
 use std::thread::Threads;
@@ -14,12 +14,12 @@ use std::thread::Threads;
 /// How many workers a pool is to start.
 const WORKERS: usize = 3;
 
-pub(crate) fn makes_lines(alloc: Global) -> Outcome {
-    once_more(is_line(alloc), is_line(alloc))
+pub(crate) fn makes_queues(alloc: Global) -> Outcome {
+    once_more(is_queue(alloc), is_queue(alloc))
 }
 
-fn is_line(alloc: Global) -> Option<bool> {
-    let (_line, passes) = Line::<Macaroons>::new(alloc).ok()?;
+fn is_queue(alloc: Global) -> Option<bool> {
+    let (_queue, passes) = Queue::<Macaroons>::new(alloc).ok()?;
     Some(passes.len() == 80)
 }
 
@@ -116,7 +116,7 @@ where
 
 /// Puts two jobs and takes their posts.
 fn exchange<R: Wait>(rt: &R, alloc: Global, desk: &mut Desk<Macaroons>) -> Result<Outcome, Refused>
-    ensures { desk.new.putter.line ≡ desk.old.putter.line }
+    ensures { desk.new.putter.queue ≡ desk.old.putter.queue }
 {
     put(rt, alloc, &mut desk.putter, 0)?;
     put(rt, alloc, &mut desk.putter, 1)?;
@@ -135,7 +135,7 @@ fn put<R: Wait>(
     putter: &mut Putter<Macaroons>,
     place: u64,
 ) -> Result<(), Refused>
-    ensures { putter.new.line ≡ putter.old.line }
+    ensures { putter.new.queue ≡ putter.old.queue }
 {
     match putter.put(rt, place, mint_job(alloc)?) {
         Ok(()) => Ok(()),

@@ -6,7 +6,7 @@ use crate::outcome::{Outcome, Refused, made_if, once_more, stood_if};
 use crate::samples::{is_mint, is_token, mint_job, verify_job};
 use mac_decide::Macaroons;
 use mac_order::{Event, Outcome as Came, Reorder, World};
-use mac_ring::lane;
+use mac_ring::make_ring;
 use mac_wire::Reply;
 use std::alloc::Global;
 
@@ -34,12 +34,12 @@ fn is_world(alloc: Global) -> Option<bool> {
     )
 }
 
-pub(crate) fn makes_lanes(alloc: Global) -> Outcome {
-    once_more(is_lane(alloc), is_lane(alloc))
+pub(crate) fn makes_rings(alloc: Global) -> Outcome {
+    once_more(is_ring(alloc), is_ring(alloc))
 }
 
-fn is_lane(alloc: Global) -> Option<bool> {
-    let (intake, outlet) = lane::<Macaroons>(alloc).ok()?;
+fn is_ring(alloc: Global) -> Option<bool> {
+    let (intake, outlet) = make_ring::<Macaroons>(alloc).ok()?;
     Some(intake.free_slips() == 64 && outlet.open_slips() == 0)
 }
 

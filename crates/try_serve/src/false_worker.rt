@@ -109,10 +109,10 @@ fn at_a_hand<R: Threads + Wait + Sync>(
     let (told, working) = thread::join(
         rt,
         move || -> Told
-            ensures { result.desk.putter.line ≡ caller.entry.desk.putter.line }
+            ensures { result.desk.putter.queue ≡ caller.entry.desk.putter.queue }
         { attended(rt, alloc, keys, caller) },
         move || -> Worked
-            ensures { result.hand.line ≡ hand.line }
+            ensures { result.hand.queue ≡ hand.queue }
         { work(rt, alloc, hand, posts) },
     );
     pool.home(told.desk);
@@ -144,8 +144,8 @@ fn idle_pool(alloc: Global) -> Result<Pool<Macaroons, NoGate>, RunFault> {
 }
 
 fn hand_of(alloc: Global, pool: &mut Pool<Macaroons, NoGate>) -> Result<Hand<Macaroons>, RunFault>
-    ensures line { pool.new.line ≡ pool.old.line }
-    ensures at { IfOk result (λ hand. hand.line ≡ pool.old.line) }
+    ensures queue { pool.new.queue ≡ pool.old.queue }
+    ensures at { IfOk result (λ hand. hand.queue ≡ pool.old.queue) }
 {
     match pool.hand(alloc) {
         Ok(hand) => Ok(hand),
@@ -161,7 +161,7 @@ struct Worked {
 }
 
 fn work<R: Wait>(rt: &R, alloc: Global, mut hand: Hand<Macaroons>, posts: Posts) -> Worked
-    ensures { result.hand.line ≡ hand.line }
+    ensures { result.hand.queue ≡ hand.queue }
 {
     let done = claim_and_post(rt, alloc, &mut hand, posts);
     Worked { done, hand }
@@ -174,7 +174,7 @@ fn claim_and_post<R: Wait>(
     hand: &mut Hand<Macaroons>,
     posts: Posts,
 ) -> Result<(), RunFault>
-    ensures { hand.new.line ≡ hand.old.line }
+    ensures { hand.new.queue ≡ hand.old.queue }
 {
     let first = next_ticket(rt, hand)?;
     let second = next_ticket(rt, hand)?;
@@ -183,7 +183,7 @@ fn claim_and_post<R: Wait>(
 
 /// The next ticket, looked for some ten million times.
 fn next_ticket<R: Wait>(rt: &R, hand: &mut Hand<Macaroons>) -> Result<Ticket<Macaroons>, RunFault>
-    ensures { hand.new.line ≡ hand.old.line }
+    ensures { hand.new.queue ≡ hand.old.queue }
 {
     for _ in 0..TURNS {
         if let Claim::Got(ticket) = hand.claim(rt) {

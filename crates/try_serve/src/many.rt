@@ -258,18 +258,18 @@ fn three_attended<R: Threads + Wait + Sync>(
     two: Caller,
     three: Caller,
 ) -> (Told, Told, Told)
-    ensures one { result.0.desk.putter.line ≡ one.entry.desk.putter.line }
-    ensures two { result.1.desk.putter.line ≡ two.entry.desk.putter.line }
-    ensures three { result.2.desk.putter.line ≡ three.entry.desk.putter.line }
+    ensures one { result.0.desk.putter.queue ≡ one.entry.desk.putter.queue }
+    ensures two { result.1.desk.putter.queue ≡ two.entry.desk.putter.queue }
+    ensures three { result.2.desk.putter.queue ≡ three.entry.desk.putter.queue }
 {
     let (one, others) = thread::join(
         rt,
         move || -> Told
-            ensures { result.desk.putter.line ≡ one.entry.desk.putter.line }
+            ensures { result.desk.putter.queue ≡ one.entry.desk.putter.queue }
         { attended(rt, alloc, keys, one) },
         move || -> (Told, Told)
-            ensures two { result.0.desk.putter.line ≡ two.entry.desk.putter.line }
-            ensures three { result.1.desk.putter.line ≡ three.entry.desk.putter.line }
+            ensures two { result.0.desk.putter.queue ≡ two.entry.desk.putter.queue }
+            ensures three { result.1.desk.putter.queue ≡ three.entry.desk.putter.queue }
         { both_attended(rt, alloc, keys, two, three) },
     );
     (one, others.0, others.1)

@@ -76,8 +76,8 @@ pub(crate) fn desk_of<G: Gate>(
     alloc: Global,
     pool: &mut Pool<Macaroons, G>,
 ) -> Result<Desk<Macaroons>, RunFault>
-    ensures line { pool.new.line ≡ pool.old.line }
-    ensures at { IfOk result (λ desk. desk.putter.line ≡ pool.old.line) }
+    ensures queue { pool.new.queue ≡ pool.old.queue }
+    ensures at { IfOk result (λ desk. desk.putter.queue ≡ pool.old.queue) }
 {
     match pool.desk(alloc) {
         Ok(desk) => Ok(desk),
@@ -105,7 +105,7 @@ fn served<R: Threads + Wait + Sync, In: Source, Out: Sink>(
     keys: &KeyTable,
     desk: Desk<Macaroons>,
 ) -> Told
-    ensures { result.desk.putter.line ≡ desk.putter.line }
+    ensures { result.desk.putter.queue ≡ desk.putter.queue }
 {
     match serve(rt, alloc, source, sink, keys, desk) {
         Ok(served) => told_by(None, served),
@@ -183,7 +183,7 @@ pub(crate) fn attended<R: Threads + Wait + Sync>(
     keys: &KeyTable,
     caller: Caller,
 ) -> Told
-    ensures { result.desk.putter.line ≡ caller.entry.desk.putter.line }
+    ensures { result.desk.putter.queue ≡ caller.entry.desk.putter.queue }
 {
     let Caller { devices, desk } = caller;
     served(
@@ -204,16 +204,16 @@ pub(crate) fn both_attended<R: Threads + Wait + Sync>(
     one: Caller,
     other: Caller,
 ) -> (Told, Told)
-    ensures one { result.0.desk.putter.line ≡ one.entry.desk.putter.line }
-    ensures other { result.1.desk.putter.line ≡ other.entry.desk.putter.line }
+    ensures one { result.0.desk.putter.queue ≡ one.entry.desk.putter.queue }
+    ensures other { result.1.desk.putter.queue ≡ other.entry.desk.putter.queue }
 {
     std::thread::join(
         rt,
         move || -> Told
-            ensures { result.desk.putter.line ≡ one.entry.desk.putter.line }
+            ensures { result.desk.putter.queue ≡ one.entry.desk.putter.queue }
         { attended(rt, alloc, keys, one) },
         move || -> Told
-            ensures { result.desk.putter.line ≡ other.entry.desk.putter.line }
+            ensures { result.desk.putter.queue ≡ other.entry.desk.putter.queue }
         { attended(rt, alloc, keys, other) },
     )
 }

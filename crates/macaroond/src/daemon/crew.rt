@@ -23,7 +23,7 @@ pub struct Crew {
     berths: Vec<Option<Connection>>,
     ghost size: { length berths.items ≡ LIVE_MAX },
     ghost home: { EachBerth berths.items (λ connection.
-        connection.promise.0.value.putter.line ≡ pool.line) },
+        connection.promise.0.value.putter.queue ≡ pool.queue) },
 }
 
 /// How a berth was left.

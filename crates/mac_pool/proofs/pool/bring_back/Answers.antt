@@ -24,7 +24,7 @@ loop-thread-preserved g c =
     let given = λ (w : PromisedHandle (Worked g.row.S.Denot g.row.S-Job.Denot g.row.S-Reply.Denot) (FromPass g.row.S.Denot g.row.S-Job.Denot g.row.S-Reply.Denot)). w.promise.0.value in
     let rest = c.pop.new.self.items in
     let parts : map given c.loop-thread.workers.items ≡ map given rest ++ given c.in-Some.thread ∷ [] = ap (map given) split ∙ map_push given rest c.in-Some.thread in
-    let left = subst (λ (l : List (Pass g.row.S-Job.Denot)). AreWorkers c.args.line.now l) parts invariant.left in
+    let left = subst (λ (l : List (Pass g.row.S-Job.Denot)). AreWorkers c.args.queue.now l) parts invariant.left in
     let back = c.join.result.pass in
     record {
       capacity = c.push_reserved.ensures.capacity ∙ invariant.capacity;

@@ -10,8 +10,8 @@ invariant-loop-thread g l = record {
   brought : List (Pass g.row.S-Job.Denot);
   all : l.all.items ≡ l.fn.all.items ++ brought;
   count : length brought + length l.workers.items ≡ length l.fn.workers.items;
-  idle : AreWorkers l.line brought;
-  left : AreWorkers l.line (map (λ worker. worker.promise.0.value) l.workers.items);
+  idle : AreWorkers l.queue brought;
+  left : AreWorkers l.queue (map (λ worker. worker.promise.0.value) l.workers.items);
 }
 
 abbrev pub decreases-loop-thread : goal.decreases-loop-thread

@@ -1,7 +1,7 @@
 -- What the two halves did, and what their ends showed when they met.
 use Rattle.std.proofs.Common.{◌≡◌, ◌∙◌, ◌++◌, List, [], ℕ, None, Some, eqb, ap, sym, append-nil, length}
 use Rattle.std.proofs.lemmas.Bool.{eqb-true}
-use Rattle.mac_ring.specs.Lane.{admitted, received, waiting}
+use Rattle.mac_ring.specs.Ring.{admitted, received, waiting}
 use Rattle.mac_ring.specs.declared.totals.Totals.{Totals}
 use Rattle.mac_order.specs.Buffer.{Buffer}
 use Rattle.mac_decide.specs.declared.job.Job.{Job}
@@ -22,18 +22,18 @@ returns-in-None-clause-serves g c =
     let start = c.new-inbound.result in
     let i = c.run_both-sending.new.inbound in
     let o = c.run_both-sending.new.outbound in
-    let lane = c.meet-totals.new.outlet in
+    let ring = c.meet-totals.new.outlet in
     let totals = c.meet-totals.result in
     let wrote = g.Out.Sink.written c.args.sink.now in
     let stands = c.new-outbound.ensures.stands in
-    let empty : admitted start.lane ≡ [] = ap admitted c.new-inbound.ensures.0 ∙ c.in-Ok.ensures.intake in
-    let met : received o.lane ++ waiting lane ≡ admitted i.lane = ap (λ (l : List Job). l ++ waiting lane) (sym ends.outlet.1) ∙ ends.rest ∙ ends.intake.1 in
-    let counted : totals.admitted ≡ length (admitted i.lane) = ap (λ (t : Totals). t.admitted) ends.totals ∙ ap length ends.intake.1 in
+    let empty : admitted start.ring ≡ [] = ap admitted c.new-inbound.ensures.0 ∙ c.in-Ok.ensures.intake in
+    let met : received o.ring ++ waiting ring ≡ admitted i.ring = ap (λ (l : List Job). l ++ waiting ring) (sym ends.outlet.1) ∙ ends.rest ∙ ends.intake.1 in
+    let counted : totals.admitted ≡ length (admitted i.ring) = ap (λ (t : Totals). t.admitted) ends.totals ∙ ap length ends.intake.1 in
     let due : totals.released ≡ next o =
-    ap (λ (t : Totals). t.released) ends.totals ∙ released-count _ (received lane) lane.buffer.next ends.kept.sent ∙ ap (λ (b : Buffer Job). b.next) ends.outlet.3 in
+    ap (λ (t : Totals). t.released) ends.totals ∙ released-count _ (received ring) ring.buffer.next ends.kept.sent ∙ ap (λ (b : Buffer Job). b.next) ends.outlet.3 in
     has-served g.In.Source.tells g.Out.Sink.tells c.args.keys.now
     (g.In.Source.taken c.args.source.now) (g.In.Source.taken c.run_both-sending.new.source) wrote (g.Out.Sink.written c.run_both-sending.new.sink)
-    read.stream c.args.desk.putter c.args.desk.taker start i o (waiting lane) totals.admitted read.gave
+    read.stream c.args.desk.putter c.args.desk.taker start i o (waiting ring) totals.admitted read.gave
     (λ tells. run.written tells c.args.desk.taker wrote stands (sym (append-nil wrote) ∙ ap (λ (l : List ℕ). wrote ++ l) (sym c.new-outbound.ensures.none)))
     empty c.new-inbound.ensures.1 met counted
     (run.outlet.1 ∙ c.new-outbound.ensures.version ∙ c.begin-version.ensures.version ∙ sym read.version_is)
@@ -48,18 +48,18 @@ returns-clause-serves g c =
     let start = c.new-inbound.result in
     let i = c.run_both-sending.new.inbound in
     let o = c.run_both-sending.new.outbound in
-    let lane = c.meet-totals.new.outlet in
+    let ring = c.meet-totals.new.outlet in
     let totals = c.meet-totals.result in
     let wrote = g.Out.Sink.written c.args.sink.now in
     let stands = c.new-outbound.ensures.stands in
-    let empty : admitted start.lane ≡ [] = ap admitted c.new-inbound.ensures.0 ∙ c.in-Ok.ensures.intake in
-    let met : received o.lane ++ waiting lane ≡ admitted i.lane = ap (λ (l : List Job). l ++ waiting lane) (sym ends.outlet.1) ∙ ends.rest ∙ ends.intake.1 in
-    let counted : totals.admitted ≡ length (admitted i.lane) = ap (λ (t : Totals). t.admitted) ends.totals ∙ ap length ends.intake.1 in
+    let empty : admitted start.ring ≡ [] = ap admitted c.new-inbound.ensures.0 ∙ c.in-Ok.ensures.intake in
+    let met : received o.ring ++ waiting ring ≡ admitted i.ring = ap (λ (l : List Job). l ++ waiting ring) (sym ends.outlet.1) ∙ ends.rest ∙ ends.intake.1 in
+    let counted : totals.admitted ≡ length (admitted i.ring) = ap (λ (t : Totals). t.admitted) ends.totals ∙ ap length ends.intake.1 in
     let due : totals.released ≡ next o =
-    ap (λ (t : Totals). t.released) ends.totals ∙ released-count _ (received lane) lane.buffer.next ends.kept.sent ∙ ap (λ (b : Buffer Job). b.next) ends.outlet.3 in
+    ap (λ (t : Totals). t.released) ends.totals ∙ released-count _ (received ring) ring.buffer.next ends.kept.sent ∙ ap (λ (b : Buffer Job). b.next) ends.outlet.3 in
     has-served g.In.Source.tells g.Out.Sink.tells c.args.keys.now
     (g.In.Source.taken c.args.source.now) (g.In.Source.taken c.run_both-sending.new.source) wrote (g.Out.Sink.written c.run_both-sending.new.sink)
-    read.stream c.args.desk.putter c.args.desk.taker start i o (waiting lane) totals.admitted read.gave
+    read.stream c.args.desk.putter c.args.desk.taker start i o (waiting ring) totals.admitted read.gave
     (λ tells. run.written tells c.args.desk.taker wrote stands (sym (append-nil wrote) ∙ ap (λ (l : List ℕ). wrote ++ l) (sym c.new-outbound.ensures.none)))
     empty c.new-inbound.ensures.1 met counted
     (run.outlet.1 ∙ c.new-outbound.ensures.version ∙ c.begin-version.ensures.version ∙ sym read.version_is)

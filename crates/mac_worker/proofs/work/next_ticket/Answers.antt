@@ -7,7 +7,7 @@ pub loop-init : goal.loop-init
 loop-init g c = refl
 
 pub claim-requires-after_bounds : goal.claim-requires-after_bounds
-claim-requires-after_bounds g c = λ _ _. ap (λ (p : Pass g.row.S-Job.Denot). p.line) c.loop.invariant ∙ c.requires
+claim-requires-after_bounds g c = λ _ _. ap (λ (p : Pass g.row.S-Job.Denot). p.queue) c.loop.invariant ∙ c.requires
 
 pub returns-in-Got-clause-claimed : goal.returns-in-Got-clause-claimed
 returns-in-Got-clause-claimed g c = claimed_later _ _ _ _ c.loop.invariant c.in-Got.ensures.claimed
@@ -20,7 +20,7 @@ returns-in-Closed-clause-same g c = c.in-Closed.ensures.claimed ∙ c.loop.invar
 
 pub claim-requires-in-loop-after_bounds : goal.claim-requires-in-loop-after_bounds
 claim-requires-in-loop-after_bounds g c =
-    λ _ _. ap (λ (p : Pass g.row.S-Job.Denot). p.line) (c.in-Empty.ensures.claimed ∙ c.loop.invariant) ∙ c.requires
+    λ _ _. ap (λ (p : Pass g.row.S-Job.Denot). p.queue) (c.in-Empty.ensures.claimed ∙ c.loop.invariant) ∙ c.requires
 
 pub returns-in-Got-claim-clause-claimed : goal.returns-in-Got-claim-clause-claimed
 returns-in-Got-claim-clause-claimed g c =

@@ -20,7 +20,7 @@ overflow_add-claimed g c =
 
 pub turn_from-claimed-requires-after_bounds : goal.turn_from-claimed-requires-after_bounds
 turn_from-claimed-requires-after_bounds g c =
-    λ _ _. ap (λ (p : Pass g.row.S-Job.Denot). p.line) c.in-Some-next_ticket.ensures.claimed ∙ c.loop.invariant.same.0 ∙ c.requires
+    λ _ _. ap (λ (p : Pass g.row.S-Job.Denot). p.queue) c.in-Some-next_ticket.ensures.claimed ∙ c.loop.invariant.same.0 ∙ c.requires
 
 pub overflow_add-claimed-in-Some-room : goal.overflow_add-claimed-in-Some-room
 overflow_add-claimed-in-Some-room g c =

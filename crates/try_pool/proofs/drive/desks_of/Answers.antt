@@ -8,7 +8,7 @@ pub loop-preserved : goal.loop-preserved
 loop-preserved c =
     let given = c.in-Ok.ensures.desk.0 in
     let kept = c.loop.invariant in
-    let at = given.line_is ∙ kept.0 in (
-      ap (λ (pool : Slots ℕ). pool.line) given.after_is ∙ kept.0,
-      subst (λ (line : TableId). AreAt line c.loop.desks.items → AreAt line c.keep.new.desks.items) at c.keep.ensures kept.1,
+    let at = given.queue_is ∙ kept.0 in (
+      ap (λ (pool : Slots ℕ). pool.queue) given.after_is ∙ kept.0,
+      subst (λ (queue : TableId). AreAt queue c.loop.desks.items → AreAt queue c.keep.new.desks.items) at c.keep.ensures kept.1,
     )

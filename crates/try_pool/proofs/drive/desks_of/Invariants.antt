@@ -3,4 +3,4 @@ use Rattle.try_pool.specs.Desks.{AreAt}
 use Rattle.try_pool.proofs.drive.desks_of.Given as goal
 
 abbrev pub invariant-loop : goal.invariant-loop
-invariant-loop l = (l.pool.line ≡ l.fn.pool.line) × AreAt l.fn.pool.line l.desks.items
+invariant-loop l = (l.pool.queue ≡ l.fn.pool.queue) × AreAt l.fn.pool.queue l.desks.items

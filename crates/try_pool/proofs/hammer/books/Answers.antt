@@ -5,10 +5,10 @@ use Rattle.try_pool.proofs.hammer.books.Goals as goal
 
 pub all_home-requires : goal.all_home-requires
 all_home-requires g c =
-    let line = c.desks_of-other.ensures.line ∙ c.desks_of-one.ensures.line in
-    c.join-one.ensures.first _ (subst (λ (l : TableId). AreAt l c.desks_of-one.result.items) (sym line) c.desks_of-one.ensures.at)
+    let queue = c.desks_of-other.ensures.queue ∙ c.desks_of-one.ensures.queue in
+    c.join-one.ensures.first _ (subst (λ (l : TableId). AreAt l c.desks_of-one.result.items) (sym queue) c.desks_of-one.ensures.at)
 
 pub all_home-requires-2 : goal.all_home-requires-2
 all_home-requires-2 g c =
-    let line = c.all_home.ensures ∙ c.desks_of-other.ensures.line in
-    c.join-one.ensures.second _ (subst (λ (l : TableId). AreAt l c.desks_of-other.result.items) (sym line) c.desks_of-other.ensures.at)
+    let queue = c.all_home.ensures ∙ c.desks_of-other.ensures.queue in
+    c.join-one.ensures.second _ (subst (λ (l : TableId). AreAt l c.desks_of-other.result.items) (sym queue) c.desks_of-other.ensures.at)

@@ -1,6 +1,6 @@
--- Both ends stay those of the lane.
-use Rattle.mac_ring.specs.Lane.{IsLane}
+-- Both ends stay those of the ring.
+use Rattle.mac_ring.specs.Ring.{IsRing}
 use Rattle.try_pool.proofs.hand_over.totals.Given as goal
 
 abbrev pub invariant-loop-job : goal.invariant-loop-job
-invariant-loop-job l = IsLane l.intake l.outlet
+invariant-loop-job l = IsRing l.intake l.outlet

@@ -18,8 +18,8 @@ take_out-pass-requires-clause-home g c =
     let home = started.homes c.len.result (omega arith) (omega arith) in
     λ _ _. (home.0, home.1)
 
-pub started-requires-clause-line : goal.started-requires-clause-line
-started-requires-clause-line g c =
+pub started-requires-clause-queue : goal.started-requires-clause-queue
+started-requires-clause-queue g c =
     let mine = c.self.invariant.homes c.len.result c.take_out-pass.result c.take_out-pass.ensures.was in
     λ _ _. mine.0 ∙ sym c.in-Ok.ensures
 
@@ -73,6 +73,6 @@ returns-in-Some-clause-hired g c =
     let len = c.len.ensures in
     let same : c.len.result ≡ length old = omega arith in
     let grown : length new ≡ length old + 1 = ap length c.push_reserved.ensures.items ∙ length-append old (c.in-Some.thread ∷ []) in (
-      started_more (arc_value c.self.inside.line) c.args.self.now.workers (length old) (length new) slots c.take_out-pass.new.slots.items (omega arith) started grown (c.take_out-pass.ensures.out ∙ ap (λ (m : ℕ). set slots m None) same),
+      started_more (arc_value c.self.inside.queue) c.args.self.now.workers (length old) (length new) slots c.take_out-pass.new.slots.items (omega arith) started grown (c.take_out-pass.ensures.out ∙ ap (λ (m : ℕ). set slots m None) same),
       omega arith,
     )

@@ -9,7 +9,7 @@ use Rattle.mac_pool.proofs.pool.Pool.idle.Goals as goal
 pub returns : goal.returns
 returns g c =
     let row = c.in_ok-row.ensures in
-    let line : arc_value c.in_ok-line.line ≡ c.in_ok-row.row = c.in_ok-line.ensures.ok in
+    let queue : arc_value c.in_ok-queue.queue ≡ c.in_ok-row.row = c.in_ok-queue.ensures.ok in
     let slots : c.in_ok-passes.passes.items ≡ map Some c.in_ok-row.fresh.items = c.in_ok-passes.ensures in
     record {
       count = ap length c.in_ok-workers.ensures.items;
@@ -21,14 +21,14 @@ returns g c =
           let found = get_within c.in_ok-row.fresh.items number here in (
             found.0,
             ap (λ (l : List (Option (Pass g.row.S-Job.Denot))). slice_get l number) slots ∙ map_get Some c.in_ok-row.fresh.items number found.0 found.1,
-            subst (λ (z : TableId). IsFresh z number found.0) (sym line) (row.fresh number found.0 found.1),
+            subst (λ (z : TableId). IsFresh z number found.0) (sym queue) (row.fresh number found.0 found.1),
           );
     }
 
 pub invariant_of-result : goal.invariant_of-result
 invariant_of-result g c =
     let row = c.in_ok-row.ensures in
-    let line : arc_value c.in_ok-line.line ≡ c.in_ok-row.row = c.in_ok-line.ensures.ok in
+    let queue : arc_value c.in_ok-queue.queue ≡ c.in_ok-row.row = c.in_ok-queue.ensures.ok in
     let slots : c.in_ok-passes.passes.items ≡ map Some c.in_ok-row.fresh.items = c.in_ok-passes.ensures in
     let none = c.in_ok-workers.ensures.items in
     let threads = c.in_ok-workers.ensures.exact in
@@ -39,7 +39,7 @@ invariant_of-result g c =
           let found = get_map Some c.in_ok-row.fresh.items number (Some pass) (sym (ap (λ (l : List (Option (Pass g.row.S-Job.Denot))). slice_get l number) slots) ∙ at) in
           let same : found.0 ≡ pass = cc (found.2) in
           let fresh = row.fresh number pass (found.1 ∙ ap Some same) in
-          (fresh.line_is ∙ sym line, fresh.number_is);
+          (fresh.queue_is ∙ sym queue, fresh.number_is);
       given_fit = rw none (omega arith);
       given_room = omega arith;
       given_are = rw none (λ number pass at. absurd (cc));

@@ -4,7 +4,7 @@ use Rattle.mac_queue.specs.Pass.{Pass}
 use Rattle.mac_pool.specs.Pool.{Slots, at_home, AreWorkers, IsStopped}
 use Rattle.mac_queue.specs.Tally.{IsTally}
 use Rattle.mac_pool.proofs.Slots.{at_home_short}
-use Rattle.mac_pool.proofs.Moves.{all_of_lines, workers_at}
+use Rattle.mac_pool.proofs.Moves.{all_of_queues, workers_at}
 use Rattle.mac_pool.proofs.pool.Pool.stop.Goals as goal
 
 pub overflow_add-home_count : goal.overflow_add-home_count
@@ -21,13 +21,13 @@ overflow_add-home_count g c =
 pub bring_back-requires-clause-given : goal.bring_back-requires-clause-given
 bring_back-requires-clause-given g c = λ _ _. workers_at c.deref-2.result.now _ _ c.deref-2.ensures c.self.invariant.given_are
 
-pub tally-requires-clause-line : goal.tally-requires-clause-line
-tally-requires-clause-line g c =
+pub tally-requires-clause-queue : goal.tally-requires-clause-queue
+tally-requires-clause-queue g c =
     let brought = c.bring_back.ensures.brought in
     let none = c.self.invariant.all_empty in
     let all : c.bring_home.new.all.items ≡ brought.brought ++ at_home c.self.inside.passes.items =
     c.bring_home.ensures ∙ ap (λ (l : List (Pass g.row.S-Job.Denot)). l ++ at_home c.self.inside.passes.items) (brought.after_is ∙ ap (λ (l : List (Pass g.row.S-Job.Denot)). l ++ brought.brought) none) in
-    λ _ _. all_of_lines _ c.deref-2.result.now c.deref-3.result.now brought.brought _ c.self.inside.passes.items c.deref-2.ensures c.deref-3.ensures all brought.idle c.self.invariant.homes
+    λ _ _. all_of_queues _ c.deref-2.result.now c.deref-3.result.now brought.brought _ c.self.inside.passes.items c.deref-2.ensures c.deref-3.ensures all brought.idle c.self.invariant.homes
 
 pub returns-clause-tally : goal.returns-clause-tally
 returns-clause-tally g c =

@@ -10,7 +10,7 @@ invariant_of-self g c =
     let below = c.number-number.ensures.below in
     record {
       slots_fit = search rules;
-      homes = set_homes _ c.self.inside.passes.items c.number-number.result c.args.pass (c.requires ∙ sym (ap (λ z. z.line) c.self.view_is)) (sym number) was.homes;
+      homes = set_homes _ c.self.inside.passes.items c.number-number.result c.args.pass (c.requires ∙ sym (ap (λ z. z.queue) c.self.view_is)) (sym number) was.homes;
       given_fit = was.given_fit;
       given_room = was.given_room;
       given_are = was.given_are;

@@ -4,6 +4,6 @@ use Rattle.mac_serve.proofs.inbound.Inbound.put.Given as goal
 abbrev pub invariant-loop : goal.invariant-loop
 invariant-loop g l =
     (goal.iterator-loop g).can_next l.iterator' × (goal.iterator-loop g).is_finite l.iterator'
-    × (l.self.lane ≡ l.initial.self.lane)
+    × (l.self.ring ≡ l.initial.self.ring)
     × (l.self.putter ≡ l.initial.self.putter)
     × (l.job ≡ l.initial.job)

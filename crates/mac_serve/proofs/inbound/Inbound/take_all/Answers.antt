@@ -23,7 +23,7 @@ pub loop-preserved : goal.loop-preserved
 loop-preserved g c = (
   tt,
   tt,
-  same-intake c.args.self.now c.loop.self c.take_arrivals.new.self c.loop.invariant.2 c.take_arrivals.ensures.lane,
+  same-intake c.args.self.now c.loop.self c.take_arrivals.new.self c.loop.invariant.2 c.take_arrivals.ensures.ring,
   (rw c.in_ok-more.was at c.read_next.ensures.faults) ∙ c.loop.invariant.3,
   c.read_next.ensures.room,
   λ version given start on.

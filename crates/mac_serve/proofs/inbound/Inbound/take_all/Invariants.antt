@@ -1,5 +1,5 @@
 use Rattle.std.proofs.Common.{◌≡◌, ℕ, List}
-use Rattle.mac_ring.specs.Lane.{IsSameIntake}
+use Rattle.mac_ring.specs.Ring.{IsSameIntake}
 use Rattle.mac_wire.specs.declared.version.Version.{Version}
 use Rattle.mac_serve.specs.declared.inbound.Inbound.{Inbound}
 use Rattle.mac_serve.specs.Incoming.{HasRoom}
@@ -10,7 +10,7 @@ use Rattle.mac_serve.proofs.inbound.Inbound.take_all.Given as goal
 abbrev pub invariant-loop : goal.invariant-loop
 invariant-loop g l =
     (goal.iterator-loop g).can_next l.iterator' × (goal.iterator-loop g).is_finite l.iterator'
-    × IsSameIntake l.initial.self.lane l.self.lane
+    × IsSameIntake l.initial.self.ring l.self.ring
     × (g.In.Source.faults l.source ≡ g.In.Source.faults l.initial.source)
     × HasRoom l.incoming
     × ((version : Version) (given : List ℕ) (start : Inbound)

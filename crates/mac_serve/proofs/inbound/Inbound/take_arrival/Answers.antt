@@ -1,5 +1,5 @@
 use Rattle.std.proofs.Common.{◌≡◌, ◌++◌, ◌∙◌, ◌∷◌, [], refl, ap}
-use Rattle.mac_ring.specs.Lane.{admitted}
+use Rattle.mac_ring.specs.Ring.{admitted}
 use Rattle.mac_decide.specs.World.{job_under}
 use Rattle.mac_decide.specs.declared.job.Job.{Job}
 use Rattle.mac_serve.specs.declared.incoming.InboundFault.TheVariants as fault
@@ -23,5 +23,5 @@ returns-clause-receives g c =
     let copied : c.in_ok-copy.copy ≡ job = c.in_ok-copy.ensures ∙ c.job_of-job.ensures in
     let put = rw c.job_of-job.ensures at c.put.ensures.put in
     receives-put c.put.result job c.in_ok-place.place c.args.self.now c.admit.new.self c.put.new.self
-    (c.in_ok-place.ensures.admitted ∙ ap (λ (j : Job). admitted c.args.self.now.lane ++ j ∷ []) copied)
-    c.in_ok-place.ensures.putter c.put.ensures.lane c.in_ok-place.ensures.place put c.put.ensures.same
+    (c.in_ok-place.ensures.admitted ∙ ap (λ (j : Job). admitted c.args.self.now.ring ++ j ∷ []) copied)
+    c.in_ok-place.ensures.putter c.put.ensures.ring c.in_ok-place.ensures.place put c.put.ensures.same

@@ -10,7 +10,7 @@ pub loop-arrival-init : goal.loop-arrival-init
 loop-arrival-init g c = record {
   all = search rules;
   left = search rules;
-  lane = search rules;
+  ring = search rules;
   took = took-nothing c.args.self.now;
 }
 
@@ -20,14 +20,14 @@ loop-arrival-preserved g c =
     record {
       all = append_assoc c.loop-arrival.yielded (c.in-Some.arrival ∷ []) (into_iter_items c.next.new.self) ∙ ap (λ left. c.loop-arrival.yielded ++ left) (sym steps.0) ∙ c.loop-arrival.invariant.all;
       left = omega (arith, ap length steps.0);
-      lane = same-intake c.args.self.now c.loop-arrival.self c.take_arrival.new.self c.loop-arrival.invariant.lane c.take_arrival.ensures.lane;
+      ring = same-intake c.args.self.now c.loop-arrival.self c.take_arrival.new.self c.loop-arrival.invariant.ring c.take_arrival.ensures.ring;
       took = takes-in-next c.args.keys.now c.loop-arrival.yielded c.in-Some.arrival c.args.self.now c.loop-arrival.self c.take_arrival.new.self c.loop-arrival.invariant.took
           (rw c.in_ok-take_arrival.was at c.take_arrival.ensures.receives);
     }
 
-pub returns-in_err-take_arrival-clause-lane : goal.returns-in_err-take_arrival-clause-lane
-returns-in_err-take_arrival-clause-lane g c =
-    same-intake c.args.self.now c.loop-arrival.self c.take_arrival.new.self c.loop-arrival.invariant.lane c.take_arrival.ensures.lane
+pub returns-in_err-take_arrival-clause-ring : goal.returns-in_err-take_arrival-clause-ring
+returns-in_err-take_arrival-clause-ring g c =
+    same-intake c.args.self.now c.loop-arrival.self c.take_arrival.new.self c.loop-arrival.invariant.ring c.take_arrival.ensures.ring
 
 pub returns-in_err-take_arrival-clause-receives : goal.returns-in_err-take_arrival-clause-receives
 returns-in_err-take_arrival-clause-receives g c =

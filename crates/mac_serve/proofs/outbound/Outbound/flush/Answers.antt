@@ -8,10 +8,10 @@ use Rattle.mac_serve.proofs.SendingLemmas.{fell-held, holds-flushed, out-grown, 
 use Rattle.mac_serve.proofs.outbound.Outbound.flush.Goals as goal
 
 pub returns-in_default-clause-holds : goal.returns-in_default-clause-holds
-returns-in_default-clause-holds g c before h = (λ is. absurd cc, fell-held before c.args.self.now fault.Lane h (λ is. absurd cc))
+returns-in_default-clause-holds g c before h = (λ is. absurd cc, fell-held before c.args.self.now fault.Exhausted h (λ is. absurd cc))
 
 pub returns-in_default-clause-sends : goal.returns-in_default-clause-sends
-returns-in_default-clause-sends g c before s = fell-held before c.args.self.now fault.Lane s.holds (λ is. absurd cc)
+returns-in_default-clause-sends g c before s = fell-held before c.args.self.now fault.Exhausted s.holds (λ is. absurd cc)
 
 pub returns-in-Ok-clause-holds : goal.returns-in-Ok-clause-holds
 returns-in-Ok-clause-holds g c before h =
@@ -21,7 +21,7 @@ returns-in-Ok-clause-holds g c before h =
 pub returns-in-Ok-clause-sends : goal.returns-in-Ok-clause-sends
 returns-in-Ok-clause-sends g c before s =
     let o = c.args.self.now in
-    let after : Outbound = record { lane = o.lane; taker = o.taker; version = o.version; gathered = c.clear.new.self; sent = c.next_place-due.result; written = c.in-Some.written } in
+    let after : Outbound = record { ring = o.ring; taker = o.taker; version = o.version; gathered = c.clear.new.self; sent = c.next_place-due.result; written = c.in-Some.written } in
     stands-held before o after s (returns-in-Ok-clause-holds g c before s.holds) refl refl
 
 pub returns-in-Ok-clause-written : goal.returns-in-Ok-clause-written

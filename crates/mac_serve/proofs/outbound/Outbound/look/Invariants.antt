@@ -11,4 +11,4 @@ invariant-loop-found l =
     × ((before : List (ℕ × Option Job)) → Stands before l.initial.self → Stands before l.self × (out_text l.self ≡ out_text l.initial.self))
 
 abbrev pub decreases-loop-found : goal.decreases-loop-found
-decreases-loop-found l = OPEN_SLIPS_MAX - length l.self.lane.buffer.slips
+decreases-loop-found l = OPEN_SLIPS_MAX - length l.self.ring.buffer.slips

@@ -1,8 +1,8 @@
 use Rattle.std.proofs.Common.{◌<◌, length, arith}
 use Rattle.crossbeam_queue.specs.Passes.{view}
-use Rattle.mac_queue.specs.declared.line.TheConstants.{PUTS_MAX}
+use Rattle.mac_queue.specs.declared.queue.TheConstants.{PUTS_MAX}
 use Rattle.mac_queue.proofs.Balance.{puts}
-use Rattle.mac_queue.proofs.line.Line.put.Goals as goal
+use Rattle.mac_queue.proofs.queue.Queue.put.Goals as goal
 
 pub push_as-requires-clause-rule : goal.push_as-requires-clause-rule
 push_as-requires-clause-rule g c =

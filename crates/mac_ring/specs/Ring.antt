@@ -1,4 +1,4 @@
--- A lane, as contracts see its two ends. All of it is this project's own.
+-- A ring, as contracts see its two ends. All of it is this project's own.
 use Rattle.std.specs.Prelude.{◌≡◌, ℕ, ◌+◌, ◌≤◌, Bool, false, not, ◌&&◌, nat_lt, List, [], ◌∷◌, ◌++◌, length, map, take, drop, Some, slice_get}
 use Rattle.std.specs.FinMap.{get}
 use mathlib.Core.List.{IsPrefix}
@@ -42,11 +42,11 @@ module _ {Job A P : Type 0} where
   abbrev pub released : {Answered : Type 0} → (Job → Answered) → Exit Job A P → List Answered
   released reply_to outlet = map reply_to (take outlet.buffer.next (received outlet))
 
-  -- the two ends of one lane
-  abbrev pub IsLane : Producer Job A P → Exit Job A P → Type 0
-  IsLane intake outlet = ring.IsPair intake outlet.ring
+  -- the two ends of one ring
+  abbrev pub IsRing : Producer Job A P → Exit Job A P → Type 0
+  IsRing intake outlet = ring.IsPair intake outlet.ring
 
-  -- the mark of the intake of an outlet's lane
+  -- the mark of the intake of an outlet's ring
   abbrev pub IsMarkOf : Finished Job A P → Exit Job A P → Type 0
   IsMarkOf mark outlet = ring.IsFinishedOf mark outlet.ring
 
@@ -54,7 +54,7 @@ module _ {Job A P : Type 0} where
   abbrev pub Finishes : Producer Job A P → Finished Job A P → Type 0
   Finishes intake mark = ring.Finishes intake mark
 
-  -- the intake of the same lane, at two times
+  -- the intake of the same ring, at two times
   abbrev pub IsSameIntake : Producer Job A P → Producer Job A P → Type 0
   IsSameIntake before after = ring.SameProducer before after
 
@@ -64,7 +64,7 @@ module _ {Job A P : Type 0} where
       IsSameIntake before after × (admitted after ≡ admitted before)
       × (free_slips before ≤ free_slips after)
 
-  -- the outlet of the same lane, at two times
+  -- the outlet of the same ring, at two times
   abbrev pub IsSameOutlet : Exit Job A P → Exit Job A P → Type 0
   IsSameOutlet before after = ring.SameConsumer before.ring after.ring
 

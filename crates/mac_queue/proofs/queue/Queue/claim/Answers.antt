@@ -1,5 +1,5 @@
 use Rattle.mac_queue.proofs.Balance.{claims}
-use Rattle.mac_queue.proofs.line.Line.claim.Goals as goal
+use Rattle.mac_queue.proofs.queue.Queue.claim.Goals as goal
 
 pub pop_as-requires-clause-rule : goal.pop_as-requires-clause-rule
 pop_as-requires-clause-rule g c = (claims _ _ c.pass.invariant.1, λ _ _ _ _. tt)

@@ -1,6 +1,6 @@
-//! Calls of a lane's two ends, and whether they answer as they are to.
+//! Calls of a ring's two ends, and whether they answer as they are to.
 
-ghost use Rattle.mac_ring.specs.Lane.{IsSameIntake, IsSameOutlet};
+ghost use Rattle.mac_ring.specs.Ring.{IsSameIntake, IsSameOutlet};
 
 use crate::digits::Digits;
 use crate::fault::RunFault;
@@ -8,7 +8,7 @@ use crate::hand_over::{hand_over, releases};
 use crate::rows::right_if;
 use crate::runs::Outcome;
 use mac_order::{Answer, Next, SettleFault};
-use mac_ring::{AdmitFault, Intake, Outlet, Totals, lane, meet};
+use mac_ring::{AdmitFault, Intake, Outlet, Totals, make_ring, meet};
 use std::alloc::Global;
 use std::thread;
 use std::thread::Threads;
@@ -31,9 +31,9 @@ pub(crate) fn row<R: Threads>(rt: &R, alloc: Global, name: &str) -> Result<Outco
     }
 }
 
-fn lane_if(totals: Totals, is_right: bool) -> Result<Outcome, RunFault> {
+fn ring_if(totals: Totals, is_right: bool) -> Result<Outcome, RunFault> {
     if is_right {
-        Ok(Outcome::Lane(totals))
+        Ok(Outcome::Exhausted(totals))
     } else {
         Err(RunFault::Wrong)
     }
@@ -67,14 +67,14 @@ fn fault_at(
 
 /// A full ring refuses, and holds one slip more once one is taken.
 fn full(alloc: Global) -> Result<Outcome, RunFault> {
-    let (mut intake, mut outlet) = lane::<Digits>(alloc)?;
+    let (mut intake, mut outlet) = make_ring::<Digits>(alloc)?;
     let is_filled = admits(&mut intake, 0, SLIPS) && intake.free_slips() == 0;
     let is_full = intake.admit(9) == Err((AdmitFault::Full, 9));
     let is_told = outlet.may_hold_slip();
     let is_taken = outlet.look() && outlet.open_slips() == 1;
     let is_freed = intake.admit(9) == Ok(SLIPS);
     let totals = meet(&mut intake, &mut outlet);
-    lane_if(
+    ring_if(
         totals,
         is_filled && is_full && is_told && is_taken && is_freed,
     )
@@ -82,7 +82,7 @@ fn full(alloc: Global) -> Result<Outcome, RunFault> {
 
 /// Each end works in a thread of its own: one slip more goes in than the ring holds.
 fn threads<R: Threads>(rt: &R, alloc: Global) -> Result<Outcome, RunFault> {
-    let (intake, outlet) = lane::<Digits>(alloc)?;
+    let (intake, outlet) = make_ring::<Digits>(alloc)?;
     let (mut one, mut other) = thread::join(
         rt,
         move || -> (bool, Intake<Digits>)
@@ -93,7 +93,7 @@ fn threads<R: Threads>(rt: &R, alloc: Global) -> Result<Outcome, RunFault> {
         { look_waiting(outlet) },
     );
     let totals = meet(&mut one.1, &mut other.1);
-    lane_if(totals, one.0 && other.0)
+    ring_if(totals, one.0 && other.0)
 }
 
 /// Admits 65 jobs, each once there is a slip for it.
@@ -135,7 +135,7 @@ fn look_waiting(mut outlet: Outlet<Digits>) -> (bool, Outlet<Digits>)
 /// A close while one job is open and two are in the ring: all are dropped, and the ring still
 /// fills.
 fn closed(alloc: Global) -> Result<Outcome, RunFault> {
-    let (mut intake, mut outlet) = lane::<Digits>(alloc)?;
+    let (mut intake, mut outlet) = make_ring::<Digits>(alloc)?;
     let are_in = admits(&mut intake, 0, 3);
     let is_open = outlet.look();
     outlet.close();
@@ -145,7 +145,7 @@ fn closed(alloc: Global) -> Result<Outcome, RunFault> {
     let totals = meet(&mut intake, &mut outlet);
     let is_filled = admits(&mut intake, 3, 65);
     let is_full = intake.admit(65) == Err((AdmitFault::Full, 65));
-    lane_if(
+    ring_if(
         totals,
         are_in && is_open && is_dropped && is_shut && is_told && is_filled && is_full,
     )
@@ -153,7 +153,7 @@ fn closed(alloc: Global) -> Result<Outcome, RunFault> {
 
 /// What the outlet's buffer refuses, the outlet refuses, and a stranger closes it.
 fn refused(alloc: Global) -> Result<Outcome, RunFault> {
-    let (mut intake, mut outlet) = lane::<Digits>(alloc)?;
+    let (mut intake, mut outlet) = make_ring::<Digits>(alloc)?;
     let mut is_right = true;
     for job in 0..133 {
         is_right &= hand_over(alloc, &mut intake, &mut outlet, job);
@@ -187,7 +187,7 @@ fn meets_a_stranger(
 
 /// The intake ends first. Whether the outlet sees that, and works on.
 fn intake_ends(alloc: Global) -> Result<bool, RunFault> {
-    let (mut intake, mut outlet) = lane::<Digits>(alloc)?;
+    let (mut intake, mut outlet) = make_ring::<Digits>(alloc)?;
     let is_first = intake.admit(4) == Ok(0);
     let is_second = intake.admit(5) == Ok(1);
     let is_there = !outlet.is_abandoned();
@@ -207,7 +207,7 @@ fn intake_ends(alloc: Global) -> Result<bool, RunFault> {
 
 /// The outlet ends first. Whether the intake sees that, and goes on to take jobs.
 fn outlet_ends(alloc: Global) -> Result<bool, RunFault> {
-    let (mut intake, outlet) = lane::<Digits>(alloc)?;
+    let (mut intake, outlet) = make_ring::<Digits>(alloc)?;
     let is_first = intake.admit(6) == Ok(0);
     let is_there = !intake.is_abandoned();
     drop(outlet);

@@ -5,13 +5,13 @@ use Rattle.std.specs.Vec.Iter.{into_iter_items}
 use Rattle.crossbeam_queue.specs.Passes.{view}
 use Rattle.mac_queue.specs.Balance.{entry_of}
 use Rattle.mac_queue.specs.Pass.{Pass, all_put, all_claimed}
-use Rattle.mac_queue.specs.declared.line.account.Account.{Account}
-use Rattle.mac_queue.specs.declared.line.TheConstants.{PUTS_MAX}
+use Rattle.mac_queue.specs.declared.queue.account.Account.{Account}
+use Rattle.mac_queue.specs.declared.queue.TheConstants.{PUTS_MAX}
 use Rattle.mac_queue.specs.declared.ticket.Ticket.{Ticket}
 use Rattle.mac_queue.proofs.Balance.{merges, learns, empty_list}
 use Rattle.mac_queue.proofs.Passes.{all_first, all_others, move}
 use Rattle.mac_queue.proofs.Totals.{ones, total_map}
-use Rattle.mac_queue.proofs.line.Line.tally.Goals as goal
+use Rattle.mac_queue.proofs.queue.Queue.tally.Goals as goal
 
 pub overflow_add-put : goal.overflow_add-put
 overflow_add-put g c = omega arith
@@ -19,10 +19,10 @@ overflow_add-put g c = omega arith
 pub absorb-requires-clause-queue : goal.absorb-requires-clause-queue
 absorb-requires-clause-queue g c =
     let pass = c.in-Some-pass.pass in
-    let of_line = λ (p : Pass g.row.S-Job.Denot). p.line ≡ c.self.inside.queue.table.shared.table_id in
-    let all = rw c.in-Some-pass.ensures.steps.0 at c.loop-pass.invariant.line in
-    let mine : pass.line ≡ c.self.inside.queue.table.shared.table_id = all_first of_line pass _ all in
-    (c.loop-pass.invariant.seat, (ap (λ (p : Pass g.row.S-Job.Denot). p.line) c.pass.view_is ∙ mine, c.pass.invariant.0))
+    let of_queue = λ (p : Pass g.row.S-Job.Denot). p.queue ≡ c.self.inside.cells.table.shared.table_id in
+    let all = rw c.in-Some-pass.ensures.steps.0 at c.loop-pass.invariant.queue in
+    let mine : pass.queue ≡ c.self.inside.cells.table.shared.table_id = all_first of_queue pass _ all in
+    (c.loop-pass.invariant.seat, (ap (λ (p : Pass g.row.S-Job.Denot). p.queue) c.pass.view_is ∙ mine, c.pass.invariant.0))
 
 pub absorb-requires-clause-rule : goal.absorb-requires-clause-rule
 absorb-requires-clause-rule g c = merges _ _ _ _
@@ -72,8 +72,8 @@ loop-pass-init g c =
     let others = into_iter_items c.into_iter-pass-iterator.result in
     let split : c.args.passes.items ≡ first ∷ others =
     sym c.into_iter-passes.ensures.rest ∙ c.in-Some.ensures.items ∙ ap (λ s. first ∷ into_iter_items s) (sym c.into_iter-pass-iterator.ensures.into_iter_gives) in
-    let of_line = λ (p : Pass g.row.S-Job.Denot). p.line ≡ c.self.inside.queue.table.shared.table_id in
-    let line : All of_line (first ∷ others) = subst (λ (l : List (Pass g.row.S-Job.Denot)). All of_line l) split (rw (sym c.self.view_is) at c.requires.line) in
+    let of_queue = λ (p : Pass g.row.S-Job.Denot). p.queue ≡ c.self.inside.cells.table.shared.table_id in
+    let queue : All of_queue (first ∷ others) = subst (λ (l : List (Pass g.row.S-Job.Denot)). All of_queue l) split (rw (sym c.self.view_is) at c.requires.queue) in
     let put : first.put ≡ (view c.first.inside.seat).put = ap (λ (p : Pass g.row.S-Job.Denot). p.put) (sym c.first.view_is) in
     let claimed : first.claimed ≡ (view c.first.inside.seat).claimed = ap (λ (p : Pass g.row.S-Job.Denot). p.claimed) (sym c.first.view_is) in
     let count = c.requires.count in
@@ -81,8 +81,8 @@ loop-pass-init g c =
     record {
       runs = search rules;
       ends = search rules;
-      seat = (ap (λ (p : Pass g.row.S-Job.Denot). p.line) c.first.view_is ∙ all_first of_line first others line, c.first.invariant.0);
-      line = all_others of_line first others line;
+      seat = (ap (λ (p : Pass g.row.S-Job.Denot). p.queue) c.first.view_is ∙ all_first of_queue first others queue, c.first.invariant.0);
+      queue = all_others of_queue first others queue;
       parts = omega (arith, ap length split);
       put = ap (λ l. l ++ all_put others) (sym put) ∙ sym (ap (λ (l : List (Pass g.row.S-Job.Denot)). all_put l) split);
       claimed = ap (λ l. l ++ all_claimed others) (sym claimed) ∙ sym (ap (λ (l : List (Pass g.row.S-Job.Denot)). all_claimed l) split);
@@ -97,8 +97,8 @@ loop-pass-preserved g c =
     let joined = c.absorb.ensures.rule in
     let others = into_iter_items c.next-in-loop-pass.new.self in
     let split : into_iter_items c.loop-pass.pass-iterator ≡ pass ∷ others = c.in-Some-pass.ensures.steps.0 in
-    let of_line = λ (p : Pass g.row.S-Job.Denot). p.line ≡ c.self.inside.queue.table.shared.table_id in
-    let line : All of_line (pass ∷ others) = subst (λ (l : List (Pass g.row.S-Job.Denot)). All of_line l) split invariant.line in
+    let of_queue = λ (p : Pass g.row.S-Job.Denot). p.queue ≡ c.self.inside.cells.table.shared.table_id in
+    let queue : All of_queue (pass ∷ others) = subst (λ (l : List (Pass g.row.S-Job.Denot)). All of_queue l) split invariant.queue in
     let put : (view c.pass.inside.seat).put ≡ pass.put = ap (λ (p : Pass g.row.S-Job.Denot). p.put) c.pass.view_is in
     let claimed : (view c.pass.inside.seat).claimed ≡ pass.claimed = ap (λ (p : Pass g.row.S-Job.Denot). p.claimed) c.pass.view_is in
     let new_put = ap (λ (a : Account g.row.S-Job.Denot). a.put) joined in
@@ -110,7 +110,7 @@ loop-pass-preserved g c =
       runs = search rules;
       ends = search rules;
       seat = search rules;
-      line = all_others of_line pass others line;
+      queue = all_others of_queue pass others queue;
       parts = omega (arith, ap length split);
       put = move _ _ _ _ _ _ _ new_put put (ap (λ (l : List (Pass g.row.S-Job.Denot)). all_put l) split) invariant.put;
       claimed = move _ _ _ _ _ _ _ new_claimed claimed (ap (λ (l : List (Pass g.row.S-Job.Denot)). all_claimed l) split) invariant.claimed;

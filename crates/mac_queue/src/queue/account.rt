@@ -1,4 +1,4 @@
-//! The line's rule: what each pass has put and claimed, and what each step adds. These types are
+//! The queue's rule: what each pass has put and claimed, and what each step adds. These types are
 //! for the proofs alone.
 
 ghost use Rattle.std.specs.Prelude.{◌≡◌, ◌+◌, ◌-◌, ◌<◌, ◌^◌, [], ◌∷◌, ◌++◌, length};
@@ -22,7 +22,7 @@ pub struct Balance;
 impl<S: Service> Protocol<Ticket<S>, Account<S::Job>> for Balance {
     ghost use Rattle.std.specs.Prelude.{[]};
     ghost use Rattle.mac_queue.specs.Balance.{account, IsBalanced};
-    ghost use Rattle.mac_queue.specs.declared.line.TheConstants.{PASSES};
+    ghost use Rattle.mac_queue.specs.declared.queue.TheConstants.{PASSES};
 
     ghost holds = { IsBalanced };
 

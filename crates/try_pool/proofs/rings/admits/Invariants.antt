@@ -1,0 +1,6 @@
+-- The intake stays that of the same ring.
+use Rattle.mac_ring.specs.Ring.{IsSameIntake}
+use Rattle.try_pool.proofs.rings.admits.Given as goal
+
+abbrev pub invariant-loop-job : goal.invariant-loop-job
+invariant-loop-job l = IsSameIntake l.initial.intake l.intake
