@@ -59,7 +59,7 @@ impl HmacState {
         }
     }
 
-    // The state under a key that fits a block.
+    /// The state under a key that fits a block.
     fn of_fitted(key: &[u8]) -> HmacState
         requires { length key.now ≤ 64 }
         ensures inner { Holds256 result.inner

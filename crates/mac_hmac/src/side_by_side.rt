@@ -9,7 +9,7 @@ use crate::key::RootKey;
 use crate::signature::Sig;
 use sha256x8::{nested_digest_each, paired_digest_each};
 
-// The block of a key: zero bytes appended, and each byte XORed with the pad's.
+/// The block of a key: zero bytes appended, and each byte XORed with the pad's.
 #[inline(always)]
 fn padded_key(key: &[u8; 32], pad: u8) -> [u8; 64]
     ensures { result ≡ xor_pad (block_key key.now) pad }
@@ -17,7 +17,7 @@ fn padded_key(key: &[u8; 32], pad: u8) -> [u8; 64]
     padded(key, pad)
 }
 
-// The block of each key: zero bytes appended, and each byte XORed with the pad's.
+/// The block of each key: zero bytes appended, and each byte XORed with the pad's.
 #[inline(always)]
 fn padded_each(keys: &[[u8; 32]; 8], pad: u8) -> [[u8; 64]; 8]
     ensures { (j : ℕ) → j < 8 → slice_index_or result j []
@@ -35,17 +35,17 @@ fn padded_each(keys: &[[u8; 32]; 8], pad: u8) -> [[u8; 64]; 8]
     ]
 }
 
-// How many keys are told apart.
+/// How many keys are told apart.
 const FEW: usize = 4;
 
-// A few keys, and which of them each of eight is.
+/// A few keys, and which of them each of eight is.
 #[derive(Drop)]
 struct ToldApart {
     few: [[u8; 32]; FEW],
     which: [usize; 8],
 }
 
-// Where the key stands among the first so many, or their number.
+/// Where the key stands among the first so many, or their number.
 fn place_among(few: &[[u8; 32]; FEW], count: usize, key: &[u8; 32]) -> usize
     requires { count ≤ FEW }
     ensures most { result ≤ count }
@@ -59,7 +59,7 @@ fn place_among(few: &[[u8; 32]; FEW], count: usize, key: &[u8; 32]) -> usize
     count
 }
 
-// The keys, told apart where they are few.
+/// The keys, told apart where they are few.
 fn told_apart(keys: &[[u8; 32]; 8]) -> Option<ToldApart>
     ensures { IfSome result (λ told. (j : ℕ) → j < 8 → slice_index told.which j < FEW
         × (slice_index_or told.few (slice_index told.which j) [] ≡ slice_index_or keys.now j [])) }
@@ -81,7 +81,7 @@ fn told_apart(keys: &[[u8; 32]; 8]) -> Option<ToldApart>
     Some(ToldApart { few, which })
 }
 
-// The block of each of a few keys.
+/// The block of each of a few keys.
 #[inline(always)]
 fn padded_few(keys: &[[u8; 32]; FEW], pad: u8) -> [[u8; 64]; FEW]
     ensures { (k : ℕ) → k < 4 → slice_index_or result k []
@@ -95,7 +95,7 @@ fn padded_few(keys: &[[u8; 32]; FEW], pad: u8) -> [[u8; 64]; FEW]
     ]
 }
 
-// The HMAC of each text under its key of a few, whose blocks are hashed together.
+/// The HMAC of each text under its key of a few, whose blocks are hashed together.
 fn hmac_each_of_few(told: &ToldApart, texts: &[&[u8]; 8]) -> [[u8; 32]; 8]
     requires { (j : ℕ) → j < 8 → slice_index told.now.which j < FEW }
     ensures { (j : ℕ) → j < 8 → slice_index_or result j []
@@ -126,7 +126,7 @@ pub fn hmac_each(keys: &[[u8; 32]; 8], texts: &[&[u8]; 8]) -> [[u8; 32]; 8]
     }
 }
 
-// These digests as signatures.
+/// These digests as signatures.
 #[inline(always)]
 fn signatures_of(digests: [[u8; 32]; 8]) -> [Sig; 8]
     ensures { (j : ℕ) → j < 8 → slice_index_or result j [] ≡ slice_index_or digests j [] }

@@ -21,11 +21,11 @@ use std::sync::atomic::{AtomicBool, AtomicU64};
 /// The most posts that a mailbox holds.
 pub const MAIL_MAX: usize = 128;
 
-// What a taker has taken, for contracts: places, each with its answer's job, if any. No value is
-// made.
+/// What a taker has taken, for contracts: places, each with its answer's job, if any. No value is
+/// made.
 type Taken<S> = LinkedList<(u64, Option<<S as Service>::Job>)>;
 
-// Anybody may push and pop at any time; a pop is told to the pass that made it.
+/// Anybody may push and pop at any time; a pop is told to the pass that made it.
 pub struct Told;
 
 impl<S: Service> Protocol<Post<S>, Taken<S>> for Told {

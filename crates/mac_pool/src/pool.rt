@@ -21,7 +21,7 @@ use std::thread::{Promise, PromisedHandle, Threads};
 /// The most workers of a pool, and the passes that are kept for workers and hands.
 pub const WORKERS_MAX: usize = 16;
 
-// What a worker's thread leaves behind comes from the pass that it was given.
+/// What a worker's thread leaves behind comes from the pass that it was given.
 #[derive(Drop)]
 pub struct FromPass<S: Service>(Snapshot<QueuePass<S>>);
 

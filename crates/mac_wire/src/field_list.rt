@@ -54,7 +54,7 @@ impl<'a> FieldList<'a> {
         FieldList::of(count, rest)
     }
 
-    // That many fields, with nothing behind them.
+    /// That many fields, with nothing behind them.
     fn of(count: u8, bytes: &'a [u8]) -> Option<FieldList<'a>>
         ensures { result ≡ list_at count bytes.now }
     {

@@ -8,7 +8,7 @@ ghost use Rattle.mac_wire.specs.Reading.{byte_at, bytes_at, number_at, short_fie
 
 use crate::request::TokenForm;
 
-// That many bytes.
+/// That many bytes.
 fn front(length: usize, bytes: &[u8]) -> Option<(&[u8], &[u8])>
     ensures { option_map (λ x. (x.0.now, x.1.now)) result ≡ bytes_at length bytes.now }
 {
@@ -28,7 +28,7 @@ pub fn byte(bytes: &[u8]) -> Option<(u8, &[u8])>
     }
 }
 
-// A number of two bytes.
+/// A number of two bytes.
 fn number_16(bytes: &[u8]) -> Option<(u16, &[u8])>
     ensures { option_map (λ x. (x.0, x.1.now)) result ≡ number_at w16 bytes.now }
 {
@@ -87,7 +87,7 @@ pub fn form(bytes: &[u8]) -> Option<(TokenForm, &[u8])>
     Some((form, rest))
 }
 
-// The text of these bytes, where they are UTF-8.
+/// The text of these bytes, where they are UTF-8.
 #[tactic(auto, using(crate::proofs::Text::is_text, crate::proofs::Text::is_no_text))]
 fn text(bytes: &[u8]) -> Option<&str>
     ensures { option_map (λ text. text.now) result

@@ -157,7 +157,7 @@ impl FrameReader {
     }
 }
 
-// The stream's version once a piece has come, and what of the piece is frames.
+/// The stream's version once a piece has come, and what of the piece is frames.
 fn opened(version: Option<Version>, piece: &[u8]) -> (Option<Version>, &[u8])
     ensures version { result.0 ≡ told_after version piece.now }
     ensures frames { result.1.now ≡ frames_after version piece.now }
@@ -172,7 +172,7 @@ fn opened(version: Option<Version>, piece: &[u8]) -> (Option<Version>, &[u8])
     }
 }
 
-// The arrivals that a piece makes whole, and the stage that it leaves.
+/// The arrivals that a piece makes whole, and the stage that it leaves.
 fn cut(alloc: Global, held: Partial, piece: &[u8]) -> Result<(Vec<Arrival>, Stage), NoMemory>
     ensures cuts { IfOk result (λ x. Cuts held piece.now x.0.items x.1) }
     ensures memory { OnErr result (0 < length piece.now) }

@@ -61,7 +61,7 @@ impl MemSource {
     }
 }
 
-// Copies bytes to the front of others.
+/// Copies bytes to the front of others.
 fn copy_front(to: &mut [u8], from: &[u8])
     requires { length from.now ≤ length to.old }
     ensures front { take (length from.now) to.new ≡ from.now }

@@ -9,7 +9,7 @@ use crate::field_list::FieldList;
 use crate::fields::{byte, form, long_field, number_64, short_field, text_field};
 use crate::request::{FACTS_MAX, Request};
 
-// The first byte of each kind of request.
+/// The first byte of each kind of request.
 const MINT: u8 = 1;
 
 const ATTENUATE: u8 = 2;
@@ -34,7 +34,7 @@ pub fn key_name(payload: &[u8]) -> Option<&[u8]>
     }
 }
 
-// The name in the front.
+/// The name in the front.
 #[tactic(auto, unfolding(crate::specs::Reading::name_at))]
 fn name(bytes: &[u8]) -> Option<&[u8]>
     ensures { option_copied result ≡ name_at bytes.now }
@@ -56,7 +56,7 @@ pub fn parse_request(payload: &[u8]) -> Option<Request<'_>>
     request(payload)
 }
 
-// the number of the kind, and its fields
+/// the number of the kind, and its fields
 #[tactic(auto, unfolding(crate::specs::Reading::request_of))]
 fn request(payload: &[u8]) -> Option<Request<'_>>
     ensures { option_map asked result ≡ request_of payload.now }
@@ -70,7 +70,7 @@ fn request(payload: &[u8]) -> Option<Request<'_>>
     }
 }
 
-// form, key name, location, identifier, caveats
+/// form, key name, location, identifier, caveats
 #[tactic(auto, unfolding(crate::specs::Reading::mint_of))]
 fn mint(bytes: &[u8]) -> Option<Request<'_>>
     ensures { option_map asked result ≡ mint_of bytes.now }
@@ -89,7 +89,7 @@ fn mint(bytes: &[u8]) -> Option<Request<'_>>
     })
 }
 
-// form, token, caveats
+/// form, token, caveats
 #[tactic(auto, unfolding(crate::specs::Reading::attenuate_of))]
 fn attenuate(bytes: &[u8]) -> Option<Request<'_>>
     ensures { option_map asked result ≡ attenuate_of bytes.now }
@@ -104,7 +104,7 @@ fn attenuate(bytes: &[u8]) -> Option<Request<'_>>
     })
 }
 
-// key name, token, moment, facts
+/// key name, token, moment, facts
 #[tactic(auto, unfolding(crate::specs::Reading::verify_of))]
 fn verify(bytes: &[u8]) -> Option<Request<'_>>
     ensures { option_map asked result ≡ verify_of bytes.now }

@@ -76,7 +76,7 @@ impl Partial {
         self.with_payload(piece)
     }
 
-    // Takes a byte of the length.
+    /// Takes a byte of the length.
     fn with_length_byte(self, byte: u8) -> Step
         requires { length self < 4 }
         ensures { Makes result (self ++ byte ∷ []) }
@@ -106,7 +106,7 @@ impl Partial {
         }
     }
 
-    // Takes as much of the payload as there is.
+    /// Takes as much of the payload as there is.
     fn with_payload(self, piece: &[u8]) -> Result<(Step, &[u8]), NoMemory>
         requires long { 4 ≤ length self }
         requires some { 0 < length piece.now }

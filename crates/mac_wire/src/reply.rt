@@ -106,7 +106,7 @@ pub fn append_reply(
     Ok(())
 }
 
-// How many bytes stand before a reply.
+/// How many bytes stand before a reply.
 fn place_length(version: Version) -> u32
     ensures length { (place : ℕ) → result ≡ length (place_bytes version place) }
     ensures small { result ≤ 8 }
@@ -117,7 +117,7 @@ fn place_length(version: Version) -> u32
     }
 }
 
-// How many bytes a reply's payload has.
+/// How many bytes a reply's payload has.
 fn payload_length(reply: &Reply) -> u32
     requires { IsReply reply.now }
     ensures { result ≡ length (reply_payload reply.now) }
@@ -129,7 +129,7 @@ fn payload_length(reply: &Reply) -> u32
     }
 }
 
-// Appends what stands before a reply, for which there is room.
+/// Appends what stands before a reply, for which there is room.
 fn append_place(frames: &mut Vec<u8>, version: Version, place: u64)
     requires { vec_len frames.old + length (place_bytes version place) ≤ vec_capacity frames.old }
     ensures items { frames.new.items ≡ frames.old.items ++ place_bytes version place }
@@ -141,7 +141,7 @@ fn append_place(frames: &mut Vec<u8>, version: Version, place: u64)
     }
 }
 
-// Appends a reply's payload, for which there is room.
+/// Appends a reply's payload, for which there is room.
 fn append_payload(frames: &mut Vec<u8>, reply: &Reply)
     requires { vec_len frames.old + length (reply_payload reply.now) ≤ vec_capacity frames.old }
     ensures { frames.new.items ≡ frames.old.items ++ reply_payload reply.now }
@@ -160,7 +160,7 @@ fn append_payload(frames: &mut Vec<u8>, reply: &Reply)
     }
 }
 
-// Appends bytes for which there is room.
+/// Appends bytes for which there is room.
 fn append_within(frames: &mut Vec<u8>, bytes: &[u8])
     requires { vec_len frames.old + length bytes.now ≤ vec_capacity frames.old }
     ensures items { frames.new.items ≡ frames.old.items ++ bytes.now }

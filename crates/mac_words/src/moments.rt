@@ -18,7 +18,7 @@ pub fn moment(alloc: Global, text: &str) -> Result<Option<u64>, NoMemory>
     }
 }
 
-// The second of a day and a time as a time limit has them.
+/// The second of a day and a time as a time limit has them.
 fn time(alloc: Global, text: &str) -> Result<Option<i64>, NoMemory>
     ensures { IfOk result (λ found. (v : ℤ) → (found ≡ Some v) ↔ IsTime text.now v) }
 {

@@ -84,7 +84,7 @@ pub fn reply_to(alloc: Global, table: &KeyTable, payload: Vec<u8>) -> Result<Rep
     answer(alloc, &job_of(table, Arrival::Payload(Bytes::new(payload))))
 }
 
-// The payload of a mint whose words a request carries.
+/// The payload of a mint whose words a request carries.
 fn mint_bytes(
     alloc: Global,
     form: TokenForm,
@@ -144,7 +144,7 @@ fn verify_bytes(
     Ok(payload)
 }
 
-// The first word of a mint that no request carries.
+/// The first word of a mint that no request carries.
 fn mint_fault(key: &str, location: &str, identifier: &str, caveats: &[String]) -> Option<FieldFault>
     ensures { (form : TokenForm) → result ≡ field_fault
         (mint form key.now location.now identifier.now (texts_of caveats.now)) }
@@ -230,7 +230,7 @@ fn is_long(text: &[u8]) -> bool
     text.len() > TEXT_MAX
 }
 
-// Appends a length of one byte, and that many bytes.
+/// Appends a length of one byte, and that many bytes.
 fn put_name(payload: &mut Vec<u8>, name: &str) -> Result<(), NoMemory>
     requires { length name.now < 2 ^ 8 }
     ensures { OnOk result (payload.new.items ≡ payload.old.items ++ short_field name.now) }
@@ -239,7 +239,7 @@ fn put_name(payload: &mut Vec<u8>, name: &str) -> Result<(), NoMemory>
     payload.extend_from_slice(name.as_bytes())
 }
 
-// Appends a length of two bytes, and that many bytes of text.
+/// Appends a length of two bytes, and that many bytes of text.
 fn put_text(payload: &mut Vec<u8>, text: &str) -> Result<(), NoMemory>
     requires { length text.now < 2 ^ 16 }
     ensures { OnOk result (payload.new.items ≡ payload.old.items ++ long_field text.now) }
@@ -247,7 +247,7 @@ fn put_text(payload: &mut Vec<u8>, text: &str) -> Result<(), NoMemory>
     put_long_field(payload, text.as_bytes())
 }
 
-// Appends a length of two bytes, and that many bytes.
+/// Appends a length of two bytes, and that many bytes.
 fn put_long_field(payload: &mut Vec<u8>, bytes: &[u8]) -> Result<(), NoMemory>
     requires { length bytes.now < 2 ^ 16 }
     ensures { OnOk result (payload.new.items ≡ payload.old.items ++ long_field bytes.now) }
@@ -257,7 +257,7 @@ fn put_long_field(payload: &mut Vec<u8>, bytes: &[u8]) -> Result<(), NoMemory>
     payload.extend_from_slice(bytes)
 }
 
-// Appends a count of one byte, and that many texts behind lengths of two bytes.
+/// Appends a count of one byte, and that many texts behind lengths of two bytes.
 fn put_counted_fields(payload: &mut Vec<u8>, texts: &[String]) -> Result<(), NoMemory>
     requires count { length (texts_of texts.now) < 2 ^ 8 }
     requires each { AreFields (texts_of texts.now) }
@@ -268,7 +268,7 @@ fn put_counted_fields(payload: &mut Vec<u8>, texts: &[String]) -> Result<(), NoM
     put_fields(payload, texts)
 }
 
-// Appends texts behind lengths of two bytes.
+/// Appends texts behind lengths of two bytes.
 fn put_fields(payload: &mut Vec<u8>, texts: &[String]) -> Result<(), NoMemory>
     requires { AreFields (texts_of texts.now) }
     ensures { OnOk result (payload.new.items
@@ -280,7 +280,7 @@ fn put_fields(payload: &mut Vec<u8>, texts: &[String]) -> Result<(), NoMemory>
     Ok(())
 }
 
-// The payload, where a frame carries it.
+/// The payload, where a frame carries it.
 fn framed(made: Result<Vec<u8>, NoMemory>) -> Result<Vec<u8>, FieldFault>
     ensures { IsFramed made result }
 {

@@ -67,7 +67,7 @@ fn append_index(alloc: Global, index: u16, out: &mut Vec<u8>) -> Result<(), NoMe
     out.extend_from_slice(digits.as_bytes())
 }
 
-// Appends the caveat at a place of the token that the bytes spell.
+/// Appends the caveat at a place of the token that the bytes spell.
 fn append_named(alloc: Global, token: &[u8], index: u16, out: &mut Vec<u8>) -> Result<(), NoMemory>
     ensures { OnOk result (out.new.items
         ≡ out.old.items ++ escaped (caveat_at (read_of token.now) index)) }

@@ -112,7 +112,7 @@ fn next_form(form: Option<TokenForm>, token: &[u8]) -> TokenForm
     }
 }
 
-// What is said of the answer to a payload that is about these bytes of a token.
+/// What is said of the answer to a payload that is about these bytes of a token.
 fn said_of(
     alloc: Global,
     table: &KeyTable,
@@ -126,7 +126,7 @@ fn said_of(
     reply_said(alloc, token, &reply)
 }
 
-// What is said of a reply.
+/// What is said of a reply.
 fn reply_said(alloc: Global, token: &[u8], reply: &Reply) -> Result<Said, NoMemory>
     ensures { IfOk result (IsSaid token.now reply.now) }
 {
@@ -160,7 +160,7 @@ fn refused(alloc: Global, why: Refusal) -> Result<Said, NoMemory>
     })
 }
 
-// The table of a key file with no line.
+/// The table of a key file with no line.
 fn no_keys(alloc: Global) -> Result<KeyTable, NoMemory>
     ensures { IfOk result (λ table. table_of [] ≡ Ok table) }
 {

@@ -24,14 +24,14 @@ pub struct Worked<S: Service> {
     pub claimed: u64,
 }
 
-// What stays of a ticket while its job is worked on.
+/// What stays of a ticket while its job is worked on.
 #[derive(Drop)]
 pub struct Label<S: Service> {
     pub place: u64,
     pub mail: Arc<Mailbox<S>, Global>,
 }
 
-// A post on its way to a mailbox.
+/// A post on its way to a mailbox.
 #[derive(Drop)]
 pub struct Parcel<S: Service> {
     pub post: Post<S>,
@@ -44,8 +44,8 @@ type Parcels<S> = VecDeque<Parcel<S>>;
 
 type Mails<S> = VecDeque<Arc<Mailbox<S>, Global>>;
 
-// The room of a turn: what is claimed, what is to be posted, and the mailboxes that are to be
-// rung.
+/// The room of a turn: what is claimed, what is to be posted, and the mailboxes that are to be
+/// rung.
 #[derive(Drop)]
 pub struct Turn<S: Service> {
     tickets: Tickets<S>,

@@ -57,7 +57,7 @@ pub fn words_of<R: Env + Alloc<A = Global>>(rt: &R) -> Result<Vec<String>, (u8, 
     }
 }
 
-// The words that are given, each of them and in their order.
+/// The words that are given, each of them and in their order.
 fn gathered(alloc: Global, given: Args) -> Result<Vec<String>, (u8, String)>
     ensures words { IfOk result (λ words.
         words.items ≡ take (into_iter_len given) (into_iter_items given)) }
@@ -93,7 +93,7 @@ pub fn chosen(alloc: Global, words: &[String]) -> Result<Chosen, (u8, String)>
     }
 }
 
-// What `clap` finds in the words.
+/// What `clap` finds in the words.
 fn matches_of<'a>(alloc: Global, words: &'a [String]) -> Result<ArgMatches<'a>, Error>
     ensures faults { FailsBy (fault_of command_line (map string_bytes words.now)) result }
     ensures rows { IfOk result (λ matches. subcommand_rows_of matches
@@ -103,7 +103,7 @@ fn matches_of<'a>(alloc: Global, words: &'a [String]) -> Result<ArgMatches<'a>, 
     command(alloc)?.try_get_matches_from(words)
 }
 
-// What the subcommand of a line that `clap` takes stands for.
+/// What the subcommand of a line that `clap` takes stands for.
 fn named(alloc: Global, matches: &ArgMatches<'_>) -> Result<Chosen, (u8, String)>
     requires { HasCommand (subcommand_rows_of matches.now) }
     ensures choice { IfOk result (λ chosen. IsChosen chosen (subcommand_rows_of matches.now)) }
@@ -118,7 +118,7 @@ fn named(alloc: Global, matches: &ArgMatches<'_>) -> Result<Chosen, (u8, String)
     of_subcommand(alloc, name, options)
 }
 
-// What a subcommand with these options stands for.
+/// What a subcommand with these options stands for.
 #[tactic(auto, using(crate::proofs::SubcommandLemmas::machine_options))]
 fn of_subcommand(
     alloc: Global,
@@ -139,7 +139,7 @@ fn of_subcommand(
     }
 }
 
-// The choice that a subcommand for programs stands for.
+/// The choice that a subcommand for programs stands for.
 fn machine(alloc: Global, name: &str, options: &ArgMatches<'_>) -> Result<Chosen, (u8, String)>
     requires { HasOptions name.now (rows_of (found_of options.now)) }
     ensures choice { IfOk result (λ chosen.
@@ -156,7 +156,7 @@ fn machine(alloc: Global, name: &str, options: &ArgMatches<'_>) -> Result<Chosen
     }
 }
 
-// The task that a subcommand for people stands for.
+/// The task that a subcommand for people stands for.
 fn person(alloc: Global, name: &str, options: &ArgMatches<'_>) -> Result<Chosen, (u8, String)>
     requires { IsTaskName name.now }
     ensures choice { IfOk result (λ chosen.
@@ -170,7 +170,7 @@ fn person(alloc: Global, name: &str, options: &ArgMatches<'_>) -> Result<Chosen,
     }
 }
 
-// The exit status and the text of an error of `clap`.
+/// The exit status and the text of an error of `clap`.
 fn refusal(alloc: Global, error: &Error) -> (u8, String)
     ensures status { (result.0 ≡ exit_status (kind_of error.now)) ⊎ (result.0 ≡ NO_MEMORY) }
     ensures memory { result.0 ≡ NO_MEMORY → string_bytes result.1 ≡ [] }
@@ -198,7 +198,7 @@ fn out_of_memory(alloc: Global) -> (u8, String)
     (NO_MEMORY, String::new(alloc))
 }
 
-// A bad line, with what is wrong with it.
+/// A bad line, with what is wrong with it.
 fn bad_line(alloc: Global, text: &str) -> (u8, String)
     ensures status { (result.0 ≡ BAD_LINE) ⊎ (result.0 ≡ NO_MEMORY) }
     ensures memory { result.0 ≡ NO_MEMORY → string_bytes result.1 ≡ [] }

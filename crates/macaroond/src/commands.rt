@@ -139,7 +139,7 @@ fn listen<'a>(alloc: Global) -> Result<Command<'a>, AllocError>
         .arg(count(alloc, "idle", IDLE_MAX, idle))
 }
 
-// A required option that takes a path.
+/// A required option that takes a path.
 fn path<'a>(alloc: Global, name: &'a str, help: &'a str) -> Arg<'a>
     ensures rule { rule_of result ≡ required (option name.entry.now) }
     ensures local { result.global ≡ false }
@@ -147,7 +147,7 @@ fn path<'a>(alloc: Global, name: &'a str, help: &'a str) -> Arg<'a>
     valued(alloc, name, "PATH", help).required(true)
 }
 
-// An option that takes a number from 1 to `most`.
+/// An option that takes a number from 1 to `most`.
 fn count<'a>(alloc: Global, name: &'a str, most: u64, help: &'a str) -> Arg<'a>
     ensures rule { rule_of result ≡ number most (option name.entry.now) }
     ensures local { result.global ≡ false }

@@ -57,7 +57,7 @@ fn main(rt: HostRuntime) -> ExitCode {
     ExitCode::from(run(&rt, rt.process()))
 }
 
-// Does what the words of the process ask for, and gives the exit status.
+/// Does what the words of the process ask for, and gives the exit status.
 fn run<R>(rt: &R, process: Process) -> u8
 where
     R: Env + Alloc<A = Global> + Input + Print + Eprint + Files + Net + Clock + RandomSource,
@@ -69,7 +69,7 @@ where
     done(rt, chosen, process)
 }
 
-// Does what was chosen, and gives the exit status; what was refused is shown and not done.
+/// Does what was chosen, and gives the exit status; what was refused is shown and not done.
 fn done<R>(rt: &R, chosen: Result<Chosen, (u8, String)>, process: Process) -> u8
 where
     R: Alloc<A = Global> + Input + Print + Eprint + Files + Net + Clock + RandomSource,
@@ -85,7 +85,7 @@ where
     }
 }
 
-// Answers the requests of programs, and gives the exit status.
+/// Answers the requests of programs, and gives the exit status.
 fn answered<R>(rt: &R, choice: Choice, process: Process) -> u8
 where
     R: Alloc<A = Global> + Input + Print + Eprint + Files + Net + Clock,
@@ -119,7 +119,7 @@ where
     }
 }
 
-// The workers that were asked for, or one for each processor.
+/// The workers that were asked for, or one for each processor.
 fn workers_of<R: Threads>(rt: &R, asked: Option<u64>) -> usize
     ensures some { 1 ≤ result }
     ensures most { result ≤ 16 }
@@ -132,7 +132,7 @@ fn workers_of<R: Threads>(rt: &R, asked: Option<u64>) -> usize
     count.max(1).min(most)
 }
 
-// Serves so many connections, and gives the exit status.
+/// Serves so many connections, and gives the exit status.
 fn run_serve<R>(rt: &R, path: &str, keys: &str, workers: u64, accept: u64) -> u8
 where
     R: Alloc<A = Global> + Print + Eprint + Files + Net,
@@ -155,7 +155,7 @@ where
     }
 }
 
-// Listens without end, or gives the exit status where that can't begin.
+/// Listens without end, or gives the exit status where that can't begin.
 fn run_listen<R>(rt: &R, keys: &str, terms: Terms<'_>, process: Process) -> u8
 where
     R: Alloc<A = Global> + Print + Eprint + Files + Net + Clock,
@@ -172,7 +172,7 @@ where
     tell_fault(rt, listen(rt, rt.alloc(), terms, &keys, process))
 }
 
-// Pipes standard input to standard output, and gives the exit status.
+/// Pipes standard input to standard output, and gives the exit status.
 fn run_pipe<R: Alloc<A = Global> + Input + Print + Eprint + Sync>(rt: &R) -> u8
 where
     R::Reader: Send,
@@ -183,7 +183,7 @@ where
     told(rt, ending)
 }
 
-// Names the fault that a run ended with on standard error, and gives the run's exit status.
+/// Names the fault that a run ended with on standard error, and gives the run's exit status.
 fn told<R: Eprint>(rt: &R, ending: Result<(), PipeFault>) -> u8
     ensures { result ≡ run_status ending }
 {
@@ -196,7 +196,7 @@ fn told<R: Eprint>(rt: &R, ending: Result<(), PipeFault>) -> u8
     }
 }
 
-// Shows what came of a line that asks for no work, and gives the exit status.
+/// Shows what came of a line that asks for no work, and gives the exit status.
 fn show<R: Print + Eprint>(rt: &R, status: u8, text: &str) -> u8
     ensures { IsShown status result }
 {
@@ -211,7 +211,7 @@ fn show<R: Print + Eprint>(rt: &R, status: u8, text: &str) -> u8
     }
 }
 
-// Names the exit status on standard error, where there is no more to say.
+/// Names the exit status on standard error, where there is no more to say.
 fn tell_fault<R: Eprint>(rt: &R, status: u8) -> u8
     ensures { result ≡ status }
 {

@@ -68,7 +68,7 @@ fn listen_of(alloc: Global, options: &ArgMatches<'_>) -> Result<Choice, OptionFa
     })
 }
 
-// The value of an option that has to be given.
+/// The value of an option that has to be given.
 fn text_of(alloc: Global, options: &ArgMatches<'_>, name: &str) -> Result<String, AllocError>
     requires { IsGiven name.now (rows_of (found_of options.now)) }
     ensures { IfOk result (λ text.
@@ -80,7 +80,7 @@ fn text_of(alloc: Global, options: &ArgMatches<'_>, name: &str) -> Result<String
     }
 }
 
-// The number of an option that has to be given.
+/// The number of an option that has to be given.
 fn number_of(options: &ArgMatches<'_>, name: &str) -> u64
     requires { HasNumber name.now (rows_of (found_of options.now)) }
     ensures { Reads name.now (rows_of (found_of options.now)) result }
@@ -91,14 +91,14 @@ fn number_of(options: &ArgMatches<'_>, name: &str) -> u64
     }
 }
 
-// The number of an option that may be left out.
+/// The number of an option that may be left out.
 fn optional_number_of(options: &ArgMatches<'_>, name: &str) -> Option<u64>
     ensures { MayRead name.now (rows_of (found_of options.now)) result }
 {
     options.get_one::<u64>(name)
 }
 
-// Who may connect to the socket.
+/// Who may connect to the socket.
 fn mode_of(options: &ArgMatches<'_>) -> Option<Mode>
     ensures { result ≡ mode_given (first_of (codes "mode") (rows_of (found_of options.now))) }
 {

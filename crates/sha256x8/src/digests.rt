@@ -8,7 +8,7 @@ use crate::block::{compress, words_of};
 use crate::padding::{greatest_count, have_block, padded_blocks};
 use crate::state::{chosen, digest_words, digests_of, initial_state, picked};
 
-// Takes block `index` after the first one into the hash values of the messages that have so many.
+/// Takes block `index` after the first one into the hash values of the messages that have so many.
 #[inline(always)]
 fn take_block(state: &mut [[u32; 8]; 8], texts: &[&[u8]; 8], index: usize)
     ensures { (j : ℕ) → j < 8 → lane_state j state.new ≡ after_block (lane_state j state.old)
@@ -19,13 +19,13 @@ fn take_block(state: &mut [[u32; 8]; 8], texts: &[&[u8]; 8], index: usize)
     *state = chosen(have_block(texts, index), next, *state);
 }
 
-// What the type says of a block, for proofs.
+/// What the type says of a block, for proofs.
 #[inline(always)]
 fn is_whole(_block: &[u8; 64])
     ensures { length _block.now ≡ 64 }
 {}
 
-// The same of eight blocks.
+/// The same of eight blocks.
 #[inline(always)]
 fn are_whole(blocks: &[[u8; 64]; 8])
     ensures { (j : ℕ) → j < 8 → length (slice_index_or blocks.now j []) ≡ 64 }
@@ -35,7 +35,7 @@ fn are_whole(blocks: &[[u8; 64]; 8])
     }
 }
 
-// The hash values after the first block of each of eight messages.
+/// The hash values after the first block of each of eight messages.
 #[inline(always)]
 fn begin_each(blocks: &[[u8; 64]; 8]) -> [[u32; 8]; 8]
     ensures { (j : ℕ) → j < 8
@@ -46,8 +46,8 @@ fn begin_each(blocks: &[[u8; 64]; 8]) -> [[u32; 8]; 8]
     state
 }
 
-// The hash values of eight messages, from those after the first block of each and the text after
-// it.
+/// The hash values of eight messages, from those after the first block of each and the text after
+/// it.
 #[inline(always)]
 fn finish_each(mut state: [[u32; 8]; 8], texts: &[&[u8]; 8]) -> [[u32; 8]; 8]
     ensures { (j : ℕ) → j < 8 → (block : List ℕ) → length block ≡ 64
@@ -60,8 +60,8 @@ fn finish_each(mut state: [[u32; 8]; 8], texts: &[&[u8]; 8]) -> [[u32; 8]; 8]
     state
 }
 
-// The digests of eight messages, each a block and a digest: from the hash values after the blocks,
-// and those of the digests.
+/// The digests of eight messages, each a block and a digest: from the hash values after the blocks,
+/// and those of the digests.
 #[inline(always)]
 fn close_each(mut state: [[u32; 8]; 8], inner: &[[u32; 8]; 8]) -> [[u8; 32]; 8]
     ensures { (j : ℕ) → j < 8 → (block message : List ℕ) → length block ≡ 64
@@ -131,7 +131,7 @@ pub fn paired_digest_each(
     close_each(picked(&begun, pairs), &inner)
 }
 
-// The lanes of the inner blocks of these pairs, behind the four outer ones.
+/// The lanes of the inner blocks of these pairs, behind the four outer ones.
 #[inline(always)]
 fn inner_lanes(pairs: &[usize; 8]) -> [usize; 8]
     requires { (j : ℕ) → j < 8 → slice_index pairs.now j < 4 }

@@ -12,7 +12,7 @@ const BLOCK: usize = 64;
 /// Where the message's length in bits stands in its last block.
 const BIT_COUNT: usize = 56;
 
-// How many blocks follow the first one of a message, where `text` does.
+/// How many blocks follow the first one of a message, where `text` does.
 #[inline(always)]
 fn block_count(text: &[u8]) -> usize
     ensures { 64 * result ≡ length (padded_text text.now) }
@@ -20,7 +20,7 @@ fn block_count(text: &[u8]) -> usize
     (text.len() + 8) / BLOCK + 1
 }
 
-// These bytes, and zeros.
+/// These bytes, and zeros.
 #[inline(always)]
 fn filled(bytes: &[u8]) -> [u8; 64]
     requires { length bytes.now ≤ 64 }
@@ -31,7 +31,7 @@ fn filled(bytes: &[u8]) -> [u8; 64]
     block
 }
 
-// These bytes, a bit 1, and zeros.
+/// These bytes, a bit 1, and zeros.
 #[inline(always)]
 fn ended(bytes: &[u8]) -> [u8; 64]
     requires { length bytes.now < 64 }
@@ -42,7 +42,7 @@ fn ended(bytes: &[u8]) -> [u8; 64]
     block
 }
 
-// The block with a message's length in bits at its end.
+/// The block with a message's length in bits at its end.
 #[inline(always)]
 fn with_bit_count(mut block: [u8; 64], bit_count: u64) -> [u8; 64]
     ensures { result ≡ take 56 block ++ to_be_bytes w64 bit_count }
@@ -51,8 +51,8 @@ fn with_bit_count(mut block: [u8; 64], bit_count: u64) -> [u8; 64]
     block
 }
 
-// Block `index` of those that follow the first one of a message, where `text` does; zeros where
-// there are not so many.
+/// Block `index` of those that follow the first one of a message, where `text` does; zeros where
+/// there are not so many.
 #[inline(always)]
 fn padded_block(text: &[u8], index: usize) -> [u8; 64]
     ensures { IsBlock text.now index result }
@@ -94,7 +94,7 @@ pub(crate) fn padded_blocks(texts: &[&[u8]; 8], index: usize) -> [[u8; 64]; 8]
     ]
 }
 
-// 1 where `text` has a block `index` after the first one of its message, and else 0.
+/// 1 where `text` has a block `index` after the first one of its message, and else 0.
 #[inline(always)]
 fn has_block(text: &[u8], index: usize) -> u32
     ensures { result ≡ (if nat_lt (64 * index) (length (padded_text text.now)) then 1 else 0) }

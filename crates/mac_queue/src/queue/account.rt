@@ -9,8 +9,8 @@ use crossbeam_queue::protocol::{Join, Lesson, Outcome, Protocol, Split};
 use mac_order::Service;
 use std::collections::LinkedList;
 
-// What a pass has put and claimed, and its parts of the right to know the whole. No value is
-// made.
+/// What a pass has put and claimed, and its parts of the right to know the whole. No value is
+/// made.
 pub struct Account<J> {
     pub parts: u64,
     pub put: LinkedList<(u64, J)>,
@@ -29,7 +29,7 @@ impl<S: Service> Protocol<Ticket<S>, Account<S::Job>> for Balance {
     ghost first = { account PASSES [] [] };
 }
 
-// A fresh pass is cut off.
+/// A fresh pass is cut off.
 pub struct Cut;
 
 impl<J> Split<Account<J>> for Cut {
@@ -38,7 +38,7 @@ impl<J> Split<Account<J>> for Cut {
     ghost right = { λ a. account 1 [] [] };
 }
 
-// A pass takes in what another has put and claimed.
+/// A pass takes in what another has put and claimed.
 pub struct Sum;
 
 impl<J> Join<Account<J>> for Sum {
@@ -59,7 +59,7 @@ impl<S: Service> Lesson<Ticket<S>, Account<S::Job>> for Puts {
     ghost fact = { λ a tickets. ⊤ };
 }
 
-// A pop adds to what was claimed, which is at most what all passes may put.
+/// A pop adds to what was claimed, which is at most what all passes may put.
 pub struct Claims;
 
 impl<S: Service> Outcome<Ticket<S>, Account<S::Job>> for Claims {
@@ -74,7 +74,7 @@ impl<S: Service> Lesson<Ticket<S>, Account<S::Job>> for Claims {
     ghost fact = { λ a tickets. ⊤ };
 }
 
-// What a pass that has every part knows.
+/// What a pass that has every part knows.
 pub struct Total;
 
 impl<S: Service> Lesson<Ticket<S>, Account<S::Job>> for Total {

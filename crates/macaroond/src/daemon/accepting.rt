@@ -23,7 +23,7 @@ pub struct Day {
     pub faults: u64,
 }
 
-// Nobody is told that a connection has ended: its berth is waited for.
+/// Nobody is told that a connection has ended: its berth is waited for.
 #[derive(Drop)]
 struct Unwatched;
 
@@ -70,7 +70,7 @@ where
     Ok(day)
 }
 
-// Serves so many connections, and waits for them.
+/// Serves so many connections, and waits for them.
 fn attended<R, W>(
     rt: &R,
     alloc: Global,
@@ -98,8 +98,8 @@ where
     })
 }
 
-// Takes on so many connections, and counts the faults so far. A berth is left before its next
-// connection, so that with all berths taken the oldest connection is waited for.
+/// Takes on so many connections, and counts the faults so far. A berth is left before its next
+/// connection, so that with all berths taken the oldest connection is waited for.
 fn taken_on<R>(
     rt: &R,
     alloc: Global,
@@ -126,7 +126,7 @@ where
     Ok(faults)
 }
 
-// Waits for all connections, and counts the faults.
+/// Waits for all connections, and counts the faults.
 fn all_left<R: Threads>(rt: &R, crew: &mut Crew) -> u64 {
     let mut faults: u64 = 0;
     for berth in 0..LIVE_MAX {

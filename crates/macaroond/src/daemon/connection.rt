@@ -39,7 +39,7 @@ impl Promise<Ended> for SamePass {
 /// A connection that is served in a thread.
 pub type Connection = PromisedHandle<Ended, SamePass>;
 
-// Whether a connection's thread was refused.
+/// Whether a connection's thread was refused.
 type Flag = Arc<AtomicBool, Global>;
 
 /// Who is told that a connection has ended, in its thread.
@@ -99,7 +99,7 @@ fn refusal(alloc: Global) -> Result<(Flag, Flag), NoMemory> {
     Ok((flag, other))
 }
 
-// Serves a stream to its end.
+/// Serves a stream to its end.
 fn served<R: Threads + Wait + Sync>(
     rt: &R,
     alloc: Global,

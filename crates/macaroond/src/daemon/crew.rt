@@ -117,7 +117,7 @@ impl Crew {
     }
 }
 
-// As many free berths as there are.
+/// As many free berths as there are.
 fn empty_berths(alloc: Global) -> Result<Vec<Option<Connection>>, AllocError>
     ensures { IfOk result (λ berths. AreFree LIVE_MAX berths.items) }
 {

@@ -38,14 +38,14 @@ pub struct Terms<'a> {
 /// How many milliseconds to wait where the system accepts no connection, for want of descriptors.
 const PAUSE_MILLIS: u64 = 100;
 
-// Which berths were left since the last look, a bit for each, and a bell for who waits for one.
+/// Which berths were left since the last look, a bit for each, and a bell for who waits for one.
 #[derive(Drop)]
 struct Quay {
     left: AtomicU64,
     bell: Bell,
 }
 
-// Tells that a connection has ended: a fault on standard error, and its berth to who waits.
+/// Tells that a connection has ended: a fault on standard error, and its berth to who waits.
 #[derive(Drop)]
 struct Berth<R> {
     rt: R,
@@ -105,12 +105,12 @@ where
     attend(rt, alloc, &listener, keys, crew, &quay, terms.idle)
 }
 
-// What a noun behind this number ends in.
+/// What a noun behind this number ends in.
 fn ending(number: usize) -> &'static str {
     if number == 1 { "" } else { "s" }
 }
 
-// Tells why there is no socket, and gives the exit status.
+/// Tells why there is no socket, and gives the exit status.
 fn refused<R: Eprint>(rt: &R, path: &str, fault: PlaceFault) -> u8
     ensures { (result ≡ 3) ⊎ (result ≡ 4) }
 {
@@ -122,7 +122,7 @@ fn refused<R: Eprint>(rt: &R, path: &str, fault: PlaceFault) -> u8
     status
 }
 
-// Serves one connection after another.
+/// Serves one connection after another.
 fn attend<R>(
     rt: &R,
     alloc: Global,
@@ -146,7 +146,7 @@ where
     unreachable!()
 }
 
-// Serves a connection from a free berth; without memory, a desk or a thread it is dropped.
+/// Serves a connection from a free berth; without memory, a desk or a thread it is dropped.
 fn welcome<R>(
     rt: R,
     alloc: Global,
@@ -178,7 +178,7 @@ where
     }
 }
 
-// A berth that is free, once there is one. Connections that have ended are joined.
+/// A berth that is free, once there is one. Connections that have ended are joined.
 fn free_berth<R: Threads + Wait>(rt: &R, crew: &mut Crew, quay: &Quay) -> usize
     ensures { result < LIVE_MAX }
 {

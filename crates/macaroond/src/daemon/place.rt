@@ -60,7 +60,7 @@ where
     Ok(listener?)
 }
 
-// A listener that is made at one path, given its mode, and moved to another.
+/// A listener that is made at one path, given its mode, and moved to another.
 fn moved<R: Files + Net>(
     rt: &R,
     inside: &str,
@@ -81,7 +81,7 @@ fn placed<R: Files>(rt: &R, inside: &str, path: &str, mode: Mode) -> io::Result<
     fs::rename(rt, inside, path)
 }
 
-// Whether a socket may be put at the path: there is nothing, or a socket on which nobody listens.
+/// Whether a socket may be put at the path: there is nothing, or a socket on which nobody listens.
 fn check_free<R: Files + Net>(rt: &R, path: &str) -> Result<(), PlaceFault> {
     match fs::symlink_metadata(rt, path) {
         Err(refused) if refused.kind() == io::ErrorKind::NotFound => Ok(()),

@@ -29,7 +29,7 @@ where
     }
 }
 
-// What is said to the person.
+/// What is said to the person.
 fn said_of<'a, R>(rt: &R, task: &'a Task) -> Result<Said, PersonFault<'a>>
 where
     R: Alloc<A = Global> + Input + Files + Clock + RandomSource,
@@ -98,7 +98,7 @@ where
     Ok(say_inspect(rt.alloc(), token.as_slice())?)
 }
 
-// What is said of the words of a mint under the keys of a table.
+/// What is said of the words of a mint under the keys of a table.
 fn mint_under<'a>(
     alloc: Global,
     table: &KeyTable,
@@ -118,7 +118,7 @@ fn mint_under<'a>(
     )?)
 }
 
-// What is said of the words of an attenuate about these bytes of a token.
+/// What is said of the words of an attenuate about these bytes of a token.
 fn attenuate_bytes<'a>(
     alloc: Global,
     form: Option<TokenForm>,
@@ -130,7 +130,7 @@ fn attenuate_bytes<'a>(
     Ok(say_attenuate(alloc, form, token, words.caveats.as_slice())?)
 }
 
-// What is said of the words of a verify about these bytes of a token, under the keys of a table.
+/// What is said of the words of a verify about these bytes of a token, under the keys of a table.
 fn verify_under<'a>(
     alloc: Global,
     table: &KeyTable,
@@ -150,8 +150,8 @@ fn verify_under<'a>(
     )?)
 }
 
-// Tells what is said, and gives the exit status. A refusal goes to standard error, so that nobody
-// takes it for a token, but for that of a verify, which is its answer.
+/// Tells what is said, and gives the exit status. A refusal goes to standard error, so that nobody
+/// takes it for a token, but for that of a verify, which is its answer.
 fn tell_said<R: Print + Eprint + Sync>(rt: &R, task: &Task, said: &Said) -> u8
     ensures { IsToldSo said.now.is_refusal result }
 {
@@ -180,7 +180,7 @@ fn tell_device<R: Eprint>(rt: &R) -> u8
     DEVICE_FAULT
 }
 
-// Names a fault on standard error, and gives the exit status.
+/// Names a fault on standard error, and gives the exit status.
 fn tell_person<R: Eprint>(rt: &R, fault: PersonFault<'_>) -> u8
     ensures { result ≡ person_status fault.entry }
 {

@@ -140,7 +140,7 @@ fn verify_of(alloc: Global, options: &ArgMatches<'_>) -> Result<VerifyWords, All
     })
 }
 
-// The value of an argument, or the empty text.
+/// The value of an argument, or the empty text.
 fn text_of(alloc: Global, options: &ArgMatches<'_>, name: &str) -> Result<String, AllocError>
     ensures { IfOk result (λ text. string_bytes text
         ≡ text_given (first_of name.now (rows_of (found_of options.now)))) }
@@ -151,7 +151,7 @@ fn text_of(alloc: Global, options: &ArgMatches<'_>, name: &str) -> Result<String
     }
 }
 
-// The value of an option that may be left out.
+/// The value of an option that may be left out.
 fn optional_text_of(
     alloc: Global,
     options: &ArgMatches<'_>,
@@ -166,7 +166,7 @@ fn optional_text_of(
     }
 }
 
-// The values of an option that may be given often, in order.
+/// The values of an option that may be given often, in order.
 fn texts_of(alloc: Global, options: &ArgMatches<'_>, name: &str) -> Result<Vec<String>, AllocError>
     ensures { IfOk result (λ texts. texts_of texts.items
         ≡ texts_given (all_of name.now (rows_of (found_of options.now)))) }

@@ -54,7 +54,7 @@ where
     }
 }
 
-// The one line of a text.
+/// The one line of a text.
 #[tactic(auto, using(crate::proofs::LineLemmas::no_line, crate::proofs::LineLemmas::two_lines))]
 fn only_line(text: &[u8]) -> Option<&[u8]>
     ensures { MatchOption result ((line : List ℕ) → lines text.now ≢ line ∷ [])
@@ -101,7 +101,7 @@ fn moment_of<'a>(alloc: Global, word: &str) -> Result<u64, PersonFault<'a>>
     }
 }
 
-// The second of the system's clock.
+/// The second of the system's clock.
 fn present<'a, R: Clock>(rt: &R) -> Result<u64, PersonFault<'a>> {
     let Ok(now) = SystemTime::now(rt) else {
         return Err(PersonFault::Clock);

@@ -193,14 +193,14 @@ fn inspect<'a>(alloc: Global) -> Result<Command<'a>, AllocError>
     with_arg(command, word(alloc, "token", "TOKEN", TOKEN_HELP))
 }
 
-// A subcommand without its arguments.
+/// A subcommand without its arguments.
 fn subcommand<'a>(alloc: Global, name: &'a str, about: &'a str, help: &'a str) -> Command<'a>
     ensures { app_of result ≡ new_app name.entry.now }
 {
     Command::new(alloc, name).about(about).after_help(help)
 }
 
-// The subcommand with the options `--keys` and `--key`.
+/// The subcommand with the options `--keys` and `--key`.
 fn with_key<'a>(alloc: Global, command: Command<'a>) -> Result<Command<'a>, AllocError>
     ensures { IfOk result (λ whole. app_of whole ≡ with_key (app_of command.entry)) }
 {
@@ -208,7 +208,7 @@ fn with_key<'a>(alloc: Global, command: Command<'a>) -> Result<Command<'a>, Allo
     with_arg(command, asked(alloc, "key", "NAME", KEY_HELP))
 }
 
-// The subcommand with one more argument.
+/// The subcommand with one more argument.
 fn with_arg<'a>(command: Command<'a>, arg: Arg<'a>) -> Result<Command<'a>, AllocError>
     requires { arg.global ≡ false }
     ensures { IfOk result (λ whole.
@@ -217,7 +217,7 @@ fn with_arg<'a>(command: Command<'a>, arg: Arg<'a>) -> Result<Command<'a>, Alloc
     command.arg(arg)
 }
 
-// An option that may be given often, and not as the empty text.
+/// An option that may be given often, and not as the empty text.
 fn repeated<'a>(alloc: Global, name: &'a str, help: &'a str) -> Arg<'a>
     ensures rule { rule_of result ≡ repeated (option name.entry.now) }
     ensures local { result.global ≡ false }
@@ -227,7 +227,7 @@ fn repeated<'a>(alloc: Global, name: &'a str, help: &'a str) -> Arg<'a>
         .value_parser(ValueParser::NonEmptyString)
 }
 
-// An option that has to be given.
+/// An option that has to be given.
 fn asked<'a>(alloc: Global, name: &'a str, value: &'a str, help: &'a str) -> Arg<'a>
     ensures rule { rule_of result ≡ required (option name.entry.now) }
     ensures local { result.global ≡ false }
@@ -235,7 +235,7 @@ fn asked<'a>(alloc: Global, name: &'a str, value: &'a str, help: &'a str) -> Arg
     valued(alloc, name, value, help).required(true)
 }
 
-// A word that has to be given, without a name.
+/// A word that has to be given, without a name.
 fn word<'a>(alloc: Global, name: &'a str, value: &'a str, help: &'a str) -> Arg<'a>
     ensures rule { rule_of result ≡ required (word name.entry.now) }
     ensures local { result.global ≡ false }
