@@ -1,3 +1,3 @@
 pub mod Fault
-pub mod Exhausted
+pub mod Ring
 pub mod Stored

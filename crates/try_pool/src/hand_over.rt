@@ -17,7 +17,7 @@ pub(crate) fn totals(alloc: Global, slips: u64) -> Result<Outcome, RunFault> {
         is_right &= hand_over(alloc, &mut intake, &mut outlet, job);
     }
     if is_right {
-        Ok(Outcome::Exhausted(meet(&mut intake, &mut outlet)))
+        Ok(Outcome::Ring(meet(&mut intake, &mut outlet)))
     } else {
         Err(RunFault::Wrong)
     }

@@ -33,7 +33,7 @@ pub(crate) fn row<R: Threads>(rt: &R, alloc: Global, name: &str) -> Result<Outco
 
 fn ring_if(totals: Totals, is_right: bool) -> Result<Outcome, RunFault> {
     if is_right {
-        Ok(Outcome::Exhausted(totals))
+        Ok(Outcome::Ring(totals))
     } else {
         Err(RunFault::Wrong)
     }

@@ -15,7 +15,7 @@ pub(crate) enum Outcome {
     /// The books of a pool that has ended.
     Books(Tally),
     /// What a ring has done.
-    Exhausted(Totals),
+    Ring(Totals),
     /// All was answered as it is to be.
     Right,
 }
@@ -30,7 +30,7 @@ where
             "put {} claimed {} left {}",
             tally.put, tally.claimed, tally.left
         ),
-        Ok(Outcome::Exhausted(totals)) => format!(in alloc;
+        Ok(Outcome::Ring(totals)) => format!(in alloc;
             "admitted {} released {}",
             totals.admitted, totals.released
         ),
