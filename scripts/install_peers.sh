@@ -1,0 +1,58 @@
+#!/usr/bin/env bash
+# Installs from Debian what the tests of real parts need; where all is there it does nothing.
+#
+# It has to be run as root to install; as another user it says what is missing, and fails.
+set -eu
+
+# Each package, and why it stands here.
+list() {
+    cat <<'END'
+libmacaroons0                   scripts/peers.py exchanges tokens with it
+python3-pymacaroons             scripts/peers.py exchanges tokens with it
+golang-go                       builds scripts/go_peer, which speaks for go-macaroon
+golang-gopkg-macaroon.v2-dev    scripts/peers.py exchanges tokens with it, by scripts/go_peer
+gcc                             builds what refuses memory and fails devices, and counts (scripts/*.c)
+libc6-dev                       the headers for that
+groff-base                      scripts/man_page.py looks for its warnings
+valgrind                        scripts/instructions.py counts with it
+END
+}
+
+is_installed() {
+    [ "$(dpkg-query -W -f='${db:Status-Status}' "$1" 2> /dev/null)" = installed ]
+}
+
+missing() {
+    list | while read -r package _; do
+        is_installed "$package" || echo "$package"
+    done
+}
+
+# The servers of packages are away at times: three tries.
+patiently() {
+    "$@" || { sleep 10; "$@"; } || { sleep 60; "$@"; }
+}
+
+if ! command -v dpkg-query > /dev/null; then
+    echo "install_peers: this is no Debian; the tests need what its packages have:" >&2
+    list >&2
+    exit 1
+fi
+wanted=$(missing)
+if [ -z "$wanted" ]; then
+    exit 0
+fi
+if [ "$(id -u)" != 0 ]; then
+    echo "install_peers: not root; missing are:" $wanted >&2
+    exit 1
+fi
+export DEBIAN_FRONTEND=noninteractive
+# An update fails for a server of other packages too, so the install says whether it sufficed.
+patiently apt-get -qq update || echo "install_peers: the lists of packages are as old as they were" >&2
+patiently apt-get -qq install -y --no-install-recommends $wanted > /dev/null
+left=$(missing)
+if [ -n "$left" ]; then
+    echo "install_peers: not installed:" $left >&2
+    exit 1
+fi
+echo "install_peers: installed" $wanted
