@@ -93,13 +93,15 @@ def counts(library):
 
 
 def faults():
-    """What a request takes that it may not."""
+    """What a request takes that it may not, and how many kinds of request were counted."""
     with tempfile.TemporaryDirectory() as folder:
         library = counter(folder)
         if library is None:
-            return []
-        return [f"{kind} asks for memory {count} times and not {MOST[kind]}"
-                for kind, count in counts(library) if kind in MOST and count > MOST[kind]]
+            return [], 0, ["there is no C compiler `cc`"]
+        counted = [it for it in counts(library) if it[0] in MOST]
+    found = [f"{kind} asks for memory {count} times and not {MOST[kind]}"
+             for kind, count in counted if count > MOST[kind]]
+    return found, len(counted)
 
 
 def main():
@@ -109,7 +111,7 @@ def main():
             sys.exit("there is no C compiler `cc`")
         for kind, count in counts(library):
             print(f"{kind}: {count}")
-    found = faults()
+    found = faults()[0]
     if found:
         sys.exit("\n".join(found))
 

@@ -14,6 +14,11 @@ def cases():
     return {f"case_{path.name}": Case(path.read_text()) for path in sorted(CASES.iterdir()) if not path.suffix}
 
 
+def answers():
+    """How many lines of answers are compared."""
+    return sum(len(path.read_text().splitlines()) for path in CASES.glob("*.stdout"))
+
+
 def faults(runs):
     """Which of them the pipe answers otherwise."""
     found = []

@@ -141,7 +141,7 @@ def serve(word, connections):
 
 
 def rows():
-    """A few rows of try_cases of each kind: the row's answer, or an end for want of memory."""
+    """A few rows of try_cases of each kind: the row's answer, or an end since memory ran out."""
     folder, seen = CRATES / "try_cases", collections.Counter()
     for line, due in zip((folder / "stdin").read_bytes().splitlines(), (folder / "stdout").read_bytes().splitlines()):
         kind = line.split()[0]
@@ -154,7 +154,7 @@ def rows():
                 return "the row's answer"
             if ended and ended.status == 0 and (ended.output == NO_CASE or b" otherwise" in ended.output):
                 return "refused to what the row is read by, or to one of two that it compares"
-            return "want of memory" if ended and ended.status == 1 and not ended.output else None
+            return "out of memory" if ended and ended.status == 1 and not ended.output else None
 
         command = [BIN / "try_cases"]
         yield in_turn(f"try_cases: {line[:60].decode()}", lambda n: watched(command, line + b"\n", "refuse", n), judge)
@@ -210,20 +210,18 @@ def many():
 
 
 def faults(rows):
-    """What was wrong in these rows, beside what they print."""
-    found = []
+    """What was wrong in these rows, beside what they print, and how many points there were."""
+    found, points = [], 0
     for row, wrong in rows:
         came = "; ".join(f"{word} ({count})" for word, count in sorted(row.came.items(), key=lambda it: str(it[0])))
         print(f"faults: {row.what}: {row.points} points: {came}", flush=True)
         found += [f"faults: {one}" for one in wrong[:20]]
-    return found
+        points += row.points
+    return found, points
 
 
 def some_faults():
-    """What is wrong in the smaller set, beside what it prints."""
-    if not refusing.has_compiler():
-        print("faults: there is no C compiler `cc`, so no request for memory was refused, and no call of a device failed")
-        return []
+    """What is wrong in the smaller set, beside what it prints, and how many points it has."""
     with refusing.libraries():
         return faults(few())
 
@@ -232,7 +230,7 @@ def main():
     if not refusing.has_compiler():
         sys.exit("there is no C compiler `cc`")
     with refusing.libraries():
-        found = faults(few() if "--few" in sys.argv else many())
+        found, _ = faults(few() if "--few" in sys.argv else many())
     if found:
         sys.exit("\n".join(found))
 

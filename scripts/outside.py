@@ -1,7 +1,15 @@
 #!/usr/bin/env python3
-"""Compares the program with what README and FORMATS show, with cases made elsewhere, and with the macaroons of others, and sees how it ends."""
+"""Compares the program with what README and FORMATS show, with cases made elsewhere, and with the macaroons of others, and sees how it ends.
+
+Each part tells how many checks it made, what was wrong, and what it left out; the last line counts
+all of them. A part that breaks off counts as one that failed, and the others are made all the same.
+"""
+import functools
 import os
 import sys
+import time
+import traceback
+import typing
 
 import allocations
 import case_files
@@ -14,6 +22,7 @@ import man_page
 import peers
 import pipe_runs
 import quotes
+import refusing
 import statuses
 import tutorial
 import words
@@ -24,34 +33,90 @@ DEBIAN_PYTHON = "/usr/bin/python3"
 HOSTILE_SECONDS = 4
 
 
+class Outcome(typing.NamedTuple):
+    """What came of a part: what was wrong, how many checks there were, and what was left out."""
+
+    faults: typing.Sequence[str]
+    checks: int = 1
+    skipped: typing.Sequence[str] = ()
+
+
+def over_pipe():
+    """The parts whose cases are answered by runs of the pipe, all made at once."""
+    page, files = tutorial.Tutorial(), case_files.cases()
+    others, missing = peers.installed_peers()
+    runs = pipe_runs.runs({**page.cases, **files, **statuses.cases(), **words.cases(), **peers.cases(others)})
+    yield "FORMATS", lambda: (page.compared(runs), len(page.shown) + 1)
+    yield "cases", lambda: (case_files.faults(runs), case_files.answers())
+    yield "endings", lambda: (statuses.faults(runs), len(statuses.ENDINGS))
+    yield "words", lambda: (words.faults(runs), len(words.USES))
+    for peer in others:
+        yield peer.name, functools.partial(peers.outcome, peer, runs)
+    for name in missing:
+        yield name, skipping("it isn't installed (scripts/install_peers.sh)")
+
+
+# The parts that ask for bin/macaroond, and those that ask for a C compiler too. A part gives what was
+# wrong and, behind it, how many checks it made: one, where it doesn't say.
+OF_PROGRAM = {
+    "edges": edges.faults,
+    "edges of words": words.edge_faults,
+    "sessions": daemon_session.faults,
+    "sockets": daemon_rows.faults,
+    "hostile": lambda: hostile.faults(HOSTILE_SECONDS),
+}
+OF_COMPILER = {"allocations": allocations.faults, "faults": faults.some_faults}
+OF_PAGES = {"quotes": quotes.faults, "man": man_page.faults}
+
+
+def skipping(why):
+    return lambda: ([], 0, [why])
+
+
+def parts():
+    """The name of each part, and what makes it."""
+    yield from over_pipe()
+    unbuilt = None if pipe_runs.is_built() else "bin/macaroond isn't built from these sources (make build)"
+    uncompiled = None if refusing.has_compiler() else "there is no C compiler `cc`"
+    for name, part in OF_PROGRAM.items():
+        yield name, skipping(unbuilt) if unbuilt else part
+    for name, part in OF_COMPILER.items():
+        why = unbuilt or uncompiled
+        yield name, skipping(why) if why else part
+    yield from OF_PAGES.items()
+
+
+def outcome(part):
+    """What comes of the part, however it ends."""
+    try:
+        found = part()
+    except SystemExit as ended:
+        return Outcome([str(ended)])
+    except Exception:
+        return Outcome([traceback.format_exc()])
+    return Outcome(*found) if isinstance(found, tuple) else Outcome(found)
+
+
+def told(name, part):
+    """Makes the part and tells what came of it: how many checks passed, failed and were left out."""
+    begin = time.monotonic()
+    came = outcome(part)
+    for fault in came.faults:
+        print(f"FAULT in {name}: {fault}")
+    for why in came.skipped:
+        print(f"SKIPPED of {name}: {why}")
+    failed = len(came.faults)
+    passed = max(came.checks - failed, 0)
+    print(f"{name}: {passed} as they must be, {time.monotonic() - begin:.1f} s", flush=True)
+    return passed, failed, len(came.skipped)
+
+
 def main():
     if sys.executable != DEBIAN_PYTHON and os.access(DEBIAN_PYTHON, os.X_OK):
         os.execv(DEBIAN_PYTHON, [DEBIAN_PYTHON, *sys.argv])
-    page = tutorial.Tutorial()
-    files = case_files.cases()
-    others = peers.installed_peers()
-    runs = pipe_runs.runs({**page.cases, **files, **statuses.cases(), **words.cases(), **peers.cases(others)})
-    found = page.compared(runs) + case_files.faults(runs) + statuses.faults(runs) + words.faults(runs) + peers.faults(others, runs)
-    is_built = pipe_runs.is_built()
-    edge_faults, edge_runs = edges.faults() if is_built else ([], 0)
-    word_faults = words.edge_faults() if is_built else []
-    daemon_faults, daemon_steps = daemon_session.faults() if is_built else ([], 0)
-    row_faults, rows = daemon_rows.faults() if is_built else ([], 0)
-    hostile_faults = hostile.faults(HOSTILE_SECONDS) if is_built else []
-    memory_faults = allocations.faults() + faults.some_faults() if is_built else []
-    found += edge_faults + word_faults + daemon_faults + row_faults + hostile_faults + memory_faults + quotes.faults() + man_page.faults()
-    if found:
-        raise SystemExit("\n".join(found))
-    print(f"FORMATS: {len(page.shown)} runs of the pipe print what it shows")
-    print(f"cases: {len(files)} runs of the pipe print what they must, and {len(statuses.ENDINGS)} end as they must")
-    print(f"words: {len(words.USES)} uses by people, right and wrong, end as they must")
-    if edge_runs:
-        print(f"edges: {edge_runs} runs over failing devices, little memory and no UTF-8 end as they must")
-        print(f"sessions: {daemon_steps} commands of the README print what it shows, and {rows} runs over a socket end as they must")
-    else:
-        print("edges: bin/macaroond isn't built from these sources (make build), so no run over failing devices, with memory refused or over a socket was made")
-    for peer in others:
-        print(f"{peer.name}: tokens exchanged in {', '.join(peer.forms)}")
+    passed, failed, skipped = map(sum, zip(*(told(name, part) for name, part in parts())))
+    print(f"{passed} passed, {failed} failed, {skipped} skipped")
+    sys.exit(1 if failed else 0)
 
 
 if __name__ == "__main__":

@@ -1,14 +1,17 @@
-"""Exchanges tokens with libmacaroons and pymacaroons, both ways, in each form that they have.
+"""Exchanges tokens with libmacaroons, pymacaroons and go-macaroon, both ways, in each form that they have.
 
-Debian's packages libmacaroons0 and python3-pymacaroons; a peer that isn't installed is left out with a word.
+They are Debian's packages, as install_peers.sh installs them; a peer that isn't there is told as skipped.
 """
 import ctypes
+import os
 import pathlib
+import shutil
+import subprocess
 import sys
 
 sys.path.append(str(pathlib.Path(__file__).resolve().parent.parent / "examples"))
 import request
-from pipe_runs import Case
+from pipe_runs import TOP, Case
 
 SECRET = "this is our super secret key; only we should know it"
 LOCATION = "http://mybank/"
@@ -97,15 +100,45 @@ class Libmacaroons:
         return verdict == 0
 
 
+class GoMacaroon:
+    """go-macaroon, by the program in go_peer."""
+
+    name = "go-macaroon"
+    FOLDER = pathlib.Path("/usr/share/gocode")
+
+    def __init__(self):
+        if shutil.which("go") is None or not (self.FOLDER / "src" / "gopkg.in" / "macaroon.v2").is_dir():
+            raise ImportError("gopkg.in/macaroon.v2")
+        self.program = TOP / "bin" / "go_peer"
+        self.program.parent.mkdir(exist_ok=True)
+        offline = {**os.environ, "GO111MODULE": "off", "GOFLAGS": "", "GOPATH": str(self.FOLDER)}
+        subprocess.run(["go", "build", "-o", self.program, "."], cwd=TOP / "scripts" / "go_peer", env=offline, check=True)
+        self.forms = ["v1-text", "v2-binary", "v2-text", "v2-json"]
+
+    def asked(self, *words):
+        return subprocess.run([self.program, *words], capture_output=True, text=True, check=True).stdout.rstrip("\n")
+
+    def mint(self, form):
+        return self.asked("mint", form, SECRET, LOCATION, IDENTIFIER, *CAVEATS)
+
+    def accepts(self, form, text, facts):
+        return self.asked("verify", form, SECRET, text, *facts) == "granted"
+
+
+PEERS = [Libmacaroons, Pymacaroons, GoMacaroon]
+# What each exchange looks at.
+CHECKS = 6
+
+
 def installed_peers():
-    """The peers that are there; whoever isn't is named."""
-    peers = []
-    for peer in (Libmacaroons, Pymacaroons):
+    """The peers that are there, and the names of the others."""
+    peers, missing = [], []
+    for peer in PEERS:
         try:
             peers.append(peer())
         except (OSError, ImportError):
-            print(f"{peer.name} isn't installed: no exchange with it")
-    return peers
+            missing.append(peer.name)
+    return peers, missing
 
 
 def asked(*lines):
@@ -128,16 +161,15 @@ def cases(peers):
     return made
 
 
-def faults(peers, runs):
-    """What didn't come out as it should, in words."""
+def outcome(peer, runs):
+    """What didn't come out as it should, in words, and how many things were looked at."""
     found = []
-    for peer in peers:
-        for form in peer.forms:
-            lines = runs[f"{peer.name}_{form}"].output.splitlines()
-            expect(found, len(lines) == 4, f"{peer.name}, {form}: {len(lines)} answers to 4 requests")
-            if len(lines) == 4:
-                found += exchange_faults(peer, form, *lines)
-    return found
+    for form in peer.forms:
+        lines = runs[f"{peer.name}_{form}"].output.splitlines()
+        expect(found, len(lines) == 4, f"{peer.name}, {form}: {len(lines)} answers to 4 requests")
+        if len(lines) == 4:
+            found += exchange_faults(peer, form, *lines)
+    return found, CHECKS * len(peer.forms)
 
 
 def exchange_faults(peer, form, minted, granted, refused, narrowed):

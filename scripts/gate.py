@@ -1,0 +1,66 @@
+#!/usr/bin/env python3
+"""The gate: every proof, then the programs that it left beside their pages and the work of others.
+
+Its last line counts what passed, failed and was skipped in all of it; it ends with 1 where something
+failed. With `--all` nothing may be skipped.
+"""
+import pathlib
+import re
+import subprocess
+import sys
+
+TOP = pathlib.Path(__file__).resolve().parent.parent
+# The line in which a step counts.
+COUNTS = re.compile(r"(?:[\w. -]+: )?(\d+) passed, (\d+) failed(?:, (\d+) skipped)?")
+PROOFS, PROGRAMS, OUTSIDE = ["rt", "ci"], ["scripts/take_programs.sh"], ["scripts/outside.py"]
+
+
+def followed(command):
+    """Runs the command and passes on what it prints. Its status, and what it counts last, if it does.
+
+    The line in which it counts is passed on under the command's name: one line alone ends the gate.
+    """
+    counts, name = None, " ".join(command)
+    print(f"gate: {name}", flush=True)
+    with subprocess.Popen(command, cwd=TOP, stdout=subprocess.PIPE, text=True, errors="replace") as run:
+        for line in run.stdout:
+            told = COUNTS.fullmatch(line.rstrip("\n"))
+            counts = [int(it or 0) for it in told.groups()] if told else counts
+            print(f"from {name}: {line}" if told else line, end="", flush=True)
+    return run.returncode, counts
+
+
+def judged(status, counts, what):
+    """What a step counted; where it ended badly or told no counts, that is a failure too."""
+    passed, failed, skipped = counts or (0, 0, 0)
+    if failed == 0 and (status != 0 or counts is None):
+        print(f"gate: {what} ended with status {status} and told no failure")
+        failed = 1
+    return passed, failed, skipped
+
+
+def steps():
+    """The counts of each step, up to one that the others stand on and that failed."""
+    proofs = judged(*followed(PROOFS), "rt ci")
+    yield proofs
+    if proofs[1]:
+        print("gate: the programs aren't tried, since not all was proved")
+        return
+    status, _ = followed(PROGRAMS)
+    if status != 0:
+        yield 0, 1, 0
+        return
+    yield judged(*followed(OUTSIDE), "scripts/outside.py")
+
+
+def main():
+    passed, failed, skipped = map(sum, zip(*steps()))
+    if skipped and "--all" in sys.argv:
+        print(f"gate: nothing may be skipped, and {skipped} were")
+        failed += skipped
+    print(f"{passed} passed, {failed} failed, {skipped} skipped")
+    sys.exit(1 if failed else 0)
+
+
+if __name__ == "__main__":
+    main()
