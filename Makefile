@@ -4,7 +4,7 @@
 # work of others, over sockets, with memory refused and calls failed. It installs nothing: what isn't there is told as
 # skipped, and the last line counts it.
 test:
-	scripts/gate.py $(GATE)
+	scripts/gate.py
 
 # All wrong bodies, many in one check, of the crates that are named behind it, or of all.
 wrong-bodies:
