@@ -26,6 +26,7 @@ import refusing
 import statuses
 import tutorial
 import words
+import wrong_bodies
 
 # Where Debian's packages for Python are seen.
 DEBIAN_PYTHON = "/usr/bin/python3"
@@ -66,7 +67,7 @@ OF_PROGRAM = {
     "hostile": lambda: hostile.faults(HOSTILE_SECONDS),
 }
 OF_COMPILER = {"allocations": allocations.faults, "faults": faults.some_faults}
-OF_PAGES = {"quotes": quotes.faults, "man": man_page.faults}
+OF_TEXTS = {"quotes": quotes.faults, "man": man_page.faults, "wrong bodies apply": wrong_bodies.faults}
 
 
 def skipping(why):
@@ -83,7 +84,7 @@ def parts():
     for name, part in OF_COMPILER.items():
         why = unbuilt or uncompiled
         yield name, skipping(why) if why else part
-    yield from OF_PAGES.items()
+    yield from OF_TEXTS.items()
 
 
 def outcome(part):

@@ -9,8 +9,16 @@ Many are tried in one check of a copy of the crate, at most one for each functio
 fails because its callee does is no refusal of the caller's body. An edit of anything but functions'
 bodies is tried alone; those that a check of several didn't see refused are tried again, at last
 each alone. The tree itself is checked only as it stands, so that its out/ is fresh.
+
+Two kinds of refusal say nothing of a contract and are counted apart, as skipped: *by name alone*,
+where all that is wrong is that a proof names what the body took away, and *not covered*, where the
+borrow checker doesn't cover the body, so that there is no proof of anything.
+
+With --dry no check is made: it tells which edits don't apply to the sources as they are.
 """
 import argparse
+import collections
+import enum
 import os
 import re
 import resource
@@ -141,6 +149,7 @@ def is_at(line, function):
 
 PROVED = "proved(?:, may wait)?"
 LOST = re.compile(r": error: .*(can be named from here|has no field|is not in scope|\(nearest: )")
+UNCOVERED = "the borrow checker does not cover"
 SURE = re.compile(r"no proof|.*(: error: |this goal is false)")
 
 
@@ -153,28 +162,48 @@ def tells_names_alone(errors):
 # Which bodies were refused.
 
 
-BY_NAME = " by name alone"
+class Kind(enum.Enum):
+    """What came of a wrong body."""
+
+    REFUSED = "refused"
+    BY_NAME = "refused by name alone"
+    UNCOVERED = "not covered"
+    LET_THROUGH = "LET THROUGH"
+    BAD_EDIT = "BAD EDIT"
+    NOT_PROVED = "NOT PROVED"
+
+
+SAYS_NOTHING = [Kind.BY_NAME, Kind.UNCOVERED]
+FAILED = [Kind.LET_THROUGH, Kind.BAD_EDIT, Kind.NOT_PROVED]
 
 
 @dataclass
 class Verdict:
     body: str
-    is_refused: bool
+    kind: Kind
     said: str
+
+    def is_failure(self):
+        return self.kind in FAILED
+
+
+def kind_of(errors):
+    """What these errors at goals of one function, of which there are some, say of its body."""
+    if any(UNCOVERED in it for it in errors):
+        return Kind.UNCOVERED
+    return Kind.BY_NAME if tells_names_alone(errors) else Kind.REFUSED
 
 
 def judged(body, report, source):
+    """What the report says of the body; of several functions one that refuses it is enough."""
     if not report.has_ended:
-        why = f"BAD EDIT: the check stopped early: {report.first_error()}"
-        return Verdict(body.name, False, why)
-    for function in body.functions or source.functions:
-        found = report.own_errors(function)
-        if found:
-            by = BY_NAME * tells_names_alone(found)
-            return Verdict(body.name, True, f"refused{by} at {function.path}: {found[0]}")
+        return Verdict(body.name, Kind.BAD_EDIT, f"the check stopped early: {report.first_error()}")
+    own = [(it, report.own_errors(it)) for it in body.functions or source.functions]
+    found = [(kind_of(errors), f"at {it.path}: {errors[0]}") for it, errors in own if errors]
+    if found:
+        return Verdict(body.name, *min(found, key=lambda it: it[0] in SAYS_NOTHING))
     said = [f"{it.path}: {report.unproved.get(it.path, 'proved')}" for it in body.functions]
-    why = f"LET THROUGH: {'; '.join(said) or 'no goal stands open'}"
-    return Verdict(body.name, False, why)
+    return Verdict(body.name, Kind.LET_THROUGH, "; ".join(said) or "no goal stands open")
 
 
 def tried(batch, copy):
@@ -186,12 +215,12 @@ def tried(batch, copy):
     if len(batch) > 1 and not report.has_ended:
         return [it for part in parted(batch, report) for it in tried(part, copy)]
     found = [judged(body, report, copy.source) for body in batch]
-    again = [body for body, verdict in zip(batch, found) if not verdict.is_refused]
+    again = [body for body, verdict in zip(batch, found) if verdict.is_failure()]
     if not again or len(batch) == 1:
         return found
     parts = [again] if len(again) < len(batch) else [[it] for it in again]
-    refused = [it for it in found if it.is_refused]
-    return refused + [it for part in parts for it in tried(part, copy)]
+    settled = [it for it in found if not it.is_failure()]
+    return settled + [it for part in parts for it in tried(part, copy)]
 
 
 def parted(batch, report):
@@ -207,31 +236,77 @@ def edits_of(crate):
     return sorted(it for part in EDITS for it in (folder / part).glob("*.edit"))
 
 
+def bodies_of(crate, source):
+    """The crate's wrong bodies, and verdicts on the edits that don't apply."""
+    bodies, bad = [], []
+    for edit in edits_of(crate):
+        try:
+            bodies.append(read_body(edit, source))
+        except BadEdit as error:
+            bad.append(Verdict(edit.stem, Kind.BAD_EDIT, str(error)))
+    return bodies, bad
+
+
 def try_crate(crate):
     """A verdict on each of the crate's wrong bodies."""
     said = rt_check(ROOT / "crates" / crate)
     if "\nlogic=proved" not in said:
-        return [Verdict("as it stands", False, "NOT PROVED")]
-    proved, bodies, found = re.findall(rf"^fn (\S+): {PROVED}$", said, re.M), [], []
+        return [Verdict("as it stands", Kind.NOT_PROVED, "its own check fails")]
+    proved = re.findall(rf"^fn (\S+): {PROVED}$", said, re.M)
     with tempfile.TemporaryDirectory(prefix="wrong-bodies-") as room:
         copy = Copy(crate, Path(room), proved)
-        for edit in edits_of(crate):
-            try:
-                bodies.append(read_body(edit, copy.source))
-            except BadEdit as error:
-                found.append(Verdict(edit.stem, False, f"BAD EDIT: {error}"))
+        bodies, found = bodies_of(crate, copy.source)
         for batch in batches_of(bodies):
             found += tried(batch, copy)
     return found
 
 
 def tell(crate, found, tells_all):
+    """Tells what came of a crate's bodies, and counts them by their kind."""
     for it in found:
-        if tells_all or not it.is_refused or BY_NAME in it.said:
-            print(f"{crate}/{it.body}: {it.said}")
-    refused = sum(it.is_refused for it in found)
-    print(f"{crate}: {refused} of {len(found)} refused", flush=True)
-    return refused, len(found) - refused
+        if tells_all or it.kind != Kind.REFUSED:
+            print(f"{crate}/{it.body}: {it.kind.value}: {it.said}")
+    counts = collections.Counter(it.kind for it in found)
+    print(f"{crate}: {listed(counts)}, of {len(found)}", flush=True)
+    return counts
+
+
+def listed(counts):
+    kinds = [it for it in Kind if counts[it] or it == Kind.REFUSED]
+    return ", ".join(f"{counts[it]} {it.value}" for it in kinds)
+
+
+def faults(crates=()):
+    """Which edits don't apply to the sources as they are, and how many edits there are."""
+    found, count = [], 0
+    for crate in crates or crates_with_edits():
+        bodies, bad = bodies_of(crate, Source(ROOT / "crates" / crate))
+        found += [f"{crate}/{it.body}: {it.kind.value}: {it.said}" for it in bad]
+        count += len(bodies) + len(bad)
+    return found, count
+
+
+def dry_run(crates):
+    """Tells which edits don't apply. Whether all do."""
+    found, count = faults(crates)
+    print("\n".join([*found, f"{count - len(found)} of {count} edits apply"]))
+    return not found
+
+
+def crates_with_edits():
+    return sorted(it.name for it in (ROOT / "crates").iterdir() if edits_of(it.name))
+
+
+def try_all(crates, tells_all):
+    """Tries the wrong bodies of these crates. Whether none failed."""
+    with ThreadPoolExecutor(os.cpu_count()) as pool:
+        found = zip(crates, pool.map(try_crate, crates))
+        counts = sum((tell(*it, tells_all) for it in found), collections.Counter())
+    used = resource.getrusage(resource.RUSAGE_CHILDREN)
+    print(f"{(used.ru_utime + used.ru_stime) / 60:.0f} processor minutes; {listed(counts)}")
+    failed, skipped = (sum(counts[it] for it in kinds) for kinds in (FAILED, SAYS_NOTHING))
+    print(f"{counts[Kind.REFUSED]} passed, {failed} failed, {skipped} skipped")
+    return failed == 0
 
 
 def main():
@@ -239,17 +314,10 @@ def main():
     parser = argparse.ArgumentParser(description=__doc__, formatter_class=raw)
     parser.add_argument("crates", nargs="*", metavar="CRATE", help="all, if none is named")
     parser.add_argument("--all", action="store_true", help="tells where each body is refused")
+    parser.add_argument("--dry", action="store_true", help="tells which edits don't apply")
     given = parser.parse_args()
-    known = sorted(it.name for it in (ROOT / "crates").iterdir())
-    crates = given.crates or [it for it in known if edits_of(it)]
-    with ThreadPoolExecutor(os.cpu_count()) as pool:
-        found = zip(crates, pool.map(try_crate, crates))
-        sums = [tell(crate, verdicts, given.all) for crate, verdicts in found]
-    used = resource.getrusage(resource.RUSAGE_CHILDREN)
-    print(f"{(used.ru_utime + used.ru_stime) / 60:.0f} processor minutes")
-    passed, failed = map(sum, zip((0, 0), *sums))
-    print(f"{passed} passed, {failed} failed")
-    sys.exit(1 if failed else 0)
+    crates = given.crates or crates_with_edits()
+    sys.exit(0 if (dry_run(crates) if given.dry else try_all(crates, given.all)) else 1)
 
 
 if __name__ == "__main__":
