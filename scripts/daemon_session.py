@@ -27,7 +27,7 @@ def script(folder, commands):
         printed = shlex.quote(str(folder / f"printed.{step:03}"))
         lines.append(f"{{ {command}\n}} > {printed} 2>&1")
         if command.endswith("&"):
-            lines.append(f"for _ in $(seq 100); do [ -s {printed} ] && break; sleep 0.1; done")
+            lines.append(f"for _ in $(seq 600); do [ -s {printed} ] && break; sleep 0.1; done")
     return "\n".join(lines)
 
 
@@ -39,7 +39,7 @@ def faults():
         (folder / "examples").symlink_to(TOP / "examples")
         (folder / "bin").symlink_to(TOP / "bin")
         text = script(folder, [command for command, _ in found])
-        run = subprocess.run(["sh", "-c", text], cwd=folder, timeout=60)
+        run = subprocess.run(["sh", "-c", text], cwd=folder, timeout=180)
         if run.returncode != 0:
             return [f"the README's session ends with status {run.returncode}"], 0
         printed = [(folder / f"printed.{step:03}").read_text() for step in range(len(found))]

@@ -3,6 +3,7 @@ import collections
 import concurrent.futures
 import contextlib
 import errno
+import pathlib
 import signal
 import socket
 import subprocess
@@ -152,13 +153,20 @@ def stopped():
         with daemon_rows.connected(daemon.path) as stream:
             is_right = is_served(stream)
             daemon.run.send_signal(signal.SIGSTOP)
-            time.sleep(0.1)
+            wait_until(lambda: daemon.states() == {"T"})
             daemon.run.send_signal(signal.SIGCONT)
-            time.sleep(0.1)
+            wait_until(lambda: daemon.states() == {"S"})
             is_right &= is_served(stream)
         daemon.close()
     what = "listen with timeouts, stopped and continued"
     return Row(what, 1, collections.Counter(["served" if is_right else None])), [] if is_right else [f"{what}: the client is lost"]
+
+
+def wait_until(holds):
+    """Waits until it holds, or as long as anything may take."""
+    until = time.monotonic() + PATIENCE
+    while not holds() and time.monotonic() < until:
+        time.sleep(0.01)
 
 
 def accepts_again():
@@ -184,6 +192,11 @@ class Listening:
         pipes = {"stdout": subprocess.PIPE, "stderr": subprocess.DEVNULL, "env": self.watch.environment}
         self.run = subprocess.Popen([pipe_runs.PROGRAM, *words], **pipes)
         self.run.stdout.readline()
+
+    def states(self):
+        """What its threads are at: `S` waits, `T` is stopped (proc(5))."""
+        tasks = pathlib.Path(f"/proc/{self.run.pid}/task").glob("*/stat")
+        return {task.read_text().rpartition(")")[2].split()[0] for task in tasks}
 
     def refuse_behind(self, number, every=0):
         """Refuses the call that comes so many calls from now."""
