@@ -1,11 +1,12 @@
 #!/usr/bin/env python3
 """The gate: every proof, then the programs that it left beside their pages and the work of others.
 
-Its last line counts what passed, failed and was skipped in all of it; it ends with 1 where something
-failed. With `--all` nothing may be skipped.
+Its last line counts what passed, failed and was skipped in all of it; it ends with 1 where
+something failed. With `--all` nothing may be skipped.
 """
 import pathlib
 import re
+import shutil
 import subprocess
 import sys
 
@@ -16,13 +17,17 @@ PROOFS, PROGRAMS, OUTSIDE = ["rt", "ci"], ["scripts/take_programs.sh"], ["script
 
 
 def followed(command):
-    """Runs the command and passes on what it prints. Its status, and what it counts last, if it does.
+    """Runs the command and passes on what it prints. Its status, and what it counts last, if any.
 
     The line in which it counts is passed on under the command's name: one line alone ends the gate.
     """
     counts, name = None, " ".join(command)
     print(f"gate: {name}", flush=True)
-    with subprocess.Popen(command, cwd=TOP, stdout=subprocess.PIPE, text=True, errors="replace") as run:
+    if "/" not in command[0] and shutil.which(command[0]) is None:
+        print(f"gate: there is no command `{command[0]}`")
+        return 127, None
+    how = {"cwd": TOP, "stdout": subprocess.PIPE, "text": True, "errors": "replace"}
+    with subprocess.Popen(command, **how) as run:
         for line in run.stdout:
             told = COUNTS.fullmatch(line.rstrip("\n"))
             counts = [int(it or 0) for it in told.groups()] if told else counts

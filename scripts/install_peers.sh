@@ -11,7 +11,7 @@ libmacaroons0                   scripts/peers.py exchanges tokens with it
 python3-pymacaroons             scripts/peers.py exchanges tokens with it
 golang-go                       builds scripts/go_peer, which speaks for go-macaroon
 golang-gopkg-macaroon.v2-dev    scripts/peers.py exchanges tokens with it, by scripts/go_peer
-gcc                             builds what refuses memory and fails devices, and counts (scripts/*.c)
+gcc                             builds what refuses memory, fails devices and counts (scripts/*.c)
 libc6-dev                       the headers for that
 groff-base                      scripts/man_page.py looks for its warnings
 valgrind                        scripts/instructions.py counts with it
@@ -48,7 +48,7 @@ if [ "$(id -u)" != 0 ]; then
 fi
 export DEBIAN_FRONTEND=noninteractive
 # An update fails for a server of other packages too, so the install says whether it sufficed.
-patiently apt-get -qq update || echo "install_peers: the lists of packages are as old as they were" >&2
+patiently apt-get -qq update || echo "install_peers: the lists of packages are old" >&2
 patiently apt-get -qq install -y --no-install-recommends $wanted > /dev/null
 left=$(missing)
 if [ -n "$left" ]; then

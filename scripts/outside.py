@@ -1,5 +1,5 @@
 #!/usr/bin/env python3
-"""Compares the program with what README and FORMATS show, with cases made elsewhere, and with the macaroons of others, and sees how it ends.
+"""Compares the program with its pages, with cases made elsewhere and with the macaroons of others.
 
 Each part tells how many checks it made, what was wrong, and what it left out; the last line counts
 all of them. A part that breaks off counts as one that failed, and the others are made all the same.
@@ -46,7 +46,8 @@ def over_pipe():
     """The parts whose cases are answered by runs of the pipe, all made at once."""
     page, files = tutorial.Tutorial(), case_files.cases()
     others, missing = peers.installed_peers()
-    runs = pipe_runs.runs({**page.cases, **files, **statuses.cases(), **words.cases(), **peers.cases(others)})
+    asked = [page.cases, files, statuses.cases(), words.cases(), peers.cases(others)]
+    runs = pipe_runs.runs({name: case for cases in asked for name, case in cases.items()})
     yield "FORMATS", lambda: (page.compared(runs), len(page.shown) + 1)
     yield "cases", lambda: (case_files.faults(runs), case_files.answers())
     yield "endings", lambda: (statuses.faults(runs), len(statuses.ENDINGS))
@@ -57,8 +58,8 @@ def over_pipe():
         yield name, skipping("it isn't installed (scripts/install_peers.sh)")
 
 
-# The parts that ask for bin/macaroond, and those that ask for a C compiler too. A part gives what was
-# wrong and, behind it, how many checks it made: one, where it doesn't say.
+# The parts that ask for bin/macaroond, and those that ask for a C compiler too. A part gives what
+# was wrong and, behind it, how many checks it made (one, where it doesn't say) and what it skipped.
 OF_PROGRAM = {
     "edges": edges.faults,
     "edges of words": words.edge_faults,
@@ -67,7 +68,11 @@ OF_PROGRAM = {
     "hostile": lambda: hostile.faults(HOSTILE_SECONDS),
 }
 OF_COMPILER = {"allocations": allocations.faults, "faults": faults.some_faults}
-OF_TEXTS = {"quotes": quotes.faults, "man": man_page.faults, "wrong bodies apply": wrong_bodies.faults}
+OF_TEXTS = {
+    "quotes": quotes.faults,
+    "man": man_page.faults,
+    "wrong bodies apply": wrong_bodies.faults,
+}
 
 
 def skipping(why):
@@ -77,7 +82,7 @@ def skipping(why):
 def parts():
     """The name of each part, and what makes it."""
     yield from over_pipe()
-    unbuilt = None if pipe_runs.is_built() else "bin/macaroond isn't built from these sources (make build)"
+    unbuilt = None if pipe_runs.is_built() else "bin/macaroond is missing or old (make build)"
     uncompiled = None if refusing.has_compiler() else "there is no C compiler `cc`"
     for name, part in OF_PROGRAM.items():
         yield name, skipping(unbuilt) if unbuilt else part
@@ -99,7 +104,7 @@ def outcome(part):
 
 
 def told(name, part):
-    """Makes the part and tells what came of it: how many checks passed, failed and were left out."""
+    """Makes the part and tells what came of it: how much passed, failed and was left out."""
     begin = time.monotonic()
     came = outcome(part)
     for fault in came.faults:
