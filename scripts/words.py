@@ -132,6 +132,7 @@ WRONG = {
         Ending(1, "refused 23: the key does not give the signature of the token\n", ""),
     ),
     "bad_key_name": (Case("", ["keygen", "my bank"]), bad("the name of a key is 1 to 64 letters, ")),
+    "key_name_with_a_line_feed": (Case("", ["keygen", "a 00\n#"]), bad("the name of a key is 1 to 64 letters, ")),
     "no_key_name": (Case("", ["keygen"]), bad("the following required arguments were not provided:\n")),
     "option_twice": (Case("", verify("--keys", KEYS)), bad("the argument '--keys <FILE>' cannot be used multiple times\n")),
     "option_left_out": (Case("", [*MINT]), bad("the following required arguments were not provided:\n")),

@@ -13,5 +13,5 @@ mod table;
 
 pub use fault::{KeyFault, LineFault};
 pub use keys::Keys;
-pub use line::NAME_MAX;
+pub use line::{NAME_MAX, is_name};
 pub use table::{KeyTable, NAMES_MAX};

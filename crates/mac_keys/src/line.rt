@@ -123,7 +123,9 @@ fn first_space(rest: &[u8]) -> Option<usize>
     rest.iter().position(|byte| *byte == b' ')
 }
 
-fn is_name(name: &[u8]) -> bool
+/// Whether the bytes are a name that a key file may have: 1 to 64 letters and digits of ASCII, dots,
+/// underscores and dashes.
+pub fn is_name(name: &[u8]) -> bool
     ensures { result ≡ is_name name.now }
 {
     !name.is_empty() && name.len() <= NAME_MAX && has_name_bytes(name)

@@ -2,3 +2,4 @@ pub mod Appends
 pub mod InspectedLemmas
 pub mod MomentLemmas
 pub mod PayloadLemmas
+pub mod KeyLineLemmas
