@@ -1,6 +1,6 @@
 //! What is known of a reply before its signature is computed.
 
-ghost use Rattle.std.specs.Prelude.{◌≡◌, ◌∷◌, ℕ, List, [], IfOk, MatchOption, drop, length, get_or};
+ghost use Rattle.std.specs.Prelude.{◌≡◌, ◌⊎◌, ◌∷◌, ℕ, List, [], IfOk, MatchOption, None, drop, length, get_or};
 ghost use Rattle.mac_hmac.specs.Chain.{extended};
 ghost use Rattle.mac_decide.specs.Folding.{end_of};
 ghost use Rattle.mac_decide.specs.Prepared.{comes_to, ends_in, left_of, reply_by, signature_of, verdict_on};
@@ -26,8 +26,11 @@ impl<'a> Question<'a> {
     /// The texts that lead to the second key's signature, where this one isn't the token's. A key
     /// is asked once: the question is without it from then on.
     fn take_second(&mut self, signature: Sig) -> Option<Folding<'a>>
-        ensures { MatchOption result (self.new ≡ self.old)
+        ensures verdict { MatchOption result (self.new ≡ self.old)
             (λ folding. verdict_on self.new (end_of folding) ≡ verdict_on self.old signature) }
+        ensures asked { MatchOption result
+            ((self.old.second ≡ None) ⊎ (self.old.token.sig ≡ signature))
+            (λ _. self.new.second ≡ None) }
     {
         match self.second {
             Some(key) if !same(&Sig::from_bytes(self.token.sig()), &signature) => {
