@@ -208,3 +208,13 @@ other-verdict signature second t x other =
 pub verdict_of-by : (first : List ℕ) (second : Option (List ℕ)) (t : TokenParts) (x : Context) → verdict_by (chain first t.identifier t.caveats) second t x ≡ verdict_of (first ∷ option_to_list second) t x
 unfolding verdict_of
 verdict_of-by first second t x = refl
+
+minted_alike : (keys others : List (List ℕ)) (t : TokenParts) (x : Context) (v : Verdict) → (Minted others t ↔ Minted keys t) → IsVerdict others t x v → IsVerdict keys t x v
+minted_alike keys others t x Granted alike p = record { minted = alike.0 p.minted; satisfied = p.satisfied }
+minted_alike keys others t x BadSignature alike p = λ minted. p (alike.1 minted)
+minted_alike keys others t x (Unsatisfied i) alike p = (alike.0 p.0, p.1)
+
+-- keys that sign a token alike give it one verdict
+pub verdict_of-alike : (keys others : List (List ℕ)) (t : TokenParts) (x : Context) → (Minted others t ↔ Minted keys t) → verdict_of others t x ≡ verdict_of keys t x
+verdict_of-alike keys others t x alike =
+    one_verdict keys t x (verdict_of others t x) (verdict_of keys t x) (minted_alike keys others t x (verdict_of others t x) alike (verdict_of-is others t x)) (verdict_of-is keys t x)

@@ -21,6 +21,8 @@ use Rattle.mac_decide.specs.declared.prepared.Prepared.{Prepared}
 use Rattle.mac_decide.specs.declared.prepared.Prepared.TheVariants.{Told, Pending}
 use Rattle.mac_decide.specs.declared.prepared.Purpose.{Purpose}
 use Rattle.mac_decide.specs.declared.prepared.Purpose.TheVariants as purpose
+use Rattle.mac_decide.specs.declared.prepared.Question.{Question}
+use Rattle.mac_decide.specs.declared.prepared.Signing.{Signing}
 use Rattle.mac_decide.specs.declared.verdict.Verdict.{Verdict as PlainVerdict}
 use Rattle.mac_decide.specs.declared.verdict.Verdict.TheVariants.{BadSignature}
 
@@ -46,26 +48,34 @@ Drafted form t (Err fault) = IsFault fault (token_or_limit t)
 abbrev pub signed_reply : DraftParts → List ℕ → Reply
 signed_reply draft signature = told (signed draft signature) TokenReply
 
+-- the verdict that a verify asks for, by the signature that the first key gives
+abbrev pub verdict_on : Question → List ℕ → PlainVerdict
+verdict_on q signature = verdict_by signature q.second q.token q.context
+
 -- the reply, once the signature is there
 abbrev pub reply_by : Purpose → List ℕ → Reply
-reply_by (purpose.Verdict second t x) signature = verdict_reply (verdict_by signature second t x)
+reply_by (purpose.Verdict q) signature = verdict_reply (verdict_on q signature)
 reply_by (purpose.Draft draft) signature = signed_reply draft signature
 reply_by (purpose.Token form t) signature = written_reply form (with_sig t signature)
+
+-- the reply, once all texts are folded on
+abbrev pub ends_in : Signing → Reply
+ends_in s = reply_by s.purpose (end_of s.folding)
 
 -- the reply that comes of what was prepared
 abbrev pub comes_to : Prepared → Reply
 comes_to (Told reply) = reply
-comes_to (Pending p purpose) = reply_by purpose (end_of p)
+comes_to (Pending s) = ends_in s
 
 -- the texts that are still to be folded on
 abbrev pub left_of : Prepared → List (List ℕ)
 left_of (Told reply) = []
-left_of (Pending p purpose) = p.left
+left_of (Pending s) = s.folding.left
 
 -- the signature so far, if there is one
 abbrev pub signature_of : Prepared → List ℕ
 signature_of (Told reply) = replicate 32 0
-signature_of (Pending p purpose) = p.signature
+signature_of (Pending s) = s.folding.signature
 
 -- where the place of a lane has a text left, the lane has the signature after that text
 abbrev pub AreNext : List Prepared → List ℕ → List (List ℕ) → Type 0

@@ -9,7 +9,7 @@ ghost use Rattle.mac_decide.specs.Folding.{end_of, texts_of};
 ghost use Rattle.mac_decide.specs.Prepared.{Drafted, comes_to};
 
 use crate::folding::{Folding, Texts};
-use crate::prepared::{Prepared, Purpose};
+use crate::prepared::{Prepared, Purpose, Signing};
 use crate::reply::{refusal_of, refused};
 use mac_token::{Draft, DraftForm, Expected, TokenFault, TokenView};
 use mac_wire::{FieldList, NoMemory, TokenForm};
@@ -86,7 +86,7 @@ pub(crate) fn draft_to_sign<'a>(
     match made {
         Ok(draft) => {
             let purpose = Purpose::Draft(draft);
-            Ok(Prepared::Pending { folding, purpose })
+            Ok(Prepared::Pending(Signing { folding, purpose }))
         }
         Err(TokenFault::Refused(reason)) => Ok(Prepared::Told(refused(refusal_of(reason)))),
         Err(TokenFault::Memory) => Err(AllocError),

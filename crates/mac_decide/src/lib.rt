@@ -2,9 +2,10 @@
 //! each arrival.
 //!
 //! [`job_of`] takes an arrival with the keys that it names, and [`answer`] gives its reply, by
-//! [`mint`], [`attenuate`] and [`verify`] or [`verify_view`].
+//! [`mint`], [`attenuate`] and [`verify`].
 #![tactic(auto)]
 
+mod choosing;
 mod context;
 mod drafting;
 mod folding;
@@ -28,4 +29,3 @@ pub use reply::answer;
 pub use side_by_side::answer_all;
 pub use time::{time_limit, time_since};
 pub use verdict::{Verdict, verify};
-pub use verdict_view::verify_view;

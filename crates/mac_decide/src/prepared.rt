@@ -1,47 +1,81 @@
 //! What is known of a reply before its signature is computed.
 
-ghost use Rattle.std.specs.Prelude.{◌≡◌, ◌∷◌, ℕ, List, [], IfOk, drop, length, get_or};
+ghost use Rattle.std.specs.Prelude.{◌≡◌, ◌⊎◌, ◌∷◌, ℕ, List, [], IfOk, MatchOption, None, drop, length, get_or};
 ghost use Rattle.mac_hmac.specs.Chain.{extended};
-ghost use Rattle.mac_decide.specs.Prepared.{comes_to, left_of, reply_by, signature_of};
+ghost use Rattle.mac_decide.specs.Folding.{end_of};
+ghost use Rattle.mac_decide.specs.Prepared.{comes_to, ends_in, left_of, reply_by, signature_of, verdict_on};
 
 use crate::context::Context;
 use crate::folding::Folding;
 use crate::reply::{signed_reply, verdict_reply, written_reply};
 use crate::verdict_view::verdict_by;
-use mac_hmac::{RootKey, Sig};
+use mac_hmac::{RootKey, Sig, extend, same};
 use mac_token::{Draft, Token, TokenView};
 use mac_wire::{NoMemory, Reply, TokenForm};
 use std::alloc::Global;
+
+/// What a verify asks, but for the name's first key.
+#[derive(Drop)]
+pub struct Question<'a> {
+    pub second: Option<RootKey>,
+    pub token: TokenView<'a>,
+    pub context: Context<'a>,
+}
+
+impl<'a> Question<'a> {
+    /// The texts that lead to the second key's signature, where this one isn't the token's. A key
+    /// is asked once: the question is without it from then on.
+    fn take_second(&mut self, signature: Sig) -> Option<Folding<'a>>
+        ensures verdict { MatchOption result (self.new ≡ self.old)
+            (λ folding. verdict_on self.new (end_of folding) ≡ verdict_on self.old signature) }
+        ensures asked { MatchOption result
+            ((self.old.second ≡ None) ⊎ (self.old.token.sig ≡ signature))
+            (λ _. self.new.second ≡ None) }
+    {
+        match self.second {
+            Some(key) if !same(&Sig::from_bytes(self.token.sig()), &signature) => {
+                self.second = None;
+                Some(Folding::of_token(key, &self.token))
+            }
+            _ => None,
+        }
+    }
+}
 
 /// What a signature is computed for.
 #[derive(Drop)]
 pub enum Purpose<'a> {
     /// The verdict on a token, to which the name's first key gives the signature.
-    Verdict {
-        second: Option<RootKey>,
-        token: TokenView<'a>,
-        context: Context<'a>,
-    },
+    Verdict(Question<'a>),
     /// The token that is to have the signature, as it is written up to it.
     Draft(Draft),
     /// The token that is to have it, in the form that is asked for.
-    Token {
-        form: TokenForm,
-        token: Token,
-    },
+    Token { form: TokenForm, token: Token },
 }
 
 impl<'a> Purpose<'a> {
+    /// The texts that lead to another signature, where this one decides nothing yet.
+    fn begin_anew(&mut self, signature: Sig) -> Option<Folding<'a>>
+        ensures { MatchOption result (self.new ≡ self.old)
+            (λ folding. reply_by self.new (end_of folding) ≡ reply_by self.old signature) }
+    {
+        match self {
+            Purpose::Verdict(question) => question.take_second(signature),
+            _ => None,
+        }
+    }
+
     /// The reply, once the signature is there.
     fn reply(self, alloc: Global, signature: Sig) -> Result<Reply, NoMemory>
         ensures { IfOk result (λ r. r ≡ reply_by self.entry signature) }
     {
         match self {
-            Purpose::Verdict {
-                second,
-                token,
-                context,
-            } => Ok(verdict_reply(verdict_by(signature, second, &token, &context))),
+            Purpose::Verdict(question) => Ok(verdict_reply(verdict_by(
+                signature,
+                question.second,
+                &question.token,
+                &question.context,
+            ))),
             Purpose::Draft(draft) => signed_reply(alloc, draft, signature),
             Purpose::Token { form, token } => {
                 let token = token.signed(signature.bytes());
@@ -51,16 +85,45 @@ impl<'a> Purpose<'a> {
     }
 }
 
+/// The texts that lead to a signature, and what that is for.
+#[derive(Drop)]
+pub struct Signing<'a> {
+    pub folding: Folding<'a>,
+    pub purpose: Purpose<'a>,
+}
+
+impl<'a> Signing<'a> {
+    /// Takes the signature after the next text. After the last one under a first key that doesn't
+    /// sign the token, the token's texts are left anew, for the second key.
+    fn fold(&mut self, signature: Sig)
+        requires { (text : List ℕ) (rest : List (List ℕ)) → self.old.folding.left ≡ text ∷ rest
+            → signature ≡ extended self.old.folding.signature (text ∷ []) }
+        ensures { ends_in self.new ≡ ends_in self.old }
+    {
+        self.folding.fold(signature);
+        if self.folding.left() == 0 {
+            self.turn_to_second();
+        }
+    }
+
+    /// Where nothing is left, takes what the purpose has anew.
+    fn turn_to_second(&mut self)
+        requires { self.old.folding.left ≡ [] }
+        ensures { ends_in self.new ≡ ends_in self.old }
+    {
+        if let Some(folding) = self.purpose.begin_anew(self.folding.signature()) {
+            self.folding = folding;
+        }
+    }
+}
+
 /// A reply, or what it waits for.
 #[derive(Drop)]
 pub enum Prepared<'a> {
     /// The reply.
     Told(Reply),
-    /// The texts that lead to a signature, and what that is for.
-    Pending {
-        folding: Folding<'a>,
-        purpose: Purpose<'a>,
-    },
+    /// The signature that it waits for.
+    Pending(Signing<'a>),
 }
 
 impl<'a> Prepared<'a> {
@@ -70,7 +133,7 @@ impl<'a> Prepared<'a> {
     {
         match self {
             Prepared::Told(_) => 0,
-            Prepared::Pending { folding, .. } => folding.left(),
+            Prepared::Pending(signing) => signing.folding.left(),
         }
     }
 
@@ -80,7 +143,7 @@ impl<'a> Prepared<'a> {
     {
         match self {
             Prepared::Told(_) => &[],
-            Prepared::Pending { folding, .. } => folding.text(),
+            Prepared::Pending(signing) => signing.folding.text(),
         }
     }
 
@@ -90,7 +153,7 @@ impl<'a> Prepared<'a> {
     {
         match self {
             Prepared::Told(_) => Sig::from_bytes([0; 32]),
-            Prepared::Pending { folding, .. } => folding.signature(),
+            Prepared::Pending(signing) => signing.folding.signature(),
         }
     }
 
@@ -102,8 +165,16 @@ impl<'a> Prepared<'a> {
     {
         match self {
             Prepared::Told(_) => {}
-            Prepared::Pending { folding, .. } => folding.fold(signature),
+            Prepared::Pending(signing) => signing.fold(signature),
         }
+    }
+
+    /// Folds the next text on. Where none is left, nothing changes.
+    pub fn fold_next(&mut self)
+        ensures { comes_to self.new ≡ comes_to self.old }
+    {
+        let signature = extend(self.signature(), self.text());
+        self.fold(signature);
     }
 
     /// The reply. What is left is folded on first, one text after the other.
@@ -112,7 +183,9 @@ impl<'a> Prepared<'a> {
     {
         match self {
             Prepared::Told(reply) => Ok(reply),
-            Prepared::Pending { folding, purpose } => purpose.reply(alloc, folding.finish()),
+            Prepared::Pending(Signing { folding, purpose }) => {
+                purpose.reply(alloc, folding.finish())
+            }
         }
     }
 }

@@ -20,9 +20,9 @@ use crate::context::Context;
 use crate::drafting::{draft_narrowed, draft_of_parts, draft_to_sign};
 use crate::folding::{Folding, Texts};
 use crate::minting::token_of_parts;
-use crate::prepared::{Prepared, Purpose};
+use crate::prepared::{Prepared, Purpose, Question, Signing};
 use crate::reply::{form_of, refusal_of, refused, verdict_reply};
-use crate::verdict::verify;
+use crate::verdict::{other_key, verify};
 use mac_hmac::{RootKey, Sig};
 use mac_keys::Keys;
 use mac_token::{DraftForm, Token, TokenFault, TokenView, bare, read_bare};
@@ -260,7 +260,7 @@ fn to_sign<'a>(
     match made {
         Ok(token) => {
             let purpose = Purpose::Token { form, token };
-            Ok(Prepared::Pending { folding, purpose })
+            Ok(Prepared::Pending(Signing { folding, purpose }))
         }
         Err(TokenFault::Refused(reason)) => Ok(told(refusal_of(reason))),
         Err(TokenFault::Memory) => Err(AllocError),
@@ -309,12 +309,13 @@ fn prepare_view<'a>(keys: Keys, bytes: &'a [u8], context: Context<'a>) -> Prepar
     match TokenView::of(bytes) {
         Ok(token) => {
             let folding = Folding::of_token(keys.first, &token);
-            let purpose = Purpose::Verdict {
-                second: keys.second,
+            let question = Question {
+                second: other_key(&keys),
                 token,
                 context,
             };
-            Prepared::Pending { folding, purpose }
+            let purpose = Purpose::Verdict(question);
+            Prepared::Pending(Signing { folding, purpose })
         }
         Err(reason) => told(refusal_of(reason)),
     }

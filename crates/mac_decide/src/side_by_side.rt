@@ -3,6 +3,7 @@
 ghost use Rattle.std.specs.Prelude.{◌≡◌, ◌++◌, [], IfOk, length, map, slice_get, Some, get_or};
 ghost use Rattle.mac_decide.specs.Prepared.{AreNext, comes_to, left_of, reply_to_job, signature_of};
 
+use crate::choosing::{LANES, Step, next_step};
 use crate::job::Job;
 use crate::prepared::Prepared;
 use crate::preparing::prepare;
@@ -14,17 +15,8 @@ use std::alloc::Global;
 /// How many jobs make a run, and are worked on together.
 const RUN: usize = 32;
 
-/// How many texts are folded on side by side.
-const LANES: usize = 8;
-
-/// From how many on that costs less than one after the other.
-const FEWEST: usize = 4;
-
-/// The place of a lane that has nothing to do, which no run has.
-const NOWHERE: usize = RUN;
-
-/// How many numbers of texts left are told apart. The last stands for all above it too.
-const LEVELS: usize = 32;
+/// How many chains a token's texts are folded into at most: one under each of two keys.
+const CHAINS: usize = 2;
 
 /// The replies to the jobs, in order. Signatures are computed up to eight side by side: those that
 /// verifies compare, but for tokens in JSON, and those of tokens that are minted or attenuated.
@@ -97,12 +89,15 @@ fn prepare_job<'a>(
 fn walk(run: &mut [Prepared<'_>])
     ensures { map comes_to run.new ≡ map comes_to run.old }
 {
-    for _ in 0..texts_left(run) {
-        let Some(places) = chosen(run) else {
-            return;
-        };
-        let signatures = together(run, &places);
-        fold_all(run, &places, &signatures);
+    for _ in 0..texts_left(run).saturating_mul(CHAINS) {
+        match next_step(run) {
+            Step::Together(places) => {
+                let signatures = together(run, &places);
+                fold_all(run, &places, &signatures);
+            }
+            Step::Alone(place) => fold_alone(run, place),
+            Step::End => return,
+        }
     }
 }
 
@@ -115,63 +110,13 @@ fn texts_left(run: &[Prepared<'_>]) -> usize {
     texts
 }
 
-/// The places whose next texts are folded on, in order: the eight with the most left. None where
-/// side by side doesn't pay.
-fn chosen(run: &[Prepared<'_>]) -> Option<[usize; LANES]> {
-    let mut bar = Bar::of(&tally(run));
-    let mut places = [NOWHERE; LANES];
-    let mut busy = 0;
-    for place in 0..run.len() {
-        if busy < LANES && bar.admits(run[place].left()) {
-            places[busy] = place;
-            busy += 1;
-        }
+/// Folds the next text at this place on, by itself.
+fn fold_alone(run: &mut [Prepared<'_>], place: usize)
+    ensures { map comes_to run.new ≡ map comes_to run.old }
+{
+    if place < run.len() {
+        run[place].fold_next();
     }
-    if busy < FEWEST {
-        return None;
-    }
-    Some(places)
-}
-
-/// Who is chosen: those with more texts left than the level, and so many of those at it.
-#[derive(Drop)]
-struct Bar {
-    level: usize,
-    spare: usize,
-}
-
-impl Bar {
-    /// The bar that as many get over as there are lanes, or all that have a text left.
-    fn of(tally: &[u8; LEVELS]) -> Bar {
-        let mut spare = LANES;
-        for level in (1..LEVELS).rev() {
-            let count = tally[level] as usize;
-            if count > spare {
-                return Bar { level, spare };
-            }
-            spare -= count;
-        }
-        Bar { level: 0, spare: 0 }
-    }
-
-    /// Whether a place with so many texts left gets over it.
-    fn admits(&mut self, left: usize) -> bool {
-        if left == self.level && self.spare > 0 {
-            self.spare -= 1;
-            return true;
-        }
-        left > self.level
-    }
-}
-
-/// How many of the run have each number of texts left, up to the last that is told apart.
-fn tally(run: &[Prepared<'_>]) -> [u8; LEVELS] {
-    let mut tally: [u8; LEVELS] = [0; LEVELS];
-    for prepared in run {
-        let level = prepared.left().min(LEVELS - 1);
-        tally[level] = tally[level].saturating_add(1);
-    }
-    tally
 }
 
 /// The signatures after the next texts at these places, side by side.

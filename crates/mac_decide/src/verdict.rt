@@ -1,8 +1,9 @@
 //! Whether a name's keys grant a token.
 
-ghost use Rattle.std.specs.Prelude.{◌≡◌, ◌↔◌, All, IsTrue, MatchOption};
+ghost use Rattle.std.specs.Prelude.{◌≡◌, ◌↔◌, ◌∷◌, All, IfSome, IsTrue, MatchOption, option_to_list};
 ghost use Rattle.mac_hmac.specs.Chain.{chain};
 ghost use Rattle.mac_keys.specs.Keys.{listed};
+ghost use Rattle.mac_token.specs.RawToken.{TokenParts};
 ghost use Rattle.mac_decide.specs.Minted.{Signs, Minted};
 ghost use Rattle.mac_decide.specs.Verdict.{Satisfied, IsFirstUnsatisfied, IsVerdict, found_verdict};
 
@@ -40,10 +41,22 @@ fn is_minted(keys: &Keys, token: &Token) -> bool
     ensures { IsTrue result ↔ Minted (listed keys.now) token.now }
 {
     signs(&keys.first, token)
-        || match keys.second {
+        || match other_key(keys) {
             Some(second) => signs(&second, token),
             None => false,
         }
+}
+
+/// The second key, where it is another than the first: a key is asked once.
+pub(crate) fn other_key(keys: &Keys) -> Option<RootKey>
+    ensures minted { (t : TokenParts) → Minted (keys.now.first ∷ option_to_list result) t
+        ↔ Minted (listed keys.now) t }
+    ensures other { IfSome result (λ key. ¬ (key ≡ keys.now.first)) }
+{
+    match keys.second {
+        Some(second) if second != keys.first => Some(second),
+        _ => None,
+    }
 }
 
 /// Whether the key gives the token's signature.

@@ -1,34 +1,14 @@
-//! The same verdict on a token that is read where it lies.
+//! The verdict on a token that is read where it lies, once a signature is computed.
 
 ghost use Rattle.std.specs.Prelude.{◌≡◌, ◌↔◌, ◌⊎◌, All, IsTrue, IsSomeAnd, MatchOption};
-ghost use Rattle.mac_keys.specs.Keys.{listed};
-ghost use Rattle.mac_decide.specs.Minted.{Signs, Minted};
+ghost use Rattle.mac_decide.specs.Minted.{Signs};
 ghost use Rattle.mac_decide.specs.Prepared.{verdict_by};
-ghost use Rattle.mac_decide.specs.Verdict.{Satisfied, IsFirstUnsatisfied, IsVerdict};
+ghost use Rattle.mac_decide.specs.Verdict.{Satisfied, IsFirstUnsatisfied};
 
 use crate::context::Context;
 use crate::verdict::{Verdict, first_unsatisfied, found_verdict};
 use mac_hmac::{Chain, RootKey, Sig, same};
-use mac_keys::Keys;
 use mac_token::TokenView;
-
-/// The same as [`verify`](crate::verify), of a token that is read where it lies.
-pub fn verify_view(keys: &Keys, token: &TokenView<'_>, context: &Context<'_>) -> Verdict
-    ensures { IsVerdict (listed keys.now) token.now context.now result }
-{
-    if is_minted_view(keys, token) {
-        found_verdict(unsatisfied_caveat(token, context))
-    } else {
-        Verdict::BadSignature
-    }
-}
-
-/// Whether one of the keys gives the token's signature.
-fn is_minted_view(keys: &Keys, token: &TokenView<'_>) -> bool
-    ensures { IsTrue result ↔ Minted (listed keys.now) token.now }
-{
-    signs_view(&keys.first, token) || second_signs(keys.second, token)
-}
 
 /// Whether there is a second key and it gives the token's signature.
 fn second_signs(second: Option<RootKey>, token: &TokenView<'_>) -> bool

@@ -1,10 +1,10 @@
-use Rattle.std.proofs.Common.{ap, ◌∙◌}
+use Rattle.std.proofs.Common.{ap, ◌∙◌, ◌∷◌, option_to_list}
 use Rattle.mac_keys.specs.Keys.{listed}
 use Rattle.mac_decide.specs.Answer.{told, verdict_reply}
 use Rattle.mac_decide.specs.Folding.{Progress, end_of}
 use Rattle.mac_decide.specs.Prepared.{verdict_by}
 use Rattle.mac_decide.specs.Reading.{verdict_of}
-use Rattle.mac_decide.proofs.VerdictLemmas.{verdict_of-by}
+use Rattle.mac_decide.proofs.VerdictLemmas.{verdict_of-alike, verdict_of-by}
 use Rattle.mac_decide.proofs.preparing.prepare_view.Goals as goal
 
 pub returns-in-Ok : goal.returns-in-Ok
@@ -12,6 +12,8 @@ returns-in-Ok c =
     let keys = c.args.keys in
     let token = c.in-Ok.token in
     let context = c.args.context in
-    ap (λ (p : Progress). verdict_reply (verdict_by (end_of p) keys.second token context)) c.of_token-folding.ensures
-    ∙ ap verdict_reply (verdict_of-by keys.first keys.second token context)
+    let other = c.other_key.result in
+    ap (λ (p : Progress). verdict_reply (verdict_by (end_of p) other token context)) c.of_token-folding.ensures
+    ∙ ap verdict_reply (verdict_of-by keys.first other token context)
+    ∙ ap verdict_reply (verdict_of-alike (listed keys) (keys.first ∷ option_to_list other) token context (c.other_key.ensures.minted token))
     ∙ ap (λ read. told read (λ t. verdict_reply (verdict_of (listed keys) t context))) c.in-Ok.ensures
