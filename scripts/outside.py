@@ -14,6 +14,7 @@ import man_page
 import peers
 import pipe_runs
 import quotes
+import starting
 import statuses
 import tutorial
 import words
@@ -39,6 +40,7 @@ def main():
     row_faults, rows = daemon_rows.faults() if is_built else ([], 0)
     hostile_faults = hostile.faults(HOSTILE_SECONDS) if is_built else []
     memory_faults = allocations.faults() + faults.some_faults() if is_built else []
+    found += starting.faults() if is_built else []
     found += edge_faults + word_faults + daemon_faults + row_faults + hostile_faults + memory_faults + quotes.faults() + man_page.faults()
     if found:
         raise SystemExit("\n".join(found))
