@@ -167,11 +167,11 @@ def listening(folder):
     with daemon(*words, "--mode", "660") as run:
         yield "what listen prints", run.first, f"listening at {path}: 2 names, 2 workers\n"
         yield "the mode", stat.filemode(os.stat(path).st_mode), "srw-rw----"
-        yield "nothing beside the socket", os.listdir(folder), ["listening"]
+        yield "its lock beside the socket, and no more", sorted(os.listdir(folder)), ["listening", "listening.lock"]
         with connected(path) as stream:
             yield "an answer", answer(stream, frame(MINT)), frame(b"\x01" + TOKEN)
         taken = subprocess.run([pipe_runs.PROGRAM, *words], capture_output=True, text=True, timeout=PATIENCE)
-        due = (3, "", f"{path}: somebody listens there\nfault 3\n")
+        due = (3, "", f"{path}: process {run.pid} has it\nfault 3\n")
         yield "a path that is listened on", (taken.returncode, taken.stdout, taken.stderr), due
     with daemon(*words, "--idle", "1") as run:
         yield "a path that was left is taken over", run.first, f"listening at {path}: 2 names, 2 workers\n"

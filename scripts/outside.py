@@ -23,6 +23,7 @@ import peers
 import pipe_runs
 import quotes
 import refusing
+import starting
 import statuses
 import tutorial
 import words
@@ -65,6 +66,7 @@ OF_PROGRAM = {
     "edges of words": words.edge_faults,
     "sessions": daemon_session.faults,
     "sockets": daemon_rows.faults,
+    "starting": starting.faults,
     "hostile": lambda: hostile.faults(HOSTILE_SECONDS),
 }
 OF_COMPILER = {"allocations": allocations.faults, "faults": faults.some_faults}

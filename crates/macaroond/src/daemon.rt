@@ -2,11 +2,14 @@
 mod accepting;
 mod connection;
 mod crew;
+mod descriptors;
 mod key_file;
 mod listening;
+mod lock;
 mod place;
 
 pub use accepting::{Day, accept_all};
 pub use crew::LIVE_MAX;
+pub(crate) use descriptors::{NOWHERE, open_standard};
 pub(crate) use key_file::read_keys;
 pub use listening::{Terms, listen};

@@ -25,7 +25,7 @@ mod reply_line;
 pub use choices::{Choice, Chosen, Mode};
 pub use command_line::{BAD_LINE, HELP_SHOWN, NO_MEMORY, chosen, words_of};
 pub use commands::{ACCEPT_MAX, IDLE_MAX, WORKERS_MAX};
-use daemon::read_keys;
+use daemon::{NOWHERE, open_standard, read_keys};
 pub use daemon::{Day, LIVE_MAX, Terms, accept_all, listen};
 pub use fault::PipeFault;
 pub use input::INPUT_MAX;
@@ -35,7 +35,7 @@ pub use people::{PersonFault, Task};
 pub use piping::pipe;
 use std::alloc::{Alloc, Global};
 use std::env::Env;
-use std::fs::Files;
+use std::fs::{File, Files};
 use std::net::Net;
 use std::process::{ExitCode, Process};
 use std::random::RandomSource;
@@ -60,10 +60,9 @@ fn main(rt: HostRuntime) -> ExitCode {
 /// Does what the words of the process ask for, and gives the exit status.
 fn run<R>(rt: &R, process: Process) -> u8
 where
-    R: Env + Alloc<A = Global> + Input + Print + Eprint + Files + Net + Clock + RandomSource,
+    R: Env + Alloc<A = Global> + Input + Print + Eprint + Files<File = File> + Net + Clock + RandomSource,
     R: Threads + Wait + Sync + Copy + Send + 'static,
     R::Reader: Send,
-    R::File: Send,
 {
     let chosen = words_of(rt).and_then(|words| chosen(rt.alloc(), words.as_slice()));
     done(rt, chosen, process)
@@ -72,10 +71,9 @@ where
 /// Does what was chosen, and gives the exit status; what was refused is shown and not done.
 fn done<R>(rt: &R, chosen: Result<Chosen, (u8, String)>, process: Process) -> u8
 where
-    R: Alloc<A = Global> + Input + Print + Eprint + Files + Net + Clock + RandomSource,
+    R: Alloc<A = Global> + Input + Print + Eprint + Files<File = File> + Net + Clock + RandomSource,
     R: Threads + Wait + Sync + Copy + Send + 'static,
     R::Reader: Send,
-    R::File: Send,
     ensures { IfErr chosen (λ refusal. IsShown refusal.0 result) }
 {
     match chosen {
@@ -88,10 +86,9 @@ where
 /// Answers the requests of programs, and gives the exit status.
 fn answered<R>(rt: &R, choice: Choice, process: Process) -> u8
 where
-    R: Alloc<A = Global> + Input + Print + Eprint + Files + Net + Clock,
+    R: Alloc<A = Global> + Input + Print + Eprint + Files<File = File> + Net + Clock,
     R: Threads + Wait + Sync + Copy + Send + 'static,
     R::Reader: Send,
-    R::File: Send,
 {
     match choice {
         Choice::Pipe => run_pipe(rt),
@@ -135,10 +132,13 @@ fn workers_of<R: Threads>(rt: &R, asked: Option<u64>) -> usize
 /// Serves so many connections, and gives the exit status.
 fn run_serve<R>(rt: &R, path: &str, keys: &str, workers: u64, accept: u64) -> u8
 where
-    R: Alloc<A = Global> + Print + Eprint + Files + Net,
+    R: Alloc<A = Global> + Print + Eprint + Files<File = File> + Net,
     R: Threads + Wait + Sync + Copy + Send + 'static,
-    R::File: Send,
 {
+    if let Err(refused) = open_standard(rt) {
+        let _ = eprintln!(rt; "{NOWHERE}: {refused}");
+        return tell_fault(rt, DEVICE_FAULT);
+    }
     let keys = match read_keys(rt, keys) {
         Ok(keys) => keys,
         Err(fault) => return told(rt, Err(fault)),
@@ -158,10 +158,13 @@ where
 /// Listens without end, or gives the exit status where that can't begin.
 fn run_listen<R>(rt: &R, keys: &str, terms: Terms<'_>, process: Process) -> u8
 where
-    R: Alloc<A = Global> + Print + Eprint + Files + Net + Clock,
+    R: Alloc<A = Global> + Print + Eprint + Files<File = File> + Net + Clock,
     R: Threads + Wait + Sync + Copy + Send + 'static,
-    R::File: Send,
 {
+    if let Err(refused) = open_standard(rt) {
+        let _ = eprintln!(rt; "{NOWHERE}: {refused}");
+        return tell_fault(rt, DEVICE_FAULT);
+    }
     let keys = match read_keys(rt, keys) {
         Ok(keys) => keys,
         Err(fault) => return told(rt, Err(fault)),

@@ -4,14 +4,14 @@ ghost use Rattle.macaroond.specs.declared.daemon.crew.TheConstants.{LIVE_MAX};
 
 use super::connection::Watch;
 use super::crew::{Crew, LIVE_MAX};
-use super::place::{PlaceFault, bound};
+use super::place::{PlaceFault, bind_at};
 use crate::choices::Mode;
 use crate::{DEVICE_FAULT, NO_MEMORY};
 use mac_keys::KeyTable;
 use mac_mail::Bell;
 use mac_serve::ServeFault;
 use std::alloc::Global;
-use std::fs::Files;
+use std::fs::{File, Files};
 use std::net::Net;
 use std::os::unix::net::{UnixListener, UnixStream};
 use std::process::Process;
@@ -73,11 +73,11 @@ pub fn listen<R>(
     process: Process,
 ) -> u8
 where
-    R: Files + Net + Threads + Wait + Clock + Print + Eprint + Sync + Copy + Send + 'static,
+    R: Files<File = File> + Net + Threads + Wait + Clock + Print + Eprint + Sync + Copy + Send + 'static,
     ensures status { (result ≡ 3) ⊎ (result ≡ 4) }
 {
-    let listener = match bound(rt, alloc, terms.path, terms.mode, process) {
-        Ok(listener) => listener,
+    let place = match bind_at(rt, alloc, terms.path, terms.mode, process) {
+        Ok(place) => place,
         Err(fault) => return refused(rt, terms.path, fault),
     };
     let Ok(crew) = Crew::new(rt, alloc, terms.workers) else {
@@ -102,7 +102,7 @@ where
     if told.is_err() {
         return DEVICE_FAULT;
     }
-    attend(rt, alloc, &listener, keys, crew, &quay, terms.idle)
+    attend(rt, alloc, &place.listener, keys, crew, &quay, terms.idle)
 }
 
 /// What a noun behind this number ends in.
