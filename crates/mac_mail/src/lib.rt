@@ -2,12 +2,12 @@
 //! on a bell while there is none.
 #![tactic(auto)]
 
-pub mod bell;
-pub mod fault;
+mod bell;
+mod fault;
 pub mod laws;
-pub mod mailbox;
-pub mod post;
-pub mod taker;
+mod mailbox;
+mod post;
+mod taker;
 
 pub use bell::{Bell, Notice};
 pub use fault::PutFault;

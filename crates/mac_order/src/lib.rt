@@ -3,14 +3,14 @@
 //! asked.
 #![tactic(auto)]
 
-pub mod answer;
-pub mod event;
-pub mod fault;
+mod answer;
+mod event;
+mod fault;
 pub mod laws;
-pub mod next;
-pub mod reorder;
-pub mod service;
-pub mod world;
+mod next;
+mod reorder;
+mod service;
+mod world;
 
 pub use answer::Answer;
 pub use event::{Event, Outcome, Task};

@@ -2,10 +2,10 @@
 //! up to 64 desks put them there and take the answers, without a lock.
 #![tactic(auto)]
 
-pub mod fault;
-pub mod hand;
+mod fault;
+mod hand;
 pub mod laws;
-pub mod pool;
+mod pool;
 
 pub use fault::{DeskFault, HandFault, PoolFault};
 pub use hand::Hand;

@@ -2,10 +2,10 @@
 //! connection puts from a desk of its own.
 #![tactic(auto)]
 
-pub mod desk;
+mod desk;
 pub mod laws;
-pub mod queue;
-pub mod ticket;
+mod queue;
+mod ticket;
 
 pub use desk::{Desk, Putter};
 pub use mac_mail::{Mailbox, Notice, Post, PutFault, Taker};

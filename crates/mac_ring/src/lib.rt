@@ -3,14 +3,14 @@
 //! intake admitted.
 #![tactic(auto)]
 
-pub mod fault;
-pub mod intake;
+mod fault;
+mod intake;
 pub mod laws;
-pub mod mark;
+mod mark;
 mod numbered;
-pub mod outlet;
-pub mod ring;
-pub mod totals;
+mod outlet;
+mod ring;
+mod totals;
 
 pub use fault::AdmitFault;
 pub use intake::Intake;

@@ -2,13 +2,13 @@
 //! workers of a pool answer between them.
 #![tactic(auto)]
 
-pub mod connection;
-pub mod fault;
-pub mod inbound;
-pub mod incoming;
-pub mod outbound;
-pub mod signals;
-pub mod unsent;
+mod connection;
+mod fault;
+mod inbound;
+mod incoming;
+mod outbound;
+mod signals;
+mod unsent;
 
 pub use connection::{Served, serve};
 pub use fault::ServeFault;

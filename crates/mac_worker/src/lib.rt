@@ -2,9 +2,9 @@
 //! their mailboxes, for as long as the queue is open.
 #![tactic(auto)]
 
-pub mod gate;
+mod gate;
 pub mod laws;
-pub mod work;
+mod work;
 
 pub use gate::{Gate, NoGate, TURN_MAX};
 pub use work::{Worked, worker};
