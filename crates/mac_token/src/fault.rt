@@ -8,7 +8,7 @@ ghost use Rattle.mac_token.specs.declared.fault.TokenFault.TheVariants.{Refused,
 use std::alloc::{AllocError, AllocFailed};
 use thiserror::Error;
 
-/// Want of memory.
+/// Out of memory.
 pub type NoMemory = AllocError;
 
 /// Why bytes are no token that is taken, or a token isn't made or written.
@@ -58,7 +58,7 @@ pub enum TokenFault {
 }
 
 impl TokenFault {
-    /// The fault's number on the wire; want of memory has none.
+    /// The fault's number on the wire; out of memory has none.
     pub fn code(&self) -> Option<u8>
         ensures { result ≡ fault_code self.now }
     {

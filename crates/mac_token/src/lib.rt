@@ -2,25 +2,26 @@
 #![tactic(auto)]
 
 mod base64_text;
-pub mod draft;
-pub mod fault;
-pub mod form;
+mod draft;
+mod fault;
+mod form;
 pub mod laws;
-pub mod limits;
+mod limits;
 mod location;
-pub mod raw;
+mod raw;
 mod raw_view;
-pub mod reading;
+mod reading;
 mod section;
+mod signature;
 mod tally;
-pub mod token;
+mod token;
 mod v1;
 mod v2;
 mod v2_json;
 mod varint;
 mod version;
-pub mod view;
-pub mod writing;
+mod view;
+mod writing;
 
 pub use draft::{Draft, DraftForm, Expected};
 pub use fault::{NoMemory, TokenFault, TokenRefusal};

@@ -29,6 +29,7 @@ use crate::view::TokenView;
 use crate::{base64_text, v2_json};
 use std::alloc::Global;
 
+/// Whether an input with this first byte is to be a bare form.
 fn calls_for_bare(first: u8) -> bool
     ensures { result ≡ calls_for_bare first }
 {
@@ -64,6 +65,7 @@ pub fn bare<'a>(
     }
 }
 
+/// What base64 text stands for; `Transport` where the text is none.
 fn decoded(alloc: Global, text: &[u8]) -> Result<Vec<u8>, TokenFault>
     ensures { Answers (λ bytes. bytes.items) result (or_transport (base64_bytes text.now)) }
 {
@@ -128,6 +130,7 @@ fn ids(alloc: Global, caveats: Vec<RawCaveat>) -> Result<Vec<Vec<u8>>, NoMemory>
     Ok(list)
 }
 
+/// The token that the raw one is, or the first refusal that keeps it from being one.
 #[tactic(auto, unfolding(crate::specs::Read::token_of))]
 fn token(alloc: Global, raw: RawToken) -> Result<Token, TokenFault>
     ensures { Answers (λ token. token) result (token_of raw) }

@@ -35,6 +35,7 @@ impl Model for Token {
         t.identifier.items (byte_lists t.caveats.items) t.sig) };
 }
 
+/// Whether no caveat passes its limit.
 fn are_short(caveats: &[Vec<u8>]) -> bool
     ensures { IsTrue result ↔ AreShort (byte_lists caveats.now) }
 {
@@ -51,6 +52,7 @@ pub fn is_within(location: &str, identifier: &[u8], caveats: &[Vec<u8>]) -> bool
         && are_short(caveats)
 }
 
+/// Appends a copy, or nothing where memory is refused.
 fn append_copy(list: &mut Vec<Vec<u8>>, alloc: Global, bytes: &[u8]) -> Result<(), NoMemory>
     ensures ok { OnOk result (byte_lists list.new.items
         ≡ byte_lists list.old.items ++ bytes.now ∷ []) }

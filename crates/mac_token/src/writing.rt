@@ -48,6 +48,7 @@ pub(crate) fn as_bare(bytes: Vec<u8>) -> Result<Vec<u8>, TokenFault>
     Ok(bytes)
 }
 
+/// The token's V1 packets in base64. The length is tested before memory is taken.
 fn as_v1_text(alloc: Global, token: &Token) -> Result<Vec<u8>, TokenFault>
     ensures written { Writes (base64_of (v1_bytes token.now)) result }
     ensures memory { result ≡ Err TokenFault.Memory
@@ -60,6 +61,7 @@ fn as_v1_text(alloc: Global, token: &Token) -> Result<Vec<u8>, TokenFault>
     Ok(base64_text::encode(alloc, &packets)?.into_bytes())
 }
 
+/// The token in V2 binary. The length is tested before memory is taken.
 fn as_v2_binary(alloc: Global, token: &Token) -> Result<Vec<u8>, TokenFault>
     ensures written { Writes (v2_bytes token.now) result }
     ensures memory { result ≡ Err TokenFault.Memory → length (v2_bytes token.now) ≤ TOKEN_MAX }
@@ -70,6 +72,7 @@ fn as_v2_binary(alloc: Global, token: &Token) -> Result<Vec<u8>, TokenFault>
     Ok(v2::write(alloc, token)?)
 }
 
+/// The token's V2 binary in base64. The length is tested before memory is taken.
 fn as_v2_text(alloc: Global, token: &Token) -> Result<Vec<u8>, TokenFault>
     ensures written { Writes (base64_of (v2_bytes token.now)) result }
     ensures memory { result ≡ Err TokenFault.Memory
@@ -82,6 +85,7 @@ fn as_v2_text(alloc: Global, token: &Token) -> Result<Vec<u8>, TokenFault>
     Ok(base64_text::encode(alloc, &binary)?.into_bytes())
 }
 
+/// The token in V2 JSON, which is built before its length is known.
 fn as_v2_json(alloc: Global, token: &Token) -> Result<Vec<u8>, TokenFault>
     ensures { Writes (json_bytes token.now) result }
 {

@@ -10,6 +10,7 @@ use super::key::Key;
 use crate::location::text;
 use crate::raw_view::RawView;
 use crate::section::Section;
+use crate::signature::signature_of;
 use crate::tally::Tally;
 use crate::version::Version;
 
@@ -136,10 +137,7 @@ fn signature(bytes: &[u8]) -> Option<[u8; 32]>
     if !rest.is_empty() {
         return None;
     }
-    match <[u8; 32]>::try_from(value) {
-        Ok(sig) => Some(sig),
-        Err(_) => None,
-    }
+    signature_of(value)
 }
 
 /// The raw token that these packets spell, all of the bytes; `None` where they spell none. The work

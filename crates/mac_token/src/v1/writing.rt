@@ -22,18 +22,21 @@ pub(crate) const BESIDE_PARTS: usize = 77;
 
 const DIGITS: [u8; 16] = *b"0123456789abcdef";
 
+/// The lowest hexadecimal digit of a number.
 fn hex_digit(value: usize) -> u8
     ensures { result ≡ hex_digit (value % 16) }
 {
     DIGITS[value % 16]
 }
 
+/// How many bytes a packet has.
 fn packet_len(key: Key, value: &[u8]) -> usize
     ensures { result ≡ packet_length (record { key = key; value = value.now }) }
 {
     4 + key.name_and_space().len() + value.len() + 1
 }
 
+/// Appends a packet.
 #[tactic(auto, unfolding(crate::specs::V1::packet))]
 fn put_packet(out: &mut Vec<u8>, key: Key, value: &[u8]) -> Result<(), NoMemory>
     ensures { OnOk result (out.new.items
@@ -53,6 +56,7 @@ fn put_packet(out: &mut Vec<u8>, key: Key, value: &[u8]) -> Result<(), NoMemory>
     Ok(())
 }
 
+/// How many bytes the caveats' packets have.
 fn caveats_len(caveats: &[Vec<u8>]) -> usize
     requires count { length caveats.now ≤ CAVEATS_MAX }
     requires each { AreShort (byte_lists caveats.now) }
@@ -98,6 +102,7 @@ pub(crate) fn put_caveat(out: &mut Vec<u8>, caveat: &[u8]) -> Result<(), NoMemor
     put_packet(out, Key::Cid, caveat)
 }
 
+/// Appends the caveats' packets.
 fn put_caveats(out: &mut Vec<u8>, caveats: &[Vec<u8>]) -> Result<(), NoMemory>
     ensures { OnOk result (out.new.items
         ≡ out.old.items ++ flat_map packet (map caveat_field (byte_lists caveats.now))) }

@@ -8,6 +8,7 @@ ghost use Rattle.mac_token.specs.V2Reading.{counted_at, field_at, optional_at, e
 use crate::location::text;
 use crate::raw_view::RawView;
 use crate::section::Section;
+use crate::signature::signature_of;
 use crate::tally::Tally;
 use crate::v2::{END, FieldType, VERSION};
 use crate::varint::read_varint;
@@ -102,12 +103,10 @@ fn signature(bytes: &[u8]) -> Option<[u8; 32]>
     ensures { result ≡ signature_at bytes.now }
 {
     let (value, rest) = field(FieldType::Signature, bytes)?;
-    if value.len() != 32 || !rest.is_empty() {
+    if !rest.is_empty() {
         return None;
     }
-    let mut sig = [0; 32];
-    sig.copy_from_slice(value);
-    Some(sig)
+    signature_of(value)
 }
 
 /// The raw token that these bytes spell in V2 binary, all of them; `None` where they spell none.

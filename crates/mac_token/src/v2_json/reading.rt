@@ -12,6 +12,7 @@ ghost use Rattle.mac_token.specs.Reads.{Reads, Answers};
 use crate::base64_text;
 use crate::fault::{Malformed, ReadFault};
 use crate::raw::{RawCaveat, RawToken};
+use crate::signature::signature_of;
 use serde_json::Value;
 use std::alloc::Global;
 
@@ -121,9 +122,9 @@ fn signature_member(alloc: Global, object: &Value) -> Result<[u8; 32], ReadFault
         (get (codes "s64") (view object.now)) sig × (length sig ≡ 32)) result }
 {
     let bytes = bytes_member(alloc, object, "s", "s64")?;
-    match <[u8; 32]>::try_from(bytes.as_slice()) {
-        Ok(sig) => Ok(sig),
-        Err(_) => Err(ReadFault::Malformed),
+    match signature_of(bytes.as_slice()) {
+        Some(sig) => Ok(sig),
+        None => Err(ReadFault::Malformed),
     }
 }
 

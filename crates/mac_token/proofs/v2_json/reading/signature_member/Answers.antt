@@ -13,4 +13,4 @@ returns-in_err-bytes c =
 pub returns : goal.returns
 returns c sig h =
     let same = same_member_bytes _ _ sig c.in_ok-bytes.bytes.items h.0 c.in_ok-bytes.ensures in
-    c.in-Err.ensures.1 (ap length (c.as_slice.ensures.value ∙ sym same) ∙ h.1)
+    c.in-None.ensures.none (ap length (c.as_slice.ensures.value ∙ sym same) ∙ h.1)
