@@ -19,6 +19,7 @@ import edges
 import faults
 import hostile
 import man_page
+import pages
 import peers
 import pipe_runs
 import quotes
@@ -72,6 +73,7 @@ OF_PROGRAM = {
 OF_COMPILER = {"allocations": allocations.faults, "faults": faults.some_faults}
 OF_TEXTS = {
     "quotes": quotes.faults,
+    "pages": pages.faults,
     "man": man_page.faults,
     "wrong bodies apply": wrong_bodies.faults,
 }

@@ -1,0 +1,76 @@
+#!/usr/bin/env python3
+"""What README and docs name is there: files, crates, functions and definitions; and tables are whole.
+
+A name stands between two backquotes. A path is looked for by its ending among all files; a function
+or a definition, told as `NAME` (`PATH`), has to stand in a file of this path. Rows that don't begin
+with a heading and its rule were cut off their table.
+"""
+import pathlib
+import re
+import subprocess
+import sys
+
+TOP = pathlib.Path(__file__).resolve().parent.parent
+PAGES = [TOP / "README.md", *sorted((TOP / "docs").glob("*.md"))]
+NAMED = re.compile(r"`([^`\n]+)`")
+PATH = re.compile(r"[\w./-]+\.(?:rt|antt|py|sh|md|edit|c|go|txt|1)")
+CRATE = re.compile(r"(?:mac|try)_[a-z]+|time_blocks|sha256x8|macaroond")
+PAIRED = re.compile(r"`([a-z_0-9:A-Z]+)` \(`((?:src|specs|crates)/[\w./-]+)`\)")
+RULE = re.compile(r"\|[-| :]+\|?$")
+
+
+def tracked():
+    """The files of the repository, those included that are new and not ignored."""
+    command = ["git", "ls-files", "--cached", "--others", "--exclude-standard"]
+    listed = subprocess.run(command, cwd=TOP, capture_output=True, text=True, check=True)
+    return [name for name in listed.stdout.splitlines() if (TOP / name).exists()]
+
+
+def is_there(path, files):
+    path = path.removeprefix("./")
+    return any(name == path or name.endswith("/" + path) for name in files)
+
+
+def has_word(word, path, files):
+    """Whether a file at this path has the word."""
+    found = [TOP / name for name in files if name == path or name.endswith("/" + path)]
+    return any(re.search(rf"\b{re.escape(word)}\b", file.read_text()) for file in found)
+
+
+def missing(text, files):
+    """What a page's text names that isn't there."""
+    for name in NAMED.findall(text):
+        if PATH.fullmatch(name) and "THING" not in name and not is_there(name, files):
+            yield f"no file {name}"
+        if CRATE.fullmatch(name) and not (TOP / "crates" / name).is_dir():
+            yield f"no crate {name}"
+    for function, path in PAIRED.findall(text):
+        if not has_word(function.split("::")[-1], path, files):
+            yield f"no {function} in {path}"
+
+
+def cut_rows(text):
+    """The numbers of rows that a blank line cuts off their table."""
+    lines = [*text.splitlines(), "", ""]
+    for number in range(1, len(lines) - 1):
+        begins = lines[number].startswith("|") and not lines[number - 1].startswith("|")
+        if begins and not RULE.match(lines[number + 1]):
+            yield number + 1
+
+
+def faults():
+    """What the pages name that isn't there, and rows that a blank line cuts off; and how many pages there are."""
+    files = tracked()
+    found = []
+    for page in PAGES:
+        text = page.read_text()
+        name = page.relative_to(TOP)
+        found += [f"{name}: {fault}" for fault in missing(text, files)]
+        found += [f"{name}, line {number}: a row without its table" for number in cut_rows(text)]
+    return found, len(PAGES)
+
+
+if __name__ == "__main__":
+    told, count = faults()
+    print("\n".join(told) or f"pages: what {count} pages name is there")
+    sys.exit(1 if told else 0)
