@@ -10,6 +10,7 @@ import daemon_session
 import edges
 import faults
 import hostile
+import lasting
 import man_page
 import peers
 import pipe_runs
@@ -38,6 +39,7 @@ def main():
     daemon_faults, daemon_steps = daemon_session.faults() if is_built else ([], 0)
     row_faults, rows = daemon_rows.faults() if is_built else ([], 0)
     hostile_faults = hostile.faults(HOSTILE_SECONDS) if is_built else []
+    found += lasting.faults() if is_built else []
     memory_faults = allocations.faults() + faults.some_faults() if is_built else []
     found += edge_faults + word_faults + daemon_faults + row_faults + hostile_faults + memory_faults + quotes.faults() + man_page.faults()
     if found:

@@ -135,7 +135,7 @@ fn workers_of<R: Threads>(rt: &R, asked: Option<u64>) -> usize
 /// Serves so many connections, and gives the exit status.
 fn run_serve<R>(rt: &R, path: &str, keys: &str, workers: u64, accept: u64) -> u8
 where
-    R: Alloc<A = Global> + Print + Eprint + Files + Net,
+    R: Alloc<A = Global> + Print + Eprint + Files + Net + Clock,
     R: Threads + Wait + Sync + Copy + Send + 'static,
     R::File: Send,
 {
