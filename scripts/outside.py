@@ -18,6 +18,7 @@ import daemon_session
 import edges
 import faults
 import hostile
+import lasting
 import man_page
 import pages
 import peers
@@ -68,6 +69,7 @@ OF_PROGRAM = {
     "sessions": daemon_session.faults,
     "sockets": daemon_rows.faults,
     "starting": starting.faults,
+    "lasting": lasting.faults,
     "hostile": lambda: hostile.faults(HOSTILE_SECONDS),
 }
 OF_COMPILER = {"allocations": allocations.faults, "faults": faults.some_faults}

@@ -60,7 +60,15 @@ fn main(rt: HostRuntime) -> ExitCode {
 /// Does what the words of the process ask for, and gives the exit status.
 fn run<R>(rt: &R, process: Process) -> u8
 where
-    R: Env + Alloc<A = Global> + Input + Print + Eprint + Files<File = File> + Net + Clock + RandomSource,
+    R: Env
+        + Alloc<A = Global>
+        + Input
+        + Print
+        + Eprint
+        + Files<File = File>
+        + Net
+        + Clock
+        + RandomSource,
     R: Threads + Wait + Sync + Copy + Send + 'static,
     R::Reader: Send,
 {
@@ -132,7 +140,7 @@ fn workers_of<R: Threads>(rt: &R, asked: Option<u64>) -> usize
 /// Serves so many connections, and gives the exit status.
 fn run_serve<R>(rt: &R, path: &str, keys: &str, workers: u64, accept: u64) -> u8
 where
-    R: Alloc<A = Global> + Print + Eprint + Files<File = File> + Net,
+    R: Alloc<A = Global> + Print + Eprint + Files<File = File> + Net + Clock,
     R: Threads + Wait + Sync + Copy + Send + 'static,
 {
     if let Err(refused) = open_standard(rt) {

@@ -1,20 +1,32 @@
-//! The daemon that serves so many connections, and ends.
-ghost use Rattle.std.specs.Prelude.{◌≡◌, ◌≤◌, ◌<◌, ◌⊎◌, IfOk, IfErr, OnOk};
+//! The loop that accepts the connections of a socket, for so many of them or without end.
+ghost use Rattle.std.specs.Prelude.{◌≡◌, ◌<◌, IfOk, IfErr, IfSome, Some};
+ghost use Rattle.macaroond.specs.declared.daemon.crew.TheConstants.{LIVE_MAX};
 
-use super::connection::Watch;
 use super::crew::{Crew, LIVE_MAX, Left};
-use crate::{DEVICE_FAULT, NO_MEMORY};
+use super::notices::Notice;
+use super::quay::{Mooring, Quay};
+use crate::DEVICE_FAULT;
 use mac_keys::KeyTable;
-use mac_serve::ServeFault;
-use mac_wire::{Sink, send_all};
 use std::alloc::Global;
-use std::fs::Files;
-use std::net::Net;
-use std::os::unix::net::UnixListener;
+use std::os::unix::net::{UnixListener, UnixStream};
 use std::sync::{Arc, Wait};
+use std::thread;
 use std::thread::Threads;
+use std::time::{Clock, Duration};
 
-/// What a run of `serve` did.
+/// How many milliseconds to wait where the system accepts no connection, for want of descriptors.
+const PAUSE_MILLIS: u64 = 100;
+
+/// What the connections of a socket are held to.
+#[derive(Clone, Copy)]
+pub struct Limits {
+    /// How many are accepted: without a number, one after another without end.
+    pub count: Option<u64>,
+    /// The time after which one that makes no progress is ended.
+    pub idle: Option<Duration>,
+}
+
+/// What a run of the loop did.
 #[derive(Clone, Copy, Debug, PartialEq, Eq)]
 pub struct Day {
     /// The connections that were accepted.
@@ -23,132 +35,126 @@ pub struct Day {
     pub faults: u64,
 }
 
-/// Nobody is told that a connection has ended: its berth is waited for.
-#[derive(Drop)]
-struct Unwatched;
-
-impl Watch for Unwatched {
-    fn ended(self, _fault: Option<ServeFault>) {}
-}
-
-/// Serves so many connections of a socket that it makes at `path`, each in threads of its own, and
-/// prints a line once clients can connect and one once all connections have ended. An error is the
-/// exit status.
-pub fn accept_all<R, W>(
-    rt: &R,
-    alloc: Global,
-    path: &str,
-    keys: &Arc<KeyTable, Global>,
-    workers: usize,
-    accept: u64,
-    out: &mut W,
-) -> Result<Day, u8>
-where
-    R: Files + Net + Threads + Wait + Sync + Copy + Send + 'static,
-    W: Sink,
-    requires some_worker { 1 ≤ workers }
-    requires most_workers { workers ≤ 16 }
-    requires some_connection { 1 ≤ accept }
-    requires most_connections { accept ≤ 1000 }
-    requires writable { W.faults out.old < u64.MAX }
-    ensures served { IfOk result (λ day. day.served ≡ accept) }
-    ensures status { IfErr result (λ status. (status ≡ 3) ⊎ (status ≡ 4)) }
-{
-    let Ok(listener) = UnixListener::bind(rt, path) else {
-        return Err(DEVICE_FAULT);
-    };
-    let Ok(mut crew) = Crew::new(rt, alloc, workers) else {
-        return Err(NO_MEMORY);
-    };
-    let day = attended(rt, alloc, &listener, keys, &mut crew, accept, out);
-    crew.stop(rt);
-    let day = day?;
-    let Ok(text) = format!(in alloc; "served {} faults {}\n", day.served, day.faults) else {
-        return Err(NO_MEMORY);
-    };
-    say(out, text.as_bytes())?;
-    Ok(day)
-}
-
-/// Serves so many connections, and waits for them.
-fn attended<R, W>(
+/// Accepts as many connections as the limits say, and serves each. Some may not have ended yet
+/// where it returns. With a count, a socket that accepts nothing is an error, the exit status;
+/// without one, it is asked again after a pause.
+pub fn accept_each<R>(
     rt: &R,
     alloc: Global,
     listener: &UnixListener,
     keys: &Arc<KeyTable, Global>,
     crew: &mut Crew,
-    accept: u64,
-    out: &mut W,
+    quay: &Arc<Quay, Global>,
+    limits: Limits,
 ) -> Result<Day, u8>
 where
-    R: Threads + Wait + Sync + Copy + Send + 'static,
-    W: Sink,
-    requires writable { W.faults out.old < u64.MAX }
-    ensures served { IfOk result (λ day. day.served ≡ accept) }
-    ensures status { IfErr result (λ status. status ≡ 3) }
-    ensures faults { OnOk result (W.faults out.new ≡ W.faults out.old) }
-{
-    say(out, b"listening\n")?;
-    let begun = taken_on(rt, alloc, listener, keys, crew, accept);
-    let ended = all_left(rt, crew);
-    let faults = begun?.saturating_add(ended);
-    Ok(Day {
-        served: accept,
-        faults,
-    })
-}
-
-/// Takes on so many connections, and counts the faults so far. A berth is left before its next
-/// connection, so that with all berths taken the oldest connection is waited for.
-fn taken_on<R>(
-    rt: &R,
-    alloc: Global,
-    listener: &UnixListener,
-    keys: &Arc<KeyTable, Global>,
-    crew: &mut Crew,
-    accept: u64,
-) -> Result<u64, u8>
-where
-    R: Threads + Wait + Sync + Copy + Send + 'static,
+    R: Threads + Wait + Clock + Sync + Copy + Send + 'static,
+    ensures served { IfOk result (λ day. limits.count ≡ Some day.served) }
     ensures status { IfErr result (λ status. status ≡ 3) }
 {
+    let mut served: u64 = 0;
     let mut faults: u64 = 0;
-    for number in 0..accept {
-        let berth = (number % LIVE_MAX as u64) as usize;
-        faults = faults.saturating_add(faults_of(crew.leave(rt, berth)));
-        let Ok((stream, _)) = listener.accept() else {
-            return Err(DEVICE_FAULT);
-        };
-        if !crew.take_on(*rt, alloc, berth, stream, keys, Unwatched) {
-            faults = faults.saturating_add(1);
+    for _ in rt.forever() {
+        match limits.count {
+            Some(count) if count == served => return Ok(Day { served, faults }),
+            _ => {}
+        }
+        let (berth, ended) = await_berth(rt, crew, quay);
+        faults = faults.saturating_add(ended);
+        match listener.accept() {
+            Ok((stream, _)) => {
+                served = served.saturating_add(1);
+                let idle = limits.idle;
+                if let Err(notice) = welcome(*rt, alloc, stream, keys, crew, quay, berth, idle) {
+                    quay.post(rt, notice);
+                    faults = faults.saturating_add(1);
+                }
+            }
+            Err(_) if limits.count.is_some() => return Err(DEVICE_FAULT),
+            Err(_) => thread::sleep(rt, Duration::from_millis(PAUSE_MILLIS)),
         }
     }
-    Ok(faults)
+    unreachable!()
 }
 
-/// Waits for all connections, and counts the faults.
-fn all_left<R: Threads>(rt: &R, crew: &mut Crew) -> u64 {
+/// Serves a connection from a free berth. Without memory, a desk or a thread it is dropped, and a
+/// notice says why.
+fn welcome<R>(
+    rt: R,
+    alloc: Global,
+    stream: UnixStream,
+    keys: &Arc<KeyTable, Global>,
+    crew: &mut Crew,
+    quay: &Arc<Quay, Global>,
+    berth: usize,
+    idle: Option<Duration>,
+) -> Result<(), Notice>
+where
+    R: Threads + Wait + Sync + Copy + Send + 'static,
+    requires { berth < LIVE_MAX }
+{
+    let timed = stream
+        .set_read_timeout(idle)
+        .and(stream.set_write_timeout(idle));
+    let Ok(quay) = Arc::try_clone(quay) else {
+        return Err(Notice::NoMemory);
+    };
+    let mark = 1 << berth;
+    let watch = Mooring { rt, quay, mark };
+    if timed.is_ok() && crew.take_on(rt, alloc, berth, stream, keys, watch) {
+        Ok(())
+    } else {
+        Err(Notice::Dropped)
+    }
+}
+
+/// A berth that is free, once there is one, and how many faults ended connections ended in.
+fn await_berth<R: Threads + Wait>(rt: &R, crew: &mut Crew, quay: &Quay) -> (usize, u64)
+    ensures { result.0 < LIVE_MAX }
+{
+    let mut faults: u64 = 0;
+    for _ in rt.forever() {
+        faults = faults.saturating_add(leave_ended(rt, crew, quay.take_left()));
+        if let Some(berth) = first_free(crew) {
+            return (berth, faults);
+        }
+        quay.await_left(rt);
+    }
+    unreachable!()
+}
+
+/// Joins the connections of these berths, a bit for each, and counts the faults.
+fn leave_ended<R: Threads>(rt: &R, crew: &mut Crew, left: u64) -> u64 {
     let mut faults: u64 = 0;
     for berth in 0..LIVE_MAX {
-        faults = faults.saturating_add(faults_of(crew.leave(rt, berth)));
+        if left >> berth & 1 == 1 {
+            faults = faults.saturating_add(fault_count(crew.leave(rt, berth)));
+        }
     }
     faults
 }
 
-fn faults_of(left: Left) -> u64 {
+/// Waits for all connections, and counts the faults.
+pub fn leave_all<R: Threads>(rt: &R, crew: &mut Crew) -> u64 {
+    leave_ended(rt, crew, u64::MAX)
+}
+
+/// How many faults a berth was left with.
+fn fault_count(left: Left) -> u64 {
     match left {
         Left::Empty | Left::Well => 0,
         Left::Faulty(_) => 1,
     }
 }
 
-fn say<W: Sink>(out: &mut W, line: &[u8]) -> Result<(), u8>
-    requires { W.faults out.old < u64.MAX }
-    ensures status { IfErr result (λ status. status ≡ 3) }
-    ensures faults { OnOk result (W.faults out.new ≡ W.faults out.old) }
+/// The first berth that is free.
+fn first_free(crew: &Crew) -> Option<usize>
+    ensures { IfSome result (λ berth. berth < LIVE_MAX) }
 {
-    match send_all(out, line) {
-        Ok(()) => Ok(()),
-        Err(_) => Err(DEVICE_FAULT),
+    for berth in 0..LIVE_MAX {
+        if crew.is_free(berth) {
+            return Some(berth);
+        }
     }
+    None
 }

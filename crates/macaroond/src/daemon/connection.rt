@@ -6,8 +6,9 @@ use mac_decide::Macaroons;
 use mac_keys::KeyTable;
 use mac_pool::Desk;
 use mac_serve::{ServeFault, serve};
-use mac_wire::{DeviceFault, NoMemory, ReaderSource, Sink, WriterSink};
+use mac_wire::{DeviceFault, Ending, NoMemory, ReaderSource, Sink, WriterSink};
 use std::alloc::Global;
+use std::io::Read;
 use std::net::Shutdown;
 use std::os::unix::net::UnixStream;
 use std::snapshot::Snapshot;
@@ -16,6 +17,16 @@ use std::sync::atomic::Ordering::SeqCst;
 use std::sync::{Arc, Wait};
 use std::thread;
 use std::thread::{Promise, PromisedHandle, Threads};
+use std::time::Duration;
+
+/// How many bytes one read behind an oversize frame drops at most.
+const DROPPED_PIECE: usize = 16_384;
+
+/// How many such reads there are at most.
+const DROPPED_READS: usize = 64;
+
+/// How many milliseconds each of them waits at most.
+const DROPPED_MILLIS: u64 = 100;
 
 /// What a connection leaves behind.
 #[derive(Drop)]
@@ -48,7 +59,7 @@ pub trait Watch: Send + Drop {
 }
 
 /// Serves a stream in a thread. Without memory or a thread for it, the desk comes back.
-pub fn connected<R, W>(
+pub fn start_connection<R, W>(
     rt: R,
     alloc: Global,
     stream: UnixStream,
@@ -77,7 +88,7 @@ where
                 desk: own,
             };
         }
-        let ended = served(&rt, alloc, &stream, &keys, own);
+        let ended = serve_stream(&rt, alloc, &stream, &keys, own);
         watch.ended(ended.fault);
         ended
     };
@@ -100,7 +111,7 @@ fn refusal(alloc: Global) -> Result<(Flag, Flag), NoMemory> {
 }
 
 /// Serves a stream to its end.
-fn served<R: Threads + Wait + Sync>(
+fn serve_stream<R: Threads + Wait + Sync>(
     rt: &R,
     alloc: Global,
     stream: &UnixStream,
@@ -112,14 +123,37 @@ fn served<R: Threads + Wait + Sync>(
     let mut source = ReaderSource::new(stream);
     let mut sink = Outgoing::new(stream);
     match serve(rt, alloc, &mut source, &mut sink, keys, desk) {
-        Ok(served) => Ended {
-            fault: None,
-            desk: served.desk,
-        },
+        Ok(served) => {
+            if served.ending == Ending::Oversize {
+                drop_rest(stream);
+            }
+            Ended {
+                fault: None,
+                desk: served.desk,
+            }
+        }
         Err((fault, served)) => Ended {
             fault: Some(fault),
             desk: served.desk,
         },
+    }
+}
+
+/// Ends what is written, then reads what still comes and drops it, so that the peer reads an end
+/// and no reset. It ends after `DROPPED_READS` reads, each of which waits for a moment at most.
+fn drop_rest(stream: &UnixStream) {
+    let _ = stream.shutdown(Shutdown::Write);
+    let moment = Duration::from_millis(DROPPED_MILLIS);
+    if stream.set_read_timeout(Some(moment)).is_err() {
+        return;
+    }
+    let mut reader = stream;
+    let mut piece = [0u8; DROPPED_PIECE];
+    for _ in 0..DROPPED_READS {
+        match reader.read(&mut piece) {
+            Ok(count) if count > 0 => {}
+            Ok(_) | Err(_) => return,
+        }
     }
 }
 

@@ -3,7 +3,7 @@ ghost use Rattle.std.specs.Prelude.{◌≡◌, ◌<◌, IfOk, false, length};
 ghost use Rattle.macaroond.specs.Crew.{AreFree, EachBerth, KeepsHome};
 ghost use Rattle.macaroond.specs.declared.daemon.crew.TheConstants.{LIVE_MAX};
 
-use super::connection::{Connection, Watch, connected};
+use super::connection::{Connection, Watch, start_connection};
 use mac_decide::Macaroons;
 use mac_keys::KeyTable;
 use mac_pool::{NoGate, Pool, PoolFault};
@@ -83,7 +83,7 @@ impl Crew {
         let Ok(desk) = self.pool.desk(alloc) else {
             return false;
         };
-        match connected(rt, alloc, stream, keys, desk, watch) {
+        match start_connection(rt, alloc, stream, keys, desk, watch) {
             Ok(connection) => {
                 self.berths[berth] = Some(connection);
                 true

@@ -12,12 +12,7 @@ const NUMBER_MAX: usize = 16;
 
 /// Takes the lock of a path, and writes into its file which process has it. The system gives a
 /// lock back as its process ends, however it ends; the file stays, and the next one takes it.
-pub fn lock_path<R>(
-    rt: &R,
-    alloc: Global,
-    path: &str,
-    process: Process,
-) -> Result<File, PlaceFault>
+pub fn lock_path<R>(rt: &R, alloc: Global, path: &str, process: Process) -> Result<File, PlaceFault>
 where
     R: Files<File = File>,
 {

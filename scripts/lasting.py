@@ -1,0 +1,130 @@
+"""Runs of `macaroond listen` that has to stay up: what it does where nobody reads what it prints, and
+how it ends connections."""
+import contextlib
+import os
+import re
+import subprocess
+import tempfile
+import time
+
+import pipe_runs
+from daemon_rows import KEYS, NO_REQUEST, connected, frame, received
+
+# How many seconds a client waits at most: a daemon that hangs is told from a machine that is busy.
+LONGEST_WAIT = 30
+# How many connections end inside a frame.
+TORN = 1400
+# The line of each of them.
+TORN_LINE = "a connection ended: the stream ended inside a frame"
+# The length of a frame past the limit, which a socket's buffer holds whole, and the reply to it.
+OVERSIZE, TOO_LONG = 200_000, frame(b"\x11")
+LEFT_OUT = re.compile(r"(\d+) more lines were left out")
+
+
+@contextlib.contextmanager
+def listening(error, *words):
+    """The path of a daemon that listens, and its process. It prints its faults to `error`."""
+    with tempfile.TemporaryDirectory() as folder:
+        path = folder + "/socket"
+        command = [pipe_runs.PROGRAM, "listen", "--socket", path, "--keys", KEYS, "--workers", "2", *words]
+        with subprocess.Popen(command, stdout=subprocess.PIPE, stderr=error) as run:
+            try:
+                run.stdout.readline()
+                yield path, run
+            finally:
+                run.kill()
+
+
+def full_pipe():
+    """A pipe that takes nothing more: its two ends, and how many bytes it holds."""
+    reading, writing = os.pipe()
+    os.set_blocking(writing, False)
+    held = 0
+    for piece in (bytes(4096), bytes(1)):
+        with contextlib.suppress(BlockingIOError):
+            while True:
+                held += os.write(writing, piece)
+    os.set_blocking(writing, True)
+    return reading, writing, held
+
+
+def lines_of(reading, held):
+    """The lines behind what the pipe held, until all connections are told of, or `LONGEST_WAIT` has passed."""
+    os.set_blocking(reading, False)
+    text, until = b"", time.monotonic() + LONGEST_WAIT
+    while time.monotonic() < until:
+        with contextlib.suppress(BlockingIOError):
+            text += os.read(reading, 65_536)
+            continue
+        lines = text[held:].decode().splitlines()
+        if told(lines) >= TORN:
+            break
+        time.sleep(0.05)
+    return text[held:].decode().splitlines()
+
+
+def told(lines):
+    """How many connections these lines tell of, those that were left out among them."""
+    left_out = sum(int(match[1]) for line in lines if (match := LEFT_OUT.fullmatch(line)))
+    return left_out + lines.count(TORN_LINE)
+
+
+def answered(path):
+    """What comes back for one request, within `LONGEST_WAIT`."""
+    try:
+        with connected(path) as stream:
+            stream.settimeout(LONGEST_WAIT)
+            stream.sendall(frame(b""))
+            return received(stream, len(NO_REQUEST))
+    except TimeoutError:
+        return b""
+
+
+def unread_errors():
+    """Standard error is a full pipe that nobody reads while connections end in faults."""
+    reading, writing, held = full_pipe()
+    with listening(writing) as (path, _):
+        os.close(writing)
+        for _ in range(TORN):
+            with connected(path) as stream:
+                stream.sendall(bytes(3))
+        yield "a client behind faults that nobody reads of", answered(path), NO_REQUEST
+        lines = lines_of(reading, held)
+        yield "each fault is told or counted", told(lines), TORN
+        strangers = [line for line in lines if line != TORN_LINE and not LEFT_OUT.fullmatch(line)]
+        yield "and nothing else is told", strangers, []
+    os.close(reading)
+
+
+def oversize_frames():
+    """A frame past the limit, whose payload the daemon answers without having read it all."""
+    with listening(subprocess.DEVNULL) as (path, _):
+        with connected(path) as stream:
+            stream.sendall(OVERSIZE.to_bytes(4, "big") + bytes(OVERSIZE))
+            yield "the reply to an oversize frame", received(stream, len(TOO_LONG)), TOO_LONG
+            yield "and then an end", end_of(stream), "an end"
+        yield "the next client", answered(path), NO_REQUEST
+
+
+def end_of(stream):
+    try:
+        return "an end" if stream.recv(1) == b"" else "more"
+    except ConnectionResetError:
+        return "a reset"
+
+
+def faults():
+    """What went otherwise than it must, and how many checks there were."""
+    seen = [*unread_errors(), *oversize_frames()]
+    found = [f"lasting: {what}: {got!r} where {due!r} is due" for what, got, due in seen if got != due]
+    return found, len(seen)
+
+
+def main():
+    found, _ = faults()
+    if found:
+        raise SystemExit("\n".join(found))
+
+
+if __name__ == "__main__":
+    main()
