@@ -2,6 +2,7 @@
 standard descriptor closed."""
 import os
 import pathlib
+import re
 import signal
 import subprocess
 import tempfile
@@ -29,10 +30,11 @@ def first_line(path):
         return line or run.stderr.readline()
 
 
-def is_told(path, error, winner):
-    """Whether a daemon that didn't start says who has the path."""
-    named = f"{path}: process {winner} has it\nfault 3\n"
-    return error in (named, f"{path}: another process has it\nfault 3\n")
+def is_told(path, error):
+    """Whether a daemon that didn't start says that another process has the path. Which one it is may
+    not be written yet, or be the last one that had it: `daemon_rows` asks that later."""
+    told = re.escape(path) + r": (process \d+|another process) has it\nfault 3\n"
+    return re.fullmatch(told, error) is not None
 
 
 def one_round(path):
@@ -43,7 +45,7 @@ def one_round(path):
             if sorted(map(bool, lines)) != [False, True]:
                 return f"first lines {lines}"
             winner, loser = (one, other) if lines[0] else (other, one)
-            if loser.wait(20) != 3 or not is_told(path, error := loser.stderr.read(), winner.pid):
+            if loser.wait(20) != 3 or not is_told(path, error := loser.stderr.read()):
                 return f"status {loser.returncode}, {error!r}"
             with daemon_rows.connected(path) as stream:
                 reply = daemon_rows.answer(stream, daemon_rows.frame(b""))
