@@ -12,7 +12,7 @@ pub(crate) fn read_arrival(alloc: Global, line: &[u8]) -> Result<Arrival, NoMemo
     ensures { IfOk result (λ a. a ≡ arrival_of line.now) }
 {
     let payload = read_payload(alloc, line)?;
-    Ok(arrived(payload))
+    Ok(make_arrival(payload))
 }
 
 /// The bytes that a line spells in hexadecimal; none where it isn't hexadecimal.
@@ -27,7 +27,7 @@ fn read_payload(alloc: Global, line: &[u8]) -> Result<Vec<u8>, NoMemory>
 }
 
 /// The arrival of a payload: whole where a frame carries it.
-fn arrived(payload: Vec<u8>) -> Arrival
+fn make_arrival(payload: Vec<u8>) -> Arrival
     ensures { result ≡ arrival_of_payload payload.items }
 {
     if payload.len() <= FRAME_MAX {

@@ -16,9 +16,9 @@ ghost use Rattle.macaroond.specs.Options.{HasCommand, HasOptions};
 ghost use Rattle.macaroond.specs.People.{IsTaskName};
 
 use crate::choices::Chosen;
-use crate::commands::command;
-use crate::options::{OptionFault, choice_of};
-use crate::people::task_of;
+use crate::commands::build_command;
+use crate::options::{OptionFault, read_choice};
+use crate::people::read_task;
 use clap::error::ErrorKind;
 use clap::{ArgMatches, Error};
 use std::alloc::{Alloc, Global};
@@ -42,23 +42,23 @@ const UNKNOWN_MODE: &str = "error: the mode of a socket is 600, 660 or 666\n";
 
 /// The words of the process, the first being the program's name.
 ///
-/// An error holds the exit status and the text to show, as that of `chosen`: a word that is not
+/// An error holds the exit status and the text to show, as that of `choose`: a word that is not
 /// UTF-8 makes a bad line.
-pub fn words_of<R: Env + Alloc<A = Global>>(rt: &R) -> Result<Vec<String>, (u8, String)>
+pub fn read_words<R: Env + Alloc<A = Global>>(rt: &R) -> Result<Vec<String>, (u8, String)>
     ensures refused { IfErr result (λ fault. (fault.0 ≡ BAD_LINE) ⊎ (fault.0 ≡ NO_MEMORY)) }
     ensures memory { IfErr result (λ fault. fault.0 ≡ NO_MEMORY → string_bytes fault.1 ≡ []) }
 {
     match env::args(rt) {
-        Ok(given) => gathered(rt.alloc(), given),
+        Ok(given) => gather_words(rt.alloc(), given),
         Err(error) if error.kind() == io::ErrorKind::InvalidData => {
-            Err(bad_line(rt.alloc(), NOT_TEXT))
+            Err(refuse_line(rt.alloc(), NOT_TEXT))
         },
-        Err(_) => Err(out_of_memory(rt.alloc())),
+        Err(_) => Err(refuse_for_memory(rt.alloc())),
     }
 }
 
 /// The words that are given, each of them and in their order.
-fn gathered(alloc: Global, given: Args) -> Result<Vec<String>, (u8, String)>
+fn gather_words(alloc: Global, given: Args) -> Result<Vec<String>, (u8, String)>
     ensures words { IfOk result (λ words.
         words.items ≡ take (into_iter_len given) (into_iter_items given)) }
     ensures memory { IfErr result (λ fault.
@@ -67,7 +67,7 @@ fn gathered(alloc: Global, given: Args) -> Result<Vec<String>, (u8, String)>
     let mut words = Vec::new(alloc);
     for word in given {
         if words.push(word).is_err() {
-            return Err(out_of_memory(alloc));
+            return Err(refuse_for_memory(alloc));
         }
     }
     Ok(words)
@@ -78,7 +78,7 @@ fn gathered(alloc: Global, given: Args) -> Result<Vec<String>, (u8, String)>
 /// An error holds the exit status and the text to show: 0 with the help or the version that was
 /// asked for, 2 with what is wrong with the line, or 4 with no text where memory ran out.
 #[tactic(auto, using(crate::proofs::CommandLineLemmas::status_of_error))]
-pub fn chosen(alloc: Global, words: &[String]) -> Result<Chosen, (u8, String)>
+pub fn choose(alloc: Global, words: &[String]) -> Result<Chosen, (u8, String)>
     ensures accepted { OnOk result (fault_of command_line (map string_bytes words.now) ≡ []) }
     ensures choice { IfOk result (λ chosen.
         IsChosen chosen (subcommand_of command_line (map string_bytes words.now))) }
@@ -87,24 +87,24 @@ pub fn chosen(alloc: Global, words: &[String]) -> Result<Chosen, (u8, String)>
         ⊎ (fault.0 ≡ NO_MEMORY))) }
     ensures memory { IfErr result (λ fault. fault.0 ≡ NO_MEMORY → string_bytes fault.1 ≡ []) }
 {
-    match matches_of(alloc, words) {
-        Ok(matches) => named(alloc, &matches),
-        Err(error) => Err(refusal(alloc, &error)),
+    match match_words(alloc, words) {
+        Ok(matches) => choose_matched(alloc, &matches),
+        Err(error) => Err(refuse(alloc, &error)),
     }
 }
 
 /// What `clap` finds in the words.
-fn matches_of<'a>(alloc: Global, words: &'a [String]) -> Result<ArgMatches<'a>, Error>
+fn match_words<'a>(alloc: Global, words: &'a [String]) -> Result<ArgMatches<'a>, Error>
     ensures faults { FailsBy (fault_of command_line (map string_bytes words.now)) result }
     ensures rows { IfOk result (λ matches. subcommand_rows_of matches
         ≡ subcommand_of command_line (map string_bytes words.now)) }
     ensures options { IfOk result (λ matches. HasCommand (subcommand_rows_of matches)) }
 {
-    command(alloc)?.try_get_matches_from(words)
+    build_command(alloc)?.try_get_matches_from(words)
 }
 
 /// What the subcommand of a line that `clap` takes stands for.
-fn named(alloc: Global, matches: &ArgMatches<'_>) -> Result<Chosen, (u8, String)>
+fn choose_matched(alloc: Global, matches: &ArgMatches<'_>) -> Result<Chosen, (u8, String)>
     requires { HasCommand (subcommand_rows_of matches.now) }
     ensures choice { IfOk result (λ chosen. IsChosen chosen (subcommand_rows_of matches.now)) }
     ensures refused { IfErr result (λ fault.
@@ -115,12 +115,12 @@ fn named(alloc: Global, matches: &ArgMatches<'_>) -> Result<Chosen, (u8, String)
     let Some((name, options)) = matches.subcommand() else {
         unreachable!("`clap` asks for a subcommand")
     };
-    of_subcommand(alloc, name, options)
+    choose_subcommand(alloc, name, options)
 }
 
 /// What a subcommand with these options stands for.
 #[tactic(auto, using(crate::proofs::SubcommandLemmas::machine_options))]
-fn of_subcommand(
+fn choose_subcommand(
     alloc: Global,
     name: &str,
     options: &ArgMatches<'_>,
@@ -134,13 +134,17 @@ fn of_subcommand(
     ensures memory { IfErr result (λ fault. fault.0 ≡ NO_MEMORY → string_bytes fault.1 ≡ []) }
 {
     match name {
-        "pipe" | "serve" | "listen" => machine(alloc, name, options),
-        _ => person(alloc, name, options),
+        "pipe" | "serve" | "listen" => choose_machine(alloc, name, options),
+        _ => choose_person(alloc, name, options),
     }
 }
 
 /// The choice that a subcommand for programs stands for.
-fn machine(alloc: Global, name: &str, options: &ArgMatches<'_>) -> Result<Chosen, (u8, String)>
+fn choose_machine(
+    alloc: Global,
+    name: &str,
+    options: &ArgMatches<'_>,
+) -> Result<Chosen, (u8, String)>
     requires { HasOptions name.now (rows_of (found_of options.now)) }
     ensures choice { IfOk result (λ chosen.
         IsChosen chosen (Some (name.now, rows_of (found_of options.now)))) }
@@ -149,34 +153,38 @@ fn machine(alloc: Global, name: &str, options: &ArgMatches<'_>) -> Result<Chosen
         ⊎ (fault.0 ≡ NO_MEMORY)) }
     ensures memory { IfErr result (λ fault. fault.0 ≡ NO_MEMORY → string_bytes fault.1 ≡ []) }
 {
-    match choice_of(alloc, name, options) {
+    match read_choice(alloc, name, options) {
         Ok(choice) => Ok(Chosen::Machine(choice)),
-        Err(OptionFault::UnknownMode) => Err(bad_line(alloc, UNKNOWN_MODE)),
-        Err(OptionFault::NoMemory) => Err(out_of_memory(alloc)),
+        Err(OptionFault::UnknownMode) => Err(refuse_line(alloc, UNKNOWN_MODE)),
+        Err(OptionFault::NoMemory) => Err(refuse_for_memory(alloc)),
     }
 }
 
 /// The task that a subcommand for people stands for.
-fn person(alloc: Global, name: &str, options: &ArgMatches<'_>) -> Result<Chosen, (u8, String)>
+fn choose_person(
+    alloc: Global,
+    name: &str,
+    options: &ArgMatches<'_>,
+) -> Result<Chosen, (u8, String)>
     requires { IsTaskName name.now }
     ensures choice { IfOk result (λ chosen.
         IsChosen chosen (Some (name.now, rows_of (found_of options.now)))) }
     ensures memory { IfErr result (λ fault.
         (fault.0 ≡ NO_MEMORY) × (string_bytes fault.1 ≡ [])) }
 {
-    match task_of(alloc, name, options) {
+    match read_task(alloc, name, options) {
         Ok(task) => Ok(Chosen::Person(task)),
-        Err(_) => Err(out_of_memory(alloc)),
+        Err(_) => Err(refuse_for_memory(alloc)),
     }
 }
 
 /// The exit status and the text of an error of `clap`.
-fn refusal(alloc: Global, error: &Error) -> (u8, String)
+fn refuse(alloc: Global, error: &Error) -> (u8, String)
     ensures status { (result.0 ≡ exit_status (kind_of error.now)) ⊎ (result.0 ≡ NO_MEMORY) }
     ensures memory { result.0 ≡ NO_MEMORY → string_bytes result.1 ≡ [] }
 {
     match (status_of_kind(error.kind()), error.to_string(alloc)) {
-        (NO_MEMORY, _) | (_, Err(_)) => out_of_memory(alloc),
+        (NO_MEMORY, _) | (_, Err(_)) => refuse_for_memory(alloc),
         (status, Ok(text)) => (status, text),
     }
 }
@@ -191,7 +199,7 @@ fn status_of_kind(kind: ErrorKind) -> u8
     }
 }
 
-fn out_of_memory(alloc: Global) -> (u8, String)
+fn refuse_for_memory(alloc: Global) -> (u8, String)
     ensures status { result.0 ≡ NO_MEMORY }
     ensures text { string_bytes result.1 ≡ [] }
 {
@@ -199,12 +207,12 @@ fn out_of_memory(alloc: Global) -> (u8, String)
 }
 
 /// A bad line, with what is wrong with it.
-fn bad_line(alloc: Global, text: &str) -> (u8, String)
+fn refuse_line(alloc: Global, text: &str) -> (u8, String)
     ensures status { (result.0 ≡ BAD_LINE) ⊎ (result.0 ≡ NO_MEMORY) }
     ensures memory { result.0 ≡ NO_MEMORY → string_bytes result.1 ≡ [] }
 {
     match String::from_str(alloc, text) {
         Ok(text) => (BAD_LINE, text),
-        Err(_) => out_of_memory(alloc),
+        Err(_) => refuse_for_memory(alloc),
     }
 }

@@ -5,8 +5,8 @@ ghost use Rattle.macaroond.specs.Arguments.{number, option, required};
 ghost use Rattle.macaroond.specs.CommandLine.{command_line, listen_command, pipe_command};
 ghost use Rattle.macaroond.specs.CommandLine.{serve_command};
 
-use crate::parts::{added, valued};
-use crate::people::with_people;
+use crate::parts::{add_subcommand, build_option};
+use crate::people::add_people;
 use clap::builder::ValueParser;
 use clap::{Arg, Command};
 use std::alloc::{AllocError, Global};
@@ -87,7 +87,7 @@ const SOCKET_HELP: &str = "Where the socket is made";
 const KEYS_HELP: &str = "The file of key lines";
 
 /// The whole command line.
-pub fn command<'a>(alloc: Global) -> Result<Command<'a>, AllocError>
+pub fn build_command<'a>(alloc: Global) -> Result<Command<'a>, AllocError>
     ensures { IfOk result (λ command. app_of command ≡ command_line) }
 {
     let program = Command::new(alloc, "macaroond")
@@ -95,13 +95,13 @@ pub fn command<'a>(alloc: Global) -> Result<Command<'a>, AllocError>
         .version(VERSION)
         .subcommand_required(true)
         .disable_help_subcommand(true);
-    let program = added(program, pipe(alloc))?;
-    let program = added(program, serve(alloc)?)?;
-    let program = added(program, listen(alloc)?)?;
-    with_people(alloc, program)
+    let program = add_subcommand(program, build_pipe(alloc))?;
+    let program = add_subcommand(program, build_serve(alloc)?)?;
+    let program = add_subcommand(program, build_listen(alloc)?)?;
+    add_people(alloc, program)
 }
 
-fn pipe<'a>(alloc: Global) -> Command<'a>
+fn build_pipe<'a>(alloc: Global) -> Command<'a>
     ensures { app_of result ≡ pipe_command }
 {
     Command::new(alloc, "pipe")
@@ -109,7 +109,7 @@ fn pipe<'a>(alloc: Global) -> Command<'a>
         .after_help(PIPE_HELP)
 }
 
-fn serve<'a>(alloc: Global) -> Result<Command<'a>, AllocError>
+fn build_serve<'a>(alloc: Global) -> Result<Command<'a>, AllocError>
     ensures { IfOk result (λ serve. app_of serve ≡ serve_command) }
 {
     let workers = "How many threads answer requests, from 1 to 16";
@@ -117,13 +117,13 @@ fn serve<'a>(alloc: Global) -> Result<Command<'a>, AllocError>
     Command::new(alloc, "serve")
         .about("Answers the requests of so many connections over a Unix socket")
         .after_help(SERVE_HELP)
-        .arg(path(alloc, "socket", SOCKET_HELP))?
-        .arg(path(alloc, "keys", KEYS_HELP))?
-        .arg(count(alloc, "workers", WORKERS_MAX, workers).required(true))?
-        .arg(count(alloc, "accept", ACCEPT_MAX, accept).required(true))
+        .arg(build_path(alloc, "socket", SOCKET_HELP))?
+        .arg(build_path(alloc, "keys", KEYS_HELP))?
+        .arg(build_count(alloc, "workers", WORKERS_MAX, workers).required(true))?
+        .arg(build_count(alloc, "accept", ACCEPT_MAX, accept).required(true))
 }
 
-fn listen<'a>(alloc: Global) -> Result<Command<'a>, AllocError>
+fn build_listen<'a>(alloc: Global) -> Result<Command<'a>, AllocError>
     ensures { IfOk result (λ listen. app_of listen ≡ listen_command) }
 {
     let workers = "How many threads answer requests, from 1 to 16 [default: one a processor]";
@@ -132,25 +132,25 @@ fn listen<'a>(alloc: Global) -> Result<Command<'a>, AllocError>
     Command::new(alloc, "listen")
         .about("Answers requests over a Unix socket until it is stopped")
         .after_help(LISTEN_HELP)
-        .arg(path(alloc, "socket", SOCKET_HELP))?
-        .arg(path(alloc, "keys", KEYS_HELP))?
-        .arg(count(alloc, "workers", WORKERS_MAX, workers))?
-        .arg(valued(alloc, "mode", "DIGITS", mode))?
-        .arg(count(alloc, "idle", IDLE_MAX, idle))
+        .arg(build_path(alloc, "socket", SOCKET_HELP))?
+        .arg(build_path(alloc, "keys", KEYS_HELP))?
+        .arg(build_count(alloc, "workers", WORKERS_MAX, workers))?
+        .arg(build_option(alloc, "mode", "DIGITS", mode))?
+        .arg(build_count(alloc, "idle", IDLE_MAX, idle))
 }
 
 /// A required option that takes a path.
-fn path<'a>(alloc: Global, name: &'a str, help: &'a str) -> Arg<'a>
+fn build_path<'a>(alloc: Global, name: &'a str, help: &'a str) -> Arg<'a>
     ensures rule { rule_of result ≡ required (option name.entry.now) }
     ensures local { result.global ≡ false }
 {
-    valued(alloc, name, "PATH", help).required(true)
+    build_option(alloc, name, "PATH", help).required(true)
 }
 
 /// An option that takes a number from 1 to `most`.
-fn count<'a>(alloc: Global, name: &'a str, most: u64, help: &'a str) -> Arg<'a>
+fn build_count<'a>(alloc: Global, name: &'a str, most: u64, help: &'a str) -> Arg<'a>
     ensures rule { rule_of result ≡ number most (option name.entry.now) }
     ensures local { result.global ≡ false }
 {
-    valued(alloc, name, "COUNT", help).value_parser(ValueParser::unsigned(1, most))
+    build_option(alloc, name, "COUNT", help).value_parser(ValueParser::unsigned(1, most))
 }

@@ -3,7 +3,7 @@ ghost use Rattle.std.specs.Prelude.{◌≡◌, ◌≢◌, ◌+◌, ◌<◌, ◌=
 ghost use Rattle.macaroond.specs.Lines.{lines, key_text, request_lines};
 
 /// The place of the first line feed.
-fn line_feed(text: &[u8]) -> Option<usize>
+fn find_line_feed(text: &[u8]) -> Option<usize>
     ensures feed { MatchOption result (All (λ byte. (byte == 10) ≡ false) text.now) (λ i.
         All (λ byte. (byte == 10) ≡ false) (take i text.now)
         × (text.now ≡ take i text.now ++ 10 ∷ drop (i + 1) text.now)) }
@@ -18,7 +18,7 @@ pub(crate) fn next_line(text: &[u8]) -> Option<(&[u8], &[u8])>
         (λ r. lines text.now ≡ r.0.now ∷ lines r.1.now) }
     ensures shorter { IfSome result (λ r. length r.1.now < length text.now) }
 {
-    match line_feed(text) {
+    match find_line_feed(text) {
         Some(end) => Some((&text[..end], &text[end + 1..])),
         None if text.is_empty() => None,
         None => Some((text, &text[text.len()..])),
@@ -37,12 +37,12 @@ fn without_line_feed(text: &[u8]) -> &[u8]
 }
 
 /// The text of the key lines, and that of the request lines: an empty line divides them.
-pub(crate) fn divided(input: &[u8]) -> (&[u8], &[u8])
+pub(crate) fn divide(input: &[u8]) -> (&[u8], &[u8])
     ensures keys { result.0.now ≡ key_text input.now }
     ensures requests { lines result.1.now ≡ request_lines input.now }
 {
     let mut start = 0;
-    while let Some(end) = line_feed(&input[start..]) {
+    while let Some(end) = find_line_feed(&input[start..]) {
         if end == 0 {
             return (without_line_feed(&input[..start]), &input[start + 1..]);
         }

@@ -1,7 +1,7 @@
 //! `macaroond`: mints, narrows and verifies macaroons, for programs and for people.
 //!
 //! `main` reads the command line and does what it asks for; all that is decided stands in
-//! [`chosen`] and [`pipe`].
+//! [`choose`] and [`pipe`].
 #![tactic(auto)]
 
 ghost use Rattle.std.specs.Prelude.{◌≡◌, ◌≤◌, IfErr};
@@ -23,7 +23,7 @@ mod piping;
 mod reply_line;
 
 pub use choices::{Choice, Chosen, Mode};
-pub use command_line::{BAD_LINE, HELP_SHOWN, NO_MEMORY, chosen, words_of};
+pub use command_line::{BAD_LINE, HELP_SHOWN, NO_MEMORY, choose, read_words};
 pub use commands::{ACCEPT_MAX, IDLE_MAX, WORKERS_MAX};
 use daemon::{NOWHERE, open_standard, read_keys};
 pub use daemon::{Day, LIVE_MAX, Terms, accept_all, listen};
@@ -72,12 +72,12 @@ where
     R: Threads + Wait + Sync + Copy + Send + 'static,
     R::Reader: Send,
 {
-    let chosen = words_of(rt).and_then(|words| chosen(rt.alloc(), words.as_slice()));
-    done(rt, chosen, process)
+    let chosen = read_words(rt).and_then(|words| choose(rt.alloc(), words.as_slice()));
+    run_chosen(rt, chosen, process)
 }
 
 /// Does what was chosen, and gives the exit status; what was refused is shown and not done.
-fn done<R>(rt: &R, chosen: Result<Chosen, (u8, String)>, process: Process) -> u8
+fn run_chosen<R>(rt: &R, chosen: Result<Chosen, (u8, String)>, process: Process) -> u8
 where
     R: Alloc<A = Global> + Input + Print + Eprint + Files<File = File> + Net + Clock + RandomSource,
     R: Threads + Wait + Sync + Copy + Send + 'static,
@@ -85,14 +85,14 @@ where
     ensures { IfErr chosen (λ refusal. IsShown refusal.0 result) }
 {
     match chosen {
-        Ok(Chosen::Machine(choice)) => answered(rt, choice, process),
+        Ok(Chosen::Machine(choice)) => run_machine(rt, choice, process),
         Ok(Chosen::Person(task)) => run_task(rt, &task),
         Err((status, text)) => show(rt, status, text.as_str()),
     }
 }
 
 /// Answers the requests of programs, and gives the exit status.
-fn answered<R>(rt: &R, choice: Choice, process: Process) -> u8
+fn run_machine<R>(rt: &R, choice: Choice, process: Process) -> u8
 where
     R: Alloc<A = Global> + Input + Print + Eprint + Files<File = File> + Net + Clock,
     R: Threads + Wait + Sync + Copy + Send + 'static,
@@ -117,7 +117,7 @@ where
                 path: socket.as_str(),
                 mode,
                 idle: idle.map(Duration::from_secs),
-                workers: workers_of(rt, workers),
+                workers: count_workers(rt, workers),
             };
             run_listen(rt, keys.as_str(), terms, process)
         }
@@ -125,7 +125,7 @@ where
 }
 
 /// The workers that were asked for, or one for each processor.
-fn workers_of<R: Threads>(rt: &R, asked: Option<u64>) -> usize
+fn count_workers<R: Threads>(rt: &R, asked: Option<u64>) -> usize
     ensures some { 1 ≤ result }
     ensures most { result ≤ 16 }
 {
@@ -149,12 +149,12 @@ where
     }
     let keys = match read_keys(rt, keys) {
         Ok(keys) => keys,
-        Err(fault) => return told(rt, Err(fault)),
+        Err(fault) => return tell_ending(rt, Err(fault)),
     };
     let Ok(keys) = Arc::new(rt.alloc(), keys) else {
         return tell_fault(rt, NO_MEMORY);
     };
-    let workers = workers_of(rt, Some(workers));
+    let workers = count_workers(rt, Some(workers));
     let accept = accept.max(1).min(ACCEPT_MAX);
     let mut out = WriterSink::new(io::writer(rt));
     match accept_all(rt, rt.alloc(), path, &keys, workers, accept, &mut out) {
@@ -175,7 +175,7 @@ where
     }
     let keys = match read_keys(rt, keys) {
         Ok(keys) => keys,
-        Err(fault) => return told(rt, Err(fault)),
+        Err(fault) => return tell_ending(rt, Err(fault)),
     };
     let Ok(keys) = Arc::new(rt.alloc(), keys) else {
         return tell_fault(rt, NO_MEMORY);
@@ -191,11 +191,11 @@ where
     let mut source = ReaderSource::new(rt.reader());
     let mut sink = WriterSink::new(io::writer(rt));
     let ending = pipe(rt.alloc(), &mut source, &mut sink);
-    told(rt, ending)
+    tell_ending(rt, ending)
 }
 
 /// Names the fault that a run ended with on standard error, and gives the run's exit status.
-fn told<R: Eprint>(rt: &R, ending: Result<(), PipeFault>) -> u8
+fn tell_ending<R: Eprint>(rt: &R, ending: Result<(), PipeFault>) -> u8
     ensures { result ≡ run_status ending }
 {
     match ending {

@@ -28,48 +28,52 @@ impl From<AllocError> for OptionFault {
 }
 
 /// The choice that a subcommand with these options stands for.
-pub fn choice_of(alloc: Global, name: &str, options: &ArgMatches<'_>) -> Result<Choice, OptionFault>
+pub fn read_choice(
+    alloc: Global,
+    name: &str,
+    options: &ArgMatches<'_>,
+) -> Result<Choice, OptionFault>
     requires { HasOptions name.now (rows_of (found_of options.now)) }
     ensures { Chooses name.now (rows_of (found_of options.now)) result }
 {
     match name {
         "pipe" => Ok(Choice::Pipe),
-        "serve" => serve_of(alloc, options),
-        "listen" => listen_of(alloc, options),
+        "serve" => read_serve(alloc, options),
+        "listen" => read_listen(alloc, options),
         _ => unreachable!("the subcommand is one of those above"),
     }
 }
 
-fn serve_of(alloc: Global, options: &ArgMatches<'_>) -> Result<Choice, OptionFault>
+fn read_serve(alloc: Global, options: &ArgMatches<'_>) -> Result<Choice, OptionFault>
     requires { HasServeOptions (rows_of (found_of options.now)) }
     ensures { Chooses (codes "serve") (rows_of (found_of options.now)) result }
 {
     Ok(Choice::Serve {
-        socket: text_of(alloc, options, "socket")?,
-        keys: text_of(alloc, options, "keys")?,
-        workers: number_of(options, "workers"),
-        accept: number_of(options, "accept"),
+        socket: read_text(alloc, options, "socket")?,
+        keys: read_text(alloc, options, "keys")?,
+        workers: read_number(options, "workers"),
+        accept: read_number(options, "accept"),
     })
 }
 
-fn listen_of(alloc: Global, options: &ArgMatches<'_>) -> Result<Choice, OptionFault>
+fn read_listen(alloc: Global, options: &ArgMatches<'_>) -> Result<Choice, OptionFault>
     requires { HasListenOptions (rows_of (found_of options.now)) }
     ensures { Chooses (codes "listen") (rows_of (found_of options.now)) result }
 {
-    let Some(mode) = mode_of(options) else {
+    let Some(mode) = read_mode(options) else {
         return Err(OptionFault::UnknownMode);
     };
     Ok(Choice::Listen {
-        socket: text_of(alloc, options, "socket")?,
-        keys: text_of(alloc, options, "keys")?,
-        workers: optional_number_of(options, "workers"),
+        socket: read_text(alloc, options, "socket")?,
+        keys: read_text(alloc, options, "keys")?,
+        workers: read_optional_number(options, "workers"),
         mode,
-        idle: optional_number_of(options, "idle"),
+        idle: read_optional_number(options, "idle"),
     })
 }
 
 /// The value of an option that has to be given.
-fn text_of(alloc: Global, options: &ArgMatches<'_>, name: &str) -> Result<String, AllocError>
+fn read_text(alloc: Global, options: &ArgMatches<'_>, name: &str) -> Result<String, AllocError>
     requires { IsGiven name.now (rows_of (found_of options.now)) }
     ensures { IfOk result (λ text.
         IsText text (first_of name.now (rows_of (found_of options.now)))) }
@@ -81,7 +85,7 @@ fn text_of(alloc: Global, options: &ArgMatches<'_>, name: &str) -> Result<String
 }
 
 /// The number of an option that has to be given.
-fn number_of(options: &ArgMatches<'_>, name: &str) -> u64
+fn read_number(options: &ArgMatches<'_>, name: &str) -> u64
     requires { HasNumber name.now (rows_of (found_of options.now)) }
     ensures { Reads name.now (rows_of (found_of options.now)) result }
 {
@@ -92,14 +96,14 @@ fn number_of(options: &ArgMatches<'_>, name: &str) -> u64
 }
 
 /// The number of an option that may be left out.
-fn optional_number_of(options: &ArgMatches<'_>, name: &str) -> Option<u64>
+fn read_optional_number(options: &ArgMatches<'_>, name: &str) -> Option<u64>
     ensures { MayRead name.now (rows_of (found_of options.now)) result }
 {
     options.get_one::<u64>(name)
 }
 
 /// Who may connect to the socket.
-fn mode_of(options: &ArgMatches<'_>) -> Option<Mode>
+fn read_mode(options: &ArgMatches<'_>) -> Option<Mode>
     ensures { result ≡ mode_given (first_of (codes "mode") (rows_of (found_of options.now))) }
 {
     match options.get_str("mode") {

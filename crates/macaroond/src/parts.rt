@@ -7,7 +7,7 @@ use clap::{Arg, Command};
 use std::alloc::{AllocError, Global};
 
 /// The program with one more subcommand.
-pub(crate) fn added<'a>(
+pub(crate) fn add_subcommand<'a>(
     program: Command<'a>,
     command: Command<'a>,
 ) -> Result<Command<'a>, AllocError>
@@ -19,7 +19,12 @@ pub(crate) fn added<'a>(
 }
 
 /// An option that takes a value.
-pub(crate) fn valued<'a>(alloc: Global, name: &'a str, value: &'a str, help: &'a str) -> Arg<'a>
+pub(crate) fn build_option<'a>(
+    alloc: Global,
+    name: &'a str,
+    value: &'a str,
+    help: &'a str,
+) -> Arg<'a>
     ensures rule { rule_of result ≡ option name.entry.now }
     ensures local { result.global ≡ false }
 {

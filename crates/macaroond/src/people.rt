@@ -7,6 +7,6 @@ mod subcommands;
 
 pub use answering::run_task;
 pub use asking::Task;
-pub(crate) use asking::task_of;
+pub(crate) use asking::read_task;
 pub use fault::PersonFault;
-pub(crate) use subcommands::with_people;
+pub(crate) use subcommands::add_people;

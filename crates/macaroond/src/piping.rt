@@ -19,7 +19,7 @@ ghost use Rattle.macaroond.specs.ReplyLine.{reply_line};
 use crate::arrived::read_arrival;
 use crate::fault::PipeFault;
 use crate::input::read_input;
-use crate::lines::{divided, next_line};
+use crate::lines::{divide, next_line};
 use crate::reply_line::append_reply_line;
 use mac_decide::{answer, job_of};
 use mac_keys::{KeyFault, KeyTable};
@@ -53,7 +53,7 @@ pub fn pipe<R: Source, W: Sink>(
         (R.faults source.old + W.faults sink.old) (R.faults source.new + W.faults sink.new) }
 {
     let input = read_input(alloc, source)?;
-    let (keys, requests) = divided(input.as_slice());
+    let (keys, requests) = divide(input.as_slice());
     let table = read_table(alloc, keys)?;
     write_answers(alloc, &table, requests, sink)
 }

@@ -4,7 +4,7 @@ ghost use Rattle.macaroond.specs.People.{IsToldSo, SaysWords, SaysWordsAlone, at
 ghost use Rattle.macaroond.specs.People.{mint_asked, person_status, said_status, verify_asked};
 
 use super::asking::{AttenuateWords, MintWords, VerifyWords};
-use super::given::{form_of, keys_of, moment_at, new_secret, token_of};
+use super::given::{draw_secret, load_keys, read_form, read_moment, read_token};
 use super::{PersonFault, Task};
 use crate::{ANSWERED, DEVICE_FAULT, REFUSED};
 use mac_keys::KeyTable;
@@ -23,33 +23,33 @@ where
     R::Reader: Send,
     R::File: Send,
 {
-    match said_of(rt, task) {
+    match do_task(rt, task) {
         Ok(said) => tell_said(rt, task, &said),
         Err(fault) => tell_person(rt, fault),
     }
 }
 
 /// What is said to the person.
-fn said_of<'a, R>(rt: &R, task: &'a Task) -> Result<Said, PersonFault<'a>>
+fn do_task<'a, R>(rt: &R, task: &'a Task) -> Result<Said, PersonFault<'a>>
 where
     R: Alloc<A = Global> + Input + Files + Clock + RandomSource,
     R::Reader: Send,
     R::File: Send,
 {
     match task {
-        Task::Keygen { name } => keygen(rt, name.as_str()),
-        Task::Mint(words) => mint(rt, words),
-        Task::Attenuate(words) => attenuate(rt, words),
-        Task::Verify(words) => verify(rt, words),
-        Task::Inspect { token } => inspect(rt, token.as_str()),
+        Task::Keygen { name } => do_keygen(rt, name.as_str()),
+        Task::Mint(words) => do_mint(rt, words),
+        Task::Attenuate(words) => do_attenuate(rt, words),
+        Task::Verify(words) => do_verify(rt, words),
+        Task::Inspect { token } => do_inspect(rt, token.as_str()),
     }
 }
 
-fn keygen<'a, R>(rt: &R, name: &str) -> Result<Said, PersonFault<'a>>
+fn do_keygen<'a, R>(rt: &R, name: &str) -> Result<Said, PersonFault<'a>>
 where
     R: Alloc<A = Global> + RandomSource,
 {
-    let secret = new_secret(rt)?;
+    let secret = draw_secret(rt)?;
     let text = key_line(rt.alloc(), name, &secret)?;
     Ok(Said {
         text,
@@ -57,49 +57,49 @@ where
     })
 }
 
-fn mint<'a, R>(rt: &R, words: &'a MintWords) -> Result<Said, PersonFault<'a>>
+fn do_mint<'a, R>(rt: &R, words: &'a MintWords) -> Result<Said, PersonFault<'a>>
 where
     R: Alloc<A = Global> + Files,
     R::File: Send,
 {
-    let form = form_of(&words.form)?;
-    let table = keys_of(rt, words.keys.as_str())?;
-    mint_under(rt.alloc(), &table, form, words)
+    let form = read_form(&words.form)?;
+    let table = load_keys(rt, words.keys.as_str())?;
+    say_mint_under(rt.alloc(), &table, form, words)
 }
 
-fn attenuate<'a, R>(rt: &R, words: &'a AttenuateWords) -> Result<Said, PersonFault<'a>>
+fn do_attenuate<'a, R>(rt: &R, words: &'a AttenuateWords) -> Result<Said, PersonFault<'a>>
 where
     R: Alloc<A = Global> + Input,
     R::Reader: Send,
 {
-    let form = form_of(&words.form)?;
-    let token = token_of(rt, words.token.as_str())?;
-    attenuate_bytes(rt.alloc(), form, token.as_slice(), words)
+    let form = read_form(&words.form)?;
+    let token = read_token(rt, words.token.as_str())?;
+    say_attenuate_of(rt.alloc(), form, token.as_slice(), words)
 }
 
-fn verify<'a, R>(rt: &R, words: &'a VerifyWords) -> Result<Said, PersonFault<'a>>
+fn do_verify<'a, R>(rt: &R, words: &'a VerifyWords) -> Result<Said, PersonFault<'a>>
 where
     R: Alloc<A = Global> + Input + Files + Clock,
     R::Reader: Send,
     R::File: Send,
 {
-    let moment = moment_at(rt, &words.at)?;
-    let table = keys_of(rt, words.keys.as_str())?;
-    let token = token_of(rt, words.token.as_str())?;
-    verify_under(rt.alloc(), &table, moment, token.as_slice(), words)
+    let moment = read_moment(rt, &words.at)?;
+    let table = load_keys(rt, words.keys.as_str())?;
+    let token = read_token(rt, words.token.as_str())?;
+    say_verify_under(rt.alloc(), &table, moment, token.as_slice(), words)
 }
 
-fn inspect<'a, R>(rt: &R, token: &str) -> Result<Said, PersonFault<'a>>
+fn do_inspect<'a, R>(rt: &R, token: &str) -> Result<Said, PersonFault<'a>>
 where
     R: Alloc<A = Global> + Input,
     R::Reader: Send,
 {
-    let token = token_of(rt, token)?;
+    let token = read_token(rt, token)?;
     Ok(say_inspect(rt.alloc(), token.as_slice())?)
 }
 
 /// What is said of the words of a mint under the keys of a table.
-fn mint_under<'a>(
+fn say_mint_under<'a>(
     alloc: Global,
     table: &KeyTable,
     form: Option<TokenForm>,
@@ -119,7 +119,7 @@ fn mint_under<'a>(
 }
 
 /// What is said of the words of an attenuate about these bytes of a token.
-fn attenuate_bytes<'a>(
+fn say_attenuate_of<'a>(
     alloc: Global,
     form: Option<TokenForm>,
     token: &[u8],
@@ -131,7 +131,7 @@ fn attenuate_bytes<'a>(
 }
 
 /// What is said of the words of a verify about these bytes of a token, under the keys of a table.
-fn verify_under<'a>(
+fn say_verify_under<'a>(
     alloc: Global,
     table: &KeyTable,
     moment: u64,

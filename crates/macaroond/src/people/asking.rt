@@ -74,74 +74,78 @@ pub struct VerifyWords {
 
 /// The task that a subcommand with these options stands for. An argument that was left out is the
 /// empty text; `clap` takes no line that leaves out one that it asks for.
-pub fn task_of(alloc: Global, name: &str, options: &ArgMatches<'_>) -> Result<Task, AllocError>
+pub fn read_task(alloc: Global, name: &str, options: &ArgMatches<'_>) -> Result<Task, AllocError>
     requires { IsTaskName name.now }
     ensures { IfOk result (λ task. (task_name task ≡ name.now)
         × HasTask task (rows_of (found_of options.now))) }
 {
     match name {
-        "keygen" => keygen_of(alloc, options),
-        "mint" => Ok(Task::Mint(mint_of(alloc, options)?)),
-        "attenuate" => Ok(Task::Attenuate(attenuate_of(alloc, options)?)),
-        "verify" => Ok(Task::Verify(verify_of(alloc, options)?)),
-        "inspect" => inspect_of(alloc, options),
+        "keygen" => read_keygen(alloc, options),
+        "mint" => Ok(Task::Mint(read_mint(alloc, options)?)),
+        "attenuate" => Ok(Task::Attenuate(read_attenuate(alloc, options)?)),
+        "verify" => Ok(Task::Verify(read_verify(alloc, options)?)),
+        "inspect" => read_inspect(alloc, options),
         _ => unreachable!("the subcommand is one of those above"),
     }
 }
 
-fn keygen_of(alloc: Global, options: &ArgMatches<'_>) -> Result<Task, AllocError>
+fn read_keygen(alloc: Global, options: &ArgMatches<'_>) -> Result<Task, AllocError>
     ensures { IfOk result (λ task. (task_name task ≡ codes "keygen")
         × HasTask task (rows_of (found_of options.now))) }
 {
-    let name = text_of(alloc, options, "name")?;
+    let name = read_text_or_empty(alloc, options, "name")?;
     Ok(Task::Keygen { name })
 }
 
-fn inspect_of(alloc: Global, options: &ArgMatches<'_>) -> Result<Task, AllocError>
+fn read_inspect(alloc: Global, options: &ArgMatches<'_>) -> Result<Task, AllocError>
     ensures { IfOk result (λ task. (task_name task ≡ codes "inspect")
         × HasTask task (rows_of (found_of options.now))) }
 {
-    let token = text_of(alloc, options, "token")?;
+    let token = read_text_or_empty(alloc, options, "token")?;
     Ok(Task::Inspect { token })
 }
 
-fn mint_of(alloc: Global, options: &ArgMatches<'_>) -> Result<MintWords, AllocError>
+fn read_mint(alloc: Global, options: &ArgMatches<'_>) -> Result<MintWords, AllocError>
     ensures { IfOk result (λ words. HasMint words (rows_of (found_of options.now))) }
 {
     Ok(MintWords {
-        keys: text_of(alloc, options, "keys")?,
-        key: text_of(alloc, options, "key")?,
-        location: text_of(alloc, options, "location")?,
-        identifier: text_of(alloc, options, "identifier")?,
-        caveats: texts_of(alloc, options, "caveat")?,
-        form: optional_text_of(alloc, options, "form")?,
+        keys: read_text_or_empty(alloc, options, "keys")?,
+        key: read_text_or_empty(alloc, options, "key")?,
+        location: read_text_or_empty(alloc, options, "location")?,
+        identifier: read_text_or_empty(alloc, options, "identifier")?,
+        caveats: read_texts(alloc, options, "caveat")?,
+        form: read_optional_text(alloc, options, "form")?,
     })
 }
 
-fn attenuate_of(alloc: Global, options: &ArgMatches<'_>) -> Result<AttenuateWords, AllocError>
+fn read_attenuate(alloc: Global, options: &ArgMatches<'_>) -> Result<AttenuateWords, AllocError>
     ensures { IfOk result (λ words. HasAttenuate words (rows_of (found_of options.now))) }
 {
     Ok(AttenuateWords {
-        token: text_of(alloc, options, "token")?,
-        caveats: texts_of(alloc, options, "caveat")?,
-        form: optional_text_of(alloc, options, "form")?,
+        token: read_text_or_empty(alloc, options, "token")?,
+        caveats: read_texts(alloc, options, "caveat")?,
+        form: read_optional_text(alloc, options, "form")?,
     })
 }
 
-fn verify_of(alloc: Global, options: &ArgMatches<'_>) -> Result<VerifyWords, AllocError>
+fn read_verify(alloc: Global, options: &ArgMatches<'_>) -> Result<VerifyWords, AllocError>
     ensures { IfOk result (λ words. HasVerify words (rows_of (found_of options.now))) }
 {
     Ok(VerifyWords {
-        keys: text_of(alloc, options, "keys")?,
-        key: text_of(alloc, options, "key")?,
-        token: text_of(alloc, options, "token")?,
-        facts: texts_of(alloc, options, "fact")?,
-        at: optional_text_of(alloc, options, "at")?,
+        keys: read_text_or_empty(alloc, options, "keys")?,
+        key: read_text_or_empty(alloc, options, "key")?,
+        token: read_text_or_empty(alloc, options, "token")?,
+        facts: read_texts(alloc, options, "fact")?,
+        at: read_optional_text(alloc, options, "at")?,
     })
 }
 
 /// The value of an argument, or the empty text.
-fn text_of(alloc: Global, options: &ArgMatches<'_>, name: &str) -> Result<String, AllocError>
+fn read_text_or_empty(
+    alloc: Global,
+    options: &ArgMatches<'_>,
+    name: &str,
+) -> Result<String, AllocError>
     ensures { IfOk result (λ text. string_bytes text
         ≡ text_given (first_of name.now (rows_of (found_of options.now)))) }
 {
@@ -152,7 +156,7 @@ fn text_of(alloc: Global, options: &ArgMatches<'_>, name: &str) -> Result<String
 }
 
 /// The value of an option that may be left out.
-fn optional_text_of(
+fn read_optional_text(
     alloc: Global,
     options: &ArgMatches<'_>,
     name: &str,
@@ -167,17 +171,21 @@ fn optional_text_of(
 }
 
 /// The values of an option that may be given often, in order.
-fn texts_of(alloc: Global, options: &ArgMatches<'_>, name: &str) -> Result<Vec<String>, AllocError>
+fn read_texts(
+    alloc: Global,
+    options: &ArgMatches<'_>,
+    name: &str,
+) -> Result<Vec<String>, AllocError>
     ensures { IfOk result (λ texts. texts_of texts.items
         ≡ texts_given (all_of name.now (rows_of (found_of options.now)))) }
 {
     match options.get_strs(name) {
-        Some(texts) => copies(alloc, texts),
+        Some(texts) => copy_texts(alloc, texts),
         None => Ok(Vec::new(alloc)),
     }
 }
 
-fn copies(alloc: Global, texts: &[&str]) -> Result<Vec<String>, AllocError>
+fn copy_texts(alloc: Global, texts: &[&str]) -> Result<Vec<String>, AllocError>
     ensures { IfOk result (λ copies. texts_of copies.items ≡ map (λ text. text.now) texts.now) }
 {
     let mut copies = Vec::new(alloc);

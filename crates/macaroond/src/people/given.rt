@@ -21,7 +21,7 @@ use std::time::{Clock, SystemTime, UNIX_EPOCH};
 const STANDARD_INPUT: &str = "-";
 
 /// The keys of a file.
-pub(super) fn keys_of<'a, R>(rt: &R, path: &'a str) -> Result<KeyTable, PersonFault<'a>>
+pub(super) fn load_keys<'a, R>(rt: &R, path: &'a str) -> Result<KeyTable, PersonFault<'a>>
 where
     R: Files + Alloc<A = Global>,
     R::File: Send,
@@ -35,7 +35,7 @@ where
 }
 
 /// The bytes of a token: those of the word, or of the one line of standard input.
-pub(super) fn token_of<'a, R>(rt: &R, word: &str) -> Result<Vec<u8>, PersonFault<'a>>
+pub(super) fn read_token<'a, R>(rt: &R, word: &str) -> Result<Vec<u8>, PersonFault<'a>>
 where
     R: Input + Alloc<A = Global>,
     R::Reader: Send,
@@ -68,7 +68,7 @@ fn only_line(text: &[u8]) -> Option<&[u8]>
 }
 
 /// The form that a word names, if there is a word.
-pub(super) fn form_of<'a>(word: &Option<String>) -> Result<Option<TokenForm>, PersonFault<'a>>
+pub(super) fn read_form<'a>(word: &Option<String>) -> Result<Option<TokenForm>, PersonFault<'a>>
     ensures { GivesForm (option_map string_bytes word.now) result }
 {
     let Some(word) = word else {
@@ -81,18 +81,18 @@ pub(super) fn form_of<'a>(word: &Option<String>) -> Result<Option<TokenForm>, Pe
 }
 
 /// The moment that a word names; without a word the present.
-pub(super) fn moment_at<'a, R>(rt: &R, word: &Option<String>) -> Result<u64, PersonFault<'a>>
+pub(super) fn read_moment<'a, R>(rt: &R, word: &Option<String>) -> Result<u64, PersonFault<'a>>
 where
     R: Alloc<A = Global> + Clock,
     ensures { IfSome word.now (λ word. GivesMoment (string_bytes word) result) }
 {
     match word {
-        Some(word) => moment_of(rt.alloc(), word.as_str()),
-        None => present(rt),
+        Some(word) => parse_moment(rt.alloc(), word.as_str()),
+        None => read_clock(rt),
     }
 }
 
-fn moment_of<'a>(alloc: Global, word: &str) -> Result<u64, PersonFault<'a>>
+fn parse_moment<'a>(alloc: Global, word: &str) -> Result<u64, PersonFault<'a>>
     ensures { GivesMoment word.now result }
 {
     match moment(alloc, word)? {
@@ -102,7 +102,7 @@ fn moment_of<'a>(alloc: Global, word: &str) -> Result<u64, PersonFault<'a>>
 }
 
 /// The second of the system's clock.
-fn present<'a, R: Clock>(rt: &R) -> Result<u64, PersonFault<'a>> {
+fn read_clock<'a, R: Clock>(rt: &R) -> Result<u64, PersonFault<'a>> {
     let Ok(now) = SystemTime::now(rt) else {
         return Err(PersonFault::Clock);
     };
@@ -113,7 +113,7 @@ fn present<'a, R: Clock>(rt: &R) -> Result<u64, PersonFault<'a>> {
 }
 
 /// 32 random bytes of the system.
-pub(super) fn new_secret<'a, R: RandomSource>(rt: &R) -> Result<[u8; 32], PersonFault<'a>> {
+pub(super) fn draw_secret<'a, R: RandomSource>(rt: &R) -> Result<[u8; 32], PersonFault<'a>> {
     let mut secret = [0u8; 32];
     match rt.fill_bytes(&mut secret) {
         Ok(()) => Ok(secret),

@@ -6,7 +6,7 @@ ghost use Rattle.macaroond.specs.People.{attenuate_command, inspect_command, key
 ghost use Rattle.macaroond.specs.People.{mint_command, repeated, verify_command, with_key};
 ghost use Rattle.macaroond.specs.People.{with_people, word};
 
-use crate::parts::{added, valued};
+use crate::parts::{add_subcommand, build_option};
 use clap::builder::ValueParser;
 use clap::{Arg, ArgAction, Command};
 use std::alloc::{AllocError, Global};
@@ -107,109 +107,109 @@ const MINT_FORM_HELP: &str = "The form: v1, v2, json or v2-text [default: v2-tex
 const NEXT_FORM_HELP: &str = "The form: v1, v2, json or v2-text [default: that of the token]";
 
 /// Adds the subcommands for people.
-pub(crate) fn with_people<'a>(
-    alloc: Global,
-    program: Command<'a>,
-) -> Result<Command<'a>, AllocError>
+pub(crate) fn add_people<'a>(alloc: Global, program: Command<'a>) -> Result<Command<'a>, AllocError>
     ensures { IfOk result (λ whole. app_of whole ≡ with_people (app_of program.entry)) }
 {
-    let program = added(program, keygen(alloc)?)?;
-    let program = added(program, mint(alloc)?)?;
-    let program = added(program, attenuate(alloc)?)?;
-    let program = added(program, verify(alloc)?)?;
-    added(program, inspect(alloc)?)
+    let program = add_subcommand(program, build_keygen(alloc)?)?;
+    let program = add_subcommand(program, build_mint(alloc)?)?;
+    let program = add_subcommand(program, build_attenuate(alloc)?)?;
+    let program = add_subcommand(program, build_verify(alloc)?)?;
+    add_subcommand(program, build_inspect(alloc)?)
 }
 
-fn keygen<'a>(alloc: Global) -> Result<Command<'a>, AllocError>
+fn build_keygen<'a>(alloc: Global) -> Result<Command<'a>, AllocError>
     ensures { IfOk result (λ whole. app_of whole ≡ keygen_command) }
 {
-    let command = subcommand(
+    let command = build_subcommand(
         alloc,
         "keygen",
         "Prints a key line with a new secret",
         KEYGEN_HELP,
     );
-    with_arg(command, word(alloc, "name", "NAME", "The name of the key"))
+    add_arg(
+        command,
+        build_word(alloc, "name", "NAME", "The name of the key"),
+    )
 }
 
-fn mint<'a>(alloc: Global) -> Result<Command<'a>, AllocError>
+fn build_mint<'a>(alloc: Global) -> Result<Command<'a>, AllocError>
     ensures { IfOk result (λ whole. app_of whole ≡ mint_command) }
 {
-    let command = subcommand(alloc, "mint", "Prints a new token", MINT_HELP);
-    let command = with_key(alloc, command)?;
-    let location = valued(
+    let command = build_subcommand(alloc, "mint", "Prints a new token", MINT_HELP);
+    let command = add_key_options(alloc, command)?;
+    let location = build_option(
         alloc,
         "location",
         "TEXT",
         "Where the token is for [default: empty]",
     );
-    let command = with_arg(command, location)?;
-    let identifier = asked(alloc, "identifier", "TEXT", "What the token is about");
-    let command = with_arg(command, identifier)?;
-    let command = with_arg(command, repeated(alloc, "caveat", CAVEAT_HELP))?;
-    with_arg(command, valued(alloc, "form", "FORM", MINT_FORM_HELP))
+    let command = add_arg(command, location)?;
+    let identifier = build_required(alloc, "identifier", "TEXT", "What the token is about");
+    let command = add_arg(command, identifier)?;
+    let command = add_arg(command, build_repeated(alloc, "caveat", CAVEAT_HELP))?;
+    add_arg(command, build_option(alloc, "form", "FORM", MINT_FORM_HELP))
 }
 
-fn attenuate<'a>(alloc: Global) -> Result<Command<'a>, AllocError>
+fn build_attenuate<'a>(alloc: Global) -> Result<Command<'a>, AllocError>
     ensures { IfOk result (λ whole. app_of whole ≡ attenuate_command) }
 {
-    let command = subcommand(
+    let command = build_subcommand(
         alloc,
         "attenuate",
         "Prints a token with further caveats",
         ATTENUATE_HELP,
     );
-    let caveats = repeated(alloc, "caveat", CAVEAT_HELP).required(true);
-    let command = with_arg(command, caveats)?;
-    let command = with_arg(command, valued(alloc, "form", "FORM", NEXT_FORM_HELP))?;
-    with_arg(command, word(alloc, "token", "TOKEN", TOKEN_HELP))
+    let caveats = build_repeated(alloc, "caveat", CAVEAT_HELP).required(true);
+    let command = add_arg(command, caveats)?;
+    let command = add_arg(command, build_option(alloc, "form", "FORM", NEXT_FORM_HELP))?;
+    add_arg(command, build_word(alloc, "token", "TOKEN", TOKEN_HELP))
 }
 
-fn verify<'a>(alloc: Global) -> Result<Command<'a>, AllocError>
+fn build_verify<'a>(alloc: Global) -> Result<Command<'a>, AllocError>
     ensures { IfOk result (λ whole. app_of whole ≡ verify_command) }
 {
-    let command = subcommand(
+    let command = build_subcommand(
         alloc,
         "verify",
         "Tells whether a key grants a token",
         VERIFY_HELP,
     );
-    let command = with_key(alloc, command)?;
-    let command = with_arg(command, repeated(alloc, "fact", FACT_HELP))?;
-    let at = valued(
+    let command = add_key_options(alloc, command)?;
+    let command = add_arg(command, build_repeated(alloc, "fact", FACT_HELP))?;
+    let at = build_option(
         alloc,
         "at",
         "MOMENT",
         "The moment of the request [default: now]",
     );
-    let command = with_arg(command, at)?;
-    with_arg(command, word(alloc, "token", "TOKEN", TOKEN_HELP))
+    let command = add_arg(command, at)?;
+    add_arg(command, build_word(alloc, "token", "TOKEN", TOKEN_HELP))
 }
 
-fn inspect<'a>(alloc: Global) -> Result<Command<'a>, AllocError>
+fn build_inspect<'a>(alloc: Global) -> Result<Command<'a>, AllocError>
     ensures { IfOk result (λ whole. app_of whole ≡ inspect_command) }
 {
-    let command = subcommand(alloc, "inspect", "Tells what a token says", INSPECT_HELP);
-    with_arg(command, word(alloc, "token", "TOKEN", TOKEN_HELP))
+    let command = build_subcommand(alloc, "inspect", "Tells what a token says", INSPECT_HELP);
+    add_arg(command, build_word(alloc, "token", "TOKEN", TOKEN_HELP))
 }
 
 /// A subcommand without its arguments.
-fn subcommand<'a>(alloc: Global, name: &'a str, about: &'a str, help: &'a str) -> Command<'a>
+fn build_subcommand<'a>(alloc: Global, name: &'a str, about: &'a str, help: &'a str) -> Command<'a>
     ensures { app_of result ≡ new_app name.entry.now }
 {
     Command::new(alloc, name).about(about).after_help(help)
 }
 
 /// The subcommand with the options `--keys` and `--key`.
-fn with_key<'a>(alloc: Global, command: Command<'a>) -> Result<Command<'a>, AllocError>
+fn add_key_options<'a>(alloc: Global, command: Command<'a>) -> Result<Command<'a>, AllocError>
     ensures { IfOk result (λ whole. app_of whole ≡ with_key (app_of command.entry)) }
 {
-    let command = with_arg(command, asked(alloc, "keys", "FILE", KEYS_HELP))?;
-    with_arg(command, asked(alloc, "key", "NAME", KEY_HELP))
+    let command = add_arg(command, build_required(alloc, "keys", "FILE", KEYS_HELP))?;
+    add_arg(command, build_required(alloc, "key", "NAME", KEY_HELP))
 }
 
 /// The subcommand with one more argument.
-fn with_arg<'a>(command: Command<'a>, arg: Arg<'a>) -> Result<Command<'a>, AllocError>
+fn add_arg<'a>(command: Command<'a>, arg: Arg<'a>) -> Result<Command<'a>, AllocError>
     requires { arg.global ≡ false }
     ensures { IfOk result (λ whole.
         app_of whole ≡ with_rule (app_of command.entry) (rule_of arg.entry)) }
@@ -218,25 +218,25 @@ fn with_arg<'a>(command: Command<'a>, arg: Arg<'a>) -> Result<Command<'a>, Alloc
 }
 
 /// An option that may be given often, and not as the empty text.
-fn repeated<'a>(alloc: Global, name: &'a str, help: &'a str) -> Arg<'a>
+fn build_repeated<'a>(alloc: Global, name: &'a str, help: &'a str) -> Arg<'a>
     ensures rule { rule_of result ≡ repeated (option name.entry.now) }
     ensures local { result.global ≡ false }
 {
-    valued(alloc, name, "TEXT", help)
+    build_option(alloc, name, "TEXT", help)
         .action(ArgAction::Append)
         .value_parser(ValueParser::NonEmptyString)
 }
 
 /// An option that has to be given.
-fn asked<'a>(alloc: Global, name: &'a str, value: &'a str, help: &'a str) -> Arg<'a>
+fn build_required<'a>(alloc: Global, name: &'a str, value: &'a str, help: &'a str) -> Arg<'a>
     ensures rule { rule_of result ≡ required (option name.entry.now) }
     ensures local { result.global ≡ false }
 {
-    valued(alloc, name, value, help).required(true)
+    build_option(alloc, name, value, help).required(true)
 }
 
 /// A word that has to be given, without a name.
-fn word<'a>(alloc: Global, name: &'a str, value: &'a str, help: &'a str) -> Arg<'a>
+fn build_word<'a>(alloc: Global, name: &'a str, value: &'a str, help: &'a str) -> Arg<'a>
     ensures rule { rule_of result ≡ required (word name.entry.now) }
     ensures local { result.global ≡ false }
 {

@@ -4,4 +4,4 @@ use Rattle.macaroond.proofs.arrived.read_arrival.Goals as goal
 
 pub returns : goal.returns
 unfolding arrival_of
-returns c = c.arrived.ensures ∙ ap arrival_of_payload c.in_ok-payload.ensures
+returns c = c.make_arrival.ensures ∙ ap arrival_of_payload c.in_ok-payload.ensures

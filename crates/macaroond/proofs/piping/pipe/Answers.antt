@@ -16,7 +16,7 @@ returns-in_err-input-clause-keys g c tells input more ended bound line kind tabl
 pub returns-in_err-table-clause-keys : goal.returns-in_err-table-clause-keys
 returns-in_err-table-clause-keys g c tells input more ended bound line kind table =
     let read : c.in_ok-input.input.items ≡ input = append_cancel_left _ _ _ (sym (c.in_ok-input.ensures.input tells).0 ∙ more) in
-    let text = c.divided.ensures.keys ∙ ap key_text (c.as_slice.ensures.value ∙ read) in
+    let text = c.divide.ensures.keys ∙ ap key_text (c.as_slice.ensures.value ∙ read) in
     keys-told c.in_err-table.field-0.0 c.from_residual-in_err-table.result (table_of (key_text input)) line kind
     c.from_residual-in_err-table.ensures.1 (rw text at c.in_err-table.ensures.fault) table
 
@@ -40,7 +40,7 @@ returns-in_err-table-clause-source g c tells =
 pub returns-in_err-table-clause-output : goal.returns-in_err-table-clause-output
 returns-in_err-table-clause-output g c source_tells sink_tells input more =
     let read : c.in_ok-input.input.items ≡ input = append_cancel_left _ _ _ (sym (c.in_ok-input.ensures.input source_tells).0 ∙ more) in
-    let text = c.divided.ensures.keys ∙ ap key_text (c.as_slice.ensures.value ∙ read) in
+    let text = c.divide.ensures.keys ∙ ap key_text (c.as_slice.ensures.value ∙ read) in
     output-told answer_of c.in_err-table.field-0.0 c.from_residual-in_err-table.result input _ c.from_residual-in_err-table.ensures.1
     (rw text at c.in_err-table.ensures.fault)
 
@@ -56,13 +56,13 @@ pub returns-clause-output : goal.returns-clause-output
 returns-clause-output g c source_tells sink_tells input more =
     let read : c.in_ok-input.input.items ≡ input = append_cancel_left _ _ _ (sym (c.in_ok-input.ensures.input source_tells).0 ∙ more) in
     let value = c.as_slice.ensures.value ∙ read in
-    let table = ap table_of (sym (c.divided.ensures.keys ∙ ap key_text value)) ∙ c.in_ok-table.ensures.table in
-    output-answers answer_of c.write_answers.result input c.in_ok-table.table (lines c.divided.result.1.now) _ _
-    table (c.divided.ensures.requests ∙ ap request_lines value) (c.write_answers.ensures.written sink_tells)
+    let table = ap table_of (sym (c.divide.ensures.keys ∙ ap key_text value)) ∙ c.in_ok-table.ensures.table in
+    output-answers answer_of c.write_answers.result input c.in_ok-table.table (lines c.divide.result.1.now) _ _
+    table (c.divide.ensures.requests ∙ ap request_lines value) (c.write_answers.ensures.written sink_tells)
 
 pub returns-clause-keys : goal.returns-clause-keys
 returns-clause-keys g c tells input more ended bound line kind table =
     let read : c.in_ok-input.input.items ≡ input = append_cancel_left _ _ _ (sym (c.in_ok-input.ensures.input tells).0 ∙ more) in
-    let text = c.divided.ensures.keys ∙ ap key_text (c.as_slice.ensures.value ∙ read) in
+    let text = c.divide.ensures.keys ∙ ap key_text (c.as_slice.ensures.value ∙ read) in
     let good = ap table_of (sym text) ∙ c.in_ok-table.ensures.table in
     absurd (cc (good, table))
