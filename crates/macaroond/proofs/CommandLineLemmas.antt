@@ -15,20 +15,22 @@ use Rattle.clap.specs.declared.error.kind.ErrorKind.TheVariants.{InvalidSubcomma
 use Rattle.clap.proofs.OnLiterals.{clap_on_literals}
 use Rattle.clap.proofs.FaultLemmas.{fault_ends, stopped_fault}
 use Rattle.clap.proofs.WalkLemmas.{bundle_ends, walk_stopped}
+use Rattle.macaroond.specs.declared.status.Status.{Status}
+use Rattle.macaroond.specs.declared.status.Status.TheVariants.{Done, BadLine, NoMemory}
 use Rattle.macaroond.specs.CommandLine.{LeadsTo, MayEnd, command_line, exit_status, names_another}
 use Rattle.macaroond.proofs.OptionLemmas.{neither, pipe}
 
 -- ---- statuses of lists of kinds
 
 -- there is a fault, and each leads to n
-abbrev pub Refuses : ℕ → Kinds → Type 0
+abbrev pub Refuses : Status → Kinds → Type 0
 Refuses n kinds = LeadsTo (Some n) kinds
 
-pub refuses_first : (n : ℕ) (a b : Kinds) → Refuses n a → Refuses n (or_else a b)
+pub refuses_first : (n : Status) (a b : Kinds) → Refuses n a → Refuses n (or_else a b)
 refuses_first n [] b h = absurd h
 refuses_first n (k ∷ ks) b h = h
 
-pub leads_alone : (o : Option ℕ) (kinds : Kinds) → LeadsTo o kinds → LeadsTo o (or_else kinds [])
+pub leads_alone : (o : Option Status) (kinds : Kinds) → LeadsTo o kinds → LeadsTo o (or_else kinds [])
 leads_alone o [] h = h
 leads_alone o (k ∷ ks) h = h
 
@@ -46,8 +48,8 @@ options false = filled_from 1 (help_rule ∷ [])
 abbrev pub is_asked : Bool → Text → Bool
 is_asked v name = bytes_eq (codes "help") name || (v && bytes_eq (codes "version") name)
 
-abbrev pub long_status : Bool → Text → Option Text → ℕ
-long_status v name val = if is_asked v name && not (is_some val) then 0 else 2
+abbrev pub long_status : Bool → Text → Option Text → Status
+long_status v name val = if is_asked v name && not (is_some val) then Done else BadLine
 
 pub long_refused : (v : Bool) (name : Text) (val : Option Text)
     → Refuses (long_status v name val) (long_fault (options v) false (arg_by_long (options v) name) val nothing_held)
@@ -65,9 +67,9 @@ long_refused v name val = go v (bytes_eq (codes "help") name) refl (bytes_eq (co
     go true false e false f val = rw (e, f) (refl, tt)
 
 -- what the first character of a bundle of flags leads to: 104 is `h`, 86 is `V`
-abbrev pub letter_status : Bool → Option ℕ → ℕ
-letter_status v None = 2
-letter_status v (Some x) = if (104 == x) || (v && (86 == x)) then 0 else 2
+abbrev pub letter_status : Bool → Option ℕ → Status
+letter_status v None = BadLine
+letter_status v (Some x) = if (104 == x) || (v && (86 == x)) then Done else BadLine
 
 pub letter_refused : (v : Bool) (x : ℕ) (flags : Text) (k : ℕ) → slice_get (chars flags) 0 ≡ Some x → Refuses (letter_status v (Some x)) (flags_fault (options v) false (suc k) flags 0 nothing_held)
 unfolding flags_fault
@@ -85,11 +87,11 @@ pub no_letter : (v : Bool) (flags : Text) → slice_get (chars flags) 0 ≡ None
 no_letter v flags none = sym (bundle_ends (options v) (length flags) flags 0 plain nothing_held (sym none))
 
 -- the status of a word, by what it looks like to `clap`
-abbrev pub short_status : Bool → Option Text → ℕ
-short_status v None = 2
+abbrev pub short_status : Bool → Option Text → Status
+short_status v None = BadLine
 short_status v (Some flags) = letter_status v (slice_get (chars flags) 0)
 
-abbrev pub flag_status : Bool → Text → Option (Text × Option Text) → ℕ
+abbrev pub flag_status : Bool → Text → Option (Text × Option Text) → Status
 flag_status v word None = short_status v (short_of word)
 flag_status v word (Some p) = long_status v p.0 p.1
 
@@ -97,10 +99,10 @@ flag_status v word (Some p) = long_status v p.0 p.1
 abbrev pub level : Bool → Shape → Shape
 level v s = record s { rules = options v; args_override_self = false }
 
-pub stray_refused : (s : Shape) → Refuses 2 (stray_fault s)
+pub stray_refused : (s : Shape) → Refuses BadLine (stray_fault s)
 stray_refused s = go s.is_leaf
   where
-    go : (b : Bool) → Refuses 2 (cond b (UnknownArgument ∷ []) (UnknownArgument ∷ InvalidSubcommand ∷ []))
+    go : (b : Bool) → Refuses BadLine (cond b (UnknownArgument ∷ []) (UnknownArgument ∷ InvalidSubcommand ∷ []))
     go true = (refl, tt)
     go false = (refl, (refl, tt))
 
@@ -139,7 +141,7 @@ word_refused v s word None = short_refused v s word (short_of word)
 -- ---- the levels
 
 -- the statuses of the words after `pipe`, and of those after the program's name, by what they look like to `clap`
-abbrev pub after_pipe : List Text → Option ℕ
+abbrev pub after_pipe : List Text → Option Status
 after_pipe [] = None
 after_pipe (word ∷ []) = if bytes_eq word (codes "--") then None else Some (flag_status false word (long_of word))
 after_pipe (word ∷ next ∷ rest) = Some (flag_status false word (long_of word))
@@ -180,8 +182,8 @@ pipe_leads (word ∷ next ∷ rest) = go (bytes_eq word (codes "--")) refl
 abbrev pub names : Names
 names = names_of (built command_line)
 
-abbrev pub of_arguments : List Text → Option ℕ
-of_arguments [] = Some 2
+abbrev pub of_arguments : List Text → Option Status
+of_arguments [] = Some BadLine
 of_arguments (word ∷ rest) = if bytes_eq word (codes "pipe") then after_pipe rest else Some (flag_status true word (long_of word))
 
 abbrev pub line_faults : List Text → Kinds
@@ -200,7 +202,7 @@ after_name rest =
     let same : line_faults (codes "pipe" ∷ rest) ≡ or_else (pipe_faults rest) [] = ap₂ faults_by stopped passed in
     subst (LeadsTo (after_pipe rest)) (sym same) (leads_alone (after_pipe rest) (pipe_faults rest) (pipe_leads rest))
 
-dashes_first : (rest : List Text) → Refuses 2 (line_faults (codes "--" ∷ rest))
+dashes_first : (rest : List Text) → Refuses BadLine (line_faults (codes "--" ∷ rest))
 unfolding clap_on_literals
 dashes_first [] = (refl, tt)
 dashes_first (word ∷ rest) = (refl, (refl, tt))
@@ -263,6 +265,6 @@ line_leads (word ∷ rest) unnamed = go (bytes_eq word (codes "pipe")) refl
         subst (λ o. LeadsTo o (line_faults (word ∷ rest))) (sym status) (unnamed_leads word rest e unnamed)
 
 -- the exit status of an error of `clap`
-pub status_of_error : (words : List Text) (e : Error) → HasKind (fault_of command_line words) e → (MayEnd words (exit_status (kind_of e))) ⊎ (exit_status (kind_of e) ≡ 4)
+pub status_of_error : (words : List Text) (e : Error) → HasKind (fault_of command_line words) e → (MayEnd words (exit_status (kind_of e))) ⊎ (exit_status (kind_of e) ≡ NoMemory)
 status_of_error words e (inl memory) = inr (ap exit_status memory)
 status_of_error words e (inr among) = inl (kind_of e, among, refl)

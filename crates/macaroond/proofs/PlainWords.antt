@@ -10,6 +10,8 @@ use Rattle.std.proofs.lemmas.Str.{IsCharBoundary-after_ascii, IsUtf8-drop, byte_
 use Rattle.clap.specs.Lexer.{has_byte, long_of, long_of_rest, short_of, short_of_rest, strip_byte}
 use Rattle.clap.specs.Walk.{Text}
 use Rattle.clap.specs.Faults.{fault_of}
+use Rattle.macaroond.specs.declared.status.Status.{Status}
+use Rattle.macaroond.specs.declared.status.Status.TheVariants.{Done, BadLine}
 use Rattle.macaroond.specs.CommandLine.{LeadsTo, command_line, names_another, status_after_pipe, status_of_arguments, status_of_word}
 use Rattle.macaroond.proofs.CommandLineLemmas.{after_pipe, flag_status, is_asked, letter_status, line_leads, long_status, of_arguments, other_way, short_status}
 
@@ -37,12 +39,12 @@ name_alone (x ∷ xs) none = go (x == 61) refl (λ rest. name_alone xs rest)
         let next : 1 + position_or_len is_equals xs ≡ suc (position_or_len is_equals xs) = omega arith in
         rw e (ap (λ k. take k (x ∷ xs)) next ∙ ap (λ ys. x ∷ ys) (later rest))
 
-never : (b : Bool) → ◌≡◌ {A = ℕ} (if b && false then 0 else 2) 2
+never : (b : Bool) → ◌≡◌ {A = Status} (if b && false then Done else BadLine) BadLine
 never true = refl
 never false = refl
 
 -- of the words that begin with two hyphens, those ask that are `--help`, or `--version` where there is one
-abbrev long_part : Bool → Text → Bool → Text → ℕ
+abbrev long_part : Bool → Text → Bool → Text → Status
 long_part v text has name = long_status v name (if has then Some (after_first is_equals text) else None)
 
 asked_either_way : (v : Bool) (text : Text) → long_part v text false text ≡ status_of_word v (45 ∷ 45 ∷ text)
@@ -57,10 +59,10 @@ asked_either_way v text = go (bytes_eq text (codes "help")) refl
     go true e = subst (λ w. long_part v w false w ≡ status_of_word v (45 ∷ 45 ∷ w)) (sym ((bytes_eq-Decides text (codes "help")).0 e)) refl
     go false e = later v (bytes_eq text (codes "version")) refl e
 
-not_asked : (v : Bool) (text : Text) → has_byte 61 text ≡ true → status_of_word v (45 ∷ 45 ∷ text) ≡ 2
+not_asked : (v : Bool) (text : Text) → has_byte 61 text ≡ true → status_of_word v (45 ∷ 45 ∷ text) ≡ BadLine
 not_asked v text has = go v (bytes_eq text (codes "help")) refl (bytes_eq text (codes "version")) refl
   where
-    go : (v t : Bool) → bytes_eq text (codes "help") ≡ t → (u : Bool) → bytes_eq text (codes "version") ≡ u → status_of_word v (45 ∷ 45 ∷ text) ≡ 2
+    go : (v t : Bool) → bytes_eq text (codes "help") ≡ t → (u : Bool) → bytes_eq text (codes "version") ≡ u → status_of_word v (45 ∷ 45 ∷ text) ≡ BadLine
     go v true e u f = let bad : false ≡ true = subst (λ w. has_byte 61 w ≡ true) ((bytes_eq-Decides text (codes "help")).0 e) has in cc
     go true false e true f = let bad : false ≡ true = subst (λ w. has_byte 61 w ≡ true) ((bytes_eq-Decides text (codes "version")).0 f) has in cc
     go true false e false f = rw (e, f) refl
@@ -75,9 +77,9 @@ long_word_is true [] = refl
 long_word_is false [] = refl
 long_word_is v (x ∷ xs) = long_part_is v (x ∷ xs) (has_byte 61 (x ∷ xs)) refl
 
--- 0 for `h`, and for `V` where there is a version
-abbrev status_of_letter : Bool → ℕ → ℕ
-status_of_letter v x = if (104 == x) || (v && (86 == x)) then 0 else 2
+-- well for `h`, and for `V` where there is a version
+abbrev status_of_letter : Bool → ℕ → Status
+status_of_letter v x = if (104 == x) || (v && (86 == x)) then Done else BadLine
 
 -- the first character is an ASCII letter where the first byte is
 letter_agrees : (n c : ℕ) (cs : List ℕ) (y : ℕ) (ys : Text) → n < 128 → encode_utf8_all (c ∷ cs) ≡ y ∷ ys → (n == c) ≡ (n == y)
@@ -98,7 +100,7 @@ letter_agrees n c cs y ys small spelled = go (n == c) refl
 letter_is : (v : Bool) (cs : List ℕ) (y : ℕ) (ys : Text) → encode_utf8_all cs ≡ y ∷ ys → letter_status v (slice_get cs 0) ≡ status_of_letter v y
 letter_is v [] y ys spelled = cc
 letter_is v (c ∷ cs) y ys spelled =
-    ap₂ (λ (a b : Bool). if a || (v && b) then 0 else 2) (letter_agrees 104 c cs y ys (omega arith) spelled) (letter_agrees 86 c cs y ys (omega arith) spelled)
+    ap₂ (λ (a b : Bool). if a || (v && b) then Done else BadLine) (letter_agrees 104 c cs y ys (omega arith) spelled) (letter_agrees 86 c cs y ys (omega arith) spelled)
 
 -- of the words that begin with one hyphen, those ask that have such a letter next
 short_word_is : (v : Bool) (y : ℕ) (ys : Text) → (y == 45) ≡ false → IsUtf8 (45 ∷ y ∷ ys) → flag_status v (45 ∷ y ∷ ys) (long_of (45 ∷ y ∷ ys)) ≡ status_of_word v (45 ∷ y ∷ ys)
@@ -134,7 +136,7 @@ other_word_is v x xs differ =
     let short : short_of word ≡ None = ap (option_and_then short_of_rest) stripped in
     ap (flag_status v word) long ∙ ap (short_status v) short ∙ sym (plain v)
   where
-    plain : (v : Bool) → status_of_word v (x ∷ xs) ≡ 2
+    plain : (v : Bool) → status_of_word v (x ∷ xs) ≡ BadLine
     plain true = rw (differ, number_other_way x 45 differ) refl
     plain false = rw (differ, number_other_way x 45 differ) refl
 

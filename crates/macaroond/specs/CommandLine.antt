@@ -19,6 +19,8 @@ use Rattle.macaroond.specs.declared.choices.Chosen.{Chosen}
 use Rattle.macaroond.specs.declared.choices.Chosen.TheVariants.{Machine, Person}
 use Rattle.macaroond.specs.declared.choices.Mode.{Mode}
 use Rattle.macaroond.specs.declared.choices.Mode.TheVariants.{Owner, Group, Everyone}
+use Rattle.macaroond.specs.declared.status.Status.{Status}
+use Rattle.macaroond.specs.declared.status.Status.TheVariants.{Done, BadLine, NoMemory}
 use Rattle.macaroond.specs.Arguments.{number, option, required}
 use Rattle.macaroond.specs.People.{IsTask, with_people}
 
@@ -63,24 +65,25 @@ command_line = with_people (with_subcommand (with_subcommand (with_subcommand pr
 
 -- ---- what `clap` makes of the words
 
--- the exit status of each kind of error: 0 for what was asked for, 4 where memory ran out, else 2
-abbrev pub exit_status : ErrorKind → ℕ
-exit_status DisplayHelp = 0
-exit_status DisplayVersion = 0
-exit_status OutOfMemory = 4
-exit_status _ = 2
+-- how a run ends with each kind of error: well with what was asked for, with its own status where
+-- memory ran out, else for a bad line
+abbrev pub exit_status : ErrorKind → Status
+exit_status DisplayHelp = Done
+exit_status DisplayVersion = Done
+exit_status OutOfMemory = NoMemory
+exit_status _ = BadLine
 
 -- a fault that `clap` may tell of the words ends the program with this status
-abbrev pub MayEnd : List Text → ℕ → Type 0
+abbrev pub MayEnd : List Text → Status → Type 0
 MayEnd words status =
     (kind : ErrorKind) × IsAmong kind (fault_of command_line words) × (exit_status kind ≡ status)
 
 -- `clap` takes the words, or each fault that it may tell of them ends with the status
-abbrev pub AllLeadTo : ℕ → Kinds → Type 0
+abbrev pub AllLeadTo : Status → Kinds → Type 0
 AllLeadTo status [] = Unit {0}
 AllLeadTo status (kind ∷ rest) = (exit_status kind ≡ status) × AllLeadTo status rest
 
-abbrev pub LeadsTo : Option ℕ → Kinds → Type 0
+abbrev pub LeadsTo : Option Status → Kinds → Type 0
 LeadsTo None kinds = kinds ≡ []
 LeadsTo (Some status) [] = ⊥
 LeadsTo (Some status) (kind ∷ rest) = AllLeadTo status (kind ∷ rest)
@@ -173,20 +176,20 @@ asks_for_version word =
 
 -- a word that means nothing else asks for help, or for the version where there is one, or is a
 -- mistake
-abbrev pub status_of_word : Bool → Text → ℕ
+abbrev pub status_of_word : Bool → Text → Status
 status_of_word has_version word =
-    if asks_for_help word || (has_version && asks_for_version word) then 0 else 2
+    if asks_for_help word || (has_version && asks_for_version word) then Done else BadLine
 
 -- after `pipe` nothing is wanted, and `--`, which ends the options, may stand last
-abbrev pub status_after_pipe : List Text → Option ℕ
+abbrev pub status_after_pipe : List Text → Option Status
 status_after_pipe [] = None
 status_after_pipe (word ∷ []) =
     if bytes_eq word (codes "--") then None else Some (status_of_word false word)
 status_after_pipe (word ∷ next ∷ rest) = Some (status_of_word false word)
 
 -- `pipe` has to come first, and there `--version` may stand in its place
-abbrev pub status_of_arguments : List Text → Option ℕ
-status_of_arguments [] = Some 2
+abbrev pub status_of_arguments : List Text → Option Status
+status_of_arguments [] = Some BadLine
 status_of_arguments (word ∷ rest) = if bytes_eq word (codes "pipe") then status_after_pipe rest
     else Some (status_of_word true word)
 

@@ -19,6 +19,8 @@ use Rattle.mac_words.specs.declared.fault.TextFault.TheVariants as text
 use Rattle.mac_words.specs.declared.key_lines.NameFault.TheVariants as name
 use Rattle.mac_words.specs.declared.saying.Said.{Said}
 use Rattle.macaroond.specs.Arguments.{option, required}
+use Rattle.macaroond.specs.declared.status.Status.{Status}
+use Rattle.macaroond.specs.declared.status.Status.TheVariants as status
 use Rattle.macaroond.specs.declared.people.fault.PersonFault.{PersonFault}
 use Rattle.macaroond.specs.declared.people.fault.PersonFault.TheVariants as fault
 use Rattle.macaroond.specs.declared.people.asking.AttenuateWords.{AttenuateWords}
@@ -178,21 +180,21 @@ GivesMoment given (Err why) =
 -- ---- how a run ends
 
 -- want of memory; words that say nothing; a file or a device
-abbrev pub person_status : PersonFault → ℕ
-person_status fault.Memory = 4
-person_status (fault.Words field.Memory) = 4
-person_status (fault.Name name.Memory) = 4
-person_status (fault.Token text.Memory) = 4
-person_status (fault.Words _) = 2
-person_status (fault.Name _) = 2
-person_status (fault.Token _) = 2
-person_status fault.Form = 2
-person_status fault.Moment = 2
-person_status _ = 3
+abbrev pub person_status : PersonFault → Status
+person_status fault.Memory = status.NoMemory
+person_status (fault.Words field.Memory) = status.NoMemory
+person_status (fault.Name name.Memory) = status.NoMemory
+person_status (fault.Token text.Memory) = status.NoMemory
+person_status (fault.Words _) = status.BadLine
+person_status (fault.Name _) = status.BadLine
+person_status (fault.Token _) = status.BadLine
+person_status fault.Form = status.BadLine
+person_status fault.Moment = status.BadLine
+person_status _ = status.DeviceFault
 
-abbrev pub said_status : Bool → ℕ
-said_status is_refusal = if is_refusal then 1 else 0
+abbrev pub said_status : Bool → Status
+said_status is_refusal = if is_refusal then status.Refused else status.Done
 
 -- what was said ends with its own status, or with that of a device where it can't be printed
-abbrev pub IsToldSo : Bool → ℕ → Type 0
-IsToldSo is_refusal status = (status ≡ said_status is_refusal) ⊎ (status ≡ 3)
+abbrev pub IsToldSo : Bool → Status → Type 0
+IsToldSo is_refusal ended = (ended ≡ said_status is_refusal) ⊎ (ended ≡ status.DeviceFault)

@@ -19,20 +19,12 @@ use crate::choices::Chosen;
 use crate::commands::build_command;
 use crate::options::{OptionFault, read_choice};
 use crate::people::read_task;
+use crate::status::Status;
 use clap::error::ErrorKind;
 use clap::{ArgMatches, Error};
 use std::alloc::{Alloc, Global};
 use std::env::{self, Args, Env};
 use std::io;
-
-/// The exit status of a request for help or for the version.
-pub const HELP_SHOWN: u8 = 0;
-
-/// The exit status of a line that `clap` refuses.
-pub const BAD_LINE: u8 = 2;
-
-/// The exit status where memory ran out.
-pub const NO_MEMORY: u8 = 4;
 
 /// What is told where a word is not UTF-8.
 const NOT_TEXT: &str = "error: a word of the command line is not UTF-8\n";
@@ -42,11 +34,11 @@ const UNKNOWN_MODE: &str = "error: the mode of a socket is 600, 660 or 666\n";
 
 /// The words of the process, the first being the program's name.
 ///
-/// An error holds the exit status and the text to show, as that of `choose`: a word that is not
+/// An error holds how the run ends and the text to show, as that of `choose`: a word that is not
 /// UTF-8 makes a bad line.
-pub fn read_words<R: Env + Alloc<A = Global>>(rt: &R) -> Result<Vec<String>, (u8, String)>
-    ensures refused { IfErr result (λ fault. (fault.0 ≡ BAD_LINE) ⊎ (fault.0 ≡ NO_MEMORY)) }
-    ensures memory { IfErr result (λ fault. fault.0 ≡ NO_MEMORY → string_bytes fault.1 ≡ []) }
+pub fn read_words<R: Env + Alloc<A = Global>>(rt: &R) -> Result<Vec<String>, (Status, String)>
+    ensures refused { IfErr result (λ fault. (fault.0 ≡ Status.BadLine) ⊎ (fault.0 ≡ Status.NoMemory)) }
+    ensures memory { IfErr result (λ fault. fault.0 ≡ Status.NoMemory → string_bytes fault.1 ≡ []) }
 {
     match env::args(rt) {
         Ok(given) => gather_words(rt.alloc(), given),
@@ -58,11 +50,11 @@ pub fn read_words<R: Env + Alloc<A = Global>>(rt: &R) -> Result<Vec<String>, (u8
 }
 
 /// The words that are given, each of them and in their order.
-fn gather_words(alloc: Global, given: Args) -> Result<Vec<String>, (u8, String)>
+fn gather_words(alloc: Global, given: Args) -> Result<Vec<String>, (Status, String)>
     ensures words { IfOk result (λ words.
         words.items ≡ take (into_iter_len given) (into_iter_items given)) }
     ensures memory { IfErr result (λ fault.
-        (fault.0 ≡ NO_MEMORY) × (string_bytes fault.1 ≡ [])) }
+        (fault.0 ≡ Status.NoMemory) × (string_bytes fault.1 ≡ [])) }
 {
     let mut words = Vec::new(alloc);
     for word in given {
@@ -75,17 +67,17 @@ fn gather_words(alloc: Global, given: Args) -> Result<Vec<String>, (u8, String)>
 
 /// What the words of a command line ask for, the first being the program's name.
 ///
-/// An error holds the exit status and the text to show: 0 with the help or the version that was
-/// asked for, 2 with what is wrong with the line, or 4 with no text where memory ran out.
+/// An error holds how the run ends and the text to show: well with the help or the version that was
+/// asked for, badly with what is wrong with the line, and with no text where memory ran out.
 #[tactic(auto, using(crate::proofs::CommandLineLemmas::status_of_error))]
-pub fn choose(alloc: Global, words: &[String]) -> Result<Chosen, (u8, String)>
+pub fn choose(alloc: Global, words: &[String]) -> Result<Chosen, (Status, String)>
     ensures accepted { OnOk result (fault_of command_line (map string_bytes words.now) ≡ []) }
     ensures choice { IfOk result (λ chosen.
         IsChosen chosen (subcommand_of command_line (map string_bytes words.now))) }
     ensures refused { IfErr result (λ fault. (MayEnd (map string_bytes words.now) fault.0)
-        ⊎ (((fault.0 ≡ BAD_LINE) × AsksUnknownMode (map string_bytes words.now))
-        ⊎ (fault.0 ≡ NO_MEMORY))) }
-    ensures memory { IfErr result (λ fault. fault.0 ≡ NO_MEMORY → string_bytes fault.1 ≡ []) }
+        ⊎ (((fault.0 ≡ Status.BadLine) × AsksUnknownMode (map string_bytes words.now))
+        ⊎ (fault.0 ≡ Status.NoMemory))) }
+    ensures memory { IfErr result (λ fault. fault.0 ≡ Status.NoMemory → string_bytes fault.1 ≡ []) }
 {
     match match_words(alloc, words) {
         Ok(matches) => choose_matched(alloc, &matches),
@@ -104,13 +96,13 @@ fn match_words<'a>(alloc: Global, words: &'a [String]) -> Result<ArgMatches<'a>,
 }
 
 /// What the subcommand of a line that `clap` takes stands for.
-fn choose_matched(alloc: Global, matches: &ArgMatches<'_>) -> Result<Chosen, (u8, String)>
+fn choose_matched(alloc: Global, matches: &ArgMatches<'_>) -> Result<Chosen, (Status, String)>
     requires { HasCommand (subcommand_rows_of matches.now) }
     ensures choice { IfOk result (λ chosen. IsChosen chosen (subcommand_rows_of matches.now)) }
     ensures refused { IfErr result (λ fault.
-        ((fault.0 ≡ BAD_LINE) × HasUnknownMode (subcommand_rows_of matches.now))
-        ⊎ (fault.0 ≡ NO_MEMORY)) }
-    ensures memory { IfErr result (λ fault. fault.0 ≡ NO_MEMORY → string_bytes fault.1 ≡ []) }
+        ((fault.0 ≡ Status.BadLine) × HasUnknownMode (subcommand_rows_of matches.now))
+        ⊎ (fault.0 ≡ Status.NoMemory)) }
+    ensures memory { IfErr result (λ fault. fault.0 ≡ Status.NoMemory → string_bytes fault.1 ≡ []) }
 {
     let Some((name, options)) = matches.subcommand() else {
         unreachable!("`clap` asks for a subcommand")
@@ -124,14 +116,14 @@ fn choose_subcommand(
     alloc: Global,
     name: &str,
     options: &ArgMatches<'_>,
-) -> Result<Chosen, (u8, String)>
+) -> Result<Chosen, (Status, String)>
     requires { HasOptions name.now (rows_of (found_of options.now)) ⊎ IsTaskName name.now }
     ensures choice { IfOk result (λ chosen.
         IsChosen chosen (Some (name.now, rows_of (found_of options.now)))) }
-    ensures refused { IfErr result (λ fault. ((fault.0 ≡ BAD_LINE)
+    ensures refused { IfErr result (λ fault. ((fault.0 ≡ Status.BadLine)
         × HasUnknownMode (Some (name.now, rows_of (found_of options.now))))
-        ⊎ (fault.0 ≡ NO_MEMORY)) }
-    ensures memory { IfErr result (λ fault. fault.0 ≡ NO_MEMORY → string_bytes fault.1 ≡ []) }
+        ⊎ (fault.0 ≡ Status.NoMemory)) }
+    ensures memory { IfErr result (λ fault. fault.0 ≡ Status.NoMemory → string_bytes fault.1 ≡ []) }
 {
     match name {
         "pipe" | "serve" | "listen" => choose_machine(alloc, name, options),
@@ -144,14 +136,14 @@ fn choose_machine(
     alloc: Global,
     name: &str,
     options: &ArgMatches<'_>,
-) -> Result<Chosen, (u8, String)>
+) -> Result<Chosen, (Status, String)>
     requires { HasOptions name.now (rows_of (found_of options.now)) }
     ensures choice { IfOk result (λ chosen.
         IsChosen chosen (Some (name.now, rows_of (found_of options.now)))) }
-    ensures refused { IfErr result (λ fault. ((fault.0 ≡ BAD_LINE)
+    ensures refused { IfErr result (λ fault. ((fault.0 ≡ Status.BadLine)
         × HasUnknownMode (Some (name.now, rows_of (found_of options.now))))
-        ⊎ (fault.0 ≡ NO_MEMORY)) }
-    ensures memory { IfErr result (λ fault. fault.0 ≡ NO_MEMORY → string_bytes fault.1 ≡ []) }
+        ⊎ (fault.0 ≡ Status.NoMemory)) }
+    ensures memory { IfErr result (λ fault. fault.0 ≡ Status.NoMemory → string_bytes fault.1 ≡ []) }
 {
     match read_choice(alloc, name, options) {
         Ok(choice) => Ok(Chosen::Machine(choice)),
@@ -165,12 +157,12 @@ fn choose_person(
     alloc: Global,
     name: &str,
     options: &ArgMatches<'_>,
-) -> Result<Chosen, (u8, String)>
+) -> Result<Chosen, (Status, String)>
     requires { IsTaskName name.now }
     ensures choice { IfOk result (λ chosen.
         IsChosen chosen (Some (name.now, rows_of (found_of options.now)))) }
     ensures memory { IfErr result (λ fault.
-        (fault.0 ≡ NO_MEMORY) × (string_bytes fault.1 ≡ [])) }
+        (fault.0 ≡ Status.NoMemory) × (string_bytes fault.1 ≡ [])) }
 {
     match read_task(alloc, name, options) {
         Ok(task) => Ok(Chosen::Person(task)),
@@ -178,41 +170,43 @@ fn choose_person(
     }
 }
 
-/// The exit status and the text of an error of `clap`.
-fn refuse(alloc: Global, error: &Error) -> (u8, String)
-    ensures status { (result.0 ≡ exit_status (kind_of error.now)) ⊎ (result.0 ≡ NO_MEMORY) }
-    ensures memory { result.0 ≡ NO_MEMORY → string_bytes result.1 ≡ [] }
+/// How a run ends with an error of `clap`, and the text of that.
+fn refuse(alloc: Global, error: &Error) -> (Status, String)
+    ensures status { (result.0 ≡ exit_status (kind_of error.now)) ⊎ (result.0 ≡ Status.NoMemory) }
+    ensures memory { result.0 ≡ Status.NoMemory → string_bytes result.1 ≡ [] }
 {
     match (status_of_kind(error.kind()), error.to_string(alloc)) {
-        (NO_MEMORY, _) | (_, Err(_)) => refuse_for_memory(alloc),
+        (Status::NoMemory, _) | (_, Err(_)) => refuse_for_memory(alloc),
         (status, Ok(text)) => (status, text),
     }
 }
 
-fn status_of_kind(kind: ErrorKind) -> u8
+/// How a run ends with an error of this kind.
+fn status_of_kind(kind: ErrorKind) -> Status
     ensures { result ≡ exit_status kind }
 {
     match kind {
-        ErrorKind::DisplayHelp | ErrorKind::DisplayVersion => HELP_SHOWN,
-        ErrorKind::OutOfMemory => NO_MEMORY,
-        _ => BAD_LINE,
+        ErrorKind::DisplayHelp | ErrorKind::DisplayVersion => Status::Done,
+        ErrorKind::OutOfMemory => Status::NoMemory,
+        _ => Status::BadLine,
     }
 }
 
-fn refuse_for_memory(alloc: Global) -> (u8, String)
-    ensures status { result.0 ≡ NO_MEMORY }
+/// What is answered where memory ran out: no text.
+fn refuse_for_memory(alloc: Global) -> (Status, String)
+    ensures status { result.0 ≡ Status.NoMemory }
     ensures text { string_bytes result.1 ≡ [] }
 {
-    (NO_MEMORY, String::new(alloc))
+    (Status::NoMemory, String::new(alloc))
 }
 
 /// A bad line, with what is wrong with it.
-fn refuse_line(alloc: Global, text: &str) -> (u8, String)
-    ensures status { (result.0 ≡ BAD_LINE) ⊎ (result.0 ≡ NO_MEMORY) }
-    ensures memory { result.0 ≡ NO_MEMORY → string_bytes result.1 ≡ [] }
+fn refuse_line(alloc: Global, text: &str) -> (Status, String)
+    ensures status { (result.0 ≡ Status.BadLine) ⊎ (result.0 ≡ Status.NoMemory) }
+    ensures memory { result.0 ≡ Status.NoMemory → string_bytes result.1 ≡ [] }
 {
     match String::from_str(alloc, text) {
-        Ok(text) => (BAD_LINE, text),
+        Ok(text) => (Status::BadLine, text),
         Err(_) => refuse_for_memory(alloc),
     }
 }

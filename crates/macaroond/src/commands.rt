@@ -5,14 +5,12 @@ ghost use Rattle.macaroond.specs.Arguments.{number, option, required};
 ghost use Rattle.macaroond.specs.CommandLine.{command_line, listen_command, pipe_command};
 ghost use Rattle.macaroond.specs.CommandLine.{serve_command};
 
-use crate::parts::{add_subcommand, build_option};
+use crate::parts::{KEYS_HELP, add_subcommand, build_option};
 use crate::people::add_people;
 use clap::builder::ValueParser;
 use clap::{Arg, Command};
+use mac_pool::WORKERS_MAX;
 use std::alloc::{AllocError, Global};
-
-/// The most threads that answer requests.
-pub const WORKERS_MAX: u64 = 16;
 
 /// The most connections that one run of `serve` takes.
 pub const ACCEPT_MAX: u64 = 1000;
@@ -84,8 +82,6 @@ Exit status:
 /// What help says of the options that `serve` and `listen` share.
 const SOCKET_HELP: &str = "Where the socket is made";
 
-const KEYS_HELP: &str = "The file of key lines";
-
 /// The whole command line.
 pub fn build_command<'a>(alloc: Global) -> Result<Command<'a>, AllocError>
     ensures { IfOk result (λ command. app_of command ≡ command_line) }
@@ -101,6 +97,7 @@ pub fn build_command<'a>(alloc: Global) -> Result<Command<'a>, AllocError>
     add_people(alloc, program)
 }
 
+/// The subcommand `pipe`, which takes no options.
 fn build_pipe<'a>(alloc: Global) -> Command<'a>
     ensures { app_of result ≡ pipe_command }
 {
@@ -109,6 +106,7 @@ fn build_pipe<'a>(alloc: Global) -> Command<'a>
         .after_help(PIPE_HELP)
 }
 
+/// The subcommand `serve`, all of whose options have to be given.
 fn build_serve<'a>(alloc: Global) -> Result<Command<'a>, AllocError>
     ensures { IfOk result (λ serve. app_of serve ≡ serve_command) }
 {
@@ -119,10 +117,11 @@ fn build_serve<'a>(alloc: Global) -> Result<Command<'a>, AllocError>
         .after_help(SERVE_HELP)
         .arg(build_path(alloc, "socket", SOCKET_HELP))?
         .arg(build_path(alloc, "keys", KEYS_HELP))?
-        .arg(build_count(alloc, "workers", WORKERS_MAX, workers).required(true))?
+        .arg(build_count(alloc, "workers", WORKERS_MAX as u64, workers).required(true))?
         .arg(build_count(alloc, "accept", ACCEPT_MAX, accept).required(true))
 }
 
+/// The subcommand `listen`, whose socket and key file have to be given.
 fn build_listen<'a>(alloc: Global) -> Result<Command<'a>, AllocError>
     ensures { IfOk result (λ listen. app_of listen ≡ listen_command) }
 {
@@ -134,7 +133,7 @@ fn build_listen<'a>(alloc: Global) -> Result<Command<'a>, AllocError>
         .after_help(LISTEN_HELP)
         .arg(build_path(alloc, "socket", SOCKET_HELP))?
         .arg(build_path(alloc, "keys", KEYS_HELP))?
-        .arg(build_count(alloc, "workers", WORKERS_MAX, workers))?
+        .arg(build_count(alloc, "workers", WORKERS_MAX as u64, workers))?
         .arg(build_option(alloc, "mode", "DIGITS", mode))?
         .arg(build_count(alloc, "idle", IDLE_MAX, idle))
 }

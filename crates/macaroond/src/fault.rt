@@ -3,6 +3,7 @@ ghost use Rattle.std.specs.Prelude.{◌≡◌};
 ghost use Rattle.macaroond.specs.Status.{pipe_status};
 ghost use Rattle.macaroond.specs.declared.fault.PipeFault.TheVariants.{Device, Memory};
 
+use crate::status::Status;
 use mac_keys::LineFault;
 use mac_wire::DeviceFault;
 use std::alloc::{AllocError, AllocFailed};
@@ -26,14 +27,14 @@ pub enum PipeFault {
 }
 
 impl PipeFault {
-    /// The exit status of a run that ended so.
-    pub fn status(self) -> u8
+    /// How a run ends that has this fault.
+    pub fn status(self) -> Status
         ensures { result ≡ pipe_status self }
     {
         match self {
-            PipeFault::Keys { .. } => 1,
-            PipeFault::Device | PipeFault::TooLong => 3,
-            PipeFault::Memory => 4,
+            PipeFault::Keys { .. } => Status::BadKeys,
+            PipeFault::Device | PipeFault::TooLong => Status::DeviceFault,
+            PipeFault::Memory => Status::NoMemory,
         }
     }
 }

@@ -6,18 +6,19 @@ ghost use Rattle.std.specs.Str.{IsUtf8};
 ghost use Rattle.clap.specs.Words.{fault_of};
 ghost use Rattle.macaroond.specs.CommandLine.{LeadsTo, command_line, names_another};
 ghost use Rattle.macaroond.specs.CommandLine.{status_of_arguments};
+ghost use Rattle.macaroond.specs.Status.{status_code};
 
-use crate::command_line::{BAD_LINE, HELP_SHOWN, NO_MEMORY};
 use crate::input::INPUT_MAX;
-use crate::{ANSWERED, DEVICE_FAULT};
+use crate::status::Status;
 
 /// The exit statuses and the greatest input are these numbers.
 pub fn statuses_and_the_bound_are_numbers()
-    ensures answered { ANSWERED ≡ 0 }
-    ensures help { HELP_SHOWN ≡ 0 }
-    ensures line { BAD_LINE ≡ 2 }
-    ensures device { DEVICE_FAULT ≡ 3 }
-    ensures memory { NO_MEMORY ≡ 4 }
+    ensures done { status_code Status.Done ≡ 0 }
+    ensures refused { status_code Status.Refused ≡ 1 }
+    ensures keys { status_code Status.BadKeys ≡ 1 }
+    ensures line { status_code Status.BadLine ≡ 2 }
+    ensures device { status_code Status.DeviceFault ≡ 3 }
+    ensures memory { status_code Status.NoMemory ≡ 4 }
     ensures input { INPUT_MAX ≡ 16777216 }
 {}
 

@@ -21,18 +21,21 @@ mod parts;
 mod people;
 mod piping;
 mod reply_line;
+mod status;
 
 pub use choices::{Choice, Chosen, Mode};
-pub use command_line::{BAD_LINE, HELP_SHOWN, NO_MEMORY, choose, read_words};
-pub use commands::{ACCEPT_MAX, IDLE_MAX, WORKERS_MAX};
+pub use command_line::{choose, read_words};
+pub use commands::{ACCEPT_MAX, IDLE_MAX};
 use daemon::{NOWHERE, open_standard, read_keys};
 pub use daemon::{Day, LIVE_MAX, Terms, accept_all, listen};
 pub use fault::PipeFault;
 pub use input::INPUT_MAX;
+use mac_pool::WORKERS_MAX;
 use mac_wire::{ReaderSource, WriterSink};
 use people::run_task;
 pub use people::{PersonFault, Task};
 pub use piping::pipe;
+pub use status::Status;
 use std::alloc::{Alloc, Global};
 use std::env::Env;
 use std::fs::{File, Files};
@@ -44,21 +47,12 @@ use std::thread::Threads;
 use std::time::{Clock, Duration};
 use std::{io, thread};
 
-/// The exit status of a run that answered all its requests.
-pub const ANSWERED: u8 = 0;
-
-/// The exit status where a person's request is refused.
-pub const REFUSED: u8 = 1;
-
-/// The exit status where a device failed.
-pub const DEVICE_FAULT: u8 = 3;
-
 fn main(rt: HostRuntime) -> ExitCode {
-    ExitCode::from(run(&rt, rt.process()))
+    ExitCode::from(run(&rt, rt.process()).code())
 }
 
-/// Does what the words of the process ask for, and gives the exit status.
-fn run<R>(rt: &R, process: Process) -> u8
+/// Does what the words of the process ask for, and says how the run ended.
+fn run<R>(rt: &R, process: Process) -> Status
 where
     R: Env
         + Alloc<A = Global>
@@ -76,8 +70,8 @@ where
     run_chosen(rt, chosen, process)
 }
 
-/// Does what was chosen, and gives the exit status; what was refused is shown and not done.
-fn run_chosen<R>(rt: &R, chosen: Result<Chosen, (u8, String)>, process: Process) -> u8
+/// Does what was chosen, and says how the run ended; what was refused is shown and not done.
+fn run_chosen<R>(rt: &R, chosen: Result<Chosen, (Status, String)>, process: Process) -> Status
 where
     R: Alloc<A = Global> + Input + Print + Eprint + Files<File = File> + Net + Clock + RandomSource,
     R: Threads + Wait + Sync + Copy + Send + 'static,
@@ -91,8 +85,8 @@ where
     }
 }
 
-/// Answers the requests of programs, and gives the exit status.
-fn run_machine<R>(rt: &R, choice: Choice, process: Process) -> u8
+/// Answers the requests of programs, and says how the run ended.
+fn run_machine<R>(rt: &R, choice: Choice, process: Process) -> Status
 where
     R: Alloc<A = Global> + Input + Print + Eprint + Files<File = File> + Net + Clock,
     R: Threads + Wait + Sync + Copy + Send + 'static,
@@ -127,64 +121,63 @@ where
 /// The workers that were asked for, or one for each processor.
 fn count_workers<R: Threads>(rt: &R, asked: Option<u64>) -> usize
     ensures some { 1 ≤ result }
-    ensures most { result ≤ 16 }
+    ensures most { result ≤ WORKERS_MAX }
 {
-    let most = WORKERS_MAX as usize;
     let count = match asked {
         Some(count) => count as usize,
         None => thread::available_parallelism(rt).map_or(1, |count| count.get()),
     };
-    count.max(1).min(most)
+    count.max(1).min(WORKERS_MAX)
 }
 
-/// Serves so many connections, and gives the exit status.
-fn run_serve<R>(rt: &R, path: &str, keys: &str, workers: u64, accept: u64) -> u8
+/// Serves so many connections, and says how the run ended.
+fn run_serve<R>(rt: &R, path: &str, keys: &str, workers: u64, accept: u64) -> Status
 where
     R: Alloc<A = Global> + Print + Eprint + Files<File = File> + Net + Clock,
     R: Threads + Wait + Sync + Copy + Send + 'static,
 {
     if let Err(refused) = open_standard(rt) {
         let _ = eprintln!(rt; "{NOWHERE}: {refused}");
-        return tell_fault(rt, DEVICE_FAULT);
+        return tell_fault(rt, Status::DeviceFault);
     }
     let keys = match read_keys(rt, keys) {
         Ok(keys) => keys,
         Err(fault) => return tell_ending(rt, Err(fault)),
     };
     let Ok(keys) = Arc::new(rt.alloc(), keys) else {
-        return tell_fault(rt, NO_MEMORY);
+        return tell_fault(rt, Status::NoMemory);
     };
     let workers = count_workers(rt, Some(workers));
     let accept = accept.max(1).min(ACCEPT_MAX);
     let mut out = WriterSink::new(io::writer(rt));
     match accept_all(rt, rt.alloc(), path, &keys, workers, accept, &mut out) {
-        Ok(_) => ANSWERED,
+        Ok(_) => Status::Done,
         Err(status) => tell_fault(rt, status),
     }
 }
 
-/// Listens without end, or gives the exit status where that can't begin.
-fn run_listen<R>(rt: &R, keys: &str, terms: Terms<'_>, process: Process) -> u8
+/// Listens without end, or says how the run ended where that can't begin.
+fn run_listen<R>(rt: &R, keys: &str, terms: Terms<'_>, process: Process) -> Status
 where
     R: Alloc<A = Global> + Print + Eprint + Files<File = File> + Net + Clock,
     R: Threads + Wait + Sync + Copy + Send + 'static,
 {
     if let Err(refused) = open_standard(rt) {
         let _ = eprintln!(rt; "{NOWHERE}: {refused}");
-        return tell_fault(rt, DEVICE_FAULT);
+        return tell_fault(rt, Status::DeviceFault);
     }
     let keys = match read_keys(rt, keys) {
         Ok(keys) => keys,
         Err(fault) => return tell_ending(rt, Err(fault)),
     };
     let Ok(keys) = Arc::new(rt.alloc(), keys) else {
-        return tell_fault(rt, NO_MEMORY);
+        return tell_fault(rt, Status::NoMemory);
     };
     tell_fault(rt, listen(rt, rt.alloc(), terms, &keys, process))
 }
 
-/// Pipes standard input to standard output, and gives the exit status.
-fn run_pipe<R: Alloc<A = Global> + Input + Print + Eprint + Sync>(rt: &R) -> u8
+/// Pipes standard input to standard output, and says how the run ended.
+fn run_pipe<R: Alloc<A = Global> + Input + Print + Eprint + Sync>(rt: &R) -> Status
 where
     R::Reader: Send,
 {
@@ -194,12 +187,12 @@ where
     tell_ending(rt, ending)
 }
 
-/// Names the fault that a run ended with on standard error, and gives the run's exit status.
-fn tell_ending<R: Eprint>(rt: &R, ending: Result<(), PipeFault>) -> u8
+/// Names the fault that a run ended with on standard error, and says how the run ended.
+fn tell_ending<R: Eprint>(rt: &R, ending: Result<(), PipeFault>) -> Status
     ensures { result ≡ run_status ending }
 {
     match ending {
-        Ok(()) => ANSWERED,
+        Ok(()) => Status::Done,
         Err(fault) => {
             let _ = eprintln!(rt; "{fault}");
             fault.status()
@@ -207,14 +200,14 @@ fn tell_ending<R: Eprint>(rt: &R, ending: Result<(), PipeFault>) -> u8
     }
 }
 
-/// Shows what came of a line that asks for no work, and gives the exit status.
-fn show<R: Print + Eprint>(rt: &R, status: u8, text: &str) -> u8
+/// Shows what came of a line that asks for no work, and says how the run ended.
+fn show<R: Print + Eprint>(rt: &R, status: Status, text: &str) -> Status
     ensures { IsShown status result }
 {
     match status {
-        HELP_SHOWN if print!(rt; "{text}").is_err() => tell_fault(rt, DEVICE_FAULT),
-        HELP_SHOWN => HELP_SHOWN,
-        NO_MEMORY => tell_fault(rt, NO_MEMORY),
+        Status::Done if print!(rt; "{text}").is_err() => tell_fault(rt, Status::DeviceFault),
+        Status::Done => Status::Done,
+        Status::NoMemory => tell_fault(rt, Status::NoMemory),
         _ => {
             let _ = eprint!(rt; "{text}");
             status
@@ -222,10 +215,11 @@ fn show<R: Print + Eprint>(rt: &R, status: u8, text: &str) -> u8
     }
 }
 
-/// Names the exit status on standard error, where there is no more to say.
-fn tell_fault<R: Eprint>(rt: &R, status: u8) -> u8
+/// Names the number of a status on standard error, where there is no more to say.
+fn tell_fault<R: Eprint>(rt: &R, status: Status) -> Status
     ensures { result ≡ status }
 {
-    let _ = eprintln!(rt; "fault {status}");
+    let number = status.code();
+    let _ = eprintln!(rt; "fault {number}");
     status
 }

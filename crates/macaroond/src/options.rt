@@ -44,6 +44,7 @@ pub fn read_choice(
     }
 }
 
+/// The choice of the options of `serve`.
 fn read_serve(alloc: Global, options: &ArgMatches<'_>) -> Result<Choice, OptionFault>
     requires { HasServeOptions (rows_of (found_of options.now)) }
     ensures { Chooses (codes "serve") (rows_of (found_of options.now)) result }
@@ -56,6 +57,7 @@ fn read_serve(alloc: Global, options: &ArgMatches<'_>) -> Result<Choice, OptionF
     })
 }
 
+/// The choice of the options of `listen`; the mode is looked at first.
 fn read_listen(alloc: Global, options: &ArgMatches<'_>) -> Result<Choice, OptionFault>
     requires { HasListenOptions (rows_of (found_of options.now)) }
     ensures { Chooses (codes "listen") (rows_of (found_of options.now)) result }

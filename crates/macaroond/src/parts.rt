@@ -6,6 +6,9 @@ ghost use Rattle.macaroond.specs.Arguments.{option};
 use clap::{Arg, Command};
 use std::alloc::{AllocError, Global};
 
+/// What the help says of `--keys`.
+pub(crate) const KEYS_HELP: &str = "The file of key lines";
+
 /// The program with one more subcommand.
 pub(crate) fn add_subcommand<'a>(
     program: Command<'a>,

@@ -5,7 +5,7 @@ ghost use Rattle.macaroond.specs.declared.daemon.crew.TheConstants.{LIVE_MAX};
 use super::crew::{Crew, LIVE_MAX, Left};
 use super::notices::Notice;
 use super::quay::{Mooring, Quay};
-use crate::DEVICE_FAULT;
+use crate::status::Status;
 use mac_keys::KeyTable;
 use std::alloc::Global;
 use std::os::unix::net::{UnixListener, UnixStream};
@@ -36,7 +36,7 @@ pub struct Day {
 }
 
 /// Accepts as many connections as the limits say, and serves each. Some may not have ended yet
-/// where it returns. With a count, a socket that accepts nothing is an error, the exit status;
+/// where it returns. With a count, a socket that accepts nothing is an error, with how the run ends;
 /// without one, it is asked again after a pause.
 pub fn accept_each<R>(
     rt: &R,
@@ -46,11 +46,11 @@ pub fn accept_each<R>(
     crew: &mut Crew,
     quay: &Arc<Quay, Global>,
     limits: Limits,
-) -> Result<Day, u8>
+) -> Result<Day, Status>
 where
     R: Threads + Wait + Clock + Sync + Copy + Send + 'static,
     ensures served { IfOk result (λ day. limits.count ≡ Some day.served) }
-    ensures status { IfErr result (λ status. status ≡ 3) }
+    ensures status { IfErr result (λ status. status ≡ Status.DeviceFault) }
 {
     let mut served: u64 = 0;
     let mut faults: u64 = 0;
@@ -70,7 +70,7 @@ where
                     faults = faults.saturating_add(1);
                 }
             }
-            Err(_) if limits.count.is_some() => return Err(DEVICE_FAULT),
+            Err(_) if limits.count.is_some() => return Err(Status::DeviceFault),
             Err(_) => thread::sleep(rt, Duration::from_millis(PAUSE_MILLIS)),
         }
     }

@@ -7,7 +7,7 @@ use super::notices::start_printing;
 use super::place::{PlaceFault, bind_at};
 use super::quay::Quay;
 use crate::choices::Mode;
-use crate::{DEVICE_FAULT, NO_MEMORY};
+use crate::status::Status;
 use mac_keys::KeyTable;
 use std::alloc::Global;
 use std::fs::{File, Files};
@@ -30,15 +30,15 @@ pub struct Terms<'a> {
     pub workers: usize,
 }
 
-/// Serves the connections of a socket without end. It returns only where it can't begin, with the
-/// exit status: 3, or 4 for want of memory or a thread, and for workers that aren't 1 to 16.
+/// Serves the connections of a socket without end. It returns only where it can't begin, and says
+/// how the run ended: `NoMemory` also where there is no thread, and for workers that aren't 1 to 16.
 pub fn listen<R>(
     rt: &R,
     alloc: Global,
     terms: Terms<'_>,
     keys: &Arc<KeyTable, Global>,
     process: Process,
-) -> u8
+) -> Status
 where
     R: Files<File = File>
         + Net
@@ -51,20 +51,20 @@ where
         + Copy
         + Send
         + 'static,
-    ensures status { (result ≡ 3) ⊎ (result ≡ 4) }
+    ensures status { (result ≡ Status.DeviceFault) ⊎ (result ≡ Status.NoMemory) }
 {
     let place = match bind_at(rt, alloc, terms.path, terms.mode, process) {
         Ok(place) => place,
         Err(fault) => return tell_refusal(rt, terms.path, fault),
     };
     let Ok(mut crew) = Crew::new(rt, alloc, terms.workers) else {
-        return NO_MEMORY;
+        return Status::NoMemory;
     };
     let Some(notices) = start_printing(*rt, alloc) else {
-        return NO_MEMORY;
+        return Status::NoMemory;
     };
     let Ok(quay) = Quay::new(alloc, Some(notices)) else {
-        return NO_MEMORY;
+        return Status::NoMemory;
     };
     let (names, workers) = (keys.len(), terms.workers);
     let told = println!(rt;
@@ -74,7 +74,7 @@ where
         plural_ending(workers)
     );
     if told.is_err() {
-        return DEVICE_FAULT;
+        return Status::DeviceFault;
     }
     let limits = Limits {
         count: None,
@@ -91,13 +91,13 @@ fn plural_ending(number: usize) -> &'static str {
     if number == 1 { "" } else { "s" }
 }
 
-/// Tells why there is no socket, and gives the exit status.
-fn tell_refusal<R: Eprint>(rt: &R, path: &str, fault: PlaceFault) -> u8
-    ensures { (result ≡ 3) ⊎ (result ≡ 4) }
+/// Tells why there is no socket, and says how the run ended.
+fn tell_refusal<R: Eprint>(rt: &R, path: &str, fault: PlaceFault) -> Status
+    ensures { (result ≡ Status.DeviceFault) ⊎ (result ≡ Status.NoMemory) }
 {
     let status = match &fault {
-        PlaceFault::NoMemory => NO_MEMORY,
-        _ => DEVICE_FAULT,
+        PlaceFault::NoMemory => Status::NoMemory,
+        _ => Status::DeviceFault,
     };
     let _ = eprintln!(rt; "{path}: {fault}");
     status

@@ -4,7 +4,7 @@ ghost use Rattle.std.specs.Prelude.{◌≡◌, ◌≤◌, ◌<◌, ◌⊎◌, If
 use super::accepting::{Day, Limits, accept_each, leave_all};
 use super::crew::Crew;
 use super::quay::Quay;
-use crate::{DEVICE_FAULT, NO_MEMORY};
+use crate::status::Status;
 use mac_keys::KeyTable;
 use mac_wire::{Sink, send_all};
 use std::alloc::Global;
@@ -16,8 +16,8 @@ use std::thread::Threads;
 use std::time::Clock;
 
 /// Serves so many connections of a socket that it makes at `path`, each in threads of its own, and
-/// prints a line once clients can connect and one once all connections have ended. An error is the
-/// exit status.
+/// prints a line once clients can connect and one once all connections have ended. An error says how
+/// the run ended.
 pub fn accept_all<R, W>(
     rt: &R,
     alloc: Global,
@@ -26,7 +26,7 @@ pub fn accept_all<R, W>(
     workers: usize,
     accept: u64,
     out: &mut W,
-) -> Result<Day, u8>
+) -> Result<Day, Status>
 where
     R: Files + Net + Threads + Wait + Clock + Sync + Copy + Send + 'static,
     W: Sink,
@@ -36,22 +36,23 @@ where
     requires most_connections { accept ≤ 1000 }
     requires writable { W.faults out.old < u64.MAX }
     ensures served { IfOk result (λ day. day.served ≡ accept) }
-    ensures status { IfErr result (λ status. (status ≡ 3) ⊎ (status ≡ 4)) }
+    ensures status { IfErr result (λ status.
+        (status ≡ Status.DeviceFault) ⊎ (status ≡ Status.NoMemory)) }
 {
     let Ok(listener) = UnixListener::bind(rt, path) else {
-        return Err(DEVICE_FAULT);
+        return Err(Status::DeviceFault);
     };
     let Ok(mut crew) = Crew::new(rt, alloc, workers) else {
-        return Err(NO_MEMORY);
+        return Err(Status::NoMemory);
     };
     let Ok(quay) = Quay::new(alloc, None) else {
-        return Err(NO_MEMORY);
+        return Err(Status::NoMemory);
     };
     let day = accept_to_the_end(rt, alloc, &listener, keys, &mut crew, &quay, accept, out);
     crew.stop(rt);
     let day = day?;
     let Ok(text) = format!(in alloc; "served {} faults {}\n", day.served, day.faults) else {
-        return Err(NO_MEMORY);
+        return Err(Status::NoMemory);
     };
     say(out, text.as_bytes())?;
     Ok(day)
@@ -67,13 +68,13 @@ fn accept_to_the_end<R, W>(
     quay: &Arc<Quay, Global>,
     accept: u64,
     out: &mut W,
-) -> Result<Day, u8>
+) -> Result<Day, Status>
 where
     R: Threads + Wait + Clock + Sync + Copy + Send + 'static,
     W: Sink,
     requires writable { W.faults out.old < u64.MAX }
     ensures served { IfOk result (λ day. day.served ≡ accept) }
-    ensures status { IfErr result (λ status. status ≡ 3) }
+    ensures status { IfErr result (λ status. status ≡ Status.DeviceFault) }
     ensures faults { OnOk result (W.faults out.new ≡ W.faults out.old) }
 {
     say(out, b"listening\n")?;
@@ -91,13 +92,13 @@ where
 }
 
 /// Writes a line.
-fn say<W: Sink>(out: &mut W, line: &[u8]) -> Result<(), u8>
+fn say<W: Sink>(out: &mut W, line: &[u8]) -> Result<(), Status>
     requires { W.faults out.old < u64.MAX }
-    ensures status { IfErr result (λ status. status ≡ 3) }
+    ensures status { IfErr result (λ status. status ≡ Status.DeviceFault) }
     ensures faults { OnOk result (W.faults out.new ≡ W.faults out.old) }
 {
     match send_all(out, line) {
         Ok(()) => Ok(()),
-        Err(_) => Err(DEVICE_FAULT),
+        Err(_) => Err(Status::DeviceFault),
     }
 }

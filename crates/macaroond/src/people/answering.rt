@@ -6,7 +6,7 @@ ghost use Rattle.macaroond.specs.People.{mint_asked, person_status, said_status,
 use super::asking::{AttenuateWords, MintWords, VerifyWords};
 use super::given::{draw_secret, load_keys, read_form, read_moment, read_token};
 use super::{PersonFault, Task};
-use crate::{ANSWERED, DEVICE_FAULT, REFUSED};
+use crate::status::Status;
 use mac_keys::KeyTable;
 use mac_wire::{TokenForm, WriterSink, send_all};
 use mac_words::{Said, key_line, say_attenuate, say_inspect, say_mint, say_verify};
@@ -16,8 +16,8 @@ use std::io;
 use std::random::RandomSource;
 use std::time::Clock;
 
-/// Does what a person asks, tells what comes of it, and gives the exit status.
-pub fn run_task<R>(rt: &R, task: &Task) -> u8
+/// Does what a person asks, tells what comes of it, and says how the run ends.
+pub fn run_task<R>(rt: &R, task: &Task) -> Status
 where
     R: Alloc<A = Global> + Input + Print + Eprint + Files + Clock + RandomSource + Sync,
     R::Reader: Send,
@@ -45,6 +45,7 @@ where
     }
 }
 
+/// The line of a key file with a new secret.
 fn do_keygen<'a, R>(rt: &R, name: &str) -> Result<Said, PersonFault<'a>>
 where
     R: Alloc<A = Global> + RandomSource,
@@ -57,6 +58,7 @@ where
     })
 }
 
+/// What is said of a mint: first its form is read, then its key file.
 fn do_mint<'a, R>(rt: &R, words: &'a MintWords) -> Result<Said, PersonFault<'a>>
 where
     R: Alloc<A = Global> + Files,
@@ -67,6 +69,7 @@ where
     say_mint_under(rt.alloc(), &table, form, words)
 }
 
+/// What is said of an attenuate: first its form is read, then its token.
 fn do_attenuate<'a, R>(rt: &R, words: &'a AttenuateWords) -> Result<Said, PersonFault<'a>>
 where
     R: Alloc<A = Global> + Input,
@@ -77,6 +80,7 @@ where
     say_attenuate_of(rt.alloc(), form, token.as_slice(), words)
 }
 
+/// What is said of a verify: first its moment is read, then its key file, then its token.
 fn do_verify<'a, R>(rt: &R, words: &'a VerifyWords) -> Result<Said, PersonFault<'a>>
 where
     R: Alloc<A = Global> + Input + Files + Clock,
@@ -89,6 +93,7 @@ where
     say_verify_under(rt.alloc(), &table, moment, token.as_slice(), words)
 }
 
+/// What is said of a token.
 fn do_inspect<'a, R>(rt: &R, token: &str) -> Result<Said, PersonFault<'a>>
 where
     R: Alloc<A = Global> + Input,
@@ -150,16 +155,16 @@ fn say_verify_under<'a>(
     )?)
 }
 
-/// Tells what is said, and gives the exit status. A refusal goes to standard error, so that nobody
+/// Tells what is said, and says how the run ends. A refusal goes to standard error, so that nobody
 /// takes it for a token, but for that of a verify, which is its answer.
-fn tell_said<R: Print + Eprint + Sync>(rt: &R, task: &Task, said: &Said) -> u8
+fn tell_said<R: Print + Eprint + Sync>(rt: &R, task: &Task, said: &Said) -> Status
     ensures { IsToldSo said.now.is_refusal result }
 {
     if said.is_refusal && !matches!(task, Task::Verify(_)) {
         if let Ok(text) = str::from_utf8(said.text.as_slice()) {
             let _ = eprint!(rt; "{text}");
         }
-        return REFUSED;
+        return Status::Refused;
     }
     match send_all(&mut WriterSink::new(io::writer(rt)), said.text.as_slice()) {
         Ok(()) => said_status(said.is_refusal),
@@ -167,21 +172,27 @@ fn tell_said<R: Print + Eprint + Sync>(rt: &R, task: &Task, said: &Said) -> u8
     }
 }
 
-fn said_status(is_refusal: bool) -> u8
+/// How a run ends that said what it had to say.
+fn said_status(is_refusal: bool) -> Status
     ensures { result ≡ said_status is_refusal }
 {
-    if is_refusal { REFUSED } else { ANSWERED }
+    if is_refusal {
+        Status::Refused
+    } else {
+        Status::Done
+    }
 }
 
-fn tell_device<R: Eprint>(rt: &R) -> u8
-    ensures { result ≡ DEVICE_FAULT }
+/// Says that standard output can't be written, and how the run ends.
+fn tell_device<R: Eprint>(rt: &R) -> Status
+    ensures { result ≡ Status.DeviceFault }
 {
     let _ = eprintln!(rt; "error: standard output can't be written");
-    DEVICE_FAULT
+    Status::DeviceFault
 }
 
-/// Names a fault on standard error, and gives the exit status.
-fn tell_person<R: Eprint>(rt: &R, fault: PersonFault<'_>) -> u8
+/// Names a fault on standard error, and says how the run ends.
+fn tell_person<R: Eprint>(rt: &R, fault: PersonFault<'_>) -> Status
     ensures { result ≡ person_status fault.entry }
 {
     let _ = eprintln!(rt; "error: {fault}");

@@ -89,6 +89,7 @@ pub fn read_task(alloc: Global, name: &str, options: &ArgMatches<'_>) -> Result<
     }
 }
 
+/// The task of the arguments of `keygen`.
 fn read_keygen(alloc: Global, options: &ArgMatches<'_>) -> Result<Task, AllocError>
     ensures { IfOk result (λ task. (task_name task ≡ codes "keygen")
         × HasTask task (rows_of (found_of options.now))) }
@@ -97,6 +98,7 @@ fn read_keygen(alloc: Global, options: &ArgMatches<'_>) -> Result<Task, AllocErr
     Ok(Task::Keygen { name })
 }
 
+/// The task of the arguments of `inspect`.
 fn read_inspect(alloc: Global, options: &ArgMatches<'_>) -> Result<Task, AllocError>
     ensures { IfOk result (λ task. (task_name task ≡ codes "inspect")
         × HasTask task (rows_of (found_of options.now))) }
@@ -105,6 +107,7 @@ fn read_inspect(alloc: Global, options: &ArgMatches<'_>) -> Result<Task, AllocEr
     Ok(Task::Inspect { token })
 }
 
+/// The words of the arguments of `mint`.
 fn read_mint(alloc: Global, options: &ArgMatches<'_>) -> Result<MintWords, AllocError>
     ensures { IfOk result (λ words. HasMint words (rows_of (found_of options.now))) }
 {
@@ -118,6 +121,7 @@ fn read_mint(alloc: Global, options: &ArgMatches<'_>) -> Result<MintWords, Alloc
     })
 }
 
+/// The words of the arguments of `attenuate`.
 fn read_attenuate(alloc: Global, options: &ArgMatches<'_>) -> Result<AttenuateWords, AllocError>
     ensures { IfOk result (λ words. HasAttenuate words (rows_of (found_of options.now))) }
 {
@@ -128,6 +132,7 @@ fn read_attenuate(alloc: Global, options: &ArgMatches<'_>) -> Result<AttenuateWo
     })
 }
 
+/// The words of the arguments of `verify`.
 fn read_verify(alloc: Global, options: &ArgMatches<'_>) -> Result<VerifyWords, AllocError>
     ensures { IfOk result (λ words. HasVerify words (rows_of (found_of options.now))) }
 {
@@ -185,6 +190,7 @@ fn read_texts(
     }
 }
 
+/// Texts of its own, each a copy.
 fn copy_texts(alloc: Global, texts: &[&str]) -> Result<Vec<String>, AllocError>
     ensures { IfOk result (λ copies. texts_of copies.items ≡ map (λ text. text.now) texts.now) }
 {

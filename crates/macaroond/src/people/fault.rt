@@ -3,6 +3,7 @@ ghost use Rattle.std.specs.Prelude.{◌≡◌};
 ghost use Rattle.macaroond.specs.People.{person_status};
 ghost use Rattle.macaroond.specs.declared.people.fault.PersonFault.TheVariants as fault;
 
+use crate::status::Status;
 use mac_keys::LineFault;
 use mac_words::{FieldFault, NameFault, TextFault};
 use std::alloc::AllocError;
@@ -56,21 +57,21 @@ pub enum PersonFault<'a> {
 }
 
 impl<'a> PersonFault<'a> {
-    /// The exit status of a run that ended so.
-    pub fn status(self) -> u8
+    /// How a run ends that has this fault.
+    pub fn status(self) -> Status
         ensures { result ≡ person_status self.entry }
     {
         match self {
             PersonFault::Memory
             | PersonFault::Words(FieldFault::Memory)
             | PersonFault::Name(NameFault::Memory)
-            | PersonFault::Token(TextFault::Memory) => 4,
+            | PersonFault::Token(TextFault::Memory) => Status::NoMemory,
             PersonFault::Words(_)
             | PersonFault::Name(_)
             | PersonFault::Token(_)
             | PersonFault::Form
-            | PersonFault::Moment => 2,
-            _ => 3,
+            | PersonFault::Moment => Status::BadLine,
+            _ => Status::DeviceFault,
         }
     }
 }

@@ -92,6 +92,7 @@ where
     }
 }
 
+/// The moment that a word names.
 fn parse_moment<'a>(alloc: Global, word: &str) -> Result<u64, PersonFault<'a>>
     ensures { GivesMoment word.now result }
 {

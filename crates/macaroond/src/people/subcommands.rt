@@ -6,7 +6,7 @@ ghost use Rattle.macaroond.specs.People.{attenuate_command, inspect_command, key
 ghost use Rattle.macaroond.specs.People.{mint_command, repeated, verify_command, with_key};
 ghost use Rattle.macaroond.specs.People.{with_people, word};
 
-use crate::parts::{add_subcommand, build_option};
+use crate::parts::{KEYS_HELP, add_subcommand, build_option};
 use clap::builder::ValueParser;
 use clap::{Arg, ArgAction, Command};
 use std::alloc::{AllocError, Global};
@@ -92,8 +92,6 @@ Exit status:
   3  standard input or standard output failed
   4  memory ran out";
 
-const KEYS_HELP: &str = "The file of key lines";
-
 const KEY_HELP: &str = "The name of the key";
 
 const TOKEN_HELP: &str = "The token, or - for a line of standard input";
@@ -117,6 +115,7 @@ pub(crate) fn add_people<'a>(alloc: Global, program: Command<'a>) -> Result<Comm
     add_subcommand(program, build_inspect(alloc)?)
 }
 
+/// The subcommand `keygen`, with the name of the key.
 fn build_keygen<'a>(alloc: Global) -> Result<Command<'a>, AllocError>
     ensures { IfOk result (λ whole. app_of whole ≡ keygen_command) }
 {
@@ -132,6 +131,7 @@ fn build_keygen<'a>(alloc: Global) -> Result<Command<'a>, AllocError>
     )
 }
 
+/// The subcommand `mint`: of its six options three have to be given.
 fn build_mint<'a>(alloc: Global) -> Result<Command<'a>, AllocError>
     ensures { IfOk result (λ whole. app_of whole ≡ mint_command) }
 {
@@ -150,6 +150,7 @@ fn build_mint<'a>(alloc: Global) -> Result<Command<'a>, AllocError>
     add_arg(command, build_option(alloc, "form", "FORM", MINT_FORM_HELP))
 }
 
+/// The subcommand `attenuate`, which asks for at least one caveat.
 fn build_attenuate<'a>(alloc: Global) -> Result<Command<'a>, AllocError>
     ensures { IfOk result (λ whole. app_of whole ≡ attenuate_command) }
 {
@@ -165,6 +166,7 @@ fn build_attenuate<'a>(alloc: Global) -> Result<Command<'a>, AllocError>
     add_arg(command, build_word(alloc, "token", "TOKEN", TOKEN_HELP))
 }
 
+/// The subcommand `verify`, whose moment is the present where it is left out.
 fn build_verify<'a>(alloc: Global) -> Result<Command<'a>, AllocError>
     ensures { IfOk result (λ whole. app_of whole ≡ verify_command) }
 {
@@ -186,6 +188,7 @@ fn build_verify<'a>(alloc: Global) -> Result<Command<'a>, AllocError>
     add_arg(command, build_word(alloc, "token", "TOKEN", TOKEN_HELP))
 }
 
+/// The subcommand `inspect`, with the token.
 fn build_inspect<'a>(alloc: Global) -> Result<Command<'a>, AllocError>
     ensures { IfOk result (λ whole. app_of whole ≡ inspect_command) }
 {
