@@ -1,16 +1,14 @@
 -- How the pipe prints a reply.
-use Rattle.std.specs.Prelude.{ℕ, ◌==◌, if◌then◌else◌, List, [], ◌∷◌, ◌++◌, codes, slice_index}
+use Rattle.std.specs.Prelude.{ℕ, List, [], ◌∷◌, ◌++◌, codes}
 use Rattle.std.specs.Fmt.{decimal}
-use Rattle.hex.specs.Hex.{encode_lower}
 use Rattle.mac_wire.specs.Reply.{refusal_code}
 use Rattle.mac_wire.specs.declared.reply.Reply.{Reply}
 use Rattle.mac_wire.specs.declared.reply.Reply.TheVariants as reply
+use Rattle.mac_words.specs.TokenText.{token_text}
 
--- a token: V2 binary, which begins with the byte 2, in hexadecimal, and any other as the text that
--- it is
+-- a token, as people are told it
 abbrev pub token_words : List ℕ → List ℕ
-token_words token = if slice_index token 0 == 2 then codes "token hex:" ++ encode_lower token
-    else codes "token " ++ token
+token_words token = codes "token " ++ token_text token
 
 abbrev pub reply_words : Reply → List ℕ
 reply_words reply.Granted = codes "granted"

@@ -3,10 +3,8 @@ ghost use Rattle.std.specs.Prelude.{◌≡◌, ◌++◌, OnOk, codes};
 ghost use Rattle.macaroond.specs.ReplyLine.{reply_line, reply_words, token_words};
 
 use mac_wire::{NoMemory, Reply};
+use mac_words::append_token_text;
 use std::alloc::Global;
-
-/// The first byte of a token in V2 binary, which is no text.
-const BINARY: u8 = 2;
 
 /// Appends the line of a reply.
 pub(crate) fn append_reply_line(
@@ -43,12 +41,6 @@ fn append_words(alloc: Global, reply: &Reply, out: &mut Vec<u8>) -> Result<(), N
 fn append_token(alloc: Global, token: &[u8], out: &mut Vec<u8>) -> Result<(), NoMemory>
     ensures { OnOk result (out.new.items ≡ out.old.items ++ token_words token.now) }
 {
-    if token.first() == Some(&BINARY) {
-        let digits = hex::encode(alloc, token)?;
-        out.extend_from_slice(b"token hex:")?;
-        out.extend_from_slice(digits.as_bytes())
-    } else {
-        out.extend_from_slice(b"token ")?;
-        out.extend_from_slice(token)
-    }
+    out.extend_from_slice(b"token ")?;
+    append_token_text(alloc, token, out)
 }
