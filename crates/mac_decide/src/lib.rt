@@ -25,7 +25,7 @@ pub use context::{Context, satisfied};
 pub use job::{Job, job_of};
 pub use macaroons::Macaroons;
 pub use minting::{attenuate, mint};
-pub use reply::answer;
+pub use reply::{answer, refusal_of};
 pub use side_by_side::answer_all;
 pub use time::{time_limit, time_since};
 pub use verdict::{Verdict, verify};

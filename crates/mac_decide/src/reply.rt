@@ -92,6 +92,7 @@ fn reply_with(written: Result<Vec<u8>, TokenFault>) -> Result<Reply, NoMemory>
     }
 }
 
+/// The form of a token that a request names.
 pub(crate) fn form_of(form: TokenForm) -> Form
     ensures { result ≡ answers.form_of form }
 {
@@ -103,7 +104,8 @@ pub(crate) fn form_of(form: TokenForm) -> Form
     }
 }
 
-pub(crate) fn refusal_of(reason: TokenRefusal) -> Refusal
+/// The refusal that a token's is told as.
+pub fn refusal_of(reason: TokenRefusal) -> Refusal
     ensures { result ≡ answers.refusal_of reason }
 {
     match reason {

@@ -30,6 +30,7 @@ pub(crate) fn append_caveats(
     Ok(())
 }
 
+/// Appends the line of the caveat at a place.
 fn append_line(
     alloc: Global,
     place: usize,
@@ -45,6 +46,7 @@ fn append_line(
     Ok(())
 }
 
+/// Appends how the line begins: the place, counted from 0.
 #[tactic(auto, unfolding(crate::specs::Inspected::caveat_front))]
 fn append_front(alloc: Global, place: usize, out: &mut Vec<u8>) -> Result<(), NoMemory>
     ensures { OnOk result (out.new.items ≡ out.old.items ++ caveat_front place) }
@@ -56,6 +58,7 @@ fn append_front(alloc: Global, place: usize, out: &mut Vec<u8>) -> Result<(), No
     Ok(())
 }
 
+/// Appends the words of a caveat, in front of the line's end.
 fn append_words(alloc: Global, caveat: &RawCaveat, out: &mut Vec<u8>) -> Result<(), NoMemory>
     ensures { OnOk result ((words : List ℕ)
         × AreWords caveat.now.vid caveat.now.location caveat.now.id words
@@ -70,6 +73,7 @@ fn append_words(alloc: Global, caveat: &RawCaveat, out: &mut Vec<u8>) -> Result<
     )
 }
 
+/// Appends the words of a caveat, which is third-party where it has a verifier's id.
 fn append_party(
     alloc: Global,
     vid: &Option<Vec<u8>>,
@@ -92,6 +96,7 @@ fn append_party(
     }
 }
 
+/// Appends the words of a first-party caveat, with its location if it has one.
 fn append_first_party(
     alloc: Global,
     location: &Option<String>,
@@ -111,6 +116,7 @@ fn append_first_party(
     }
 }
 
+/// Appends that a caveat is third-party.
 #[tactic(auto, unfolding(crate::specs::Inspected::third_party))]
 fn append_third_party(out: &mut Vec<u8>) -> Result<(), NoMemory>
     ensures { OnOk result (out.new.items ≡ out.old.items ++ third_party) }
@@ -119,6 +125,7 @@ fn append_third_party(out: &mut Vec<u8>) -> Result<(), NoMemory>
     Ok(())
 }
 
+/// Appends a location, if there is one.
 #[tactic(auto, unfolding(crate::specs::Inspected::place_words))]
 fn append_place(place: &Option<String>, out: &mut Vec<u8>) -> Result<(), NoMemory>
     ensures { OnOk result (out.new.items ≡ out.old.items ++ place_words (text_of place.now)) }
@@ -129,6 +136,7 @@ fn append_place(place: &Option<String>, out: &mut Vec<u8>) -> Result<(), NoMemor
     }
 }
 
+/// Appends a location.
 #[tactic(auto, unfolding(crate::specs::Inspected::place_words))]
 fn append_at(location: &str, out: &mut Vec<u8>) -> Result<(), NoMemory>
     ensures { OnOk result (out.new.items ≡ out.old.items ++ place_words (Some location.now)) }
@@ -139,6 +147,7 @@ fn append_at(location: &str, out: &mut Vec<u8>) -> Result<(), NoMemory>
     Ok(())
 }
 
+/// Appends the words of a first-party caveat without a location: it may be a bound of time.
 fn append_bare(alloc: Global, id: &[u8], out: &mut Vec<u8>) -> Result<(), NoMemory>
     ensures { OnOk result ((words : List ℕ) × AreBareWords id.now words
         × (out.new.items ≡ out.old.items ++ words)) }
@@ -148,6 +157,7 @@ fn append_bare(alloc: Global, id: &[u8], out: &mut Vec<u8>) -> Result<(), NoMemo
     Ok(())
 }
 
+/// Appends what a caveat means as a bound of time.
 fn append_bound(alloc: Global, id: &[u8], out: &mut Vec<u8>) -> Result<(), NoMemory>
     ensures { OnOk result ((words : List ℕ) × AreBoundWords id.now words
         × (out.new.items ≡ out.old.items ++ words)) }
@@ -167,6 +177,7 @@ fn append_bound(alloc: Global, id: &[u8], out: &mut Vec<u8>) -> Result<(), NoMem
     }
 }
 
+/// Appends what a time limit means.
 #[tactic(auto, unfolding(crate::specs::Inspected::limit_words))]
 fn append_limit(alloc: Global, second: i64, out: &mut Vec<u8>) -> Result<(), NoMemory>
     ensures { OnOk result (out.new.items ≡ out.old.items ++ limit_words second) }
@@ -174,6 +185,7 @@ fn append_limit(alloc: Global, second: i64, out: &mut Vec<u8>) -> Result<(), NoM
     append_second(alloc, b" (holds before second ", second, out)
 }
 
+/// Appends what a lower bound of time means.
 #[tactic(auto, unfolding(crate::specs::Inspected::since_words))]
 fn append_since(alloc: Global, second: i64, out: &mut Vec<u8>) -> Result<(), NoMemory>
     ensures { OnOk result (out.new.items ≡ out.old.items ++ since_words second) }
@@ -181,6 +193,7 @@ fn append_since(alloc: Global, second: i64, out: &mut Vec<u8>) -> Result<(), NoM
     append_second(alloc, b" (holds from second ", second, out)
 }
 
+/// Appends words with a second in them.
 fn append_second(
     alloc: Global,
     front: &[u8],
@@ -195,6 +208,7 @@ fn append_second(
     Ok(())
 }
 
+/// Appends a number in decimal.
 fn append_signed(alloc: Global, number: i64, out: &mut Vec<u8>) -> Result<(), NoMemory>
     ensures { OnOk result (out.new.items ≡ out.old.items ++ signed_decimal number) }
 {

@@ -15,12 +15,14 @@ pub fn append_escaped(bytes: &[u8], out: &mut Vec<u8>) -> Result<(), NoMemory>
     Ok(())
 }
 
+/// Whether a byte is shown as it is: printable ASCII without the backslash.
 fn is_plain(byte: u8) -> bool
     ensures { result ≡ is_plain byte }
 {
     32 <= byte && byte <= 126 && byte != b'\\'
 }
 
+/// Appends a byte as it is shown.
 fn append_byte(byte: u8, out: &mut Vec<u8>) -> Result<(), NoMemory>
     ensures { OnOk result (out.new.items ≡ out.old.items ++ escaped_byte byte) }
 {

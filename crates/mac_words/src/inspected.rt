@@ -20,6 +20,7 @@ pub fn inspect(alloc: Global, token: &[u8]) -> Result<Vec<u8>, TokenFault>
     Ok(inspected(alloc, token, &raw)?)
 }
 
+/// The text that tells a token which the bytes spell.
 fn inspected(alloc: Global, token: &[u8], raw: &RawToken) -> Result<Vec<u8>, NoMemory>
     ensures { IfOk result (λ text. IsInspected token.now raw.now text.items) }
 {
@@ -30,6 +31,7 @@ fn inspected(alloc: Global, token: &[u8], raw: &RawToken) -> Result<Vec<u8>, NoM
     Ok(text)
 }
 
+/// Appends the lines in front of the caveats.
 fn append_head(token: &[u8], raw: &RawToken, out: &mut Vec<u8>) -> Result<(), NoMemory>
     ensures { OnOk result (out.new.items ≡ out.old.items ++ head_text token.now raw.now) }
 {
@@ -39,6 +41,7 @@ fn append_head(token: &[u8], raw: &RawToken, out: &mut Vec<u8>) -> Result<(), No
     Ok(())
 }
 
+/// Appends the lines behind the caveats.
 fn append_tail(
     alloc: Global,
     token: &[u8],
@@ -55,6 +58,7 @@ fn append_tail(
     Ok(())
 }
 
+/// Appends a line: a name and words.
 #[tactic(auto, unfolding(crate::specs::Inspected::line))]
 fn append_line(name: &[u8], words: &[u8], out: &mut Vec<u8>) -> Result<(), NoMemory>
     ensures { OnOk result (out.new.items ≡ out.old.items ++ line name.now words.now) }
@@ -65,6 +69,7 @@ fn append_line(name: &[u8], words: &[u8], out: &mut Vec<u8>) -> Result<(), NoMem
     Ok(())
 }
 
+/// Appends a line: a name, and bytes as they are shown.
 #[tactic(auto, unfolding(crate::specs::Inspected::line))]
 fn append_escaped_line(name: &[u8], words: &[u8], out: &mut Vec<u8>) -> Result<(), NoMemory>
     ensures { OnOk result (out.new.items ≡ out.old.items ++ line name.now (escaped words.now)) }

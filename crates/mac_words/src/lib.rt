@@ -28,7 +28,7 @@ pub use payload::{
     CAVEATS_TOLD_MAX, KEY_NAME_MAX, TEXT_MAX, attenuate_payload, mint_payload, reply_to,
     verify_payload,
 };
-pub use refusal::{reason, token_refusal};
+pub use refusal::reason;
 pub use reply_text::{append_refusal, append_reply_text};
 pub use saying::{Said, say_attenuate, say_inspect, say_mint, say_verify};
 pub use spelled::{Spelling, form_named};

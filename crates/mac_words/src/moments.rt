@@ -27,6 +27,7 @@ fn time(alloc: Global, text: &str) -> Result<Option<i64>, NoMemory>
     Ok(time_limit(limit.as_slice()))
 }
 
+/// The same second as a count from 1970, where it isn't before.
 fn from_1970(second: i64) -> Option<u64>
     ensures { (n : ℕ) → (result ≡ Some n) ↔ (second ≡ pos n) }
 {
@@ -36,6 +37,7 @@ fn from_1970(second: i64) -> Option<u64>
     Some(second as u64)
 }
 
+/// The seconds that a decimal number counts.
 fn seconds(text: &str) -> Option<u64>
     ensures { (n : ℕ) → (result ≡ Some n) ↔ IsSeconds text.now n }
 {

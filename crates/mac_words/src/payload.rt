@@ -107,6 +107,7 @@ fn mint_bytes(
     Ok(payload)
 }
 
+/// The payload of an attenuate whose words a request carries.
 fn attenuate_bytes(
     alloc: Global,
     form: TokenForm,
@@ -124,6 +125,7 @@ fn attenuate_bytes(
     Ok(payload)
 }
 
+/// The payload of a verify whose words a request carries.
 fn verify_bytes(
     alloc: Global,
     key: &str,
@@ -154,6 +156,7 @@ fn mint_fault(key: &str, location: &str, identifier: &str, caveats: &[String]) -
     )))
 }
 
+/// The first word of an attenuate that no request carries.
 fn attenuate_fault(token: &[u8], caveats: &[String]) -> Option<FieldFault>
     ensures { (form : TokenForm) → result
         ≡ field_fault (attenuate form token.now (texts_of caveats.now)) }
@@ -161,6 +164,7 @@ fn attenuate_fault(token: &[u8], caveats: &[String]) -> Option<FieldFault>
     text_fault(token).or(caveats_fault(caveats))
 }
 
+/// The first word of a verify that no request carries.
 fn verify_fault(key: &str, token: &[u8], facts: &[String]) -> Option<FieldFault>
     ensures { (moment : ℕ) → result
         ≡ field_fault (verify key.now token.now moment (texts_of facts.now)) }
@@ -168,6 +172,7 @@ fn verify_fault(key: &str, token: &[u8], facts: &[String]) -> Option<FieldFault>
     name_fault(key).or(text_fault(token).or(facts_fault(facts)))
 }
 
+/// What is wrong with the name of a key.
 fn name_fault(name: &str) -> Option<FieldFault>
     ensures { result ≡ name_fault name.now }
 {
@@ -177,6 +182,7 @@ fn name_fault(name: &str) -> Option<FieldFault>
     None
 }
 
+/// What is wrong with a text.
 fn text_fault(text: &[u8]) -> Option<FieldFault>
     ensures { result ≡ text_fault text.now }
 {
@@ -186,6 +192,7 @@ fn text_fault(text: &[u8]) -> Option<FieldFault>
     None
 }
 
+/// What is wrong with caveats: first their number.
 fn caveats_fault(caveats: &[String]) -> Option<FieldFault>
     ensures { result
         ≡ list_fault CAVEATS_TOLD_MAX FieldFault.ManyCaveats (texts_of caveats.now) }
@@ -199,6 +206,7 @@ fn caveats_fault(caveats: &[String]) -> Option<FieldFault>
     None
 }
 
+/// What is wrong with facts: first their number.
 fn facts_fault(facts: &[String]) -> Option<FieldFault>
     ensures { result ≡ list_fault FACTS_MAX FieldFault.ManyFacts (texts_of facts.now) }
 {
@@ -211,12 +219,14 @@ fn facts_fault(facts: &[String]) -> Option<FieldFault>
     None
 }
 
+/// Whether one of the texts is too long.
 fn has_long_text(texts: &[String]) -> bool
     ensures { result ≡ list_any (λ text. nat_lt TEXT_MAX (length text)) (texts_of texts.now) }
 {
     any_is_long(texts)
 }
 
+/// The same, of strings.
 fn any_is_long(texts: &[String]) -> bool
     ensures { result
         ≡ list_any (λ text. nat_lt TEXT_MAX (length (string_bytes text))) texts.now }
@@ -224,6 +234,7 @@ fn any_is_long(texts: &[String]) -> bool
     texts.iter().any(|text| is_long(text.as_bytes()))
 }
 
+/// Whether a text is too long.
 fn is_long(text: &[u8]) -> bool
     ensures { result ≡ nat_lt TEXT_MAX (length text.now) }
 {

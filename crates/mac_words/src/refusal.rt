@@ -1,24 +1,9 @@
 //! Refusals in words.
 
 ghost use Rattle.std.specs.Prelude.{◌≡◌};
-ghost use Rattle.mac_decide.specs.Answer.{refusal_of};
 ghost use Rattle.mac_words.specs.ReplyText.{reason};
 
-use mac_token::TokenRefusal;
 use mac_wire::Refusal;
-
-/// The refusal that a token's is told as.
-pub fn token_refusal(why: TokenRefusal) -> Refusal
-    ensures { result ≡ refusal_of why }
-{
-    match why {
-        TokenRefusal::Transport => Refusal::Transport,
-        TokenRefusal::Malformed => Refusal::Malformed,
-        TokenRefusal::ThirdParty => Refusal::ThirdParty,
-        TokenRefusal::Limit => Refusal::Limit,
-        TokenRefusal::CaveatLocation => Refusal::CaveatLocation,
-    }
-}
 
 /// Why a request is refused, in words.
 pub fn reason(refusal: Refusal) -> &'static str

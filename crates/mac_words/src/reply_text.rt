@@ -44,6 +44,7 @@ pub fn append_refusal(alloc: Global, why: Refusal, out: &mut Vec<u8>) -> Result<
     Ok(())
 }
 
+/// Appends that the caveat at a place isn't satisfied.
 fn append_unsatisfied(
     alloc: Global,
     token: &[u8],
@@ -60,6 +61,7 @@ fn append_unsatisfied(
     Ok(())
 }
 
+/// Appends a place in decimal.
 fn append_index(alloc: Global, index: u16, out: &mut Vec<u8>) -> Result<(), NoMemory>
     ensures { OnOk result (out.new.items ≡ out.old.items ++ decimal index) }
 {
@@ -79,6 +81,7 @@ fn append_named(alloc: Global, token: &[u8], index: u16, out: &mut Vec<u8>) -> R
     }
 }
 
+/// Appends the caveat at a place, or nothing where there is none.
 fn append_caveat(token: &Token, index: u16, out: &mut Vec<u8>) -> Result<(), NoMemory>
     ensures { OnOk result (out.new.items
         ≡ out.old.items ++ escaped (or_empty (slice_get token.now.caveats index))) }

@@ -12,9 +12,9 @@ ghost use Rattle.mac_words.specs.Said.{SaysBytes};
 use crate::fault::FieldFault;
 use crate::inspected::inspect;
 use crate::payload::{attenuate_payload, mint_payload, reply_to, verify_payload};
-use crate::refusal::token_refusal;
 use crate::reply_text::{append_refusal, append_reply_text};
 use crate::spelled::Spelling;
+use mac_decide::refusal_of;
 use mac_keys::{KeyFault, KeyTable};
 use mac_token::TokenFault;
 use mac_wire::{NoMemory, Refusal, Reply, TokenForm};
@@ -89,11 +89,12 @@ pub fn say_inspect(alloc: Global, token: &[u8]) -> Result<Said, NoMemory>
             text,
             is_refusal: false,
         }),
-        Err(TokenFault::Refused(why)) => refused(alloc, token_refusal(why)),
+        Err(TokenFault::Refused(why)) => refused(alloc, refusal_of(why)),
         Err(TokenFault::Memory) => Err(AllocError),
     }
 }
 
+/// The form of a new token: its text where none is asked for.
 fn mint_form(form: Option<TokenForm>) -> TokenForm
     ensures { result ≡ mint_form form }
 {
@@ -103,6 +104,7 @@ fn mint_form(form: Option<TokenForm>) -> TokenForm
     }
 }
 
+/// The form of a token that is made of another: that one's where none is asked for.
 fn next_form(form: Option<TokenForm>, token: &[u8]) -> TokenForm
     ensures { result ≡ next_form form token.now }
 {
@@ -139,6 +141,7 @@ fn reply_said(alloc: Global, token: &[u8], reply: &Reply) -> Result<Said, NoMemo
     })
 }
 
+/// Whether a reply refuses.
 fn is_refusal(reply: &Reply) -> bool
     ensures { result ≡ is_refusal reply.now }
 {
@@ -148,6 +151,7 @@ fn is_refusal(reply: &Reply) -> bool
     }
 }
 
+/// What is said of a refusal.
 fn refused(alloc: Global, why: Refusal) -> Result<Said, NoMemory>
     ensures { IfOk result (IsSaid [] (Reply.Refused why)) }
 {

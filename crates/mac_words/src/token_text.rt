@@ -23,6 +23,7 @@ pub fn token_bytes(alloc: Global, text: &[u8]) -> Result<Vec<u8>, TextFault>
     }
 }
 
+/// The bytes that hexadecimal digits spell.
 fn digits_bytes(alloc: Global, digits: &[u8]) -> Result<Vec<u8>, TextFault>
     ensures bytes { IfOk result (λ bytes. decode_of digits.now ≡ Ok bytes.items) }
     ensures fault { IfErr result (IsToldBadly (decode_of digits.now)) }
