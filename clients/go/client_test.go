@@ -5,6 +5,7 @@ import (
 	"context"
 	"errors"
 	"fmt"
+	"math/rand"
 	"path/filepath"
 	"strings"
 	"sync"
@@ -268,14 +269,53 @@ func TestRetry(t *testing.T) {
 	}
 }
 
+// Connections end at any moment: whoever is answered has its own reply, and each call ends.
+func TestStorm(t *testing.T) {
+	ends := func(s *stream) {
+		for left := rand.Intn(60); left >= 0; left-- {
+			payload, isThere := s.request()
+			if !isThere {
+				return
+			}
+			frame := s.framed(append([]byte{codeToken}, payload...))
+			if rand.Intn(50) == 0 {
+				s.Write(frame[:9])
+				return
+			}
+			s.Write(frame)
+		}
+	}
+	scripts := make([]script, 5_000)
+	for number := range scripts {
+		scripts[number] = ends
+	}
+	client, answered := dialled(t, server(t, scripts...)), 0
+	for round := 0; round < 50; round++ {
+		replies, errs := atOnce(client, 40)
+		for number, came := range replies {
+			switch {
+			case errs[number] == nil && string(came) == "\x01"+fmt.Sprint(number):
+				answered++
+			case !errors.Is(errs[number], ErrDisconnected):
+				t.Fatalf("request %d: %q, %v", number, came, errs[number])
+			}
+		}
+	}
+	if answered < 200 {
+		t.Errorf("only %d were answered", answered)
+	}
+}
+
 func TestConnectsAgain(t *testing.T) {
 	once := func(s *stream) { s.request(); s.reply(granted) }
 	client := dialled(t, server(t, once, once, grants))
-	for range [3]int{} {
+	for left := 2; left >= 0; left-- {
 		if verdict, err := client.Verify(background, "bank", "!"); err != nil || !verdict.Granted() {
 			t.Error(verdict, err)
 		}
-		time.Sleep(20 * time.Millisecond)
+		for left > 0 && !client.current.Load().hasEnded() {
+			time.Sleep(time.Millisecond)
+		}
 	}
 }
 
@@ -291,7 +331,7 @@ func TestNoDaemon(t *testing.T) {
 	client.Verify(background, "bank", "!")
 	begin := time.Now()
 	_, err := client.Verify(background, "bank", "!")
-	if took := time.Since(begin); !errors.Is(err, ErrDisconnected) || took > time.Second {
+	if took := time.Since(begin); !errors.Is(err, ErrDisconnected) || took > 3*time.Second {
 		t.Error(err, took)
 	}
 	short, cancel := context.WithTimeout(background, 20*time.Millisecond)
@@ -346,6 +386,7 @@ func TestCancelled(t *testing.T) {
 			if _, err := client.Ask(ctx, []byte("first")); !errors.Is(err, context.DeadlineExceeded) {
 				t.Error(err)
 			}
+			client.timeout = defaultTimeout
 			if came, err := client.Ask(background, []byte("second")); err != nil || string(came) != "\x01second" {
 				t.Errorf("%q, %v", came, err)
 			}
@@ -368,7 +409,7 @@ func TestFullSocket(t *testing.T) {
 		}()
 	}
 	all.Wait()
-	if took := time.Since(begin); took > time.Second {
+	if took := time.Since(begin); took > 1900*time.Millisecond {
 		t.Error(took)
 	}
 }

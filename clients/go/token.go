@@ -22,11 +22,15 @@ var errNoToken = errors.New("no token")
 // looked at where the key is.
 type Token struct {
 	// Form is the form in which Attenuate writes the token.
-	Form       Form
-	Location   string
+	Form Form
+	// Location is a hint of where the token is used; it is empty where there is none.
+	Location string
+	// Identifier is what the token's minter knows it by.
 	Identifier string
-	Caveats    []string
-	Signature  [signatureSize]byte
+	// Caveats are the conditions on the token's use, in their order.
+	Caveats []string
+	// Signature is the last HMAC of the token's chain.
+	Signature [signatureSize]byte
 }
 
 // parts is a token as its readers give it.

@@ -1,6 +1,7 @@
 """The same calls through either client, so that one table of cases is for both."""
 import asyncio
 import threading
+import time
 
 from macaroond import AsyncClient, Client
 
@@ -35,6 +36,10 @@ class Threads:
         for thread in threads:
             thread.join()
         return made
+
+    @staticmethod
+    def pause(seconds):
+        time.sleep(seconds)
 
     def leave(self):
         """Closes the client, which may be asked all the same."""
@@ -72,6 +77,10 @@ class Tasks:
 
         return self.run(all_of())
 
+    def pause(self, seconds):
+        """The loop goes on meanwhile."""
+        self.run(asyncio.sleep(seconds))
+
     def leave(self):
         """Closes the client, which may be asked all the same."""
         self.run(self.client.close())
@@ -80,6 +89,14 @@ class Tasks:
         self.leave()
         self.run(asyncio.sleep(0))
         self.loop.close()
+
+
+def await_end(client):
+    """Waits until the client knows that its connection has ended."""
+    for _ in range(500):
+        if client.client._connection.fault is not None:
+            return
+        client.pause(0.01)
 
 
 BOTH = [Threads, Tasks]

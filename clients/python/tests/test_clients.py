@@ -1,6 +1,8 @@
 """Both clients over a server that follows a script."""
 import asyncio
+import gc
 import os
+import random
 import socket
 import threading
 import time
@@ -8,7 +10,7 @@ import unittest
 
 from macaroond import AsyncClient, Client, Disconnected, Refused, TimedOut, errors
 
-from .asked import BOTH
+from .asked import BOTH, await_end
 from .script import GRANTED, folder, running, server
 
 VERIFY = ("verify", "bank", "!")
@@ -190,7 +192,7 @@ class Ended(OverScripts):
     def test_a_reply_to_no_request_ends_the_connection(self):
         def look(client):
             client.call(*VERIFY)
-            time.sleep(0.1)
+            await_end(client)
             self.assertTrue(client.call(*VERIFY))
 
         self.each(look, answers_too_much, grants)
@@ -253,9 +255,10 @@ class Ended(OverScripts):
 
     def test_connects_again(self):
         def look(client):
-            for _ in range(3):
+            for number in range(3):
                 self.assertTrue(client.call(*VERIFY))
-                time.sleep(0.05)
+                if number < 2:
+                    await_end(client)
 
         self.each(look, answers_once, answers_once, grants)
 
@@ -284,7 +287,7 @@ class Ended(OverScripts):
                 begin = time.monotonic()
                 with self.assertRaisesRegex(Disconnected, "there is no connection"):
                     client.call(*VERIFY)
-                self.assertLess(time.monotonic() - begin, 1)
+                self.assertLess(time.monotonic() - begin, 3)
                 client.close()
 
     def test_pauses_grow_while_connections_are_closed_at_once(self):
@@ -299,6 +302,30 @@ class Ended(OverScripts):
             self.assertLess(len(made), 12)
 
         self.each(look, *[lambda stream: made.append(1)] * 100, timeout=0.5)
+
+    def test_a_storm(self):
+        """Connections end at any moment: whoever is answered has its own reply, and each call ends."""
+        rng = random.Random(5)
+
+        def ends(stream):
+            for _ in range(rng.randrange(1, 60)):
+                payload = stream.request()
+                if payload is None:
+                    return
+                if rng.random() < 0.02:
+                    return stream.send(stream.framed(b"\x01" + payload)[:9])
+                stream.reply(b"\x01" + payload)
+
+        def look(client):
+            answered = 0
+            for _ in range(20):
+                calls = [("ask", b"%d" % number) for number in range(40)]
+                for (_, payload), came in zip(calls, client.at_once(calls)):
+                    answered += came == b"\x01" + payload
+                    self.assertTrue(came == b"\x01" + payload or isinstance(came, Disconnected), came)
+            self.assertGreater(answered, 100)
+
+        self.each(look, *[ends] * 2000)
 
     def test_closed(self):
         def look(client):
@@ -321,6 +348,7 @@ class Late(OverScripts):
         def look(client):
             with self.assertRaises(TimedOut):
                 client.call("ask", b"first")
+            client.client.timeout = 5
             self.assertEqual(client.call("ask", b"second"), b"\x01second")
 
         self.each(look, is_late, timeout=0.2)
@@ -332,7 +360,7 @@ class Late(OverScripts):
             begin = time.monotonic()
             with self.assertRaises(TimedOut):
                 client.many("ask_many", [bytes(60_000)] * 100)
-            self.assertLess(time.monotonic() - begin, 2)
+            self.assertLess(time.monotonic() - begin, 2.9)
 
         self.each(look, lambda stream: time.sleep(3), timeout=0.3)
 
@@ -359,6 +387,22 @@ class Late(OverScripts):
         with server(lambda stream: stream.echo_all()) as path, Client(path) as client:
             self.assertEqual(next(client.ask_many(b"%d" % number for number in range(5000))), b"\x010")
             self.assertEqual(client.ask(b"a"), b"\x01a")
+
+
+class Left(unittest.TestCase):
+    def test_a_client_that_nobody_has_ends_its_connection(self):
+        ended = threading.Event()
+
+        def notes_the_end(stream):
+            stream.grant_all()
+            ended.set()
+
+        with server(notes_the_end) as path:
+            client = Client(path)
+            client.verify("bank", "!")
+            del client
+            gc.collect()
+            self.assertTrue(ended.wait(5))
 
 
 class Forked(unittest.TestCase):
