@@ -1,4 +1,4 @@
-.PHONY: test wrong-bodies demo build build-runs faults bench load soak
+.PHONY: test wrong-bodies demo build build-runs faults bench load soak clients
 
 # Every proof from nothing, the wrong bodies, every test and program; then the proved program beside its pages and the
 # work of others, over sockets, with memory refused and calls failed. It installs nothing: what isn't there is told as
@@ -50,6 +50,12 @@ bench:
 load:
 	scripts/load.py
 	scripts/load.py --window 1
+
+# The clients for Python and Go: their tests, 100,000 requests of each beside the daemon and the macaroons of others, and
+# how fast they are. After make build.
+clients:
+	scripts/clients.py
+	scripts/client_speed.py
 
 # Four workers, 64 desks of two threads, pauses by chance, on two processors: 19,200 posts, then 1,000,320 of them.
 # A wait that nobody ends shows as a run that doesn't end. Then hostile clients of the daemon, beside one that

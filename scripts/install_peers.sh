@@ -9,10 +9,11 @@ list() {
     cat <<'END'
 libmacaroons0                   scripts/peers.py exchanges tokens with it
 python3-pymacaroons             scripts/peers.py exchanges tokens with it
-golang-go                       builds scripts/go_peer, which speaks for go-macaroon
+golang-go                       builds scripts/go_peer, which speaks for go-macaroon, and tests clients/go
 golang-gopkg-macaroon.v2-dev    scripts/peers.py exchanges tokens with it, by scripts/go_peer
 gcc                             builds what refuses memory, fails devices and counts (scripts/*.c)
 libc6-dev                       the headers for that
+python3-pip                     scripts/clients.py installs clients/python with it
 groff-base                      scripts/man_page.py looks for its warnings
 valgrind                        scripts/instructions.py counts with it
 END

@@ -13,6 +13,7 @@ import typing
 
 import allocations
 import case_files
+import clients
 import daemon_rows
 import daemon_session
 import edges
@@ -71,8 +72,10 @@ OF_PROGRAM = {
     "starting": starting.faults,
     "lasting": lasting.faults,
     "hostile": lambda: hostile.faults(HOSTILE_SECONDS),
+    "clients": clients.daemon_faults,
 }
 OF_COMPILER = {"allocations": allocations.faults, "faults": faults.some_faults}
+OF_CLIENTS = {"Python client": clients.python_faults, "Go client": clients.go_faults}
 OF_TEXTS = {
     "quotes": quotes.faults,
     "pages": pages.faults,
@@ -95,6 +98,7 @@ def parts():
     for name, part in OF_COMPILER.items():
         why = unbuilt or uncompiled
         yield name, skipping(why) if why else part
+    yield from OF_CLIENTS.items()
     yield from OF_TEXTS.items()
 
 

@@ -11,7 +11,7 @@ import subprocess
 import sys
 
 TOP = pathlib.Path(__file__).resolve().parent.parent
-PAGES = [TOP / "README.md", *sorted((TOP / "docs").glob("*.md"))]
+PAGES = [TOP / "README.md", TOP / "clients" / "README.md", *sorted((TOP / "docs").glob("*.md"))]
 NAMED = re.compile(r"`([^`\n]+)`")
 PATH = re.compile(r"[\w./-]+\.(?:rt|antt|py|sh|md|edit|c|go|txt|1)")
 CRATE = re.compile(r"(?:mac|try)_[a-z]+|time_blocks|sha256x8|macaroond")

@@ -1,0 +1,7 @@
+module go_client
+
+go 1.19
+
+require macaroond v0.1.0
+
+replace macaroond => ../../clients/go

@@ -1,0 +1,343 @@
+package macaroond
+
+import (
+	"context"
+	"errors"
+	"fmt"
+	"sync"
+	"sync/atomic"
+	"time"
+)
+
+const (
+	defaultTimeout = 5 * time.Second
+	// How many requests, and about how many bytes, go out together where many are asked; and how many such runs at most are out.
+	runRequests = 256
+	runBytes    = 65_536
+	runsOut     = 8
+)
+
+var errTimedOut = fmt.Errorf("macaroond: no reply came in time: %w", context.DeadlineExceeded)
+
+// Client is a client of the daemon at a socket, safe for any number of goroutines.
+type Client struct {
+	path    string
+	timeout time.Duration
+	retry   bool
+
+	current  atomic.Pointer[connection]
+	isClosed atomic.Bool
+	// Has one word, which is taken by who connects.
+	dialling chan struct{}
+	// Used by who connects: when to try, and the connection whose end was noted last.
+	backoff backoff
+	noted   *connection
+}
+
+// Option is a wish about a client.
+type Option func(*Client)
+
+// WithTimeout says how long a call waits at most, for a connection and for its
+// reply: 5 seconds where it isn't said.
+func WithTimeout(timeout time.Duration) Option {
+	return func(c *Client) { c.timeout = timeout }
+}
+
+// WithRetry says that a verify and an attenuate whose connection ended are sent
+// once more.
+func WithRetry() Option {
+	return func(c *Client) { c.retry = true }
+}
+
+// Dial connects to the daemon at the socket of this path.
+func Dial(ctx context.Context, path string, options ...Option) (*Client, error) {
+	client := &Client{path: path, timeout: defaultTimeout, dialling: make(chan struct{}, 1)}
+	for _, option := range options {
+		option(client)
+	}
+	made, err := connect(ctx, path)
+	if err != nil {
+		return nil, disconnected("%v", err)
+	}
+	client.current.Store(made)
+	return client, nil
+}
+
+// Close ends the connection, and with it all calls that wait.
+func (c *Client) Close() error {
+	c.isClosed.Store(true)
+	c.current.Load().close()
+	return nil
+}
+
+// Mint gives a new token.
+func (c *Client) Mint(ctx context.Context, mint Mint) (string, error) {
+	return c.token(ctx, mint)
+}
+
+// Attenuate gives the token with these caveats behind its own, in its own form.
+func (c *Client) Attenuate(ctx context.Context, token string, caveats ...string) (string, error) {
+	return c.AttenuateTo(ctx, formOf(token), token, caveats...)
+}
+
+// AttenuateTo gives the token with these caveats behind its own, in this form.
+func (c *Client) AttenuateTo(ctx context.Context, form Form, token string, caveats ...string) (string, error) {
+	return c.token(ctx, attenuation{form, token, caveats})
+}
+
+// Verify tells whether the daemon's key of this name grants the token now, given
+// these facts.
+func (c *Client) Verify(ctx context.Context, key, token string, facts ...string) (Verdict, error) {
+	return c.VerifyCheck(ctx, key, Check{Token: token, Facts: facts})
+}
+
+// VerifyCheck is Verify, at a moment that may be told.
+func (c *Client) VerifyCheck(ctx context.Context, key string, check Check) (Verdict, error) {
+	came, err := c.ask(ctx, &verification{key, check})
+	if err != nil {
+		return Verdict{}, err
+	}
+	return verdictOf(came, check.Token)
+}
+
+// VerifyMany gives the verdict on each check, in order. The checks go out some
+// hundreds at a time, without waiting. Where a verdict can't be had, those before
+// it are given with the error.
+func (c *Client) VerifyMany(ctx context.Context, key string, checks []Check) ([]Verdict, error) {
+	verdicts := make([]Verdict, 0, len(checks))
+	var out []*run
+	var unsent error
+	for len(checks) > 0 || len(out) > 0 {
+		if len(checks) > 0 && len(out) < runsOut {
+			var sent *run
+			if sent, unsent = c.sendRun(ctx, key, checks); unsent != nil {
+				checks = nil
+				continue
+			}
+			out, checks = append(out, sent), checks[len(sent.checks):]
+			continue
+		}
+		var err error
+		if verdicts, err = c.appendVerdicts(ctx, verdicts, out[0]); err != nil {
+			return verdicts, err
+		}
+		out = out[1:]
+	}
+	return verdicts, unsent
+}
+
+// Ask gives the reply's payload to any request's payload (docs/FORMATS.md); it is
+// never sent twice.
+func (c *Client) Ask(ctx context.Context, payload []byte) ([]byte, error) {
+	came, err := c.ask(ctx, raw(payload))
+	if err != nil {
+		return nil, err
+	}
+	return append([]byte{came.code}, came.rest...), nil
+}
+
+func (c *Client) token(ctx context.Context, asked request) (string, error) {
+	came, err := c.ask(ctx, asked)
+	if err != nil {
+		return "", err
+	}
+	if came.code != codeToken {
+		return "", refused(int(came.code))
+	}
+	return came.rest, nil
+}
+
+var frames = sync.Pool{New: func() any { return new([]byte) }}
+
+// ask gives the reply to one request.
+func (c *Client) ask(ctx context.Context, asked request) (reply, error) {
+	kept := frames.Get().(*[]byte)
+	defer frames.Put(kept)
+	frame, err := appendFrame((*kept)[:0], asked)
+	*kept = frame[:0]
+	if err != nil {
+		return reply{}, err
+	}
+	sent, err := c.send(ctx, frame, 1)
+	if err == nil {
+		err = sent.wait(ctx)
+	}
+	if c.isToRepeat(err) && asked.mayRepeat() {
+		if sent, err = c.send(ctx, frame, 1); err == nil {
+			err = sent.wait(ctx)
+		}
+	}
+	if err != nil {
+		return reply{}, err
+	}
+	return sent.replies[0], nil
+}
+
+// isToRepeat tells whether what came to this is sent once more.
+func (c *Client) isToRepeat(err error) bool {
+	return c.retry && errors.Is(err, ErrDisconnected) && !c.isClosed.Load()
+}
+
+// run is checks that went out together.
+type run struct {
+	key    string
+	checks []Check
+	*pending
+}
+
+// sendRun sends as many of the checks as go out together.
+func (c *Client) sendRun(ctx context.Context, key string, checks []Check) (*run, error) {
+	kept := frames.Get().(*[]byte)
+	defer frames.Put(kept)
+	content, asked := (*kept)[:0], &verification{key: key}
+	count := 0
+	for count < len(checks) && count < runRequests && len(content) < runBytes {
+		var err error
+		asked.Check = checks[count]
+		if content, err = appendFrame(content, asked); err != nil {
+			return nil, fmt.Errorf("check %d of a run: %w", count, err)
+		}
+		count++
+	}
+	*kept = content[:0]
+	sent, err := c.send(ctx, content, count)
+	return &run{key, checks[:count], sent}, err
+}
+
+// appendVerdicts appends a run's verdicts, or, where it may be, those of the run sent once more.
+func (c *Client) appendVerdicts(ctx context.Context, verdicts []Verdict, sent *run) ([]Verdict, error) {
+	err := sent.wait(ctx)
+	if c.isToRepeat(err) {
+		if sent, err = c.sendRun(ctx, sent.key, sent.checks); err == nil {
+			err = sent.wait(ctx)
+		}
+	}
+	if err != nil {
+		return verdicts, err
+	}
+	for at, came := range sent.replies {
+		verdict, err := verdictOf(came, sent.checks[at].Token)
+		if err != nil {
+			return verdicts, err
+		}
+		verdicts = append(verdicts, verdict)
+	}
+	return verdicts, nil
+}
+
+// pending is a batch that was sent, and when it is waited for no longer.
+type pending struct {
+	*batch
+	expiry *time.Timer
+}
+
+// wait waits until all replies have come.
+func (p *pending) wait(ctx context.Context) error {
+	defer p.expiry.Stop()
+	select {
+	case <-p.done:
+		return p.err
+	default:
+	}
+	select {
+	case <-p.done:
+		return p.err
+	case <-ctx.Done():
+		return ctx.Err()
+	case <-p.expiry.C:
+		return errTimedOut
+	}
+}
+
+// send sends the frames of so many requests, over a new connection where the last one has ended.
+func (c *Client) send(ctx context.Context, frames []byte, count int) (*pending, error) {
+	sent := &pending{newBatch(make([]reply, count)), time.NewTimer(c.timeout)}
+	for {
+		connection, err := c.connected(ctx)
+		if err == nil {
+			err = connection.send(ctx, sent.expiry.C, frames, sent.batch)
+		}
+		if err == nil {
+			return sent, nil
+		}
+		if err != errNotSent {
+			sent.expiry.Stop()
+			return nil, err
+		}
+	}
+}
+
+// connected gives the connection, made anew where it has ended.
+func (c *Client) connected(ctx context.Context) (*connection, error) {
+	if current := c.current.Load(); !current.hasEnded() {
+		return current, nil
+	}
+	inTime, cancel := context.WithTimeout(ctx, c.timeout)
+	defer cancel()
+	made, err := c.dialled(inTime)
+	if err != nil && ctx.Err() != nil {
+		return nil, ctx.Err()
+	}
+	return made, err
+}
+
+// dialled gives the connection, for which one goroutine at a time tries until its context ends.
+func (c *Client) dialled(ctx context.Context) (*connection, error) {
+	select {
+	case c.dialling <- struct{}{}:
+		defer func() { <-c.dialling }()
+	case <-ctx.Done():
+		return nil, disconnected("there is no connection to %s", c.path)
+	}
+	current := c.current.Load()
+	if !current.hasEnded() {
+		return current, nil
+	}
+	c.noteEnd(current)
+	reason := current.fault
+	for !c.isClosed.Load() {
+		if !paused(ctx, c.backoff.left()) {
+			return nil, disconnected("there is no connection to %s: %v", c.path, reason)
+		}
+		made, err := connect(ctx, c.path)
+		if err == nil {
+			return c.taken(made), nil
+		}
+		reason = err
+		c.backoff.failed()
+	}
+	return nil, disconnected("the client was closed")
+}
+
+// noteEnd notes, once, whether a connection that has ended was of use.
+func (c *Client) noteEnd(ended *connection) {
+	switch {
+	case c.noted == ended:
+	case ended.wasAnswered.Load():
+		c.backoff.succeeded()
+	default:
+		c.backoff.failed()
+	}
+	c.noted = ended
+}
+
+// taken takes a connection into use, but for a client that was closed meanwhile.
+func (c *Client) taken(made *connection) *connection {
+	c.current.Store(made)
+	if c.isClosed.Load() {
+		made.close()
+	}
+	return made
+}
+
+// paused waits so long, and tells whether the context lasted.
+func paused(ctx context.Context, pause time.Duration) bool {
+	timer := time.NewTimer(pause)
+	defer timer.Stop()
+	select {
+	case <-timer.C:
+		return ctx.Err() == nil
+	case <-ctx.Done():
+		return false
+	}
+}

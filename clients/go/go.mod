@@ -1,0 +1,3 @@
+module macaroond
+
+go 1.19

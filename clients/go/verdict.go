@@ -1,0 +1,63 @@
+package macaroond
+
+import (
+	"encoding/binary"
+	"fmt"
+)
+
+// Verdict is what a verify comes to.
+type Verdict struct {
+	// Code is 0 where the token is granted, else the number of the refusal.
+	Code int
+	// Caveat is the place of the first caveat that isn't satisfied, from 0, where that is the refusal; else -1.
+	Caveat int
+	// So that a verdict that nobody gave grants nothing.
+	isGranted bool
+	token     string
+}
+
+// verdictOf gives the verdict that a verify's reply tells, or the error that it tells.
+func verdictOf(came reply, token string) (Verdict, error) {
+	switch came.code {
+	case codeGranted:
+		return Verdict{codeGranted, -1, true, token}, nil
+	case codeTransport, codeMalformed, codeThirdParty, codeLimit, codeBadSignature, codeLocation:
+		return Verdict{int(came.code), -1, false, token}, nil
+	case codeUnsatisfied:
+		if len(came.rest) == 2 {
+			return Verdict{codeUnsatisfied, int(binary.BigEndian.Uint16([]byte(came.rest))), false, token}, nil
+		}
+	}
+	return Verdict{}, refused(int(came.code))
+}
+
+// Granted tells whether the token is granted.
+func (v Verdict) Granted() bool { return v.isGranted }
+
+// Identifier gives the identifier of a token that is granted. Of any other there is
+// none, since nobody vouches for it.
+func (v Verdict) Identifier() string {
+	if !v.Granted() {
+		return ""
+	}
+	token, err := Inspect(v.token)
+	if err != nil {
+		return ""
+	}
+	return token.Identifier
+}
+
+// Reason tells the verdict in words.
+func (v Verdict) Reason() string {
+	if v.isGranted {
+		return "granted"
+	}
+	if v.Code != codeUnsatisfied {
+		return refusals[v.Code].reason
+	}
+	text := "(the token can't be read here)"
+	if token, err := Inspect(v.token); err == nil && v.Caveat < len(token.Caveats) {
+		text = token.Caveats[v.Caveat]
+	}
+	return fmt.Sprintf("caveat %d is not satisfied: %s", v.Caveat, text)
+}

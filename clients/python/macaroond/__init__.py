@@ -1,0 +1,29 @@
+"""A client of `macaroond`, the daemon that mints, attenuates and verifies macaroons.
+
+`Client` is for threads and `AsyncClient` for tasks of asyncio; both have the same calls. `inspect` and
+`attenuate` need no daemon. `macaroond.wsgi` and `macaroond.asgi` guard an application.
+"""
+from .aio import AsyncClient
+from .client import Client
+from .errors import BadRequest, BadToken, Disconnected, MacaroondError, NotAllowed, Refused, TimedOut, UnknownKey
+from .forms import Form
+from .tokens import Token, attenuate, inspect
+from .verdict import Verdict
+
+__all__ = [
+    "AsyncClient",
+    "BadRequest",
+    "BadToken",
+    "Client",
+    "Disconnected",
+    "Form",
+    "MacaroondError",
+    "NotAllowed",
+    "Refused",
+    "TimedOut",
+    "Token",
+    "UnknownKey",
+    "Verdict",
+    "attenuate",
+    "inspect",
+]
