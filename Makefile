@@ -1,4 +1,5 @@
-.PHONY: test wrong-bodies demo build build-runs faults bench load soak clients
+.PHONY: test wrong-bodies demo build build-runs install uninstall deb tarball reproduce completions
+.PHONY: clients faults bench load soak
 
 # Every proof from nothing, the wrong bodies, every test and program; then the proved program beside its pages and the
 # work of others, over sockets, with memory refused and calls failed. It installs nothing: what isn't there is told as
@@ -18,24 +19,58 @@ $(notdir $(wildcard crates/*)):
 demo:
 	scripts/demo.sh
 
-# Proves and builds the programs, and leaves them as bin/macaroond and bin/time_blocks. With CPU=x86-64-v3 they ask for
-# such a processor, and look for it as they start.
+# Proves and builds macaroond, for x86-64-v2 and, where this machine runs it, for x86-64-v3, and leaves them in
+# libexec/macaroond/; bin/macaroond starts the one that fits the processor. And bin/time_blocks. What `make install`,
+# `make deb` and `make tarball` take is what this has left.
 build:
-	cd crates/macaroond && rt run $(CPU:%=--cpu=%) -- --help > /dev/null
-	cd crates/time_blocks && rt run $(CPU:%=--cpu=%) -- 0 > /dev/null
+	rm -f bin/macaroond bin/time_blocks
+	scripts/build.py
+	$(MAKE) --silent bin/macaroond
+	$(call proved,time_blocks,0)
+
+# Proves a program, runs it with these words, and leaves it in bin/. A run of the toolchain that is killed leaves an
+# earlier program in out/: it writes the stamp beside a program of this text alone.
+define proved
+cd crates/$(1) && rt run -- $(2) > /dev/null
+@test -e crates/$(1)/out/$(1).stamp || { echo "crates/$(1)/out/$(1) is not of this text: make build again"; exit 1; }
+cp crates/$(1)/out/$(1) bin/
+endef
+
+bin/macaroond: packaging/launcher.c
 	mkdir -p bin
-	cp crates/macaroond/out/macaroond crates/time_blocks/out/time_blocks bin/
+	$(CC) $(CPPFLAGS) $(CFLAGS) $(LDFLAGS) -o $@ $<
+
+CFLAGS ?= -O2 -Wall
+
+# DESTDIR is for a package's own tree; PREFIX says where the programs and their pages go, SYSCONFDIR where the settings
+# do. An installed key file and changed settings are left alone, by both.
+PREFIX = /usr/local
+SYSCONFDIR = /etc
+export DESTDIR PREFIX SYSCONFDIR UNITDIR ZSHDIR
+install uninstall:
+	@packaging/install.sh $@
+
+# The Debian package and the .tar.gz, in dist/. The first asks for debhelper; neither for root or the toolchain.
+deb tarball:
+	scripts/packaging.py $@
+
+# Builds the programs, the package and the .tar.gz of this commit twice, in two folders, and compares their bytes.
+reproduce:
+	scripts/reproduce.py
+
+# The completions for bash and zsh, from what --help says. After make build.
+completions:
+	scripts/completions.py
 
 # The same for bin/try_pool, which drives the ring and the pool, bin/try_serve, which drives serve over memory,
 # bin/try_refused, which makes single calls, and bin/try_cases.
 build-runs:
-	cd crates/try_pool && rt run > /dev/null
-	cd crates/try_serve && rt run > /dev/null
-	cd crates/try_refused && rt run > /dev/null
-	cd crates/try_cases && rt run > /dev/null < stdin
 	mkdir -p bin
-	cp crates/try_pool/out/try_pool crates/try_serve/out/try_serve bin/
-	cp crates/try_refused/out/try_refused crates/try_cases/out/try_cases bin/
+	rm -f bin/try_*
+	$(call proved,try_pool)
+	$(call proved,try_serve)
+	$(call proved,try_refused)
+	$(call proved,try_cases,< stdin)
 
 # Each request for memory refused in turn, and each call of a device failed, of the programs and the daemon. After
 # make build build-runs, and with a C compiler.

@@ -11,6 +11,8 @@ import tempfile
 import time
 
 TOP = pathlib.Path(__file__).resolve().parent.parent
+# The program that is timed: the one for all processors, or for those that LEVEL names.
+PROGRAM = TOP / "libexec" / "macaroond" / os.environ.get("LEVEL", "x86-64-v2")
 sys.path.append(str(TOP / "examples"))
 import request
 
@@ -70,7 +72,7 @@ def pipe_seconds(payload, count):
     taken = 0.0
     for first in range(0, count, at_once):
         lines = min(at_once, count - first)
-        run, printed = seconds([TOP / "bin" / "macaroond", "pipe"], KEYS + line * lines)
+        run, printed = seconds([PROGRAM, "pipe"], KEYS + line * lines)
         if "refused" in printed or printed.count("\n") != lines:
             sys.exit(f"the pipe doesn't answer as it should: {printed[:100]}")
         taken += run
@@ -79,7 +81,7 @@ def pipe_seconds(payload, count):
 
 def answer(payload):
     """The token that the pipe answers."""
-    _, printed = seconds([TOP / "bin" / "macaroond", "pipe"], KEYS + payload.hex() + "\n")
+    _, printed = seconds([PROGRAM, "pipe"], KEYS + payload.hex() + "\n")
     return printed.removeprefix("token ").rstrip("\n")
 
 
@@ -185,8 +187,8 @@ def print_ring_and_pool():
 
 
 def stop_unless_built():
-    programs = ["bin/macaroond", "bin/time_blocks", "bin/try_pool", "bin/try_serve"]
-    lacking = " and ".join(name for name in programs if not os.access(TOP / name, os.X_OK))
+    programs = [PROGRAM, *(TOP / "bin" / name for name in ("time_blocks", "try_pool", "try_serve"))]
+    lacking = " and ".join(str(path.relative_to(TOP)) for path in programs if not os.access(path, os.X_OK))
     if lacking:
         sys.exit(f"no {lacking}: run `make build build-runs` first, which proves and builds the programs")
 

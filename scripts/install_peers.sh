@@ -16,6 +16,13 @@ libc6-dev                       the headers for that
 python3-pip                     scripts/clients.py installs clients/python with it
 groff-base                      scripts/man_page.py looks for its warnings
 valgrind                        scripts/instructions.py counts with it
+dpkg-dev                        scripts/packaging.py makes the package with it
+debhelper                       debian/rules says by it how the package is made
+lintian                         scripts/package_runs.py asks it what is wrong with the package
+systemd                         scripts/package_runs.py asks it what the unit may do
+mmdebstrap                      scripts/life_cycle.py makes a plain Debian with it
+systemd-container               scripts/life_cycle.py boots that with it
+zsh                             scripts/completions.py tries its completion
 END
 }
 

@@ -1,6 +1,6 @@
 #!/usr/bin/env python3
 """Counts what `macaroond pipe` executes for a request, beside what its SHA-256 does: by valgrind,
-over bin/macaroond and bin/time_blocks.
+over libexec/macaroond/x86-64-v2, or the program that LEVEL names, and bin/time_blocks.
 
 A count doesn't depend on what else the machine does. What a request takes is the difference between
 two runs, so that starting the program and reading the keys count for nothing.
@@ -36,7 +36,7 @@ def block_instructions():
 def request_instructions(payload):
     """How many the answer to this payload takes."""
     line = payload.hex() + "\n"
-    command = [bench.TOP / "bin" / "macaroond", "pipe"]
+    command = [bench.PROGRAM, "pipe"]
     few, many = (instructions(command, bench.KEYS + line * count) for count in (FEW, MANY))
     return (many - few) / (MANY - FEW)
 

@@ -12,15 +12,20 @@ import traceback
 import typing
 
 import allocations
+import building
 import case_files
 import clients
+import completions
 import daemon_rows
 import daemon_session
 import edges
 import faults
 import hostile
+import installing
 import lasting
+import life_cycle
 import man_page
+import package_runs
 import pages
 import peers
 import pipe_runs
@@ -29,6 +34,7 @@ import refusing
 import starting
 import statuses
 import tutorial
+import versions
 import words
 import wrong_bodies
 
@@ -65,6 +71,8 @@ def over_pipe():
 # The parts that ask for bin/macaroond, and those that ask for a C compiler too. A part gives what
 # was wrong and, behind it, how many checks it made (one, where it doesn't say) and what it skipped.
 OF_PROGRAM = {
+    "versions": versions.faults,
+    "completions": completions.faults,
     "edges": edges.faults,
     "edges of words": words.edge_faults,
     "sessions": daemon_session.faults,
@@ -74,12 +82,19 @@ OF_PROGRAM = {
     "hostile": lambda: hostile.faults(HOSTILE_SECONDS),
     "clients": clients.daemon_faults,
 }
-OF_COMPILER = {"allocations": allocations.faults, "faults": faults.some_faults}
 OF_CLIENTS = {"Python client": clients.python_faults, "Go client": clients.go_faults}
+OF_COMPILER = {
+    "allocations": allocations.faults,
+    "faults": faults.some_faults,
+    "installing": installing.faults,
+    "package": package_runs.faults,
+    "life cycle": life_cycle.faults,
+}
 OF_TEXTS = {
     "quotes": quotes.faults,
     "pages": pages.faults,
     "man": man_page.faults,
+    "building": building.faults,
     "wrong bodies apply": wrong_bodies.faults,
 }
 

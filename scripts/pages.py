@@ -1,5 +1,5 @@
 #!/usr/bin/env python3
-"""What README and docs name is there: files, crates, functions and definitions; and tables are whole.
+"""What README, its neighbours and docs name is there: files, crates, functions and definitions; and tables are whole.
 
 A name stands between two backquotes. A path is looked for by its ending among all files; a function
 or a definition, told as `NAME` (`PATH`), has to stand in a file of this path. Rows that don't begin
@@ -11,7 +11,11 @@ import subprocess
 import sys
 
 TOP = pathlib.Path(__file__).resolve().parent.parent
-PAGES = [TOP / "README.md", TOP / "clients" / "README.md", *sorted((TOP / "docs").glob("*.md"))]
+PAGES = [
+    *sorted(TOP.glob("*.md")),
+    TOP / "clients" / "README.md",
+    *sorted((TOP / "docs").glob("*.md")),
+]
 NAMED = re.compile(r"`([^`\n]+)`")
 PATH = re.compile(r"[\w./-]+\.(?:rt|antt|py|sh|md|edit|c|go|txt|1)")
 CRATE = re.compile(r"(?:mac|try)_[a-z]+|time_blocks|sha256x8|macaroond")

@@ -1,0 +1,63 @@
+/* Starts the macaroond that is built for this processor.
+
+   The programs lie in ../libexec/macaroond/ as seen from the folder of this file, wherever that is: x86-64-v3 for
+   processors that have all that this name stands for, and x86-64-v2 for every other one. What is started keeps the
+   words, the surroundings and the number of this process, and answers in its place. */
+#include <errno.h>
+#include <limits.h>
+#include <stdio.h>
+#include <stdlib.h>
+#include <string.h>
+#include <sys/auxv.h>
+#include <unistd.h>
+
+#define PROGRAMS "../libexec/macaroond/"
+
+/* The exit status of macaroond where a file fails. */
+enum { DEVICE_FAULT = 3 };
+
+/* The path of this file, its links followed; it needs no /proc. Else NULL, with errno. */
+static const char *own_path(char path[PATH_MAX])
+{
+    const char *started_as = (const char *)getauxval(AT_EXECFN);
+
+    if (started_as == NULL) {
+        errno = ENOENT;
+        return NULL;
+    }
+    return realpath(started_as, path);
+}
+
+/* The folder of this file, with a slash behind it. Else NULL, with errno. */
+static const char *own_folder(char path[PATH_MAX])
+{
+    if (own_path(path) == NULL)
+        return NULL;
+    strrchr(path, '/')[1] = '\0';
+    return path;
+}
+
+/* Starts the program of this name. It returns only where that fails, with errno. */
+static void start(const char *folder, const char *name, char **words)
+{
+    char path[PATH_MAX + sizeof PROGRAMS + 16];
+
+    snprintf(path, sizeof path, "%s" PROGRAMS "%s", folder, name);
+    execv(path, words);
+}
+
+int main(int count, char **words)
+{
+    char path[PATH_MAX];
+    const char *folder = own_folder(path);
+
+    (void)count;
+    if (folder != NULL) {
+        __builtin_cpu_init();
+        if (__builtin_cpu_supports("x86-64-v3"))
+            start(folder, "x86-64-v3", words);
+        start(folder, "x86-64-v2", words);
+    }
+    dprintf(STDERR_FILENO, "macaroond: %s" PROGRAMS "x86-64-v2: %s\n", folder ? folder : "", strerror(errno));
+    return DEVICE_FAULT;
+}

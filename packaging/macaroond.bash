@@ -1,0 +1,44 @@
+# bash completion for macaroond, made by scripts/completions.py
+
+# The names in the key file that the line gives.
+_macaroond_key_names() {
+    local index file=
+    for ((index = 1; index < COMP_CWORD; index++)); do
+        [[ ${COMP_WORDS[index]} == --keys ]] && file=${COMP_WORDS[index + 1]}
+    done
+    [[ -r $file ]] && sed -n 's/^key \([^ ]*\) .*/\1/p' "$file" | sort -u
+}
+
+_macaroond() {
+    local word=${COMP_WORDS[COMP_CWORD]} before=${COMP_WORDS[COMP_CWORD - 1]} words=
+    COMPREPLY=()
+    case $before in
+        --socket | --keys)
+            mapfile -t COMPREPLY < <(compgen -f -- "$word")
+            compopt -o filenames 2> /dev/null
+            return
+            ;;
+        --mode) words='600 660 666' ;;
+        --form) words='v1 v2 json v2-text' ;;
+        --key) words=$(_macaroond_key_names) ;;
+        --workers | --accept | --idle | --location | --identifier | --caveat | --fact | --at) return ;;
+        *)
+            if ((COMP_CWORD == 1)); then
+                words='pipe serve listen keygen mint attenuate verify inspect --help --version'
+            else
+                case ${COMP_WORDS[1]} in
+                    pipe) words='--help' ;;
+                    serve) words='--socket --keys --workers --accept --help' ;;
+                    listen) words='--socket --keys --workers --mode --idle --help' ;;
+                    keygen) words='--help' ;;
+                    mint) words='--keys --key --location --identifier --caveat --form --help' ;;
+                    attenuate) words='--caveat --form --help' ;;
+                    verify) words='--keys --key --fact --at --help' ;;
+                    inspect) words='--help' ;;
+                esac
+            fi
+            ;;
+    esac
+    mapfile -t COMPREPLY < <(compgen -W "$words" -- "$word")
+}
+complete -F _macaroond macaroond
