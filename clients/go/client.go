@@ -101,8 +101,9 @@ func (c *Client) VerifyCheck(ctx context.Context, key string, check Check) (Verd
 }
 
 // VerifyMany gives the verdict on each check, in order. The checks go out some
-// hundreds at a time, without waiting. Where a verdict can't be had, those before
-// it are given with the error.
+// hundreds at a time, without waiting; the timeout is for the next of them to be
+// answered, and not for all. Where a verdict can't be had, those before it are given
+// with the error.
 func (c *Client) VerifyMany(ctx context.Context, key string, checks []Check) ([]Verdict, error) {
 	verdicts := make([]Verdict, 0, len(checks))
 	var out []*run
@@ -206,6 +207,9 @@ func (c *Client) sendRun(ctx context.Context, key string, checks []Check) (*run,
 
 // appendVerdicts appends a run's verdicts, or, where it may be, those of the run sent once more.
 func (c *Client) appendVerdicts(ctx context.Context, verdicts []Verdict, sent *run) ([]Verdict, error) {
+	// Its time begins once those before it are answered.
+	sent.expiry.Stop()
+	sent.expiry = time.NewTimer(c.timeout)
 	err := sent.wait(ctx)
 	if c.isToRepeat(err) {
 		if sent, err = c.sendRun(ctx, sent.key, sent.checks); err == nil {

@@ -394,6 +394,23 @@ func TestCancelled(t *testing.T) {
 	}
 }
 
+// Many may take longer than the timeout, which is for the next verdicts.
+func TestManyTakeLonger(t *testing.T) {
+	slow := func(s *stream) {
+		for number := 0; number < 10*runRequests; number++ {
+			s.request()
+			if number%runRequests == 0 {
+				time.Sleep(100 * time.Millisecond)
+			}
+			s.reply(granted)
+		}
+	}
+	client := dialled(t, server(t, slow), WithTimeout(600*time.Millisecond))
+	if verdicts, err := client.VerifyMany(background, "bank", make([]Check, 10*runRequests)); err != nil {
+		t.Error(len(verdicts), err)
+	}
+}
+
 // A server that reads nothing: calls end in time all the same.
 func TestFullSocket(t *testing.T) {
 	client := dialled(t, server(t, func(*stream) { time.Sleep(2 * time.Second) }), WithTimeout(200*time.Millisecond))

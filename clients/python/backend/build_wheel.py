@@ -49,7 +49,8 @@ def build_wheel(wheel_directory, config_settings=None, metadata_directory=None):
     name = f"{stem}-py3-none-any.whl"
     with zipfile.ZipFile(pathlib.Path(wheel_directory) / name, "w", zipfile.ZIP_DEFLATED) as wheel:
         for path, content in {**files, f"{info}/RECORD": record.encode()}.items():
-            wheel.writestr(path, content)
+            # An entry without a time: the same sources make the same wheel.
+            wheel.writestr(zipfile.ZipInfo(path), content, zipfile.ZIP_DEFLATED)
     return name
 
 

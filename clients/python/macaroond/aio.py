@@ -151,6 +151,7 @@ class AsyncClient:
         """The verdict on each token with its facts, in order.
 
         However many are asked, few are held: up to 2,048 are asked before the first verdict is given.
+        `timeout` is for the next verdicts to come, and not for all.
         """
         return self._many(asked, lambda one: verify_call(key, one[0], one[1], at))
 
@@ -169,7 +170,9 @@ class AsyncClient:
 
     async def _many(self, asked: Any, call_of: Callable[[Any], Call]) -> AsyncIterator[Any]:
         async for sent in self._in_turn(asked, call_of):
-            for call, reply in zip(sent.calls, await self._replies(sent)):
+            # Its time begins once those before it are answered.
+            replies = await self._replies(sent._replace(deadline=Deadline(self.timeout)))
+            for call, reply in zip(sent.calls, replies):
                 yield call.meaning(reply)
 
     async def _in_turn(self, asked: Any, call_of: Callable[[Any], Call]) -> AsyncIterator[Sent]:

@@ -111,6 +111,7 @@ class Client:
         """The verdict on each token with its facts, in order.
 
         However many are asked, few are held: up to 2,048 are asked before the first verdict is given.
+        `timeout` is for the next verdicts to come, and not for all.
         """
         return self._many(verify_call(key, token, facts, at) for token, facts in asked)
 
@@ -128,7 +129,9 @@ class Client:
 
     def _many(self, calls: Iterable[Call]) -> Iterator[Any]:
         for sent in self._in_turn(calls):
-            for call, reply in zip(sent.calls, self._replies(sent)):
+            # Its time begins once those before it are answered.
+            replies = self._replies(sent._replace(deadline=Deadline(self.timeout)))
+            for call, reply in zip(sent.calls, replies):
                 yield call.meaning(reply)
 
     def _in_turn(self, calls: Iterable[Call]) -> Iterator[Sent]:

@@ -353,6 +353,21 @@ class Late(OverScripts):
 
         self.each(look, is_late, timeout=0.2)
 
+    def test_many_take_longer_than_a_timeout(self):
+        """The time is for the next verdicts, and not for all."""
+
+        def is_slow(stream):
+            for number in range(2560):
+                stream.request()
+                if number % 256 == 0:
+                    time.sleep(0.1)
+                stream.reply(GRANTED)
+
+        def look(client):
+            self.assertEqual(len(client.many("verify_many", "bank", [("!", ())] * 2560)), 2560)
+
+        self.each(look, is_slow, timeout=0.6)
+
     def test_a_full_socket_times_out(self):
         """A server that reads nothing: calls end in time all the same."""
 
