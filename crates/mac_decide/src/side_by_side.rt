@@ -5,7 +5,7 @@ ghost use Rattle.mac_wire.specs.Reply.{IsReply};
 ghost use Rattle.mac_decide.specs.Prepared.{AreNext, comes_to, left_of, reply_to_job, signature_of};
 ghost use Rattle.mac_decide.specs.Viewed.{viewed};
 
-use crate::choosing::{LANES, Step, next_step};
+use crate::choosing::{FEWEST, LANES, Step, next_step};
 use crate::job::Job;
 use crate::job_view::{ArrivalView, JobView};
 use crate::prepared::Prepared;
@@ -76,6 +76,41 @@ pub fn answer_run(
 
 /// The same in these rooms.
 fn replies_to(
+    rooms: &mut [Vec<u8>],
+    alloc: Global,
+    jobs: &[JobView<'_>],
+) -> Result<ArrayVec<Reply, RUN>, NoMemory>
+    requires count { length jobs.now ≤ RUN }
+    requires rooms { length jobs.now ≤ length rooms.old }
+    ensures { IfOk result (λ replies.
+        replies.items ≡ map reply_to_job (map viewed jobs.now)) }
+{
+    if jobs.len() < FEWEST {
+        replies_one_by_one(rooms, alloc, jobs)
+    } else {
+        replies_side_by_side(rooms, alloc, jobs)
+    }
+}
+
+/// The same for few jobs: a run with all its places costs more than they do.
+fn replies_one_by_one(
+    rooms: &mut [Vec<u8>],
+    alloc: Global,
+    jobs: &[JobView<'_>],
+) -> Result<ArrayVec<Reply, RUN>, NoMemory>
+    requires count { length jobs.now ≤ RUN }
+    requires rooms { length jobs.now ≤ length rooms.old }
+    ensures { IfOk result (λ replies.
+        replies.items ≡ map reply_to_job (map viewed jobs.now)) }
+{
+    let mut replies = ArrayVec::new();
+    for (room, job) in rooms.iter_mut().zip(jobs) {
+        replies.push(prepare_job(room, alloc, job)?.into_reply(alloc)?);
+    }
+    Ok(replies)
+}
+
+fn replies_side_by_side(
     rooms: &mut [Vec<u8>],
     alloc: Global,
     jobs: &[JobView<'_>],

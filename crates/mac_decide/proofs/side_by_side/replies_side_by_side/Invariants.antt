@@ -1,7 +1,7 @@
 use Rattle.std.proofs.Common.{◌≡◌, ◌≤◌, ◌+◌, ◌++◌, length, map}
 use Rattle.mac_decide.specs.Prepared.{comes_to, reply_to_job}
 use Rattle.mac_decide.specs.Viewed.{viewed}
-use Rattle.mac_decide.proofs.side_by_side.replies_to.Given as goal
+use Rattle.mac_decide.proofs.side_by_side.replies_side_by_side.Given as goal
 
 -- the replies so far, and what is left of the run, come to all, and there is room for all
 abbrev pub invariant-loop-prepared : goal.invariant-loop-prepared
