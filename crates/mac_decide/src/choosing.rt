@@ -11,7 +11,7 @@ use crate::prepared::Prepared;
 pub(crate) const LANES: usize = 8;
 
 /// From how many on that costs less than one after the other.
-const FEWEST: usize = 4;
+pub(crate) const FEWEST: usize = 4;
 
 /// Eight lanes cost what three and a half texts cost one after the other: PAID halves.
 const PAID: usize = 7;

@@ -75,7 +75,7 @@ fn prepare_request<'a>(
             form,
             token,
             caveats,
-        } => prepare_attenuate(alloc, form, token, caveats),
+        } => prepare_attenuate(room, alloc, form, token, caveats),
         Request::Verify {
             token,
             moment,
@@ -139,6 +139,7 @@ fn mint_json<'a>(
 }
 
 fn prepare_attenuate<'a>(
+    room: &mut Vec<u8>,
     alloc: Global,
     form: TokenForm,
     token: &[u8],
@@ -147,8 +148,7 @@ fn prepare_attenuate<'a>(
     ensures { IfOk result (λ p. comes_to p ≡ answers.told (read_of token.now)
         (λ t. answers.token_reply form (add t caveats.entry))) }
 {
-    let mut room = Vec::new(alloc);
-    match bare(&mut room, alloc, token) {
+    match bare(room, token) {
         Ok(bytes) => prepare_narrowed(alloc, form, bytes, caveats),
         Err(TokenFault::Refused(reason)) => Ok(told(refusal_of(reason))),
         Err(TokenFault::Memory) => Err(AllocError),
@@ -277,7 +277,7 @@ fn prepare_verify<'a>(
     ensures { IfOk result (λ p. comes_to p ≡ answers.told (read_of token.now)
         (λ t. answers.verdict_reply (verdict_of (listed keys) t context.entry))) }
 {
-    match bare(room, alloc, token) {
+    match bare(room, token) {
         Ok(bytes) => prepare_bare(alloc, keys, bytes, context),
         Err(TokenFault::Refused(reason)) => Ok(told(refusal_of(reason))),
         Err(TokenFault::Memory) => Err(AllocError),

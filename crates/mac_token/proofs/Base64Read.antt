@@ -47,6 +47,11 @@ decoded_is (Ok b) bytes e =
     (ap (λ (x : List ℕ). Ok x) k.1, subst IsBytes k.1 (bytes_from_all b ((bytes_test b).0 k.0)))
 decoded_is (Err error) bytes e = absurd cc
 
+-- what the engine for a text decodes is spelled so
+pub decoded_spells : (plain padded : Bool) (text bytes : List ℕ) → IsBytes text → IsBytes bytes → decode_of (engine_for plain padded) text ≡ Ok bytes → IsBase64Of text bytes
+decoded_spells plain padded text bytes is_text is_bytes e =
+    spelled_by plain padded text bytes is_bytes (decode_of_strict (engine_for plain padded) text bytes (strict_for plain padded) is_text e)
+
 -- what is read is spelled so
 pub base64_takes : (text bytes : List ℕ) → base64_bytes text ≡ Some bytes → IsBase64Of text bytes
 unfolding base64_bytes

@@ -10,7 +10,7 @@
 //! An input whose first byte calls for a bare form is never base64 text, and what base64 text
 //! stands for is not decoded again.
 
-ghost use Rattle.std.specs.Prelude.{◌≡◌, IfOk, is_some, map};
+ghost use Rattle.std.specs.Prelude.{◌≡◌, [], IfOk, OnErr, is_some, map};
 ghost use Rattle.mac_token.specs.RawToken.{byte_lists};
 ghost use Rattle.std.specs.List.{list_any};
 ghost use Rattle.mac_token.specs.Answers.{Answers, Ends};
@@ -41,11 +41,7 @@ fn calls_for_bare(first: u8) -> bool
 /// than a token may be; `Transport` where it carries nothing, or `Memory` in its place. What the
 /// room held is dropped.
 #[tactic(auto, unfolding(crate::specs::Read::bare_bytes, crate::specs::Read::carried_of))]
-pub fn bare<'a>(
-    room: &'a mut Vec<u8>,
-    alloc: Global,
-    input: &'a [u8],
-) -> Result<&'a [u8], TokenFault>
+pub fn bare<'a>(room: &'a mut Vec<u8>, input: &'a [u8]) -> Result<&'a [u8], TokenFault>
     ensures answer { Answers (λ bytes. bytes.now) result (carried_of input.now) }
     ensures meaning { Ends (λ bytes. bytes.now) result (Carried input.now) }
     ensures memory { result ≡ Err TokenFault.Memory → IsInBound input.now }
@@ -59,19 +55,22 @@ pub fn bare<'a>(
         [] => Err(TokenFault::Refused(TokenRefusal::Transport)),
         [first, ..] if calls_for_bare(*first) => Ok(input),
         _ => {
-            *room = decoded(alloc, input)?;
+            decode_into(room, input)?;
             Ok(room.as_slice())
         }
     }
 }
 
-/// What base64 text stands for; `Transport` where the text is none.
-fn decoded(alloc: Global, text: &[u8]) -> Result<Vec<u8>, TokenFault>
-    ensures { Answers (λ bytes. bytes.items) result (or_transport (base64_bytes text.now)) }
+/// Puts what base64 text stands for into an empty room; `Transport` where the text is none.
+fn decode_into(room: &mut Vec<u8>, text: &[u8]) -> Result<(), TokenFault>
+    requires { room.old.items ≡ [] }
+    ensures answer { Answers (λ _. room.new.items) result (or_transport (base64_bytes text.now)) }
+    ensures kept { OnErr result (room.new.items ≡ []) }
 {
-    match base64_text::decode(alloc, text)? {
-        Some(bytes) => Ok(bytes),
-        None => Err(TokenFault::Refused(TokenRefusal::Transport)),
+    if base64_text::decode_into(room, text)? {
+        Ok(())
+    } else {
+        Err(TokenFault::Refused(TokenRefusal::Transport))
     }
 }
 
@@ -98,7 +97,7 @@ pub fn read_raw(alloc: Global, bytes: &[u8]) -> Result<RawToken, TokenFault>
     ensures memory { result ≡ Err TokenFault.Memory → IsInBound bytes.now }
 {
     let mut room = Vec::new(alloc);
-    let bare = bare(&mut room, alloc, bytes)?;
+    let bare = bare(&mut room, bytes)?;
     Ok(spelled(alloc, bare)?)
 }
 
@@ -173,6 +172,6 @@ pub fn read(alloc: Global, bytes: &[u8]) -> Result<Token, TokenFault>
     ensures memory { result ≡ Err TokenFault.Memory → IsInBound bytes.now }
 {
     let mut room = Vec::new(alloc);
-    let bare = bare(&mut room, alloc, bytes)?;
+    let bare = bare(&mut room, bytes)?;
     read_bare(alloc, bare)
 }

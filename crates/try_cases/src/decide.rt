@@ -6,12 +6,15 @@ use crate::case::{Case, CaseFault};
 use crate::keys::table;
 use crate::token::{next_token, say_parts, say_refusal, say_written, token_of};
 use crate::verdicts::say_verdicts;
+use arrayvec::ArrayVec;
 use mac_decide::{
-    Context, answer, answer_all, attenuate, job_of, mint, satisfied, time_limit, time_since,
+    Context, RUN, Rooms, answer, answer_all, answer_run, attenuate, job_of, job_view_of, mint,
+    satisfied, time_limit, time_since,
 };
 use mac_hmac::root_key;
+use mac_keys::KeyTable;
 use mac_token::{Form, Token, TokenFault, write};
-use mac_wire::{Arrival, Bytes, FieldList, Reply, Version, reply_bytes};
+use mac_wire::{Arrival, Bytes, FieldList, NoMemory, Reply, Version, reply_bytes};
 use std::alloc::Global;
 
 /// Tells what a case comes to, if it is one of these kinds.
@@ -96,19 +99,27 @@ fn reply(case: &mut Case<'_>) {
     say_frame(case, &reply);
 }
 
-/// The frames of the replies to payloads under a key file, worked out together and each alone.
+/// The frames of the replies to payloads under a key file, worked out where they lie, together and
+/// each alone.
 fn replies(case: &mut Case<'_>) {
     let Some(table) = table(case) else {
         return;
     };
+    let payloads = case.lists();
+    let Ok(lying) = replies_in_runs(case.alloc, &table, &payloads) else {
+        return case.fail(CaseFault::Memory);
+    };
     let mut jobs = Vec::new(case.alloc);
-    for payload in case.lists() {
+    for payload in payloads {
         let payload = Arrival::Payload(Bytes::new(payload));
         case.keep(&mut jobs, job_of(&table, payload));
     }
     let Ok(replies) = answer_all(case.alloc, &jobs) else {
         return case.fail(CaseFault::Memory);
     };
+    if lying != replies {
+        return case.say("other replies where they lie");
+    }
     for (job, reply) in jobs.iter().zip(replies.iter()) {
         match answer(case.alloc, job) {
             Ok(alone) if alone == *reply => say_frame(case, &alone),
@@ -116,6 +127,28 @@ fn replies(case: &mut Case<'_>) {
             Err(_) => case.fail(CaseFault::Memory),
         }
     }
+}
+
+/// The replies to payloads where they lie.
+fn replies_in_runs(
+    alloc: Global,
+    table: &KeyTable,
+    payloads: &[Vec<u8>],
+) -> Result<Vec<Reply>, NoMemory> {
+    let mut rooms = Rooms::new(alloc);
+    let mut replies = Vec::with_capacity(alloc, payloads.len())?;
+    for run in payloads.chunks(RUN) {
+        let mut views: ArrayVec<_, RUN> = ArrayVec::new();
+        for payload in run {
+            if !views.is_full() {
+                views.push(job_view_of(table, payload));
+            }
+        }
+        for reply in answer_run(&mut rooms, alloc, views.as_slice())? {
+            replies.push(reply)?;
+        }
+    }
+    Ok(replies)
 }
 
 fn say_frame(case: &mut Case<'_>, reply: &Reply)

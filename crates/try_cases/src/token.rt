@@ -35,7 +35,7 @@ fn read_parts(case: &mut Case<'_>) {
 fn has_view(case: &mut Case<'_>) -> bool {
     let input = case.bytes();
     let mut room = Vec::new(case.alloc);
-    match bare(&mut room, case.alloc, &input) {
+    match bare(&mut room, &input) {
         Ok([b'{', ..]) => return false,
         Ok(bytes) => match TokenView::of(bytes) {
             Ok(view) => say_view(case, &view),

@@ -15,12 +15,12 @@ const ADDED: usize = 3;
 /// The buffer of what a text stands for is filled after a refusal, and holds the token then.
 pub(crate) fn bares(alloc: Global) -> Outcome {
     let mut room = Vec::new(alloc);
-    let first = is_bare(&mut room, alloc);
-    once_more(first, is_bare(&mut room, alloc))
+    let first = is_bare(&mut room);
+    once_more(first, is_bare(&mut room))
 }
 
-fn is_bare(room: &mut Vec<u8>, alloc: Global) -> Option<bool> {
-    match bare(room, alloc, V2_TEXT) {
+fn is_bare(room: &mut Vec<u8>) -> Option<bool> {
+    match bare(room, V2_TEXT) {
         Ok(bytes) => Some(bytes == V2_BINARY),
         Err(TokenFault::Memory) => None,
         Err(_) => Some(false),

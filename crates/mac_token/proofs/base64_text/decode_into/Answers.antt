@@ -1,14 +1,36 @@
--- A refusal by the one engine for a text means that the text spells nothing.
-use Rattle.std.proofs.Common.{◌≡◌, refl, true, false, rules}
+-- What the one engine for a text decodes is spelled by it, and a refusal by that engine means that it spells nothing.
+use Rattle.std.proofs.Common.{◌≡◌, Ok, refl, true, false, arith, rules}
 use Rattle.std.specs.declared.result.Result.TheVariants.{Err}
 use Rattle.base64.specs.Engines.{standard, standard_no_pad, url_safe, url_safe_no_pad}
-use Rattle.base64.specs.GeneralPurpose.{encode_of, decode_of}
+use Rattle.base64.specs.GeneralPurpose.{IsBytes, encode_of, decode_of}
+use Rattle.mac_token.proofs.Base64Read.{bytes_from_all, decoded_spells}
 use Rattle.mac_token.proofs.Base64Spelling.{encoded_by_engine_for, refused_text}
-use Rattle.mac_token.proofs.base64_text.decode.Goals as goal
-use Rattle.mac_token.proofs.base64_text.decode.Goals.{in-true-true, in-true-false, in-false-true, in-false-false}
+use Rattle.mac_token.proofs.base64_text.decode_into.Goals as goal
+use Rattle.mac_token.proofs.base64_text.decode_into.Goals.{in-true-true, in-true-false, in-false-true, in-false-false}
 
-pub returns-in-Err-DecodeError : goal.returns-in-Err-DecodeError
-returns-in-Err-DecodeError c bytes spelled =
+pub returns-in-Ok-clause-spelled : goal.returns-in-Ok-clause-spelled
+returns-in-Ok-clause-spelled c _ =
+    let text = c.args.text.now in
+    let bytes = c.if-lacks_url_letters.bytes.items in
+    let are_text : IsBytes text = (λ i. omega (arith, c.type_inv.text i)) in
+    let are_bytes : IsBytes bytes = bytes_from_all bytes c.type_inv.bytes in
+    elim c.if-lacks_url_letters.branch [
+      | in-true-true w ↦
+          let decoded : decode_of standard text ≡ Ok bytes = search rules in
+          decoded_spells true true text bytes are_text are_bytes decoded
+      | in-true-false w ↦
+          let decoded : decode_of standard_no_pad text ≡ Ok bytes = search rules in
+          decoded_spells true false text bytes are_text are_bytes decoded
+      | in-false-true w ↦
+          let decoded : decode_of url_safe text ≡ Ok bytes = search rules in
+          decoded_spells false true text bytes are_text are_bytes decoded
+      | in-false-false w ↦
+          let decoded : decode_of url_safe_no_pad text ≡ Ok bytes = search rules in
+          decoded_spells false false text bytes are_text are_bytes decoded
+    ]
+
+pub returns-in-Err-DecodeError-clause-none : goal.returns-in-Err-DecodeError-clause-none
+returns-in-Err-DecodeError-clause-none c _ bytes spelled =
     let text = c.args.text.now in
     let error = c.in-Err-DecodeError.field-0-0 in
     elim c.if-lacks_url_letters.branch [
