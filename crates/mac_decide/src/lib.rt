@@ -10,6 +10,7 @@ mod context;
 mod drafting;
 mod folding;
 mod job;
+mod keyed;
 pub mod laws;
 mod macaroons;
 mod minting;

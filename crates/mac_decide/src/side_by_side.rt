@@ -5,10 +5,11 @@ ghost use Rattle.mac_decide.specs.Prepared.{AreNext, comes_to, left_of, reply_to
 
 use crate::choosing::{LANES, Step, next_step};
 use crate::job::Job;
+use crate::keyed::keys_at;
 use crate::prepared::Prepared;
 use crate::preparing::prepare;
 use crate::reply::refused;
-use mac_hmac::{Sig, extend_each};
+use mac_hmac::{Sig, extend_each, start_each};
 use mac_wire::{Arrival, NoMemory, Refusal, Reply};
 use std::alloc::Global;
 
@@ -143,7 +144,10 @@ fn together(run: &[Prepared<'_>], places: &[usize; LANES]) -> [Sig; LANES]
         text_at(run, places[6]),
         text_at(run, places[7]),
     ];
-    extend_each(&signatures, &texts)
+    match keys_at(run, places) {
+        Some(keys) => start_each(&keys, &texts),
+        None => extend_each(&signatures, &texts),
+    }
 }
 
 /// The signature so far at a place of the run; zeros where the run has no such place.
