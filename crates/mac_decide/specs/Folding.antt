@@ -3,6 +3,8 @@ use Rattle.std.specs.Prelude.{ℕ, List, [], ◌∷◌, Option, Some, None}
 use Rattle.mac_hmac.specs.Chain.{extended}
 use Rattle.mac_decide.specs.declared.folding.Texts.{Texts}
 use Rattle.mac_decide.specs.declared.folding.Texts.TheVariants.{Caveats, Fields}
+use Rattle.mac_decide.specs.declared.folding.Under.{Under}
+use Rattle.mac_decide.specs.declared.folding.Under.TheVariants.{Key, Signature}
 
 -- a signature so far, and the texts that are still to be folded onto it
 pub record Progress : Type 0 where
@@ -25,3 +27,8 @@ texts_left (Some text) rest = text ∷ rest
 abbrev pub texts_of : Texts → List (List ℕ)
 texts_of (Caveats texts) = texts
 texts_of (Fields texts) = texts
+
+-- the bytes that the next text is folded under: a key's, or the signature's so far
+abbrev pub under_of : Under → List ℕ
+under_of (Key key) = key
+under_of (Signature signature) = signature

@@ -84,3 +84,10 @@ AreNext run places signatures =
     → lane < 8 → slice_get run (slice_index places lane) ≡ Some prepared
     → left_of prepared ≡ text ∷ rest
     → slice_index_or signatures lane [] ≡ extended (signature_of prepared) (text ∷ [])
+
+-- the next text at the place of each lane is folded under the lane's key
+abbrev pub AreUnder : List Prepared → List ℕ → List (List ℕ) → Type 0
+AreUnder run places keys =
+    (lane : ℕ) (prepared : Prepared)
+    → lane < 8 → slice_get run (slice_index places lane) ≡ Some prepared
+    → slice_index_or keys lane [] ≡ signature_of prepared

@@ -1,11 +1,11 @@
 //! Texts that are folded onto a signature one by one, so that several signatures can be computed
 //! side by side.
 
-ghost use Rattle.std.specs.Prelude.{◌≡◌, ◌∷◌, ℕ, List, [], drop, length, get_or, option_map};
+ghost use Rattle.std.specs.Prelude.{◌≡◌, ◌∷◌, ℕ, List, [], IfSome, drop, length, get_or, option_map};
 ghost use Rattle.mac_hmac.specs.Chain.{extended};
-ghost use Rattle.mac_decide.specs.Folding.{end_of, progress, texts_of, texts_left};
+ghost use Rattle.mac_decide.specs.Folding.{end_of, progress, texts_of, texts_left, under_of};
 
-use mac_hmac::{RootKey, Sig, extend};
+use mac_hmac::{RootKey, Sig, extend, start};
 use mac_token::{TokenView, Walk};
 use mac_wire::FieldList;
 use std::marker::Model;
@@ -30,11 +30,52 @@ impl<'a> Texts<'a> {
     }
 }
 
+/// What the next text is folded under.
+#[derive(Clone, Copy)]
+pub enum Under {
+    /// The key, before a token's identifier is folded on.
+    Key(RootKey),
+    /// The signature so far.
+    Signature(Sig),
+}
+
+impl Under {
+    /// The bytes of either, as a signature's.
+    fn signature(&self) -> Sig
+        ensures { result ≡ under_of self.now }
+    {
+        match self {
+            Under::Key(key) => Sig::from_bytes(key.bytes()),
+            Under::Signature(signature) => *signature,
+        }
+    }
+
+    /// The key, where it is one.
+    fn key(&self) -> Option<RootKey>
+        ensures { IfSome result (λ key. key ≡ under_of self.now) }
+    {
+        match self {
+            Under::Key(key) => Some(*key),
+            Under::Signature(_) => None,
+        }
+    }
+
+    /// The signature after this text.
+    fn sign(&self, text: &[u8]) -> Sig
+        ensures { result ≡ extended (under_of self.now) (text.now ∷ []) }
+    {
+        match self {
+            Under::Key(key) => start(key, text),
+            Under::Signature(signature) => extend(*signature, text),
+        }
+    }
+}
+
 /// A signature so far, and the texts that are still to be folded onto it: how many, the next one,
 /// and those behind it. Contracts see the signature and the list of texts.
 #[derive(Drop)]
 pub struct Folding<'a> {
-    signature: Sig,
+    under: Under,
     left: usize,
     next: Option<&'a [u8]>,
     rest: Texts<'a>,
@@ -42,11 +83,11 @@ pub struct Folding<'a> {
 
 impl<'a> Model for Folding<'a> {
     ghost use Rattle.std.specs.Prelude.{◌≡◌, length, option_map};
-    ghost use Rattle.mac_decide.specs.Folding.{Progress, progress, texts_left, texts_of};
+    ghost use Rattle.mac_decide.specs.Folding.{Progress, progress, texts_left, texts_of, under_of};
 
     ghost Value = { Progress };
 
-    ghost view = { λ f. progress f.signature
+    ghost view = { λ f. progress (under_of f.under)
         (texts_left (option_map (λ text. text.now) f.next) (texts_of f.rest)) };
 
     ghost invariant = { λ f. f.left
@@ -60,7 +101,7 @@ impl<'a> Folding<'a> {
     {
         let left = token.caveats() + 1;
         Folding {
-            signature: Sig::from_bytes(key.bytes()),
+            under: Under::Key(key),
             left,
             next: Some(token.identifier()),
             rest: Texts::Caveats(token.walk()),
@@ -73,7 +114,7 @@ impl<'a> Folding<'a> {
     {
         let left = caveats.len() + 1;
         Folding {
-            signature: Sig::from_bytes(key.bytes()),
+            under: Under::Key(key),
             left,
             next: Some(identifier),
             rest: Texts::Fields(caveats),
@@ -88,7 +129,7 @@ impl<'a> Folding<'a> {
         let mut rest = Texts::Fields(caveats);
         let next = rest.next();
         Folding {
-            signature,
+            under: Under::Signature(signature),
             left,
             next,
             rest,
@@ -106,7 +147,21 @@ impl<'a> Folding<'a> {
     pub fn signature(&self) -> Sig
         ensures { result ≡ self.now.signature }
     {
-        self.signature
+        self.under.signature()
+    }
+
+    /// The key, before a token's identifier is folded on.
+    pub fn key(&self) -> Option<RootKey>
+        ensures { IfSome result (λ key. key ≡ self.now.signature) }
+    {
+        self.under.key()
+    }
+
+    /// The signature after the text that is to be folded on next.
+    pub fn next_signature(&self) -> Sig
+        ensures { result ≡ extended self.now.signature (get_or self.now.left 0 [] ∷ []) }
+    {
+        self.under.sign(self.text())
     }
 
     /// The text that is to be folded on next; no bytes where none is left.
@@ -124,7 +179,7 @@ impl<'a> Folding<'a> {
         ensures left { self.new.left ≡ drop 1 self.old.left }
     {
         if self.left > 0 {
-            self.signature = signature;
+            self.under = Under::Signature(signature);
             self.next = self.rest.next();
             self.left -= 1;
         }
@@ -135,7 +190,7 @@ impl<'a> Folding<'a> {
         ensures { result ≡ end_of self.entry }
     {
         for _ in 0..self.left() {
-            let signature = extend(self.signature(), self.text());
+            let signature = self.next_signature();
             self.fold(signature);
         }
         self.signature()

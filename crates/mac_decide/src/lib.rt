@@ -11,6 +11,7 @@ mod drafting;
 mod folding;
 mod job;
 mod job_view;
+mod keyed;
 pub mod laws;
 mod macaroons;
 mod minting;

@@ -1,6 +1,6 @@
 //! What is known of a reply before its signature is computed.
 
-ghost use Rattle.std.specs.Prelude.{◌≡◌, ◌⊎◌, ◌∷◌, ℕ, List, [], IfOk, MatchOption, None, drop, length, get_or};
+ghost use Rattle.std.specs.Prelude.{◌≡◌, ◌⊎◌, ◌∷◌, ℕ, List, [], IfOk, IfSome, MatchOption, None, drop, length, get_or};
 ghost use Rattle.mac_hmac.specs.Chain.{extended};
 ghost use Rattle.mac_decide.specs.Folding.{end_of};
 ghost use Rattle.mac_decide.specs.Prepared.{comes_to, ends_in, left_of, reply_by, signature_of, verdict_on};
@@ -9,7 +9,7 @@ use crate::context::Context;
 use crate::folding::Folding;
 use crate::reply::{signed_reply, verdict_reply, written_reply};
 use crate::verdict_view::verdict_by;
-use mac_hmac::{RootKey, Sig, extend, same};
+use mac_hmac::{RootKey, Sig, same};
 use mac_token::{Draft, Token, TokenView};
 use mac_wire::{NoMemory, Reply, TokenForm};
 use std::alloc::Global;
@@ -164,6 +164,16 @@ impl<'a> Prepared<'a> {
         }
     }
 
+    /// The key that the next text is folded under, where it is one and not a signature.
+    pub fn key(&self) -> Option<RootKey>
+        ensures { IfSome result (λ key. key ≡ signature_of self.now) }
+    {
+        match self {
+            Prepared::Told(_) => None,
+            Prepared::Pending(signing) => signing.folding.key(),
+        }
+    }
+
     /// Takes the signature after the next text.
     pub fn fold(&mut self, signature: Sig)
         requires { (text : List ℕ) (rest : List (List ℕ)) → left_of self.old ≡ text ∷ rest
@@ -180,8 +190,10 @@ impl<'a> Prepared<'a> {
     pub fn fold_next(&mut self)
         ensures { comes_to self.new ≡ comes_to self.old }
     {
-        let signature = extend(self.signature(), self.text());
-        self.fold(signature);
+        if let Prepared::Pending(signing) = self {
+            let signature = signing.folding.next_signature();
+            signing.fold(signature);
+        }
     }
 
     /// The reply. What is left is folded on first, one text after the other.

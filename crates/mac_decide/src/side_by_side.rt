@@ -8,12 +8,13 @@ ghost use Rattle.mac_decide.specs.Viewed.{viewed};
 use crate::choosing::{FEWEST, LANES, Step, next_step};
 use crate::job::Job;
 use crate::job_view::{ArrivalView, JobView};
+use crate::keyed::keys_at;
 use crate::prepared::Prepared;
 use crate::preparing::prepare;
 use crate::reply::refused;
 use crate::rooms::{RUN, Rooms};
 use arrayvec::ArrayVec;
-use mac_hmac::{Sig, extend_each};
+use mac_hmac::{Sig, extend_each, start_each};
 use mac_wire::{NoMemory, Refusal, Reply};
 use std::alloc::Global;
 
@@ -221,7 +222,10 @@ fn together(run: &[Prepared<'_>], places: &[usize; LANES]) -> [Sig; LANES]
         text_at(run, places[6]),
         text_at(run, places[7]),
     ];
-    extend_each(&signatures, &texts)
+    match keys_at(run, places) {
+        Some(keys) => start_each(&keys, &texts),
+        None => extend_each(&signatures, &texts),
+    }
 }
 
 /// The signature so far at a place of the run; zeros where the run has no such place.

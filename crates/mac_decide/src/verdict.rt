@@ -24,7 +24,7 @@ pub enum Verdict {
 }
 
 /// The verdict on a token under a name's keys in a context. For an identifier and n caveats of at
-/// most 55 bytes each it hashes 4n + 4 blocks, and as many again only where the first of two keys
+/// most 55 bytes each it hashes 4n + 2 blocks, and as many again only where the first of two keys
 /// doesn't give the signature; it takes no memory.
 pub fn verify(keys: &Keys, token: &Token, context: &Context<'_>) -> Verdict
     ensures { IsVerdict (listed keys.now) token.now context.now result }

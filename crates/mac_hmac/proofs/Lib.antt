@@ -1,3 +1,4 @@
 pub mod ChainLemmas
 pub mod HmacLemmas
 pub mod DigestLemmas
+pub mod BegunLemmas

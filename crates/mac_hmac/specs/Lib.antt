@@ -1,3 +1,4 @@
 pub mod Hmac
 pub mod HmacState
 pub mod Chain
+pub mod Begun

@@ -1,7 +1,7 @@
 //! HMAC (RFC 2104) with SHA-256, over a text at once or in pieces.
 ghost use Rattle.std.specs.Prelude.{◌≡◌, ◌≤◌, ◌-◌, ◌++◌, ℕ, List, [], length, replicate};
 ghost use Rattle.sha2.specs.Hashers.{Holds256};
-ghost use Rattle.mac_hmac.specs.Hmac.{hmac, xor_pad};
+ghost use Rattle.mac_hmac.specs.Hmac.{block_key, hmac, xor_pad};
 ghost use Rattle.mac_hmac.specs.HmacState.{Holds};
 
 use sha2::{Digest, Sha256};
@@ -25,6 +25,14 @@ pub(crate) fn padded(key: &[u8], pad: u8) -> [u8; BLOCK]
         block[i] = *byte ^ pad;
     }
     block
+}
+
+/// The block of a key: zero bytes appended, and each byte XORed with the pad's.
+#[inline(always)]
+pub(crate) fn padded_key(key: &[u8; 32], pad: u8) -> [u8; 64]
+    ensures { result ≡ xor_pad (block_key key.now) pad }
+{
+    padded(key, pad)
 }
 
 /// A hasher that has absorbed one block of the key, XORed with the pad.

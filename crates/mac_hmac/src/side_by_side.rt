@@ -2,20 +2,13 @@
 ghost use Rattle.std.specs.Prelude.{◌≡◌, ◌<◌, ◌≤◌, ◌∷◌, ℕ, [], IfSome, slice_index, slice_index_or};
 ghost use Rattle.sha256x8.specs.Lanes.{text_at};
 ghost use Rattle.mac_hmac.specs.Chain.{chain, extended};
-ghost use Rattle.mac_hmac.specs.Hmac.{block_key, hmac, xor_pad};
+ghost use Rattle.sha256x8.specs.Begun.{IsBegun};
+ghost use Rattle.mac_hmac.specs.Hmac.{block_key, hmac, inner_block, outer_block, xor_pad};
 
-use crate::hmac_state::{INNER_PAD, OUTER_PAD, padded};
+use crate::hmac_state::{INNER_PAD, OUTER_PAD, padded_key};
 use crate::key::RootKey;
 use crate::signature::Sig;
-use sha256x8::{nested_digest_each, paired_digest_each};
-
-/// The block of a key: zero bytes appended, and each byte XORed with the pad's.
-#[inline(always)]
-fn padded_key(key: &[u8; 32], pad: u8) -> [u8; 64]
-    ensures { result ≡ xor_pad (block_key key.now) pad }
-{
-    padded(key, pad)
-}
+use sha256x8::{nested_digest_each, nested_digest_from_each, paired_digest_each};
 
 /// The block of each key: zero bytes appended, and each byte XORed with the pad's.
 #[inline(always)]
@@ -143,22 +136,49 @@ fn signatures_of(digests: [[u8; 32]; 8]) -> [Sig; 8]
     ]
 }
 
-/// The signatures of eight macaroons with these identifiers and no caveat.
+/// The hash values after the inner pads of these keys.
+#[inline(always)]
+fn inner_each(keys: &[RootKey; 8]) -> [[u32; 8]; 8]
+    ensures { (j : ℕ) → j < 8 → IsBegun (slice_index_or result j [])
+        (inner_block (slice_index_or keys.now j [])) }
+{
+    [
+        keys[0].inner(),
+        keys[1].inner(),
+        keys[2].inner(),
+        keys[3].inner(),
+        keys[4].inner(),
+        keys[5].inner(),
+        keys[6].inner(),
+        keys[7].inner(),
+    ]
+}
+
+/// The hash values after the outer pads of these keys.
+#[inline(always)]
+fn outer_each(keys: &[RootKey; 8]) -> [[u32; 8]; 8]
+    ensures { (j : ℕ) → j < 8 → IsBegun (slice_index_or result j [])
+        (outer_block (slice_index_or keys.now j [])) }
+{
+    [
+        keys[0].outer(),
+        keys[1].outer(),
+        keys[2].outer(),
+        keys[3].outer(),
+        keys[4].outer(),
+        keys[5].outer(),
+        keys[6].outer(),
+        keys[7].outer(),
+    ]
+}
+
+/// The signatures of eight macaroons with these identifiers and no caveat. It costs half of what
+/// `extend_each` does, whatever the keys.
 pub fn start_each(keys: &[RootKey; 8], identifiers: &[&[u8]; 8]) -> [Sig; 8]
     ensures { (j : ℕ) → j < 8 → slice_index_or result j []
         ≡ chain (slice_index_or keys.now j []) (text_at identifiers.now j) [] }
 {
-    let keys = [
-        keys[0].bytes(),
-        keys[1].bytes(),
-        keys[2].bytes(),
-        keys[3].bytes(),
-        keys[4].bytes(),
-        keys[5].bytes(),
-        keys[6].bytes(),
-        keys[7].bytes(),
-    ];
-    signatures_of(hmac_each(&keys, identifiers))
+    signatures_of(nested_digest_from_each(&outer_each(keys), &inner_each(keys), identifiers))
 }
 
 /// The signatures of eight macaroons after one more first-party caveat on each.

@@ -43,7 +43,7 @@ pub fn start(key: &RootKey, identifier: &[u8]) -> Sig
     ensures { result ≡ chain key.now identifier.now [] }
 {
     Sig {
-        bytes: hmac(&key.bytes(), identifier),
+        bytes: key.hmac_of(identifier),
     }
 }
 

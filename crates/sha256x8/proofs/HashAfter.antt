@@ -6,6 +6,7 @@ use Rattle.std.proofs.lemmas.List.{append_assoc, length-replicate, take_all, tak
 use Rattle.std.specs.Int.{w64, to_be_bytes}
 use Rattle.sha2.specs.Sha256.{compress, final_hash, hash_after, initial_hash_256, padded_message, padding, rounds, schedule}
 use Rattle.sha2.proofs.Absorbing256.{hash_after_next}
+use Rattle.sha256x8.specs.Begun.{listed}
 use Rattle.sha256x8.specs.Lanes.{AreWords}
 use Rattle.sha256x8.proofs.LaneWise.{below_eight}
 use Rattle.sha256x8.specs.Padded.{after_block, padded_text}
@@ -103,3 +104,8 @@ AreWords_final m =
     let whole = length-append m (0x80 ∷ (replicate z 0 ++ field)) in
     AreWords_hash_after initial_hash_256 (padded_message m) (length (padded_message m) / 64)
     (omega (arith, tail, whole))
+
+-- the words of a hash value after a block, one by one
+pub listed_compress : (h b : List ℕ) → listed (compress h b) ≡ compress h b
+unfolding compress
+listed_compress h b = refl

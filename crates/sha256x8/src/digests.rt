@@ -49,7 +49,7 @@ fn begin_each(blocks: &[[u8; 64]; 8]) -> [[u32; 8]; 8]
 /// The hash values of eight messages, from those after the first block of each and the text after
 /// it.
 #[inline(always)]
-fn finish_each(mut state: [[u32; 8]; 8], texts: &[&[u8]; 8]) -> [[u32; 8]; 8]
+pub(crate) fn finish_each(mut state: [[u32; 8]; 8], texts: &[&[u8]; 8]) -> [[u32; 8]; 8]
     ensures { (j : ℕ) → j < 8 → (block : List ℕ) → length block ≡ 64
         → lane_state j state ≡ compress initial_hash_256 block
         → lane_state j result ≡ final_hash initial_hash_256 (block ++ text_at texts.now j) }
@@ -63,7 +63,7 @@ fn finish_each(mut state: [[u32; 8]; 8], texts: &[&[u8]; 8]) -> [[u32; 8]; 8]
 /// The digests of eight messages, each a block and a digest: from the hash values after the blocks,
 /// and those of the digests.
 #[inline(always)]
-fn close_each(mut state: [[u32; 8]; 8], inner: &[[u32; 8]; 8]) -> [[u8; 32]; 8]
+pub(crate) fn close_each(mut state: [[u32; 8]; 8], inner: &[[u32; 8]; 8]) -> [[u8; 32]; 8]
     ensures { (j : ℕ) → j < 8 → (block message : List ℕ) → length block ≡ 64
         → lane_state j state ≡ compress initial_hash_256 block
         → lane_state j inner.now ≡ final_hash initial_hash_256 message

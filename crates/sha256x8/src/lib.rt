@@ -3,6 +3,7 @@
 //! Nothing here asks for memory, and everything answers.
 #![tactic(auto)]
 
+mod begun;
 mod block;
 mod constants;
 mod digests;
@@ -10,4 +11,5 @@ mod padding;
 mod state;
 mod word;
 
+pub use begun::{begin, nested_digest_from, nested_digest_from_each};
 pub use digests::{digest_each, nested_digest_each, paired_digest_each};

@@ -14,7 +14,7 @@ const BIT_COUNT: usize = 56;
 
 /// How many blocks follow the first one of a message, where `text` does.
 #[inline(always)]
-fn block_count(text: &[u8]) -> usize
+pub(crate) fn block_count(text: &[u8]) -> usize
     ensures { 64 * result ≡ length (padded_text text.now) }
 {
     (text.len() + 8) / BLOCK + 1
@@ -54,7 +54,7 @@ fn with_bit_count(mut block: [u8; 64], bit_count: u64) -> [u8; 64]
 /// Block `index` of those that follow the first one of a message, where `text` does; zeros where
 /// there are not so many.
 #[inline(always)]
-fn padded_block(text: &[u8], index: usize) -> [u8; 64]
+pub(crate) fn padded_block(text: &[u8], index: usize) -> [u8; 64]
     ensures { IsBlock text.now index result }
 {
     if index >= block_count(text) {

@@ -1,7 +1,7 @@
 use Rattle.std.proofs.Common.{◌∙◌, arith, refl}
 use Rattle.mac_hmac.specs.Hmac.{block_key}
 use Rattle.mac_hmac.proofs.HmacLemmas.{fitted_key-short}
-use Rattle.mac_hmac.proofs.side_by_side.padded_key.Goals as goal
+use Rattle.mac_hmac.proofs.hmac_state.padded_key.Goals as goal
 
 pub returns : goal.returns
 unfolding block_key
