@@ -25,6 +25,7 @@ import urllib.request
 
 import client_cases
 import client_tokens
+import peers
 
 TOP = pathlib.Path(__file__).resolve().parent.parent
 PROGRAM = os.environ.get("MACAROOND", str(TOP / "bin" / "macaroond"))
@@ -255,6 +256,7 @@ def daemon_faults(count=FEW):
 
 
 def main(words):
+    peers.run_by_debian_python()
     count = int(words[0]) if words else MANY
     parts = {"Python client": python_faults, "Go client": go_faults, "with the daemon": lambda: daemon_faults(count)}
     failed = 0

@@ -5,7 +5,6 @@ Each part tells how many checks it made, what was wrong, and what it left out; t
 all of them. A part that breaks off counts as one that failed, and the others are made all the same.
 """
 import functools
-import os
 import sys
 import time
 import traceback
@@ -38,8 +37,6 @@ import versions
 import words
 import wrong_bodies
 
-# Where Debian's packages for Python are seen.
-DEBIAN_PYTHON = "/usr/bin/python3"
 # How long hostile clients use the daemon.
 HOSTILE_SECONDS = 4
 
@@ -143,8 +140,7 @@ def told(name, part):
 
 
 def main():
-    if sys.executable != DEBIAN_PYTHON and os.access(DEBIAN_PYTHON, os.X_OK):
-        os.execv(DEBIAN_PYTHON, [DEBIAN_PYTHON, *sys.argv])
+    peers.run_by_debian_python()
     passed, failed, skipped = map(sum, zip(*(told(name, part) for name, part in parts())))
     print(f"{passed} passed, {failed} failed, {skipped} skipped")
     sys.exit(1 if failed else 0)

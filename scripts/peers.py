@@ -13,6 +13,8 @@ sys.path.append(str(pathlib.Path(__file__).resolve().parent.parent / "examples")
 import request
 from pipe_runs import TOP, Case
 
+# Where Debian's packages for Python are seen.
+DEBIAN_PYTHON = "/usr/bin/python3"
 SECRET = "this is our super secret key; only we should know it"
 LOCATION = "http://mybank/"
 IDENTIFIER = "we used our secret key"
@@ -123,6 +125,12 @@ class GoMacaroon:
 
     def accepts(self, form, text, facts):
         return self.asked("verify", form, SECRET, text, *facts) == "granted"
+
+
+def run_by_debian_python():
+    """Begins the script again by the Python that sees Debian's packages, where it is another."""
+    if sys.executable != DEBIAN_PYTHON and os.access(DEBIAN_PYTHON, os.X_OK):
+        os.execv(DEBIAN_PYTHON, [DEBIAN_PYTHON, *sys.argv])
 
 
 PEERS = [Libmacaroons, Pymacaroons, GoMacaroon]
