@@ -27,8 +27,8 @@ list() {
     for page in README.md CHANGELOG.md SECURITY.md docs/*.md; do
         echo 644 "$page" "$docdir/$page"
     done
-    for example in examples/*; do
-        [ ! -f "$example" ] || echo "$(mode_of "$example")" "$example" "$docdir/$example"
+    find examples -type f -not -path '*/__pycache__/*' | sort | while read -r example; do
+        echo "$(mode_of "$example")" "$example" "$docdir/$example"
     done
 }
 
@@ -72,8 +72,8 @@ uninstall_all() {
     list | while read -r _ _ where; do
         rm -f "$destdir$where"
     done
-    for folder in "$docdir/examples" "$docdir/docs" "$docdir" "$prefix/libexec/macaroond"; do
-        [ ! -d "$destdir$folder" ] || rmdir --ignore-fail-on-non-empty "$destdir$folder"
+    for folder in "$destdir$docdir" "$destdir$prefix/libexec/macaroond"; do
+        [ ! -d "$folder" ] || find "$folder" -depth -type d -empty -delete
     done
 }
 

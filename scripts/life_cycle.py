@@ -79,7 +79,7 @@ class System:
 
     def run(self, *words):
         """How a command ends in the system, and what it prints."""
-        command = ["nsenter", "--target", self.leader[0], "--all", "--wd=/", "env", "-i", "PATH=/usr/sbin:/usr/bin:/sbin:/bin"]
+        command = ["nsenter", "--target", self.leader[0], "--all", "--wdns=/", "env", "-i", "PATH=/usr/sbin:/usr/bin:/sbin:/bin"]
         told = subprocess.run([*command, *words], stdin=subprocess.DEVNULL, capture_output=True, text=True, timeout=PATIENCE)
         return pipe_runs.Run(told.returncode, told.stdout, told.stderr)
 
