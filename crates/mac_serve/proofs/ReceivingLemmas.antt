@@ -1,5 +1,5 @@
 -- What the inbound half of a connection takes in, step by step.
-use Rattle.std.proofs.Common.{rules, ◌≡◌, ◌≢◌, ℕ, ◌+◌, ◌<◌, ◌≤◌, Bool, ◌⊎◌, inl, inr, List, [], ◌∷◌, ◌++◌, length, take, refl, sym, ap, subst, ◌∙◌, append_assoc, append-nil, length-append, arith}
+use Rattle.std.proofs.Common.{rules, ◌≡◌, ◌≢◌, ℕ, ◌+◌, ◌≤◌, Bool, ◌⊎◌, inl, inr, List, [], ◌∷◌, ◌++◌, length, take, refl, sym, ap, subst, ◌∙◌, append_assoc, append-nil, length-append, arith}
 use Rattle.std.specs.Prelude.{Option, Some, None, Result, Ok, Err, OnOk, OnErr, IsErrAnd, MatchResult}
 use Rattle.std.specs.declared.alloc.Global.{Global}
 use Rattle.std.specs.declared.vec.Vec.{Vec}
@@ -31,9 +31,13 @@ placed-append place (job ∷ jobs) more =
     ap (λ (l : List (ℕ × Job)). (place, job) ∷ l) (placed-append (place + 1) jobs more
     ∙ ap (λ (n : ℕ). placed (place + 1) jobs ++ placed n more) (omega arith))
 
+-- the intake of one ring
+same-intake : (a b c : Inbound) → IsSameIntake a.ring b.ring → IsSameIntake b.ring c.ring → IsSameIntake a.ring c.ring
+same-intake a b c h k = ((k.0.0 ∙ h.0.0, k.0.1 ∙ h.0.1, k.0.2 ∙ h.0.2, k.0.3 ∙ h.0.3), k.1 ∙ h.1)
+
 pub took-nothing : (a : Inbound) → TakesIn [] a a
 unfolding placed
-took-nothing a = record { admitted_is = search rules; put_is = search rules }
+took-nothing a = record { same = ((refl, refl, refl, refl), refl); admitted_is = search rules; put_is = search rules }
 
 -- what is put behind these jobs stands behind them
 put-more : (jobs more : List Job) (a b : Inbound) → TakesIn jobs a b
@@ -52,6 +56,7 @@ put-more jobs more a b first =
 -- first these jobs, and then those
 pub takes-in-more : (jobs more : List Job) (a b c : Inbound) → TakesIn jobs a b → TakesIn more b c → TakesIn (jobs ++ more) a c
 takes-in-more jobs more a b c first then = record {
+  same = same-intake a b c first.same then.same;
   admitted_is = then.admitted_is ∙ ap (λ (l : List Job). l ++ more) first.admitted_is ∙ append_assoc (admitted a.ring) jobs more;
   put_is = then.put_is ∙ put-more jobs more a b first;
 }
@@ -70,9 +75,10 @@ put-nothing : (a : Inbound) → a.putter ≡ record a.putter { put = a.putter.pu
 put-nothing a = ap (λ (l : List (ℕ × Job)). record a.putter { put = l }) (sym (append-nil a.putter.put))
 
 -- nothing was admitted
-pub takes-none : (jobs : List Job) (a b : Inbound) → admitted b.ring ≡ admitted a.ring → b.putter ≡ a.putter → TakesSome jobs a b
+pub takes-none : (jobs : List Job) (a b : Inbound) → IsSameIntake a.ring b.ring → admitted b.ring ≡ admitted a.ring → b.putter ≡ a.putter → TakesSome jobs a b
 unfolding placed
-takes-none jobs a b ring putter = record {
+takes-none jobs a b same ring putter = record {
+  same = same;
   count = 0;
   there = omega arith;
   admitted_is = ring ∙ search rules;
@@ -84,6 +90,7 @@ takes-none jobs a b ring putter = record {
 pub takes-some-more : (jobs more : List Job) (a b c : Inbound) → TakesIn jobs a b → TakesSome more b c → TakesSome (jobs ++ more) a c
 takes-some-more jobs more a b c first then =
     record {
+      same = same-intake a b c first.same then.same;
       count = length jobs + then.count;
       there = omega (arith, then.there, length-append jobs more);
       admitted_is = then.admitted_is ∙ ap (λ (l : List Job). l ++ take then.count more) first.admitted_is
@@ -97,6 +104,7 @@ takes-some-more jobs more a b c first then =
 
 pub takes-some-longer : (jobs more : List Job) (a b : Inbound) → TakesSome jobs a b → TakesSome (jobs ++ more) a b
 takes-some-longer jobs more a b took = record {
+  same = took.same;
   count = took.count;
   there = omega (arith, took.there, length-append jobs more);
   admitted_is = took.admitted_is ∙ ap (λ (l : List Job). admitted a.ring ++ l) (sym (take-append-le took.count jobs more took.there));
@@ -107,9 +115,15 @@ takes-some-longer jobs more a b took = record {
       (sym (take-append-le took.puts jobs more (omega (arith, took.there, behind-few took.puts took.count took.put_behind))));
 }
 
+-- the intake is that of the same ring
+pub same-received : {T : Type 0} (jobs : List Job) (r : Result T InboundFault) (a b c : Inbound) → IsSameIntake a.ring b.ring → Receives jobs r b c → IsSameIntake a.ring c.ring
+same-received jobs (Ok x) a b c same took = same-intake a b c same took.same
+same-received jobs (Err why) a b c same took = same-intake a b c same took.1.same
+
 -- all of the jobs are some of them
 pub takes-some-all : (jobs : List Job) (a b : Inbound) → TakesIn jobs a b → TakesSome jobs a b
 takes-some-all jobs a b took = record {
+  same = took.same;
   count = length jobs;
   there = omega arith;
   admitted_is = took.admitted_is ∙ ap (λ (l : List Job). admitted a.ring ++ l) (sym (take-length jobs));
@@ -126,22 +140,27 @@ same-after jobs a b took =
 
 -- a job that was admitted, and put or not
 pub receives-put : {T : Type 0} (result : Result T InboundFault) (job : Job) (place : ℕ) (before mid after : Inbound)
-    → admitted mid.ring ≡ admitted before.ring ++ job ∷ [] → mid.putter ≡ before.putter → after.ring ≡ mid.ring → place ≡ length (admitted before.ring)
+    → IsSameIntake before.ring mid.ring → result ≢ Err fault.Read → admitted mid.ring ≡ admitted before.ring ++ job ∷ [] → mid.putter ≡ before.putter → after.ring ≡ mid.ring → place ≡ length (admitted before.ring)
     → OnOk result (after.putter ≡ with_put mid.putter (place, job)) → OnErr result (after.putter ≡ mid.putter)
     → Receives (job ∷ []) result before after
 unfolding placed
-receives-put (Ok x) job place before mid after is_admitted is_putter is_ring is_place put kept = record {
+receives-put (Ok x) job place before mid after same no_read is_admitted is_putter is_ring is_place put kept = record {
+  same = rw is_ring same;
   admitted_is = ap admitted is_ring ∙ is_admitted;
   put_is = put ∙ ap (λ (p : Pass Job). with_put p (place, job)) is_putter ∙ ap (λ (n : ℕ). with_put before.putter (n, job)) is_place;
 }
-receives-put (Err why) job place before mid after is_admitted is_putter is_ring is_place put kept = record {
-  count = 1;
-  there = omega arith;
-  admitted_is = ap admitted is_ring ∙ is_admitted;
-  puts = 0;
-  put_behind = inr refl;
-  put_is = kept ∙ is_putter ∙ put-nothing before;
-}
+receives-put (Err why) job place before mid after same no_read is_admitted is_putter is_ring is_place put kept = (
+  λ is. no_read (ap Err is),
+  record {
+    same = rw is_ring same;
+    count = 1;
+    there = omega arith;
+    admitted_is = ap admitted is_ring ∙ is_admitted;
+    puts = 0;
+    put_behind = inr refl;
+    put_is = kept ∙ is_putter ∙ put-nothing before;
+  },
+)
 
 -- one more arrival
 pub takes-in-next : (table : Table) (front : List Arrival) (arrival : Arrival) (a b c : Inbound)
@@ -235,10 +254,11 @@ goes-further tells table version given mid given' reader reader' a b result on r
     by_result (Err fault.Exhausted) (nothing, told) = gives-up-there tells table version given mid given' reader a b fault.Exhausted on nothing
     by_result (Err fault.Stopped) reads = absurd reads
 
--- the arrivals that were pending are taken in
-pub goes-taken : (tells : Bool) (table : Table) (version : Version) (given given' : List ℕ) (reader : FrameReader) (pending : List Arrival) (a b c : Inbound)
-    → GoesOn tells table version given given' reader pending a b → TakesIn (jobs_of table pending) b c → GoesOn tells table version given given' reader [] a c
-goes-taken tells table version given given' reader pending a b c on took =
+-- the arrivals that were pending are taken in, all or some
+pub goes-received : {T : Type 0} (tells : Bool) (table : Table) (version : Version) (given given' : List ℕ) (reader : FrameReader) (pending : List Arrival) (a b c : Inbound) (r : Result T InboundFault)
+    → GoesOn tells table version given given' reader pending a b → Receives (jobs_of table pending) r b c
+    → MatchResult r (λ _. GoesOn tells table version given given' reader [] a c) (λ why. HasRun tells table version given given' (Err why) a c)
+goes-received {T} tells table version given given' reader pending a b c (Ok x) on took =
     record {
       stream = on.stream;
       gave = on.gave;
@@ -248,12 +268,7 @@ goes-taken tells table version given given' reader pending a b c on took =
       took = subst (λ (jobs : List Job). TakesIn jobs a c) (sym (map-append (job_under table) on.handed pending))
           (takes-in-more (jobs_of table on.handed) (jobs_of table pending) a b c on.took took);
     }
-
--- not all of the arrivals that were pending are taken in
-pub goes-no-further : (tells : Bool) (table : Table) (version : Version) (given given' : List ℕ) (reader : FrameReader) (pending : List Arrival) (a b c : Inbound) (why : InboundFault)
-    → GoesOn tells table version given given' reader pending a b → why ≢ fault.Read → TakesSome (jobs_of table pending) b c
-    → HasRun tells table version given given' (Err why) a c
-goes-no-further tells table version given given' reader pending a b c why on no_read took =
+goes-received {T} tells table version given given' reader pending a b c (Err why) on (no_read, took) =
     let some = takes-some-more (jobs_of table on.handed) (jobs_of table pending) a b c on.took took in
     let is = all-arrived reader on.stream (on.handed ++ pending) on.read in
     let all = subst (λ (jobs : List Job). TakesSome jobs a c) (sym (map-append (job_under table) on.handed pending) ∙ ap (jobs_of table) (sym is)) some in
@@ -309,9 +324,9 @@ begins tells table given given' reader a more (first ∷ rest, gave, some, read)
 -- where a run ended that took nothing in
 nothing-taken : (table : Table) (stream : List ℕ) (a : Inbound) (why : InboundFault) → why ≢ fault.Read → Ran table stream (Err why) a a
 nothing-taken table stream a fault.Read no_read = absurd (no_read refl)
-nothing-taken table stream a fault.NoMemory no_read = takes-none (jobs_of table (arrivals_of stream).arrived) a a refl refl
-nothing-taken table stream a fault.Exhausted no_read = takes-none (jobs_of table (arrivals_of stream).arrived) a a refl refl
-nothing-taken table stream a fault.Stopped no_read = takes-none (jobs_of table (arrivals_of stream).arrived) a a refl refl
+nothing-taken table stream a fault.NoMemory no_read = takes-none (jobs_of table (arrivals_of stream).arrived) a a ((refl, refl, refl, refl), refl) refl refl
+nothing-taken table stream a fault.Exhausted no_read = takes-none (jobs_of table (arrivals_of stream).arrived) a a ((refl, refl, refl, refl), refl) refl refl
+nothing-taken table stream a fault.Stopped no_read = takes-none (jobs_of table (arrivals_of stream).arrived) a a ((refl, refl, refl, refl), refl) refl refl
 
 -- the first read failed
 pub began-badly : (tells : Bool) (table : Table) (given given' : List ℕ) (reader : FrameReader) (a : Inbound) (why : InboundFault)
@@ -377,13 +392,9 @@ match-residual P Q (Ok x) why is q = absurd is
 match-residual P Q (Err e) why is q = subst Q (sym is) q
 
 pub receives-residual : {T : Type 0} (jobs : List Job) (r : Result T InboundFault) (why : InboundFault) (a b : Inbound)
-    → IsErrAnd r (λ e. e ≡ why) → TakesSome jobs a b → Receives jobs r a b
-receives-residual jobs (Ok x) why a b is some = absurd is
-receives-residual jobs (Err e) why a b is some = some
-
--- the intake of one ring
-pub same-intake : (a b c : Inbound) → IsSameIntake a.ring b.ring → IsSameIntake b.ring c.ring → IsSameIntake a.ring c.ring
-same-intake a b c h k = ((k.0.0 ∙ h.0.0, k.0.1 ∙ h.0.1, k.0.2 ∙ h.0.2, k.0.3 ∙ h.0.3), k.1 ∙ h.1)
+    → IsErrAnd r (λ e. e ≡ why) → why ≢ fault.Read → TakesSome jobs a b → Receives jobs r a b
+receives-residual jobs (Ok x) why a b is other some = absurd is
+receives-residual jobs (Err e) why a b is other some = (λ read. other (sym is ∙ read), some)
 
 -- an ending that is told where reading stopped
 pub told-ended : (end : Ending) (has_ended : Type 0) (at_end : Type 0) → at_end ⊎ has_ended → (has_ended → end ≢ ending.Broken → end ≡ ending.Oversize) → end ≢ ending.Broken

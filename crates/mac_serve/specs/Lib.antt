@@ -1,5 +1,4 @@
 pub mod Gathered
-pub mod Incoming
 pub mod Posts
 pub mod Receiving
 pub mod Sending

@@ -1,15 +1,15 @@
 -- What the inbound half of a connection takes in.
-use Rattle.std.specs.Prelude.{◌≡◌, ◌≢◌, ◌⊎◌, ℕ, ◌+◌, ◌<◌, ◌≤◌, Bool, IsTrue, List, [], ◌∷◌, ◌++◌, length, map, take, Option, Some, None, Result, Ok, Err}
+use Rattle.std.specs.Prelude.{◌≡◌, ◌≢◌, ◌⊎◌, ℕ, ◌+◌, ◌<◌, ◌≤◌, Bool, IsTrue, List, [], ◌∷◌, ◌++◌, length, map, take, Option, Some, None, Result, Ok, Err, IfOk}
 use Rattle.std.specs.declared.alloc.Global.{Global}
 use Rattle.std.specs.declared.vec.Vec.{Vec}
-use Rattle.mac_ring.specs.Ring.{admitted}
+use Rattle.mac_ring.specs.Ring.{admitted, IsSameIntake}
 use Rattle.mac_keys.specs.Table.{Table}
 use Rattle.mac_wire.specs.declared.arrival.Arrival.{Arrival}
 use Rattle.mac_wire.specs.declared.arrival.Ending.{Ending}
 use Rattle.mac_wire.specs.declared.arrival.Ending.TheVariants as ending
 use Rattle.mac_wire.specs.declared.frame.FrameReader.{FrameReader}
 use Rattle.mac_wire.specs.declared.version.Version.{Version}
-use Rattle.mac_wire.specs.Stream.{arrivals_of, version_told}
+use Rattle.mac_wire.specs.Stream.{arrivals_of, version_told, version_or_one}
 use Rattle.mac_wire.specs.FrameReader.{HasRead, version_of}
 use Rattle.mac_decide.specs.declared.job.Job.{Job}
 use Rattle.mac_decide.specs.World.{job_under}
@@ -66,6 +66,7 @@ IsBehind few count = (count ≡ few) ⊎ (count ≡ few + 1)
 
 -- from the one state to the other these jobs were admitted, and put into the queue at their places
 pub record TakesIn (jobs : List Job) (before after : Inbound) : Type 0 where
+  pub same : IsSameIntake before.ring after.ring
   pub admitted_is : admitted after.ring ≡ admitted before.ring ++ jobs
   pub put_is : after.putter
       ≡ record before.putter { put = before.putter.put ++ placed (length (admitted before.ring)) jobs }
@@ -73,6 +74,7 @@ pub record TakesIn (jobs : List Job) (before after : Inbound) : Type 0 where
 -- from the one state to the other some of these jobs, the first ones, were admitted, and all of
 -- them put into the queue at their places, or all but the last
 pub record TakesSome (jobs : List Job) (before after : Inbound) : Type 0 where
+  pub same : IsSameIntake before.ring after.ring
   pub count : ℕ
   pub there : count ≤ length jobs
   pub admitted_is : admitted after.ring ≡ admitted before.ring ++ take count jobs
@@ -82,10 +84,10 @@ pub record TakesSome (jobs : List Job) (before after : Inbound) : Type 0 where
     put = before.putter.put ++ placed (length (admitted before.ring)) (take puts jobs);
   }
 
--- what a step did with these jobs: it took in all, or some where it failed
+-- what a step did with these jobs, without the source: it took in all, or some where it failed
 abbrev pub Receives : {T : Type 0} → List Job → Result T InboundFault → Inbound → Inbound → Type 0
 Receives jobs (Ok x) before after = TakesIn jobs before after
-Receives jobs (Err why) before after = TakesSome jobs before after
+Receives jobs (Err why) before after = (why ≢ fault.Read) × TakesSome jobs before after
 
 -- What a run did with a stream: to its end, or to where the source failed, it took in the jobs of
 -- all arrivals, and else of some.
@@ -130,3 +132,18 @@ Continues tells table version given given' (Ok None) reader before after =
     GoesOn tells table version given given' reader [] before after
 Continues tells table version given given' (Err why) reader before after =
     HasRun tells table version given given' (Err why) before after
+
+-- What a run did that went on from what the first read gave, from the one state of the half to the
+-- other, while its source went from these bytes, this end and this count of failures to those: it
+-- ran over the bytes, told an end where the source had one, and the source's failure is counted.
+pub record Runs (tells : Bool) (table : Table) (given given' : List ℕ) (ended ended' : Bool)
+    (faults faults' : ℕ) (first : Result (Option (Vec Arrival Global)) InboundFault)
+    (reader : FrameReader) (result : Result Ending InboundFault)
+    (before after : Inbound) : Type 0 where
+  pub same : IsSameIntake before.ring after.ring
+  pub run : (from : List ℕ) → Reads tells from given [] [] first reader
+      → HasRun tells table (version_or_one (version_of reader)) from given' result before after
+  pub at_end : IfOk first (λ more. more ≡ None → IsTrue ended)
+      → (from : List ℕ) → Reads tells from given [] [] first reader
+      → IfOk result (λ told. told ≢ ending.Oversize → IsTrue ended')
+  pub counts : (count : ℕ) → CountsRead first count faults → CountsRead result count faults'

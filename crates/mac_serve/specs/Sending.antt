@@ -1,5 +1,5 @@
 -- How the outbound half of a connection stands, and how it ends.
-use Rattle.std.specs.Prelude.{◌≡◌, ◌≢◌, ℕ, ◌+◌, ◌≤◌, false, List, ◌++◌, length, map, take, Option, Some, Contains, Result, Ok, Err}
+use Rattle.std.specs.Prelude.{◌≡◌, ◌≢◌, ℕ, ◌+◌, ◌≤◌, Bool, false, List, ◌++◌, length, map, take, Option, Some, Contains, Result, Ok, Err, IsTrue, MatchResult, OnOk}
 use Rattle.std.specs.FinMap.{get}
 use Rattle.mac_ring.specs.Ring.{received, IsKept, IsSameOutlet}
 use Rattle.mac_wire.specs.declared.reply.Reply.{Reply}
@@ -80,11 +80,55 @@ CountsWrite (Err fault.Stranger) old new = new ≡ old
 CountsWrite (Err fault.Exhausted) old new = new ≡ old
 CountsWrite (Ok x) old new = new ≡ old
 
--- what came of asking for the next reply: where an answer was to another job, the buffer is closed,
--- and that answer came by a foreign post, however many replies are out
-abbrev pub Releases : List (ℕ × Option Job) → Due → Outbound → Type 0
-Releases before due.Gathered o = Stands before o
-Releases before due.Waiting o = Stands before o
-Releases before due.Stranger o =
-    (h : Holds before o) × ((sent : ℕ) → TookForeign (received o.ring) sent h.posts)
-Releases before due.NoMemory o = Fell before fault.NoMemory o
+-- What a step did, from the one state of the half to the other, while its sink went from these
+-- bytes and this count of failures to those: it left the half's ring and version as they were; it
+-- ended so; behind what had gone out before, the sink took what went out in it; and the sink's
+-- failure is counted.
+pub record Steps {T : Type 0} (tells : Bool) (wrote wrote' : List ℕ) (faults faults' : ℕ)
+    (result : Result T OutboundFault) (before after : Outbound) : Type 0 where
+  pub same : IsSame before after
+  pub sends : (earlier : List (ℕ × Option Job)) → Stands earlier before → Sends earlier result after
+  pub written : IsTrue tells → (earlier : List (ℕ × Option Job)) (head : List ℕ)
+      → Stands earlier before → wrote ≡ head ++ out_text before → wrote' ≡ head ++ out_text after
+  pub counts : CountsWrite result faults faults'
+
+-- a step that didn't touch the sink
+abbrev pub StepsAlone : {T : Type 0} → Result T OutboundFault → Outbound → Outbound → Type 0
+StepsAlone result before after =
+    (tells : Bool) (wrote : List ℕ) (faults : ℕ)
+    → Steps tells wrote wrote faults faults result before after
+
+-- a step after which all that was released is out, unless it failed
+pub record SendsAll {T : Type 0} (tells : Bool) (wrote wrote' : List ℕ) (faults faults' : ℕ)
+    (result : Result T OutboundFault) (before after : Outbound) : Type 0 where
+  pub steps : Steps tells wrote wrote' faults faults' result before after
+  pub sent : OnOk result (after.sent ≡ next after)
+
+-- what writing all that is gathered did, whether the buffer is open or not
+pub record Flushes {T : Type 0} (tells : Bool) (wrote wrote' : List ℕ) (faults faults' : ℕ)
+    (result : Result T OutboundFault) (before after : Outbound) : Type 0 where
+  pub ring : after.ring ≡ before.ring
+  pub taker : after.taker ≡ before.taker
+  pub version : after.version ≡ before.version
+  pub holds : (earlier : List (ℕ × Option Job)) → Holds earlier before
+      → MatchResult result (λ _. Holds earlier after)
+      (λ why. (why ≢ fault.Stranger) × Fell earlier why after)
+  pub written : IsTrue tells → (earlier : List (ℕ × Option Job)) (head : List ℕ)
+      → Holds earlier before → wrote ≡ head ++ out_text before → wrote' ≡ head ++ out_text after
+  pub sent : OnOk result (after.sent ≡ next after)
+  pub counts : CountsWrite result faults faults'
+
+-- an answer to another job closed the buffer, and it came by a foreign post, however many replies
+-- are out
+pub record MeetsStranger (before after : Outbound) : Type 0 where
+  pub same : IsSame before after
+  pub out : out_text after ≡ out_text before
+  pub holds : (earlier : List (ℕ × Option Job)) → Stands earlier before
+      → (h : Holds earlier after) × ((sent : ℕ) → TookForeign (received after.ring) sent h.posts)
+
+-- what came of asking for the next reply
+abbrev pub Releases : Due → Outbound → Outbound → Type 0
+Releases due.Gathered before after = StepsAlone (Ok (tt {0})) before after
+Releases due.Waiting before after = StepsAlone (Ok (tt {0})) before after
+Releases due.Stranger before after = MeetsStranger before after
+Releases due.NoMemory before after = StepsAlone {T = Unit {0}} (Err fault.NoMemory) before after

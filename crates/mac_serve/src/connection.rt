@@ -1,14 +1,11 @@
 //! A connection, from its first byte to its last.
 
-ghost use Rattle.std.specs.Prelude.{◌≡◌, ◌≢◌, ◌++◌, ℕ, List, [], Option, None, IsTrue, IfOk, OnOk};
-ghost use Rattle.mac_decide.specs.declared.job.Job.{Job};
+ghost use Rattle.std.specs.Prelude.{◌≡◌, ◌≢◌, [], IsTrue, IfOk};
 ghost use Rattle.mac_order.specs.Buffer.{fresh_buffer};
-ghost use Rattle.mac_ring.specs.Ring.{admitted, received, waiting, IsRing, IsSameIntake};
-ghost use Rattle.mac_wire.specs.FrameReader.{HasRead, version_of};
-ghost use Rattle.mac_wire.specs.Stream.{version_or_one};
-ghost use Rattle.mac_serve.specs.Incoming.{HasRoom};
-ghost use Rattle.mac_serve.specs.Receiving.{CountsRead, HasRun, Reads};
-ghost use Rattle.mac_serve.specs.Sending.{Stands, Sends, CountsWrite, IsSame, out_text, next};
+ghost use Rattle.mac_ring.specs.Ring.{admitted, received, waiting, IsRing};
+ghost use Rattle.mac_wire.specs.FrameReader.{HasRead};
+ghost use Rattle.mac_serve.specs.Receiving.{Runs};
+ghost use Rattle.mac_serve.specs.Sending.{SendsAll};
 ghost use Rattle.mac_serve.specs.Serving.{HasServed, CountsServed, fault_of, served_of, outcome_of};
 
 use crate::fault::ServeFault;
@@ -106,7 +103,6 @@ fn parts(alloc: Global) -> Result<(Intake<Macaroons>, Outlet<Macaroons>, Incomin
     ensures outlet { IfOk result (λ p.
         (received p.1 ≡ []) × (waiting p.1 ≡ []) × (p.1.buffer ≡ fresh_buffer)) }
     ensures nothing { IfOk result (λ p. HasRead p.2.reader [] []) }
-    ensures room { IfOk result (λ p. HasRoom p.2) }
 {
     let (intake, outlet) = make_ring(alloc)?;
     let incoming = Incoming::new(alloc)?;
@@ -124,47 +120,17 @@ fn run_both<R: Threads + Wait + Sync, In: Source, Out: Sink>(
     inbound: &mut Inbound,
     outbound: &mut Outbound,
 ) -> (Result<(), OutboundFault>, Result<Ending, InboundFault>)
-    requires { HasRoom incoming.old }
-    ensures outlet { IsSame outbound.old outbound.new }
-    ensures sends { (before : List (ℕ × Option Job)) → Stands before outbound.old
-        → Sends before result.0 outbound.new }
-    ensures sent { OnOk result.0 (outbound.new.sent ≡ next outbound.new) }
-    ensures written { IsTrue Out.tells → (before : List (ℕ × Option Job)) (head : List ℕ)
-        → Stands before outbound.old → Out.written sink.old ≡ head ++ out_text outbound.old
-        → Out.written sink.new ≡ head ++ out_text outbound.new }
-    ensures write_faults { CountsWrite result.0 (Out.faults sink.old) (Out.faults sink.new) }
-    ensures intake { IsSameIntake inbound.old.ring inbound.new.ring }
-    ensures run { (given : List ℕ)
-        → Reads In.tells given (In.taken source.old) [] [] incoming.old.first
-        incoming.old.reader
-        → HasRun In.tells keys.now (version_or_one (version_of incoming.old.reader)) given
-        (In.taken source.new) result.1 inbound.old inbound.new }
-    ensures end { IfOk incoming.old.first (λ more. more ≡ None → IsTrue (In.ended source.old))
-        → (given : List ℕ)
-        → Reads In.tells given (In.taken source.old) [] [] incoming.old.first
-        incoming.old.reader
-        → IfOk result.1 (λ ending. ending ≢ Ending.Oversize → IsTrue (In.ended source.new)) }
-    ensures read_faults { (count : ℕ) → CountsRead incoming.old.first count (In.faults source.old)
-        → CountsRead result.1 count (In.faults source.new) }
+    ensures sends { SendsAll Out.tells (Out.written sink.old) (Out.written sink.new)
+        (Out.faults sink.old) (Out.faults sink.new) result.0 outbound.old outbound.new }
+    ensures runs { Runs In.tells keys.now (In.taken source.old) (In.taken source.new)
+        (In.ended source.old) (In.ended source.new) (In.faults source.old) (In.faults source.new)
+        incoming.old.first incoming.old.reader result.1 inbound.old inbound.new }
 {
     let signals = Signals::new();
     join_mut(
         rt,
-        &mut ||
-            ensures half { IsSame outbound.entry.now outbound.exit.now }
-            ensures sends { (before : List (ℕ × Option Job)) → Stands before outbound.entry.now
-                → Sends before result outbound.exit.now }
-            ensures sent { OnOk result (outbound.exit.now.sent ≡ next outbound.exit.now) }
-            ensures written { IsTrue Out.tells → (before : List (ℕ × Option Job)) (head : List ℕ)
-                → Stands before outbound.entry.now
-                → Out.written sink.entry.now ≡ head ++ out_text outbound.entry.now
-                → Out.written sink.exit.now ≡ head ++ out_text outbound.exit.now }
-            ensures faults { CountsWrite result
-                (Out.faults sink.entry.now) (Out.faults sink.exit.now) }
-        { outbound.run(rt, sink, &signals) },
-        &mut ||
-            requires { HasRoom incoming.now }
-        { inbound.run(rt, alloc, source, incoming, keys, &signals) },
+        &mut || outbound.run(rt, sink, &signals),
+        &mut || { inbound.run(rt, alloc, source, incoming, keys, &signals) },
     )
 }
 

@@ -29,10 +29,8 @@ pub struct Inbound {
 impl Inbound {
     ghost use Rattle.mac_ring.specs.Ring.{admitted, IsSameIntake, Knows};
     ghost use Rattle.mac_queue.specs.Pass.{with_put, IsSamePass};
-    ghost use Rattle.mac_serve.specs.Receiving.{CountsRead, Reads, jobs_of, Receives, HasRun, GoesOn, Continues};
-    ghost use Rattle.mac_serve.specs.Incoming.{HasRoom};
-    ghost use Rattle.mac_wire.specs.FrameReader.{HasEnded, version_of};
-    ghost use Rattle.mac_wire.specs.Stream.{version_or_one};
+    ghost use Rattle.mac_serve.specs.Receiving.{CountsRead, jobs_of, Receives, HasRun, GoesOn, Continues, Runs};
+    ghost use Rattle.mac_wire.specs.FrameReader.{HasEnded};
     ghost use Rattle.mac_keys.specs.Table.{Table};
     ghost use Rattle.mac_wire.specs.declared.version.Version.{Version};
 
@@ -138,9 +136,7 @@ impl Inbound {
         keys: &KeyTable,
         signals: &Signals,
     ) -> Result<(), InboundFault>
-        ensures ring { IsSameIntake self.old.ring self.new.ring }
-        ensures receives { Receives (job_under keys.now arrival ∷ []) result self.old self.new }
-        ensures no_read { result ≢ Err InboundFault.Read }
+        ensures { Receives (job_under keys.now arrival ∷ []) result self.old self.new }
     {
         let job = job_of(keys, arrival);
         let copy = Macaroons::copy(alloc, &job)?;
@@ -157,9 +153,7 @@ impl Inbound {
         keys: &KeyTable,
         signals: &Signals,
     ) -> Result<(), InboundFault>
-        ensures ring { IsSameIntake self.old.ring self.new.ring }
-        ensures receives { Receives (jobs_of keys.now arrivals.items) result self.old self.new }
-        ensures no_read { result ≢ Err InboundFault.Read }
+        ensures { Receives (jobs_of keys.now arrivals.items) result self.old self.new }
     {
         for arrival in arrivals {
             self.take_arrival(rt, alloc, arrival, keys, signals)?;
@@ -174,7 +168,6 @@ impl Inbound {
         incoming: &mut Incoming,
         signals: &Signals,
     ) -> Result<Option<Vec<Arrival>>, InboundFault>
-        requires { HasRoom incoming.old }
         ensures goes_on { (table : Table) (version : Version) (given : List ℕ)
             (start now : Inbound)
             → GoesOn In.tells table version given (In.taken source.old) incoming.old.reader []
@@ -183,7 +176,6 @@ impl Inbound {
             incoming.new.reader start now }
         ensures end { result ≡ Ok None
             → IsTrue (In.ended source.new) ⊎ HasEnded incoming.new.reader }
-        ensures room { HasRoom incoming.new }
         ensures faults { CountsRead result (In.faults source.old) (In.faults source.new) }
     {
         if incoming.reader.has_ended() {
@@ -207,7 +199,6 @@ impl Inbound {
         keys: &KeyTable,
         signals: &Signals,
     ) -> Result<(), InboundFault>
-        requires { HasRoom incoming.old }
         ensures ring { IsSameIntake self.old.ring self.new.ring }
         ensures goes_on { (version : Version) (given : List ℕ) (start : Inbound)
             → GoesOn In.tells keys.now version given (In.taken source.old)
@@ -242,20 +233,9 @@ impl Inbound {
         keys: &KeyTable,
         signals: &Signals,
     ) -> Result<Ending, InboundFault>
-        requires { HasRoom incoming.old }
-        ensures ring { IsSameIntake self.old.ring self.new.ring }
-        ensures run { (given : List ℕ)
-            → Reads In.tells given (In.taken source.old) [] [] incoming.old.first
-            incoming.old.reader
-            → HasRun In.tells keys.now (version_or_one (version_of incoming.old.reader)) given
-            (In.taken source.new) result self.old self.new }
-        ensures end { IfOk incoming.old.first (λ more. more ≡ None → IsTrue (In.ended source.old))
-            → (given : List ℕ)
-            → Reads In.tells given (In.taken source.old) [] [] incoming.old.first
-            incoming.old.reader
-            → IfOk result (λ ending. ending ≢ Ending.Oversize → IsTrue (In.ended source.new)) }
-        ensures faults { (count : ℕ) → CountsRead incoming.old.first count (In.faults source.old)
-            → CountsRead result count (In.faults source.new) }
+        ensures { Runs In.tells keys.now (In.taken source.old) (In.taken source.new)
+            (In.ended source.old) (In.ended source.new) (In.faults source.old)
+            (In.faults source.new) incoming.old.first incoming.old.reader result self.old self.new }
     {
         let first = mem::replace(&mut incoming.first, Ok(None))?;
         if !signals.await_outbound(rt) {
@@ -279,20 +259,9 @@ impl Inbound {
         keys: &KeyTable,
         signals: &Signals,
     ) -> Result<Ending, InboundFault>
-        requires { HasRoom incoming.old }
-        ensures ring { IsSameIntake self.old.ring self.new.ring }
-        ensures run { (given : List ℕ)
-            → Reads In.tells given (In.taken source.old) [] [] incoming.old.first
-            incoming.old.reader
-            → HasRun In.tells keys.now (version_or_one (version_of incoming.old.reader)) given
-            (In.taken source.new) result self.old self.new }
-        ensures end { IfOk incoming.old.first (λ more. more ≡ None → IsTrue (In.ended source.old))
-            → (given : List ℕ)
-            → Reads In.tells given (In.taken source.old) [] [] incoming.old.first
-            incoming.old.reader
-            → IfOk result (λ ending. ending ≢ Ending.Oversize → IsTrue (In.ended source.new)) }
-        ensures faults { (count : ℕ) → CountsRead incoming.old.first count (In.faults source.old)
-            → CountsRead result count (In.faults source.new) }
+        ensures { Runs In.tells keys.now (In.taken source.old) (In.taken source.new)
+            (In.ended source.old) (In.ended source.new) (In.faults source.old)
+            (In.faults source.new) incoming.old.first incoming.old.reader result self.old self.new }
     {
         let ended = self.read_to_end(rt, alloc, source, incoming, keys, signals);
         signals.end_inbound(has_lost_jobs(&ended));

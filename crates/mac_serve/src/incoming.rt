@@ -1,11 +1,7 @@
 //! The arrivals of a source.
 
 ghost use Rattle.std.specs.Prelude.{◌≡◌, ◌≢◌, ◌<◌, ℕ, List, [], None, length, IsTrue, IfOk, IfErr, OnOk};
-ghost use Rattle.mac_wire.specs.declared.arrival.Arrival.{Arrival};
-ghost use Rattle.mac_wire.specs.Stream.{arrivals_of, version_or_one};
-ghost use Rattle.mac_wire.specs.FrameReader.{HasRead, HasEnded, version_of};
 ghost use Rattle.mac_serve.specs.declared.incoming.InboundFault.TheVariants.{NoMemory};
-ghost use Rattle.mac_serve.specs.Receiving.{Reads, CountsRead};
 
 use mac_wire::{Arrival, Ending, FrameReader, NoMemory, Source, Version};
 use std::alloc::{AllocError, AllocFailed, Global};
@@ -51,15 +47,18 @@ pub struct Incoming {
     pub reader: FrameReader,
     pub first: Result<Option<Vec<Arrival>>, InboundFault>,
     piece: Vec<u8>,
+    ghost has_room: { 0 < length piece.items },
 }
 
 impl Incoming {
-    ghost use Rattle.mac_serve.specs.Incoming.{HasRoom};
+    ghost use Rattle.mac_wire.specs.declared.arrival.Arrival.{Arrival};
+    ghost use Rattle.mac_wire.specs.Stream.{arrivals_of, version_or_one};
+    ghost use Rattle.mac_wire.specs.FrameReader.{HasRead, HasEnded, version_of};
+    ghost use Rattle.mac_serve.specs.Receiving.{Reads, CountsRead};
 
     /// Nothing has come yet.
     pub fn new(alloc: Global) -> Result<Incoming, NoMemory>
-        ensures nothing { IfOk result (λ incoming. HasRead incoming.reader [] []) }
-        ensures room { IfOk result HasRoom }
+        ensures { IfOk result (λ incoming. HasRead incoming.reader [] []) }
     {
         let mut piece = Vec::new(alloc);
         piece.resize(PIECE, 0)?;
@@ -72,13 +71,11 @@ impl Incoming {
 
     /// Reads the first piece of a stream, and tells the stream's version.
     pub fn begin<In: Source>(&mut self, source: &mut In) -> Version
-        requires nothing { HasRead self.old.reader [] [] }
-        requires room { HasRoom self.old }
+        requires { HasRead self.old.reader [] [] }
         ensures version { result ≡ version_or_one (version_of self.new.reader) }
         ensures reads { Reads In.tells (In.taken source.old) (In.taken source.new) [] []
             self.new.first self.new.reader }
         ensures end { IfOk self.new.first (λ more. more ≡ None → IsTrue (In.ended source.new)) }
-        ensures room { HasRoom self.new }
         ensures faults { CountsRead self.new.first (In.faults source.old) (In.faults source.new) }
     {
         self.first = self.next(source);
@@ -91,13 +88,11 @@ impl Incoming {
         &mut self,
         source: &mut In,
     ) -> Result<Option<Vec<Arrival>>, InboundFault>
-        requires { HasRoom self.old }
         ensures reads { (stream : List ℕ) (handed : List Arrival)
             → HasRead self.old.reader stream handed
             → Reads In.tells (In.taken source.old) (In.taken source.new) stream handed result
             self.new.reader }
         ensures end { IfOk result (λ more. more ≡ None → IsTrue (In.ended source.new)) }
-        ensures room { HasRoom self.new }
         ensures faults { CountsRead result (In.faults source.old) (In.faults source.new) }
     {
         if source.faults() == u64::MAX {

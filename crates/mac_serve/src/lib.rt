@@ -6,6 +6,7 @@ mod connection;
 mod fault;
 mod inbound;
 mod incoming;
+pub mod laws;
 mod outbound;
 mod signals;
 mod unsent;

@@ -1,7 +1,6 @@
 //! The half of a connection that sends replies.
 
-ghost use Rattle.std.specs.Prelude.{◌≡◌, ◌<◌, ◌++◌, ℕ, List, [], Option, length, map, take, IsTrue, IsFalse, IfOk, IfErr, OnOk, OnErr, MatchResult, Err, ◌≢◌};
-ghost use Rattle.mac_decide.specs.declared.job.Job.{Job};
+ghost use Rattle.std.specs.Prelude.{◌≡◌, ◌<◌, [], Ok};
 
 use crate::signals::Signals;
 use mac_decide::{Macaroons, laws};
@@ -56,8 +55,7 @@ pub struct Outbound {
 impl Outbound {
     ghost use Rattle.mac_ring.specs.Ring.{received};
     ghost use Rattle.mac_order.specs.Buffer.{fresh_buffer};
-    ghost use Rattle.mac_serve.specs.Posts.{TookForeign};
-    ghost use Rattle.mac_serve.specs.Sending.{Holds, Stands, Fell, Sends, Releases, CountsWrite, IsSame, out_text, next};
+    ghost use Rattle.mac_serve.specs.Sending.{Stands, StepsAlone, Releases, Flushes, SendsAll, out_text};
 
     /// A half that has sent nothing, for a stream of this version.
     pub fn new(
@@ -85,9 +83,7 @@ impl Outbound {
 
     /// Opens every slip that it may. Whether there was one.
     fn look(&mut self) -> bool
-        ensures half { IsSame self.old self.new }
-        ensures stands { (before : List (ℕ × Option Job)) → Stands before self.old
-            → Stands before self.new × (out_text self.new ≡ out_text self.old) }
+        ensures { StepsAlone (Ok result) self.old self.new }
     {
         let mut found = false;
         while self.ring.look() {
@@ -98,11 +94,7 @@ impl Outbound {
 
     /// Takes one post, and settles its answer. Whether there was one.
     fn settle_next<R: Wait>(&mut self, rt: &R) -> Result<bool, OutboundFault>
-        ensures half { IsSame self.old self.new }
-        ensures sends { (before : List (ℕ × Option Job))
-            → Stands before self.old → Sends before result self.new }
-        ensures out { out_text self.new ≡ out_text self.old }
-        ensures no_write { result ≢ Err OutboundFault.Write }
+        ensures { StepsAlone result self.old self.new }
     {
         let Some(post) = self.taker.take(rt) else {
             return Ok(false);
@@ -118,28 +110,21 @@ impl Outbound {
 
     /// Takes every post that is there, and settles their answers. Whether there was one.
     fn settle_all<R: Wait>(&mut self, rt: &R) -> Result<bool, OutboundFault>
-        ensures half { IsSame self.old self.new }
-        ensures sends { (before : List (ℕ × Option Job))
-            → Stands before self.old → Sends before result self.new }
-        ensures out { out_text self.new ≡ out_text self.old }
-        ensures no_write { result ≢ Err OutboundFault.Write }
+        ensures { StepsAlone result self.old self.new }
     {
         let mut found = false;
         for _ in rt.forever() {
             if !self.settle_next(rt)? {
-                break;
+                return Ok(found);
             }
             found = true;
         }
-        Ok(found)
+        unreachable!()
     }
 
     /// Gathers the reply of the next place, where it is due.
     fn release_next(&mut self) -> Due
-        ensures half { IsSame self.old self.new }
-        ensures releases { (before : List (ℕ × Option Job))
-            → Stands before self.old → Releases before result self.new }
-        ensures out { out_text self.new ≡ out_text self.old }
+        ensures { Releases result self.old self.new }
     {
         laws::replies_can_be_sent();
         equal_jobs_hold_the_same::<Macaroons>();
@@ -159,18 +144,8 @@ impl Outbound {
     /// Writes what is gathered.
     fn flush<W: Sink>(&mut self, sink: &mut W) -> Result<(), OutboundFault>
         requires { W.faults sink.old < u64.MAX }
-        ensures same { (self.new.ring ≡ self.old.ring) × (self.new.taker ≡ self.old.taker)
-            × (self.new.version ≡ self.old.version) }
-        ensures holds { (before : List (ℕ × Option Job)) → Holds before self.old
-            → MatchResult result (λ _. Holds before self.new)
-            (λ why. (why ≢ OutboundFault.Stranger) × Fell before why self.new) }
-        ensures sends { (before : List (ℕ × Option Job))
-            → Stands before self.old → Sends before result self.new }
-        ensures sent { OnOk result (self.new.sent ≡ next self.new) }
-        ensures written { IsTrue W.tells → (before : List (ℕ × Option Job)) (head : List ℕ)
-            → Holds before self.old → W.written sink.old ≡ head ++ out_text self.old
-            → W.written sink.new ≡ head ++ out_text self.new }
-        ensures faults { CountsWrite result (W.faults sink.old) (W.faults sink.new) }
+        ensures { Flushes W.tells (W.written sink.old) (W.written sink.new)
+            (W.faults sink.old) (W.faults sink.new) result self.old self.new }
     {
         laws::replies_can_be_sent();
         let due = self.ring.next_place();
@@ -197,14 +172,8 @@ impl Outbound {
     /// Sends every reply that is due.
     fn release_all<R: Wait, W: Sink>(&mut self, rt: &R, sink: &mut W) -> Result<(), OutboundFault>
         requires { W.faults sink.old < u64.MAX }
-        ensures half { IsSame self.old self.new }
-        ensures sends { (before : List (ℕ × Option Job))
-            → Stands before self.old → Sends before result self.new }
-        ensures sent { OnOk result (self.new.sent ≡ next self.new) }
-        ensures written { IsTrue W.tells → (before : List (ℕ × Option Job)) (head : List ℕ)
-            → Stands before self.old → W.written sink.old ≡ head ++ out_text self.old
-            → W.written sink.new ≡ head ++ out_text self.new }
-        ensures faults { CountsWrite result (W.faults sink.old) (W.faults sink.new) }
+        ensures { SendsAll W.tells (W.written sink.old) (W.written sink.new)
+            (W.faults sink.old) (W.faults sink.new) result self.old self.new }
     {
         for _ in rt.forever() {
             match self.release_next() {
@@ -225,14 +194,8 @@ impl Outbound {
     /// Whether anything was there.
     fn turn<R: Wait, W: Sink>(&mut self, rt: &R, sink: &mut W) -> Result<bool, OutboundFault>
         requires { W.faults sink.old < u64.MAX }
-        ensures half { IsSame self.old self.new }
-        ensures sends { (before : List (ℕ × Option Job))
-            → Stands before self.old → Sends before result self.new }
-        ensures sent { OnOk result (self.new.sent ≡ next self.new) }
-        ensures written { IsTrue W.tells → (before : List (ℕ × Option Job)) (head : List ℕ)
-            → Stands before self.old → W.written sink.old ≡ head ++ out_text self.old
-            → W.written sink.new ≡ head ++ out_text self.new }
-        ensures faults { CountsWrite result (W.faults sink.old) (W.faults sink.new) }
+        ensures { SendsAll W.tells (W.written sink.old) (W.written sink.new)
+            (W.faults sink.old) (W.faults sink.new) result self.old self.new }
     {
         let has_looked = self.look();
         let has_settled = self.settle_all(rt)?;
@@ -249,14 +212,8 @@ impl Outbound {
         signals: &Signals,
     ) -> Result<(), OutboundFault>
         requires { W.faults sink.old < u64.MAX }
-        ensures half { IsSame self.old self.new }
-        ensures sends { (before : List (ℕ × Option Job))
-            → Stands before self.old → Sends before result self.new }
-        ensures sent { OnOk result (self.new.sent ≡ next self.new) }
-        ensures written { IsTrue W.tells → (before : List (ℕ × Option Job)) (head : List ℕ)
-            → Stands before self.old → W.written sink.old ≡ head ++ out_text self.old
-            → W.written sink.new ≡ head ++ out_text self.new }
-        ensures faults { CountsWrite result (W.faults sink.old) (W.faults sink.new) }
+        ensures { SendsAll W.tells (W.written sink.old) (W.written sink.new)
+            (W.faults sink.old) (W.faults sink.new) result self.old self.new }
     {
         for _ in rt.forever() {
             if self.turn(rt, sink)? {
@@ -296,14 +253,8 @@ impl Outbound {
         sink: &mut W,
         signals: &Signals,
     ) -> Result<(), OutboundFault>
-        ensures half { IsSame self.old self.new }
-        ensures sends { (before : List (ℕ × Option Job))
-            → Stands before self.old → Sends before result self.new }
-        ensures sent { OnOk result (self.new.sent ≡ next self.new) }
-        ensures written { IsTrue W.tells → (before : List (ℕ × Option Job)) (head : List ℕ)
-            → Stands before self.old → W.written sink.old ≡ head ++ out_text self.old
-            → W.written sink.new ≡ head ++ out_text self.new }
-        ensures faults { CountsWrite result (W.faults sink.old) (W.faults sink.new) }
+        ensures { SendsAll W.tells (W.written sink.old) (W.written sink.new)
+            (W.faults sink.old) (W.faults sink.new) result self.old self.new }
     {
         if sink.faults() == u64::MAX {
             return Err(OutboundFault::Exhausted);
@@ -319,14 +270,8 @@ impl Outbound {
         sink: &mut W,
         signals: &Signals,
     ) -> Result<(), OutboundFault>
-        ensures half { IsSame self.old self.new }
-        ensures sends { (before : List (ℕ × Option Job))
-            → Stands before self.old → Sends before result self.new }
-        ensures sent { OnOk result (self.new.sent ≡ next self.new) }
-        ensures written { IsTrue W.tells → (before : List (ℕ × Option Job)) (head : List ℕ)
-            → Stands before self.old → W.written sink.old ≡ head ++ out_text self.old
-            → W.written sink.new ≡ head ++ out_text self.new }
-        ensures faults { CountsWrite result (W.faults sink.old) (W.faults sink.new) }
+        ensures { SendsAll W.tells (W.written sink.old) (W.written sink.new)
+            (W.faults sink.old) (W.faults sink.new) result self.old self.new }
     {
         signals.begin_outbound();
         let ended = self.send_if_counted(rt, sink, signals);

@@ -17,7 +17,7 @@ returns-in_default-clause-serves g c =
 pub returns-in-None-clause-serves : goal.returns-in-None-clause-serves
 returns-in-None-clause-serves g c =
     let run = c.run_both-sending.ensures in
-    let read = run.run (g.In.Source.taken c.args.source.now) c.begin-version.ensures.reads in
+    let read = run.runs.run (g.In.Source.taken c.args.source.now) c.begin-version.ensures.reads in
     let ends = c.meet-totals.ensures in
     let start = c.new-inbound.result in
     let i = c.run_both-sending.new.inbound in
@@ -34,16 +34,16 @@ returns-in-None-clause-serves g c =
     has-served g.In.Source.tells g.Out.Sink.tells c.args.keys.now
     (g.In.Source.taken c.args.source.now) (g.In.Source.taken c.run_both-sending.new.source) wrote (g.Out.Sink.written c.run_both-sending.new.sink)
     read.stream c.args.desk.putter c.args.desk.taker start i o (waiting ring) totals.admitted read.gave
-    (λ tells. run.written tells c.args.desk.taker wrote stands (sym (append-nil wrote) ∙ ap (λ (l : List ℕ). wrote ++ l) (sym c.new-outbound.ensures.none)))
+    (λ tells. run.sends.steps.written tells c.args.desk.taker wrote stands (sym (append-nil wrote) ∙ ap (λ (l : List ℕ). wrote ++ l) (sym c.new-outbound.ensures.none)))
     empty c.new-inbound.ensures.1 met counted
-    (run.outlet.1 ∙ c.new-outbound.ensures.version ∙ c.begin-version.ensures.version ∙ sym read.version_is)
+    (run.sends.steps.same.1 ∙ c.new-outbound.ensures.version ∙ c.begin-version.ensures.version ∙ sym read.version_is)
     c.run_both-sending.result.0 c.run_both-sending.result.1 (eqb totals.admitted totals.released) c.outcome-fault.result None
-    (run.sends c.args.desk.taker stands) run.sent read.ran (λ is. eqb-true totals.admitted totals.released is ∙ due) c.outcome-fault.ensures c.in-None.is
+    (run.sends.steps.sends c.args.desk.taker stands) run.sends.sent read.ran (λ is. eqb-true totals.admitted totals.released is ∙ due) c.outcome-fault.ensures c.in-None.is
 
 pub returns-clause-serves : goal.returns-clause-serves
 returns-clause-serves g c =
     let run = c.run_both-sending.ensures in
-    let read = run.run (g.In.Source.taken c.args.source.now) c.begin-version.ensures.reads in
+    let read = run.runs.run (g.In.Source.taken c.args.source.now) c.begin-version.ensures.reads in
     let ends = c.meet-totals.ensures in
     let start = c.new-inbound.result in
     let i = c.run_both-sending.new.inbound in
@@ -60,8 +60,8 @@ returns-clause-serves g c =
     has-served g.In.Source.tells g.Out.Sink.tells c.args.keys.now
     (g.In.Source.taken c.args.source.now) (g.In.Source.taken c.run_both-sending.new.source) wrote (g.Out.Sink.written c.run_both-sending.new.sink)
     read.stream c.args.desk.putter c.args.desk.taker start i o (waiting ring) totals.admitted read.gave
-    (λ tells. run.written tells c.args.desk.taker wrote stands (sym (append-nil wrote) ∙ ap (λ (l : List ℕ). wrote ++ l) (sym c.new-outbound.ensures.none)))
+    (λ tells. run.sends.steps.written tells c.args.desk.taker wrote stands (sym (append-nil wrote) ∙ ap (λ (l : List ℕ). wrote ++ l) (sym c.new-outbound.ensures.none)))
     empty c.new-inbound.ensures.1 met counted
-    (run.outlet.1 ∙ c.new-outbound.ensures.version ∙ c.begin-version.ensures.version ∙ sym read.version_is)
+    (run.sends.steps.same.1 ∙ c.new-outbound.ensures.version ∙ c.begin-version.ensures.version ∙ sym read.version_is)
     c.run_both-sending.result.0 c.run_both-sending.result.1 (eqb totals.admitted totals.released) c.outcome-fault.result (Some c.in-Some.fault)
-    (run.sends c.args.desk.taker stands) run.sent read.ran (λ is. eqb-true totals.admitted totals.released is ∙ due) c.outcome-fault.ensures c.in-Some.is
+    (run.sends.steps.sends c.args.desk.taker stands) run.sends.sent read.ran (λ is. eqb-true totals.admitted totals.released is ∙ due) c.outcome-fault.ensures c.in-Some.is

@@ -2,7 +2,6 @@ use Rattle.std.proofs.Common.{◌≡◌, ℕ, List}
 use Rattle.mac_ring.specs.Ring.{IsSameIntake}
 use Rattle.mac_wire.specs.declared.version.Version.{Version}
 use Rattle.mac_serve.specs.declared.inbound.Inbound.{Inbound}
-use Rattle.mac_serve.specs.Incoming.{HasRoom}
 use Rattle.mac_serve.specs.Receiving.{GoesOn}
 use Rattle.mac_serve.proofs.inbound.Inbound.take_all.Given as goal
 
@@ -12,7 +11,6 @@ invariant-loop g l =
     (goal.iterator-loop g).can_next l.iterator' × (goal.iterator-loop g).is_finite l.iterator'
     × IsSameIntake l.initial.self.ring l.self.ring
     × (g.In.Source.faults l.source ≡ g.In.Source.faults l.initial.source)
-    × HasRoom l.incoming
     × ((version : Version) (given : List ℕ) (start : Inbound)
     → GoesOn g.In.Source.tells l.keys version given (g.In.Source.taken l.initial.source) l.initial.incoming.reader l.initial.arrivals.items start l.initial.self
     → GoesOn g.In.Source.tells l.keys version given (g.In.Source.taken l.source) l.incoming.reader l.arrivals.items start l.self)
