@@ -198,7 +198,7 @@ impl FrameReader {
 }
 
 /// The stream's version once a piece has come, and what of the piece is frames.
-fn opened(version: Option<Version>, piece: &[u8]) -> (Option<Version>, &[u8])
+pub fn opened(version: Option<Version>, piece: &[u8]) -> (Option<Version>, &[u8])
     ensures version { result.0 ≡ told_after version piece.now }
     ensures frames { result.1.now ≡ frames_after version piece.now }
 {

@@ -8,6 +8,7 @@
 
 mod arrival;
 mod bytes;
+mod cut;
 mod device;
 mod field_list;
 mod fields;
@@ -29,9 +30,10 @@ mod writer_sink;
 
 pub use arrival::{Arrival, Ending, FRAME_MAX};
 pub use bytes::Bytes;
+pub use cut::{Cut, next_frame};
 pub use device::{DeviceFault, Sink, Source};
 pub use field_list::FieldList;
-pub use frame::{FeedFault, FrameReader};
+pub use frame::{FeedFault, FrameReader, opened};
 pub use mem_sink::MemSink;
 pub use mem_source::MemSource;
 pub use parse::{key_name, parse_request};
