@@ -30,10 +30,13 @@ answer_under table payload = reply_to_job (job_under table (arrival.Payload payl
 abbrev pub jobs_of : Table → List (List ℕ) → List Job
 jobs_of table payloads = map (λ p. job_under table (arrival.Payload p)) payloads
 
--- Of what was read these jobs are answered, and what follows them is lost; what was written and
--- what is unsent are together the frames of their replies.
-pub record HasFallen (session : Session) (read written : List ℕ) (done : List Job) : Type 0 where
+-- Of these jobs the first ones are answered, the others and what else was read are lost; what was
+-- written and what is unsent are together the frames of their replies.
+pub record HasFallen (session : Session) (read written : List ℕ) (jobs : List Job) : Type 0 where
   pub told : session.version ≡ version_told read
+  pub done : List Job
+  pub missed : List Job
+  pub are : jobs ≡ done ++ missed
   pub lost : List Arrival
   pub came : (arrivals_of read).arrived ≡ arrivals done ++ lost
   pub went : written ++ session.unsent

@@ -1,11 +1,12 @@
 -- What one step of a round did on one client.
-use Rattle.std.specs.Prelude.{◌≡◌, ℕ, Bool, List, [], ◌∷◌, ◌++◌, length, map}
+use Rattle.std.specs.Prelude.{◌≡◌, ℕ, ◌+◌, Bool, List, [], ◌∷◌, ◌++◌, length, map}
 use Rattle.mac_keys.specs.Table.{Table}
 use Rattle.mac_wire.specs.declared.arrival.Arrival.{Arrival}
 use Rattle.mac_wire.specs.declared.arrival.Arrival.TheVariants as arrival
+use Rattle.mac_wire.specs.declared.reply.Reply.{Reply}
 use Rattle.mac_wire.specs.declared.session.Session.{Session}
 use Rattle.mac_wire.specs.Stream.{version_or_one}
-use Rattle.mac_wire.specs.Reply.{reply_text}
+use Rattle.mac_wire.specs.Reply.{reply_text, reply_frame}
 use Rattle.mac_wire.specs.Session.{HasCome}
 use Rattle.mac_decide.specs.declared.job.Job.{Job}
 use Rattle.mac_plain.specs.Client.{HasFallen, Passed, arrivals, jobs_of, replies}
@@ -31,6 +32,14 @@ OwesSo course.Open session read written done owed = Owes session read written do
 OwesSo course.Wide session read written done owed = Owes session read written done owed
 OwesSo (course.Ended why) session read written done owed = Owes session read written done owed
 OwesSo (course.Fallen why) session read written done owed = HasFallen session read written done
+
+-- a session after one more reply
+abbrev pub after_reply : Session → Reply → Session
+after_reply session reply = record session {
+  answered = session.answered + 1;
+  unsent = session.unsent
+      ++ reply_frame (version_or_one session.version) session.answered reply;
+}
 
 -- from the one to the other, of the payloads that were owed these were answered, the first ones,
 -- and these are owed besides

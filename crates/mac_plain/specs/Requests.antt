@@ -3,7 +3,10 @@ use Rattle.std.specs.Prelude.{◌≡◌, ℕ, ◌≤◌, Bool, List, [], ◌++�
 use Rattle.std.specs.List.{filter}
 use Rattle.mac_keys.specs.Table.{Table}
 use Rattle.mac_wire.specs.declared.reply.Reply.{Reply}
-use Rattle.mac_plain.specs.Client.{answer_under}
+use Rattle.mac_wire.specs.Reply.{IsReply}
+use Rattle.mac_decide.specs.declared.job.Job.{Job}
+use Rattle.mac_decide.specs.Prepared.{reply_to_job}
+use Rattle.mac_plain.specs.Client.{jobs_of}
 use Rattle.mac_plain.specs.Goes.{Goes}
 use Rattle.mac_plain.specs.declared.client.Client.{Client}
 use Rattle.mac_plain.specs.declared.request.Request.{Request}
@@ -15,6 +18,21 @@ payload_at arena request = slice_range arena request.start request.end
 -- the payloads of one owner's requests
 abbrev pub asked_of : ℕ → List ℕ → List Request → List (List ℕ)
 asked_of owner arena requests = map (payload_at arena) (filter (λ r. r.owner == owner) requests)
+
+-- the jobs of requests under a table
+abbrev pub jobs_at : Table → List ℕ → List Request → List Job
+jobs_at table arena requests = jobs_of table (map (payload_at arena) requests)
+
+-- each reply that isn't missing is that to the job at its place
+abbrev pub AreReplies : List Job → List (Option Reply) → Type 0
+AreReplies jobs replies =
+    (i : ℕ) (reply : Reply) → slice_get replies i ≡ Some (Some reply)
+    → slice_get (map reply_to_job jobs) i ≡ Some reply
+
+-- each reply that isn't missing can be sent
+abbrev pub AreSendable : List (Option Reply) → Type 0
+AreSendable replies =
+    (i : ℕ) (reply : Reply) → slice_get replies i ≡ Some (Some reply) → IsReply reply
 
 -- each request lies in that many bytes
 abbrev pub AreWithin : ℕ → List Request → Type 0

@@ -1,13 +1,14 @@
 //! A plain connection.
 
-ghost use Rattle.std.specs.Prelude.{◌≡◌, ◌⊎◌, ◌↔◌, ℕ, List, [], ◌∷◌, length, IsTrue, IfSome};
+ghost use Rattle.std.specs.Prelude.{◌≡◌, ◌⊎◌, ◌↔◌, ℕ, List, [], ◌∷◌, length, IsTrue, IfSome, OnOk, OnErr};
 ghost use Rattle.mac_keys.specs.Table.{Table};
 ghost use Rattle.mac_wire.specs.declared.arrival.Arrival.TheVariants as arrival;
 ghost use Rattle.mac_wire.specs.Reply.{IsReply};
 ghost use Rattle.mac_wire.specs.Session.{Stands};
 ghost use Rattle.mac_decide.specs.declared.job.Job.{Job};
 ghost use Rattle.mac_plain.specs.Client.{HasAnswered, answer_under, arrivals, replies};
-ghost use Rattle.mac_plain.specs.Goes.{Goes};
+ghost use Rattle.mac_plain.specs.Goes.{Goes, after_reply};
+ghost use Rattle.mac_wire.specs.Stream.{version_or_one as version_so_far};
 
 use crate::course::{Course, Fall};
 use crate::port::{Port, Went};
@@ -133,10 +134,10 @@ impl<P: Port> Client<P> {
     }
 
     /// Takes the reply to its next request; where there is none it has fallen, and takes no more.
-    pub(crate) fn answer(&mut self, reply: &Option<Reply>)
-        requires { IfSome reply.now IsReply }
+    pub(crate) fn answer(&mut self, reply: Option<&Reply>)
+        requires { IfSome reply (λ r. IsReply r.now) }
         ensures { (table : Table) (payload : List ℕ)
-            → IfSome reply.now (λ r. r ≡ answer_under table payload)
+            → IfSome reply.entry (λ r. r.now ≡ answer_under table payload)
             → Goes P.tells P.taken P.written table self.old self.new (payload ∷ []) [] }
     {
         if let Course::Fallen(_) = self.course {
@@ -154,12 +155,15 @@ impl<P: Port> Client<P> {
     /// Puts a reply's frame behind what is unsent.
     fn put(&mut self, reply: &Reply) -> Result<(), Fall>
         requires { IsReply reply.now }
+        ensures put { OnOk result (self.new
+            ≡ record self.old { session = after_reply self.old.session reply.now }) }
+        ensures unchanged { OnErr result (self.new ≡ self.old) }
     {
         let place = self.session.answered;
         let Some(answered) = place.checked_add(1) else {
             return Err(Fall::Exhausted);
         };
-        let version = self.session.version.unwrap_or(Version::One);
+        let version = version_or_one(self.session.version);
         if self.session.unsent.append(reply, version, place).is_err() {
             return Err(Fall::NoMemory);
         }
@@ -182,5 +186,15 @@ impl<P: Port> Client<P> {
             Went::Later => self.is_writable = false,
             Went::Fault => self.is_mute = true,
         }
+    }
+}
+
+/// The version of a stream that has told this much.
+fn version_or_one(version: Option<Version>) -> Version
+    ensures { result ≡ version_so_far version }
+{
+    match version {
+        Some(version) => version,
+        None => Version::One,
     }
 }

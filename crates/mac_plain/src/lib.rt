@@ -5,6 +5,7 @@
 //! it is answered elsewhere is its `Session`.
 #![tactic(auto)]
 
+mod answering;
 mod client;
 mod course;
 pub mod laws;

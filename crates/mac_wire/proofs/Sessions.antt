@@ -66,7 +66,7 @@ record Nothing (held : List ℕ) (handed : List Arrival) : Type 0 where
   nothing : handed ≡ []
   empty : held ≡ []
 
-first_nil : (a b : List Arrival) → a ++ b ≡ [] → a ≡ []
+pub first_nil : (a b : List Arrival) → a ++ b ≡ [] → a ≡ []
 first_nil [] b e = refl
 first_nil (x ∷ a) b e = absurd cc
 
