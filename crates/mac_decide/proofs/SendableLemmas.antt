@@ -1,9 +1,11 @@
 -- Each reply of the definition can be sent.
-use Rattle.std.proofs.Common.{◌≡◌, ℕ, ◌<◌, ◌≤◌, ◌^◌, List, length, Option, Some, None, IsSomeAnd, Result, Ok, Err, IfOk, Bool, true, false, if◌then◌else◌, arith, refl}
+use Rattle.std.proofs.Common.{◌≡◌, ℕ, ◌<◌, ◌≤◌, ◌^◌, List, length, map, Option, Some, None, IsSomeAnd, Result, Ok, Err, IfOk, Bool, true, false, if◌then◌else◌, arith, refl}
 use Rattle.std.specs.Prelude.{nat_lt, nat_le}
-use Rattle.std.specs.List.{list_all, slice_get}
+use Rattle.std.specs.List.{All, list_all, slice_get, slice_index_or}
 use Rattle.std.proofs.lemmas.Bool.{ltb-false, leb-true}
+use Rattle.std.proofs.lemmas.List.Elements.{All-map}
 use Rattle.std.proofs.lemmas.Option.{slice_get_within}
+use Rattle.arrayvec.specs.ArrayVec.{ArrayVec}
 use Rattle.mac_keys.specs.Keys.{listed}
 use Rattle.mac_keys.specs.declared.keys.Keys.{Keys}
 use Rattle.mac_token.specs.Limits.{is_within, token_or_limit}
@@ -26,9 +28,11 @@ use Rattle.mac_wire.specs.declared.reply.Reply.TheVariants as reply
 use Rattle.mac_wire.specs.declared.request.TokenForm.{TokenForm}
 use Rattle.mac_decide.specs.Answer.{refused, refusal_of, told, form_of, written_reply, token_reply, verdict_reply, request_reply, asked_reply, reply_of}
 use Rattle.mac_decide.specs.Minted.{minted, add}
+use Rattle.mac_decide.specs.Prepared.{reply_to_job}
 use Rattle.mac_decide.specs.Reading.{verdict_of}
 use Rattle.mac_decide.specs.Verdict.{Satisfied, IsVerdict}
 use Rattle.mac_decide.specs.declared.context.Context.{Context}
+use Rattle.mac_decide.specs.declared.job.Job.{Job}
 use Rattle.mac_decide.specs.declared.verdict.Verdict.{Verdict}
 use Rattle.mac_decide.specs.declared.verdict.Verdict.TheVariants.{Granted, BadSignature, Unsatisfied}
 use Rattle.mac_decide.proofs.ReadingLemmas.{each_passes}
@@ -126,3 +130,13 @@ reply-sent (Payload payload) keys = asked-sent (request_of payload) keys
 pub result-sent : {E : Type 0} (result : Result Reply E) (arrival : Arrival) (keys : Option Keys) → IfOk result (λ r. r ≡ reply_of arrival keys) → IfOk result IsReply
 result-sent (Ok r) arrival keys is = rw is (reply-sent arrival keys)
 result-sent (Err e) arrival keys is = tt
+
+-- the replies to jobs
+replies-sent : (jobs : List Job) → All IsReply (map reply_to_job jobs)
+replies-sent jobs = All-map IsReply reply_to_job jobs (λ k d within. reply-sent (slice_index_or jobs k d).arrival (slice_index_or jobs k d).key)
+
+-- the replies that a call gives to jobs
+pub results-sent : {E : Type 0} (result : Result (ArrayVec Reply) E) (jobs : List Job) → IfOk result (λ replies. replies.items ≡ map reply_to_job jobs)
+    → IfOk result (λ replies. All IsReply replies.items)
+results-sent (Ok replies) jobs are = rw are (replies-sent jobs)
+results-sent (Err e) jobs are = tt

@@ -7,4 +7,5 @@ pub mod Reading
 pub mod SameJobs
 pub mod Time
 pub mod Verdict
+pub mod Viewed
 pub mod World

@@ -1,6 +1,7 @@
 //! What a worker is handed: an arrival, and the keys that it names.
 
 ghost use Rattle.std.specs.Prelude.{◌≡◌};
+ghost use Rattle.mac_wire.specs.declared.arrival.Arrival.TheVariants as arrival;
 ghost use Rattle.mac_decide.specs.Answer.{keys_for};
 ghost use Rattle.mac_decide.specs.World.{job_under};
 
@@ -27,10 +28,17 @@ fn named_keys(table: &KeyTable, arrival: &Arrival) -> Option<Keys>
     ensures { result ≡ keys_for table.now arrival.now }
 {
     match arrival {
-        Arrival::Payload(payload) => match key_name(payload.as_slice()) {
-            Some(name) => table.find(name).copied(),
-            None => None,
-        },
+        Arrival::Payload(payload) => keys_named(table, payload.as_slice()),
         Arrival::Oversize => None,
+    }
+}
+
+/// The table's keys for the name in the payload's front, where it has both.
+pub(crate) fn keys_named(table: &KeyTable, payload: &[u8]) -> Option<Keys>
+    ensures { result ≡ keys_for table.now (arrival.Payload payload.now) }
+{
+    match key_name(payload) {
+        Some(name) => table.find(name).copied(),
+        None => None,
     }
 }

@@ -126,6 +126,13 @@ pub enum Prepared<'a> {
     Pending(Signing<'a>),
 }
 
+/// A refusal: what stands in a place of a run that has no job.
+impl Default for Prepared<'_> {
+    fn default() -> Self {
+        Prepared::Told(Reply::default())
+    }
+}
+
 impl<'a> Prepared<'a> {
     /// How many texts are still to be folded on.
     pub fn left(&self) -> usize

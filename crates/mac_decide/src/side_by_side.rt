@@ -1,19 +1,21 @@
 //! The replies to a run of jobs, whose texts are hashed side by side.
 
-ghost use Rattle.std.specs.Prelude.{◌≡◌, ◌++◌, [], IfOk, length, map, slice_get, Some, get_or};
+ghost use Rattle.std.specs.Prelude.{◌≡◌, ◌++◌, ◌≤◌, [], All, IfOk, OnOk, length, map, slice_get, Some, get_or};
+ghost use Rattle.mac_wire.specs.Reply.{IsReply};
 ghost use Rattle.mac_decide.specs.Prepared.{AreNext, comes_to, left_of, reply_to_job, signature_of};
+ghost use Rattle.mac_decide.specs.Viewed.{viewed};
 
 use crate::choosing::{LANES, Step, next_step};
 use crate::job::Job;
+use crate::job_view::{ArrivalView, JobView};
 use crate::prepared::Prepared;
 use crate::preparing::prepare;
 use crate::reply::refused;
+use crate::rooms::{RUN, Rooms};
+use arrayvec::ArrayVec;
 use mac_hmac::{Sig, extend_each};
-use mac_wire::{Arrival, NoMemory, Refusal, Reply};
+use mac_wire::{NoMemory, Refusal, Reply};
 use std::alloc::Global;
-
-/// How many jobs make a run, and are worked on together.
-const RUN: usize = 32;
 
 /// How many chains a token's texts are folded into at most: one under each of two keys.
 const CHAINS: usize = 2;
@@ -24,50 +26,91 @@ pub fn answer_all(alloc: Global, jobs: &[Job]) -> Result<Vec<Reply>, NoMemory>
     ensures { IfOk result (λ replies. replies.items ≡ map reply_to_job jobs.now) }
 {
     let mut replies = Vec::with_capacity(alloc, jobs.len())?;
+    let mut rooms = Rooms::new(alloc);
     for run in jobs.chunks(RUN) {
-        answer_run(alloc, run, &mut replies)?;
+        let views = views_of(run);
+        let answered = answer_run(&mut rooms, alloc, views.as_slice())?;
+        append(&mut replies, answered)?;
     }
     Ok(replies)
 }
 
-/// Puts the replies to the jobs of a run behind those that are there.
-fn answer_run(alloc: Global, jobs: &[Job], replies: &mut Vec<Reply>) -> Result<(), NoMemory>
-    ensures { IfOk result (λ _. replies.new.items
-        ≡ replies.old.items ++ map reply_to_job jobs.now) }
+/// Puts the replies to a run behind those that are there.
+fn append(replies: &mut Vec<Reply>, answered: ArrayVec<Reply, RUN>) -> Result<(), NoMemory>
+    ensures { OnOk result (replies.new.items ≡ replies.old.items ++ answered.items) }
 {
-    let mut rooms = rooms_for(alloc, jobs.len())?;
-    let mut run = prepare_all(&mut rooms, alloc, jobs)?;
-    walk(&mut run);
-    for prepared in run {
-        replies.push(prepared.into_reply(alloc)?)?;
+    for reply in answered {
+        replies.push(reply)?;
     }
     Ok(())
 }
 
-/// A room for each token that comes as base64 text.
-fn rooms_for(alloc: Global, count: usize) -> Result<Vec<Vec<u8>>, NoMemory>
-    ensures { IfOk result (λ rooms. length rooms.items ≡ count) }
+/// The jobs of a run, lent.
+fn views_of(run: &[Job]) -> ArrayVec<JobView<'_>, RUN>
+    requires { length run.now ≤ RUN }
+    ensures { map viewed result.items ≡ run.now }
 {
-    let mut rooms = Vec::with_capacity(alloc, count)?;
-    for _ in 0..count {
-        rooms.push(Vec::new(alloc))?;
+    let mut views = ArrayVec::new();
+    for job in run {
+        views.push(JobView::of(job));
     }
-    Ok(rooms)
+    views
 }
 
+/// The replies to the jobs of a run, in order. Its jobs are answered where they lie: what is not
+/// JSON and makes no token takes no memory, but for the rooms that base64 text asks for.
+pub fn answer_run(
+    rooms: &mut Rooms,
+    alloc: Global,
+    jobs: &[JobView<'_>],
+) -> Result<ArrayVec<Reply, RUN>, NoMemory>
+    requires { length jobs.now ≤ RUN }
+    ensures replies { IfOk result (λ replies.
+        replies.items ≡ map reply_to_job (map viewed jobs.now)) }
+    ensures sendable { IfOk result (λ replies. All IsReply replies.items) }
+{
+    let replies = replies_to(&mut rooms.held, alloc, jobs);
+    rooms.give_back(alloc);
+    replies
+}
+
+/// The same in these rooms.
+fn replies_to(
+    rooms: &mut [Vec<u8>],
+    alloc: Global,
+    jobs: &[JobView<'_>],
+) -> Result<ArrayVec<Reply, RUN>, NoMemory>
+    requires count { length jobs.now ≤ RUN }
+    requires rooms { length jobs.now ≤ length rooms.old }
+    ensures { IfOk result (λ replies.
+        replies.items ≡ map reply_to_job (map viewed jobs.now)) }
+{
+    let mut run = ArrayVec::new();
+    prepare_all(&mut run, rooms, alloc, jobs)?;
+    walk(run.as_mut_slice());
+    let mut replies = ArrayVec::new();
+    for prepared in run {
+        replies.push(prepared.into_reply(alloc)?);
+    }
+    Ok(replies)
+}
+
+/// Puts what the replies to the jobs wait for into an empty run.
 fn prepare_all<'a>(
+    run: &mut ArrayVec<Prepared<'a>, RUN>,
     rooms: &'a mut [Vec<u8>],
     alloc: Global,
-    jobs: &'a [Job],
-) -> Result<Vec<Prepared<'a>>, NoMemory>
-    requires { length rooms.now ≡ length jobs.now }
-    ensures { IfOk result (λ run. map comes_to run.items ≡ map reply_to_job jobs.now) }
+    jobs: &[JobView<'a>],
+) -> Result<(), NoMemory>
+    requires empty { run.old.items ≡ [] }
+    requires count { length jobs.now ≤ RUN }
+    requires rooms { length jobs.now ≤ length rooms.old }
+    ensures { OnOk result (map comes_to run.new.items ≡ map reply_to_job (map viewed jobs.now)) }
 {
-    let mut run = Vec::with_capacity(alloc, jobs.len())?;
     for (room, job) in rooms.iter_mut().zip(jobs) {
-        run.push(prepare_job(room, alloc, job)?)?;
+        run.push(prepare_job(room, alloc, job)?);
     }
-    Ok(run)
+    Ok(())
 }
 
 /// What the reply to a job waits for.
@@ -75,13 +118,13 @@ fn prepare_all<'a>(
 fn prepare_job<'a>(
     room: &'a mut Vec<u8>,
     alloc: Global,
-    job: &'a Job,
+    job: &JobView<'a>,
 ) -> Result<Prepared<'a>, NoMemory>
-    ensures { IfOk result (λ prepared. comes_to prepared ≡ reply_to_job job.now) }
+    ensures { IfOk result (λ prepared. comes_to prepared ≡ reply_to_job (viewed job.now)) }
 {
-    match &job.arrival {
-        Arrival::Payload(payload) => prepare(room, alloc, payload.as_slice(), job.key),
-        Arrival::Oversize => Ok(Prepared::Told(refused(Refusal::FrameTooLong))),
+    match job.arrival {
+        ArrivalView::Payload(payload) => prepare(room, alloc, payload, job.key),
+        ArrivalView::Oversize => Ok(Prepared::Told(refused(Refusal::FrameTooLong))),
     }
 }
 

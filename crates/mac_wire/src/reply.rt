@@ -66,6 +66,18 @@ pub enum Reply {
     Unsatisfied(u16),
 }
 
+/// A refusal, which grants nothing: what stands in a place that has no reply yet.
+impl Default for Reply {
+    ghost use Rattle.mac_wire.specs.declared.reply.Refusal.TheVariants.{BadRequest};
+    ghost use Rattle.mac_wire.specs.declared.reply.Reply.TheVariants.{Refused};
+
+    ghost is_default = { λ reply. reply ≡ Refused BadRequest };
+
+    fn default() -> Reply {
+        Reply::Refused(Refusal::BadRequest)
+    }
+}
+
 /// The whole frame of the reply at a place: the payload's length in four bytes, in version two the
 /// place in eight, and the reply. It takes the memory of the frame at once.
 pub fn reply_bytes(

@@ -1,11 +1,13 @@
-use Rattle.std.proofs.Common.{◌≡◌, ◌++◌, length, map}
+use Rattle.std.proofs.Common.{◌≡◌, ◌≤◌, ◌+◌, ◌++◌, length, map}
 use Rattle.std.specs.Slice.Iter.{iter_mut_rest}
 use Rattle.mac_decide.specs.Prepared.{comes_to, reply_to_job}
+use Rattle.mac_decide.specs.Viewed.{viewed}
 use Rattle.mac_decide.proofs.side_by_side.prepare_all.Given as goal
 
--- what is prepared, and the jobs that are left, come to all replies; each has a room
+-- what is prepared, and the jobs that are left, come to all replies; each has a room and a place
 abbrev pub invariant-loop-room : goal.invariant-loop-room
 invariant-loop-room l = record {
-  replies : map comes_to l.run.items ++ map reply_to_job l.room-iterator.b.rest.now ≡ map reply_to_job l.jobs;
-  rooms : length (iter_mut_rest l.room-iterator.a) ≡ length l.room-iterator.b.rest.now;
+  replies : map comes_to l.run.items ++ map reply_to_job (map viewed l.room-iterator.b.rest.now) ≡ map reply_to_job (map viewed l.jobs);
+  rooms : length l.room-iterator.b.rest.now ≤ length (iter_mut_rest l.room-iterator.a);
+  places : length l.run.items + length l.room-iterator.b.rest.now ≤ 32;
 }

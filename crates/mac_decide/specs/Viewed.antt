@@ -1,0 +1,16 @@
+-- Jobs whose payloads lie in somebody's bytes (this project's own).
+use Rattle.mac_wire.specs.declared.arrival.Arrival.{Arrival}
+use Rattle.mac_wire.specs.declared.arrival.Arrival.TheVariants as arrival
+use Rattle.mac_decide.specs.declared.job.Job.{Job}
+use Rattle.mac_decide.specs.declared.job_view.ArrivalView.{ArrivalView}
+use Rattle.mac_decide.specs.declared.job_view.ArrivalView.TheVariants as view
+use Rattle.mac_decide.specs.declared.job_view.JobView.{JobView}
+
+-- the arrival that lies there
+abbrev pub arrival_of : ArrivalView → Arrival
+arrival_of (view.Payload payload) = arrival.Payload payload.now
+arrival_of view.Oversize = arrival.Oversize
+
+-- the job whose arrival lies there
+abbrev pub viewed : JobView → Job
+viewed job = record { arrival = arrival_of job.arrival; key = job.key }

@@ -1,0 +1,35 @@
+//! What answering keeps from one run of jobs to the next.
+
+use std::alloc::Global;
+use std::array;
+
+/// How many jobs make a run, and are worked on together.
+pub const RUN: usize = 32;
+
+/// The greatest room that is kept for the next run, in bytes.
+const ROOM_KEPT: usize = 65_536;
+
+/// A room for each job of a run, for the token that comes as base64 text. A room takes memory at
+/// its first token, and keeps it.
+#[derive(Drop)]
+pub struct Rooms {
+    pub(crate) held: [Vec<u8>; RUN],
+}
+
+impl Rooms {
+    /// Rooms that hold nothing, and take no memory.
+    pub fn new(alloc: Global) -> Rooms {
+        Rooms {
+            held: array::from_fn(|_| Vec::new(alloc)),
+        }
+    }
+
+    /// Gives back the memory of each room that has grown large.
+    pub(crate) fn give_back(&mut self, alloc: Global) {
+        for room in 0..RUN {
+            if self.held[room].capacity() > ROOM_KEPT {
+                self.held[room] = Vec::new(alloc);
+            }
+        }
+    }
+}
