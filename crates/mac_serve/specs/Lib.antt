@@ -1,4 +1,5 @@
 pub mod Gathered
+pub mod Joining
 pub mod Posts
 pub mod Receiving
 pub mod Sending

@@ -8,7 +8,7 @@ use mac_mail::{Post, Taker};
 use mac_order::Next;
 use mac_order::laws::equal_jobs_hold_the_same;
 use mac_ring::Outlet;
-use mac_wire::{Sink, Version, append_reply, send_all, whole_frames};
+use mac_wire::{Sink, Unsent, Version, append_reply, send_all, whole_frames};
 use std::alloc::Global;
 use std::sync::Wait;
 
@@ -24,7 +24,7 @@ pub enum OutboundFault {
     NoMemory,
     /// An answer came that was not due.
     Stranger,
-    /// The bytes written can't be counted any more.
+    /// The bytes written, the places or the sink's failures can't be counted any more.
     Exhausted,
 }
 
@@ -38,6 +38,8 @@ enum Due {
     Stranger,
     /// Memory ran out for the reply's frame.
     NoMemory,
+    /// The reply's place can't be told any more.
+    Exhausted,
 }
 
 /// The half of a connection that sends replies: its end of the ring, and the mailbox of its
@@ -47,6 +49,8 @@ pub struct Outbound {
     pub ring: Outlet<Macaroons>,
     pub taker: Taker<Macaroons>,
     pub version: Version,
+    /// The place of the first reply, which came first through the ring.
+    pub base: u64,
     pub gathered: Vec<u8>,
     pub sent: u64,
     pub written: u64,
@@ -55,26 +59,29 @@ pub struct Outbound {
 impl Outbound {
     ghost use Rattle.mac_ring.specs.Ring.{received};
     ghost use Rattle.mac_order.specs.Buffer.{fresh_buffer};
-    ghost use Rattle.mac_serve.specs.Sending.{Stands, StepsAlone, Releases, Flushes, SendsAll, out_text};
+    ghost use Rattle.mac_serve.specs.Sending.{Stands, StepsAlone, Releases, Flushes, SendsAll, SendsUnsent, SendsBoth};
 
-    /// A half that has sent nothing, for a stream of this version.
+    /// A half that has sent nothing, for a stream of this version, from this place on.
     pub fn new(
         alloc: Global,
         ring: Outlet<Macaroons>,
         taker: Taker<Macaroons>,
         version: Version,
+        base: u64,
     ) -> Outbound
         requires fresh { ring.buffer ≡ fresh_buffer }
         requires empty { received ring ≡ [] }
         ensures ring { result.ring ≡ ring }
         ensures version { result.version ≡ version }
+        ensures base { result.base ≡ base }
         ensures stands { Stands taker result }
-        ensures none { out_text result ≡ [] }
+        ensures none { result.written ≡ 0 }
     {
         Outbound {
             ring,
             taker,
             version,
+            base,
             gathered: Vec::new(alloc),
             sent: 0,
             written: 0,
@@ -128,8 +135,11 @@ impl Outbound {
     {
         laws::replies_can_be_sent();
         equal_jobs_hold_the_same::<Macaroons>();
+        let Some(place) = self.base.checked_add(self.ring.next_place()) else {
+            return Due::Exhausted;
+        };
         match self.ring.release() {
-            Next::Reply(place, reply) => {
+            Next::Reply(_, reply) => {
                 match append_reply(&mut self.gathered, &reply, self.version, place) {
                     Ok(()) => Due::Gathered,
                     Err(_) => Due::NoMemory,
@@ -185,6 +195,7 @@ impl Outbound {
                     return Err(OutboundFault::Stranger);
                 }
                 Due::NoMemory => return Err(OutboundFault::NoMemory),
+                Due::Exhausted => return Err(OutboundFault::Exhausted),
             }
         }
         unreachable!()
@@ -246,35 +257,57 @@ impl Outbound {
         self.ring.open_slips() > 0 && !signals.has_inbound_failed()
     }
 
+    /// Sends what is unsent from before.
+    fn send_unsent<W: Sink>(sink: &mut W, unsent: &mut Unsent) -> Result<(), OutboundFault>
+        requires { W.faults sink.old < u64.MAX }
+        ensures { SendsUnsent W.tells unsent.old unsent.new (W.written sink.old)
+            (W.written sink.new) (W.faults sink.old) (W.faults sink.new) result }
+    {
+        match send_all(sink, unsent.as_slice()) {
+            Ok(()) => {
+                unsent.remove(unsent.len());
+                Ok(())
+            }
+            Err((_, count)) => {
+                unsent.remove(count);
+                Err(OutboundFault::Write)
+            }
+        }
+    }
+
     /// Sends where the failures of the sink can be counted.
     fn send_if_counted<R: Wait, W: Sink>(
         &mut self,
         rt: &R,
         sink: &mut W,
+        unsent: &mut Unsent,
         signals: &Signals,
     ) -> Result<(), OutboundFault>
-        ensures { SendsAll W.tells (W.written sink.old) (W.written sink.new)
-            (W.faults sink.old) (W.faults sink.new) result self.old self.new }
+        ensures { SendsBoth W.tells unsent.old unsent.new (W.written sink.old)
+            (W.written sink.new) (W.faults sink.old) (W.faults sink.new) result self.old self.new }
     {
         if sink.faults() == u64::MAX {
             return Err(OutboundFault::Exhausted);
         }
+        Outbound::send_unsent(sink, unsent)?;
         self.send_until_done(rt, sink, signals)
     }
 
-    /// Sends replies until the inbound half has ended and nothing more is due, or until a fault,
-    /// which the sink hears of. The inbound half hears of the end.
+    /// Sends what is unsent from before, and then replies until the inbound half has ended and
+    /// nothing more is due, or until a fault, which the sink hears of. The inbound half hears of
+    /// the end.
     pub fn run<R: Wait, W: Sink>(
         &mut self,
         rt: &R,
         sink: &mut W,
+        unsent: &mut Unsent,
         signals: &Signals,
     ) -> Result<(), OutboundFault>
-        ensures { SendsAll W.tells (W.written sink.old) (W.written sink.new)
-            (W.faults sink.old) (W.faults sink.new) result self.old self.new }
+        ensures { SendsBoth W.tells unsent.old unsent.new (W.written sink.old)
+            (W.written sink.new) (W.faults sink.old) (W.faults sink.new) result self.old self.new }
     {
         signals.begin_outbound();
-        let ended = self.send_if_counted(rt, sink, signals);
+        let ended = self.send_if_counted(rt, sink, unsent, signals);
         if ended.is_err() {
             self.taker.close();
             sink.give_up();

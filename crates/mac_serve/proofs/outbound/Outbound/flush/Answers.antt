@@ -11,6 +11,7 @@ returns-in_default g c = record {
   ring = refl;
   taker = refl;
   version = refl;
+  base = refl;
   holds = λ earlier h. (λ is. absurd cc, fell-held earlier c.args.self.now fault.Exhausted h (λ is. absurd cc));
   written = λ tells earlier head h was. was;
   sent = tt;
@@ -22,6 +23,7 @@ returns-in-Ok g c = record {
   ring = refl;
   taker = refl;
   version = refl;
+  base = refl;
   holds = λ earlier h.
       holds-flushed earlier c.args.self.now c.clear.new.self c.next_place-due.result c.in-Some.written h c.clear.ensures.items c.next_place-due.ensures.next
       (omega (arith, c.in-Some.ensures, c.len.ensures, c.args.self.now.gathered.ok));
@@ -41,6 +43,7 @@ returns-in-Err g c = record {
   ring = refl;
   taker = refl;
   version = refl;
+  base = refl;
   holds = λ earlier h. (
     λ is. absurd cc,
     fell-cut earlier c.args.self.now _ c.in-Err.count c.whole_frames.result c.saturating_add-self.result (c.args.self.now.written + c.in-Err.count) h

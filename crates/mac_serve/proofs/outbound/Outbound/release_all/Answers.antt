@@ -41,3 +41,8 @@ pub returns-in-NoMemory : goal.returns-in-NoMemory
 returns-in-NoMemory g c =
     let released = (rw c.in-NoMemory.is at c.release_next.ensures) g.W.Sink.tells (g.W.Sink.written c.loop.sink) (g.W.Sink.faults c.loop.sink) in
     record { steps = then c.loop.invariant.2 released; sent = tt }
+
+pub returns-in-Exhausted : goal.returns-in-Exhausted
+returns-in-Exhausted g c =
+    let released = (rw c.in-Exhausted.is at c.release_next.ensures) g.W.Sink.tells (g.W.Sink.written c.loop.sink) (g.W.Sink.faults c.loop.sink) in
+    record { steps = then c.loop.invariant.2 released; sent = tt }
