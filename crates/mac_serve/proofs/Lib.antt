@@ -1,6 +1,7 @@
 pub mod Answered
 pub mod Comes
 pub mod Gathered
+pub mod JoiningLemmas
 pub mod ReceivingLemmas
 pub mod SendingLemmas
 pub mod ServingLemmas

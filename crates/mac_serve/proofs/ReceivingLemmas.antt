@@ -14,15 +14,15 @@ use Rattle.mac_wire.specs.declared.arrival.Ending.{Ending}
 use Rattle.mac_wire.specs.declared.arrival.Ending.TheVariants as ending
 use Rattle.mac_wire.specs.declared.frame.FrameReader.{FrameReader}
 use Rattle.mac_wire.specs.declared.version.Version.{Version}
-use Rattle.mac_wire.specs.Stream.{Arrivals, arrivals_of, version_or_one}
-use Rattle.mac_wire.specs.FrameReader.{HasRead, version_of}
-use Rattle.mac_wire.proofs.Opening.{arrived_longer, has_arrived_in, nothing_arrived, told_first, told_is, told_more, told_some, version_tells}
+use Rattle.mac_wire.specs.Stream.{Arrivals, arrivals_of, version_or_one, version_told}
+use Rattle.mac_wire.specs.FrameReader.{HasRead, HasEnded, version_of}
+use Rattle.mac_wire.proofs.Opening.{arrived_longer, has_arrived_in, told_is, told_more, told_some, version_tells}
 use Rattle.mac_decide.specs.World.{job_under}
 use Rattle.mac_decide.specs.declared.job.Job.{Job}
 use Rattle.mac_serve.specs.declared.incoming.InboundFault.{InboundFault}
 use Rattle.mac_serve.specs.declared.incoming.InboundFault.TheVariants as fault
 use Rattle.mac_serve.specs.declared.inbound.Inbound.{Inbound}
-use Rattle.mac_serve.specs.Receiving.{Gave, HasTold, Reads, jobs_of, placed, IsBehind, TakesIn, TakesSome, Receives, HasRun, GoesOn, Continues, Ran}
+use Rattle.mac_serve.specs.Receiving.{Gave, IsSameHalf, HasTold, IsTold, Past, IsPast, Reads, jobs_of, placed, IsBehind, TakesIn, TakesSome, Receives, HasRun, GoesOn, Continues, Ran}
 
 placed-append : (place : ℕ) (jobs more : List Job) → placed place (jobs ++ more) ≡ placed place jobs ++ placed (place + length jobs) more
 unfolding placed
@@ -31,9 +31,13 @@ placed-append place (job ∷ jobs) more =
     ap (λ (l : List (ℕ × Job)). (place, job) ∷ l) (placed-append (place + 1) jobs more
     ∙ ap (λ (n : ℕ). placed (place + 1) jobs ++ placed n more) (omega arith))
 
+-- the intake of one ring
+same-intake : (a b c : Inbound) → IsSameIntake a.ring b.ring → IsSameIntake b.ring c.ring → IsSameIntake a.ring c.ring
+same-intake a b c h k = ((k.0.0 ∙ h.0.0, k.0.1 ∙ h.0.1, k.0.2 ∙ h.0.2, k.0.3 ∙ h.0.3), k.1 ∙ h.1)
+
 pub took-nothing : (a : Inbound) → TakesIn [] a a
 unfolding placed
-took-nothing a = record { admitted_is = search rules; put_is = search rules }
+took-nothing a = record { same = ((refl, refl, refl, refl), refl); admitted_is = search rules; put_is = search rules }
 
 -- what is put behind these jobs stands behind them
 put-more : (jobs more : List Job) (a b : Inbound) → TakesIn jobs a b
@@ -52,6 +56,7 @@ put-more jobs more a b first =
 -- first these jobs, and then those
 pub takes-in-more : (jobs more : List Job) (a b c : Inbound) → TakesIn jobs a b → TakesIn more b c → TakesIn (jobs ++ more) a c
 takes-in-more jobs more a b c first then = record {
+  same = same-intake a b c first.same then.same;
   admitted_is = then.admitted_is ∙ ap (λ (l : List Job). l ++ more) first.admitted_is ∙ append_assoc (admitted a.ring) jobs more;
   put_is = then.put_is ∙ put-more jobs more a b first;
 }
@@ -70,9 +75,10 @@ put-nothing : (a : Inbound) → a.putter ≡ record a.putter { put = a.putter.pu
 put-nothing a = ap (λ (l : List (ℕ × Job)). record a.putter { put = l }) (sym (append-nil a.putter.put))
 
 -- nothing was admitted
-pub takes-none : (jobs : List Job) (a b : Inbound) → admitted b.ring ≡ admitted a.ring → b.putter ≡ a.putter → TakesSome jobs a b
+pub takes-none : (jobs : List Job) (a b : Inbound) → IsSameIntake a.ring b.ring → admitted b.ring ≡ admitted a.ring → b.putter ≡ a.putter → TakesSome jobs a b
 unfolding placed
-takes-none jobs a b ring putter = record {
+takes-none jobs a b same ring putter = record {
+  same = same;
   count = 0;
   there = omega arith;
   admitted_is = ring ∙ search rules;
@@ -84,6 +90,7 @@ takes-none jobs a b ring putter = record {
 pub takes-some-more : (jobs more : List Job) (a b c : Inbound) → TakesIn jobs a b → TakesSome more b c → TakesSome (jobs ++ more) a c
 takes-some-more jobs more a b c first then =
     record {
+      same = same-intake a b c first.same then.same;
       count = length jobs + then.count;
       there = omega (arith, then.there, length-append jobs more);
       admitted_is = then.admitted_is ∙ ap (λ (l : List Job). l ++ take then.count more) first.admitted_is
@@ -97,6 +104,7 @@ takes-some-more jobs more a b c first then =
 
 pub takes-some-longer : (jobs more : List Job) (a b : Inbound) → TakesSome jobs a b → TakesSome (jobs ++ more) a b
 takes-some-longer jobs more a b took = record {
+  same = took.same;
   count = took.count;
   there = omega (arith, took.there, length-append jobs more);
   admitted_is = took.admitted_is ∙ ap (λ (l : List Job). admitted a.ring ++ l) (sym (take-append-le took.count jobs more took.there));
@@ -110,6 +118,7 @@ takes-some-longer jobs more a b took = record {
 -- all of the jobs are some of them
 pub takes-some-all : (jobs : List Job) (a b : Inbound) → TakesIn jobs a b → TakesSome jobs a b
 takes-some-all jobs a b took = record {
+  same = took.same;
   count = length jobs;
   there = omega arith;
   admitted_is = took.admitted_is ∙ ap (λ (l : List Job). admitted a.ring ++ l) (sym (take-length jobs));
@@ -124,24 +133,42 @@ pub same-after : (jobs : List Job) (a b : Inbound) → TakesSome jobs a b → Is
 same-after jobs a b took =
     (ap (λ (p : Pass Job). p.queue) took.put_is, ap (λ (p : Pass Job). p.seat) took.put_is, ap (λ (p : Pass Job). p.number) took.put_is)
 
+-- the half stays that of the same ring and pass
+pub same-nothing : (a : Inbound) → IsSameHalf a a
+same-nothing a = (((refl, refl, refl, refl), refl), (refl, refl, refl))
+
+same-pass : (jobs : List Job) (a b c : Inbound) → IsSameHalf a b → TakesSome jobs b c → IsSameHalf a c
+same-pass jobs a b c same took =
+    let pass = same-after jobs b c took in
+    (same-intake a b c same.0 took.same, (pass.0 ∙ same.1.0, pass.1 ∙ same.1.1, pass.2 ∙ same.1.2))
+
+pub same-received : {T : Type 0} (jobs : List Job) (r : Result T InboundFault) (a b c : Inbound) → IsSameHalf a b → Receives jobs r b c → IsSameHalf a c
+same-received jobs (Ok x) a b c same took = same-pass jobs a b c same (takes-some-all jobs b c took)
+same-received jobs (Err why) a b c same took = same-pass jobs a b c same took.1
+
 -- a job that was admitted, and put or not
 pub receives-put : {T : Type 0} (result : Result T InboundFault) (job : Job) (place : ℕ) (before mid after : Inbound)
-    → admitted mid.ring ≡ admitted before.ring ++ job ∷ [] → mid.putter ≡ before.putter → after.ring ≡ mid.ring → place ≡ length (admitted before.ring)
+    → IsSameIntake before.ring mid.ring → result ≢ Err fault.Read → admitted mid.ring ≡ admitted before.ring ++ job ∷ [] → mid.putter ≡ before.putter → after.ring ≡ mid.ring → place ≡ length (admitted before.ring)
     → OnOk result (after.putter ≡ with_put mid.putter (place, job)) → OnErr result (after.putter ≡ mid.putter)
     → Receives (job ∷ []) result before after
 unfolding placed
-receives-put (Ok x) job place before mid after is_admitted is_putter is_ring is_place put kept = record {
+receives-put (Ok x) job place before mid after same no_read is_admitted is_putter is_ring is_place put kept = record {
+  same = rw is_ring same;
   admitted_is = ap admitted is_ring ∙ is_admitted;
   put_is = put ∙ ap (λ (p : Pass Job). with_put p (place, job)) is_putter ∙ ap (λ (n : ℕ). with_put before.putter (n, job)) is_place;
 }
-receives-put (Err why) job place before mid after is_admitted is_putter is_ring is_place put kept = record {
-  count = 1;
-  there = omega arith;
-  admitted_is = ap admitted is_ring ∙ is_admitted;
-  puts = 0;
-  put_behind = inr refl;
-  put_is = kept ∙ is_putter ∙ put-nothing before;
-}
+receives-put (Err why) job place before mid after same no_read is_admitted is_putter is_ring is_place put kept = (
+  λ is. no_read (ap Err is),
+  record {
+    same = rw is_ring same;
+    count = 1;
+    there = omega arith;
+    admitted_is = ap admitted is_ring ∙ is_admitted;
+    puts = 0;
+    put_behind = inr refl;
+    put_is = kept ∙ is_putter ∙ put-nothing before;
+  },
+)
 
 -- one more arrival
 pub takes-in-next : (table : Table) (front : List Arrival) (arrival : Arrival) (a b c : Inbound)
@@ -164,53 +191,74 @@ gave-nothing : (tells : Bool) (a b c bytes : List ℕ) → Gave tells a b bytes 
 gave-nothing tells a b c bytes one two told = two told ∙ ap (λ (l : List ℕ). l ++ []) (one told) ∙ search rules
 
 -- what a reader handed out of which all was taken in
-all-read : (tells : Bool) (table : Table) (version : Version) (given given' : List ℕ) (reader : FrameReader) (a b : Inbound)
-    → (on : GoesOn tells table version given given' reader [] a b) → HasRead reader on.stream on.handed
-all-read tells table version given given' reader a b on = subst (HasRead reader on.stream) (append-nil on.handed) on.read
+all-read : (tells : Bool) (table : Table) (version : Version) (past : Past) (given given' : List ℕ) (reader : FrameReader) (a b : Inbound)
+    → (on : GoesOn tells table version past given given' reader [] a b) → HasRead reader (past.read ++ on.stream) (past.arrived ++ on.handed)
+all-read tells table version past given given' reader a b on =
+    subst (λ (l : List Arrival). HasRead reader (past.read ++ on.stream) (past.arrived ++ l)) (append-nil on.handed) on.read
 
 -- the arrivals so far are those that were handed out
 all-arrived : (reader : FrameReader) (stream : List ℕ) (handed : List Arrival) → HasRead reader stream handed → (arrivals_of stream).arrived ≡ handed
 all-arrived reader stream handed read = has_arrived_in reader.version reader.stage stream handed read
 
--- a run that is given up where it stands
-pub gives-up : (tells : Bool) (table : Table) (version : Version) (given given' : List ℕ) (reader : FrameReader) (a b : Inbound) (why : InboundFault)
-    → GoesOn tells table version given given' reader [] a b → HasRun tells table version given given' (Err why) a b
-gives-up tells table version given given' reader a b why on =
-    let read = all-read tells table version given given' reader a b on in
-    let all : TakesIn (jobs_of table (arrivals_of on.stream).arrived) a b =
-    subst (λ (arrivals : List Arrival). TakesIn (jobs_of table arrivals) a b) (sym (all-arrived reader on.stream on.handed read)) on.took in
-    record { stream = on.stream; gave = on.gave; version_is = told_some on.stream version on.told; ran = gave_up why all }
-  where
-    gave_up : (why : InboundFault) → TakesIn (jobs_of table (arrivals_of on.stream).arrived) a b → Ran table on.stream (Err why) a b
-    gave_up fault.Read all = all
-    gave_up fault.NoMemory all = takes-some-all (jobs_of table (arrivals_of on.stream).arrived) a b all
-    gave_up fault.Exhausted all = takes-some-all (jobs_of table (arrivals_of on.stream).arrived) a b all
-    gave_up fault.Stopped all = takes-some-all (jobs_of table (arrivals_of on.stream).arrived) a b all
+-- where all jobs were taken in, a run may end by any fault
+gave-up : (table : Table) (arrivals : List Arrival) (end : Ending) (a b : Inbound) (why : InboundFault) → TakesIn (jobs_of table arrivals) a b → Ran table arrivals end (Err why) a b
+gave-up table arrivals end a b fault.Read all = all
+gave-up table arrivals end a b fault.NoMemory all = takes-some-all (jobs_of table arrivals) a b all
+gave-up table arrivals end a b fault.Exhausted all = takes-some-all (jobs_of table arrivals) a b all
+gave-up table arrivals end a b fault.Stopped all = takes-some-all (jobs_of table arrivals) a b all
+
+-- and where some were, by any but that of the source
+gave-up-some : (table : Table) (arrivals : List Arrival) (end : Ending) (a b : Inbound) (why : InboundFault) → why ≢ fault.Read → TakesSome (jobs_of table arrivals) a b → Ran table arrivals end (Err why) a b
+gave-up-some table arrivals end a b fault.Read no_read some = absurd (no_read refl)
+gave-up-some table arrivals end a b fault.NoMemory no_read some = some
+gave-up-some table arrivals end a b fault.Exhausted no_read some = some
+gave-up-some table arrivals end a b fault.Stopped no_read some = some
+
+abbrev failed : InboundFault → Result Ending InboundFault
+failed why = Err why
+
+same-fault : (why other : InboundFault) → failed why ≡ failed other → why ≡ other
+same-fault why other is = cc
 
 -- a run that is given up where nothing more came
-gives-up-there : (tells : Bool) (table : Table) (version : Version) (given mid given' : List ℕ) (reader : FrameReader) (a b : Inbound) (why : InboundFault)
-    → GoesOn tells table version given mid reader [] a b → Gave tells mid given' [] → HasRun tells table version given given' (Err why) a b
-gives-up-there tells table version given mid given' reader a b why on nothing =
-    let run = gives-up tells table version given mid reader a b why on in
-    record { stream = run.stream; gave = gave-nothing tells given mid given' run.stream run.gave nothing; version_is = run.version_is; ran = run.ran }
+gives-up-there : (tells : Bool) (table : Table) (version : Version) (past : Past) (given mid given' : List ℕ) (reader reader' : FrameReader) (a b : Inbound) (why : InboundFault)
+    → (on : GoesOn tells table version past given mid reader [] a b) → Gave tells mid given' []
+    → (why ≡ fault.Read → HasRead reader' (past.read ++ on.stream) (past.arrived ++ on.handed) × (HasEnded reader' → ⊥)) → HasRun tells table version past given given' reader' (Err why) a b
+gives-up-there tells table version past given mid given' reader reader' a b why on nothing left =
+    record {
+      stream = on.stream;
+      gave = gave-nothing tells given mid given' on.stream on.gave nothing;
+      version_is = told_some (past.read ++ on.stream) version on.told;
+      arrivals = on.handed;
+      came = all-arrived reader (past.read ++ on.stream) (past.arrived ++ on.handed) (all-read tells table version past given mid reader a b on);
+      ran = gave-up table on.handed (arrivals_of (past.read ++ on.stream)).ending a b why on.took;
+      left = λ is. left (same-fault why fault.Read is);
+    }
+
+-- the outbound half had ended
+pub gives-up : (tells : Bool) (table : Table) (version : Version) (past : Past) (given given' : List ℕ) (reader : FrameReader) (a b : Inbound) (why : InboundFault)
+    → GoesOn tells table version past given given' reader [] a b → (why ≢ fault.Read) → HasRun tells table version past given given' reader (Err why) a b
+gives-up tells table version past given given' reader a b why on no_read =
+    gives-up-there tells table version past given given' given' reader reader a b why on (λ told. sym (append-nil given')) (λ is. absurd (no_read is))
 
 -- how a read of a run ended
-pub goes-further : (tells : Bool) (table : Table) (version : Version) (given mid given' : List ℕ) (reader reader' : FrameReader) (a b : Inbound)
-    (result : Result (Option (Vec Arrival Global)) InboundFault) → (on : GoesOn tells table version given mid reader [] a b)
-    → ((handed : List Arrival) → HasRead reader on.stream handed → Reads tells mid given' on.stream handed result reader')
-    → Continues tells table version given given' result reader' a b
-goes-further tells table version given mid given' reader reader' a b result on reads =
-    by_result result (reads on.handed (all-read tells table version given mid reader a b on))
+pub goes-further : (tells : Bool) (table : Table) (version : Version) (past : Past) (given mid given' : List ℕ) (reader reader' : FrameReader) (a b : Inbound)
+    (result : Result (Option (Vec Arrival Global)) InboundFault) → GoesOn tells table version past given mid reader [] a b
+    → ((stream : List ℕ) (handed : List Arrival) → HasRead reader stream handed → Reads tells mid given' stream handed result reader')
+    → Continues tells table version past given given' result reader' a b
+goes-further tells table version past given mid given' reader reader' a b result on reads =
+    by_result result (reads (past.read ++ on.stream) (past.arrived ++ on.handed) (all-read tells table version past given mid reader a b on))
   where
-    by_result : (result : Result (Option (Vec Arrival Global)) InboundFault) → Reads tells mid given' on.stream on.handed result reader'
-        → Continues tells table version given given' result reader' a b
-    by_result (Ok (Some more)) (bytes, gave, some, read) =
+    by_result : (result : Result (Option (Vec Arrival Global)) InboundFault) → Reads tells mid given' (past.read ++ on.stream) (past.arrived ++ on.handed) result reader'
+        → Continues tells table version past given given' result reader' a b
+    by_result (Ok (Some more)) (bytes, gave, told, read) =
         record {
           stream = on.stream ++ bytes;
           gave = gave-more tells given mid given' on.stream bytes on.gave gave;
-          told = told_more on.stream bytes version on.told;
+          told = subst (λ (l : List ℕ). version_told l ≡ Some version) (append_assoc past.read on.stream bytes) (told_more (past.read ++ on.stream) bytes version on.told);
           handed = on.handed;
-          read = read;
+          read = subst (λ (l : List Arrival). HasRead reader' (past.read ++ (on.stream ++ bytes)) l) (append_assoc past.arrived on.handed more.items)
+              (subst (λ (l : List ℕ). HasRead reader' l ((past.arrived ++ on.handed) ++ more.items)) (append_assoc past.read on.stream bytes) read);
           took = on.took;
         }
     by_result (Ok None) (nothing, read) =
@@ -219,71 +267,71 @@ goes-further tells table version given mid given' reader reader' a b result on r
           gave = gave-nothing tells given mid given' on.stream on.gave nothing;
           told = on.told;
           handed = on.handed;
-          read = subst (HasRead reader' on.stream) (sym (append-nil on.handed)) read;
+          read = subst (λ (l : List Arrival). HasRead reader' (past.read ++ on.stream) (past.arrived ++ l)) (sym (append-nil on.handed)) read;
           took = on.took;
         }
-    by_result (Err fault.Read) (nothing, told) = gives-up-there tells table version given mid given' reader a b fault.Read on nothing
+    by_result (Err fault.Read) (nothing, read, goes_on) = gives-up-there tells table version past given mid given' reader reader' a b fault.Read on nothing (λ _. (read, goes_on))
     by_result (Err fault.NoMemory) (bytes, gave, told) =
-        let (rest, is) = arrived_longer reader.version reader.stage on.stream bytes on.handed (all-read tells table version given mid reader a b on) in
+        let (rest, is) = arrived_longer reader.version reader.stage (past.read ++ on.stream) bytes (past.arrived ++ on.handed) (all-read tells table version past given mid reader a b on) in
+        let assoc = append_assoc past.read on.stream bytes in
         let some = takes-some-longer (jobs_of table on.handed) (jobs_of table rest) a b (takes-some-all (jobs_of table on.handed) a b on.took) in
         record {
           stream = on.stream ++ bytes;
           gave = gave-more tells given mid given' on.stream bytes on.gave gave;
-          version_is = told_some (on.stream ++ bytes) version (told_more on.stream bytes version on.told);
-          ran = subst (λ (jobs : List Job). TakesSome jobs a b) (sym (map-append (job_under table) on.handed rest) ∙ ap (jobs_of table) (sym is)) some;
+          version_is = ap (λ (l : List ℕ). (arrivals_of l).version) (sym assoc) ∙ told_some ((past.read ++ on.stream) ++ bytes) version (told_more (past.read ++ on.stream) bytes version on.told);
+          arrivals = on.handed ++ rest;
+          came = ap (λ (l : List ℕ). (arrivals_of l).arrived) (sym assoc) ∙ is ∙ append_assoc past.arrived on.handed rest;
+          ran = subst (λ (jobs : List Job). TakesSome jobs a b) (sym (map-append (job_under table) on.handed rest)) some;
+          left = λ no. absurd cc;
         }
-    by_result (Err fault.Exhausted) (nothing, told) = gives-up-there tells table version given mid given' reader a b fault.Exhausted on nothing
+    by_result (Err fault.Exhausted) (nothing, told) = gives-up-there tells table version past given mid given' reader reader' a b fault.Exhausted on nothing (λ is. absurd cc)
     by_result (Err fault.Stopped) reads = absurd reads
 
--- the arrivals that were pending are taken in
-pub goes-taken : (tells : Bool) (table : Table) (version : Version) (given given' : List ℕ) (reader : FrameReader) (pending : List Arrival) (a b c : Inbound)
-    → GoesOn tells table version given given' reader pending a b → TakesIn (jobs_of table pending) b c → GoesOn tells table version given given' reader [] a c
-goes-taken tells table version given given' reader pending a b c on took =
+-- the arrivals that were pending are taken in, all or some
+pub goes-received : {T : Type 0} (tells : Bool) (table : Table) (version : Version) (past : Past) (given given' : List ℕ) (reader : FrameReader) (pending : List Arrival) (a b c : Inbound) (r : Result T InboundFault)
+    → GoesOn tells table version past given given' reader pending a b → Receives (jobs_of table pending) r b c
+    → MatchResult r (λ _. GoesOn tells table version past given given' reader [] a c) (λ why. HasRun tells table version past given given' reader (Err why) a c)
+goes-received {T} tells table version past given given' reader pending a b c (Ok x) on took =
     record {
       stream = on.stream;
       gave = on.gave;
       told = on.told;
       handed = on.handed ++ pending;
-      read = subst (HasRead reader on.stream) (sym (append-nil (on.handed ++ pending))) on.read;
+      read = subst (λ (l : List Arrival). HasRead reader (past.read ++ on.stream) (past.arrived ++ l)) (sym (append-nil (on.handed ++ pending))) on.read;
       took = subst (λ (jobs : List Job). TakesIn jobs a c) (sym (map-append (job_under table) on.handed pending))
           (takes-in-more (jobs_of table on.handed) (jobs_of table pending) a b c on.took took);
     }
-
--- not all of the arrivals that were pending are taken in
-pub goes-no-further : (tells : Bool) (table : Table) (version : Version) (given given' : List ℕ) (reader : FrameReader) (pending : List Arrival) (a b c : Inbound) (why : InboundFault)
-    → GoesOn tells table version given given' reader pending a b → why ≢ fault.Read → TakesSome (jobs_of table pending) b c
-    → HasRun tells table version given given' (Err why) a c
-goes-no-further tells table version given given' reader pending a b c why on no_read took =
+goes-received {T} tells table version past given given' reader pending a b c (Err why) on (no_read, took) =
     let some = takes-some-more (jobs_of table on.handed) (jobs_of table pending) a b c on.took took in
-    let is = all-arrived reader on.stream (on.handed ++ pending) on.read in
-    let all = subst (λ (jobs : List Job). TakesSome jobs a c) (sym (map-append (job_under table) on.handed pending) ∙ ap (jobs_of table) (sym is)) some in
-    record { stream = on.stream; gave = on.gave; version_is = told_some on.stream version on.told; ran = by_fault why no_read all }
-  where
-    by_fault : (why : InboundFault) → why ≢ fault.Read → TakesSome (jobs_of table (arrivals_of on.stream).arrived) a c → Ran table on.stream (Err why) a c
-    by_fault fault.Read no_read all = absurd (no_read refl)
-    by_fault fault.NoMemory no_read all = all
-    by_fault fault.Exhausted no_read all = all
-    by_fault fault.Stopped no_read all = all
-
--- a run whose stream has ended
-pub has-finished : (tells : Bool) (table : Table) (version : Version) (given given' : List ℕ) (reader : FrameReader) (a b : Inbound) (end : Ending)
-    → (on : GoesOn tells table version given given' reader [] a b)
-    → ((stream : List ℕ) (handed : List Arrival) → HasRead reader stream handed
-    → arrivals_of stream ≡ record { version = version_or_one reader.version; arrived = handed; ending = end })
-    → ((stream : List ℕ) (handed : List Arrival) → HasRead reader stream handed → end ≢ ending.Broken)
-    → HasRun tells table version given given' (Ok end) a b
-has-finished tells table version given given' reader a b end on ends whole =
-    let read = all-read tells table version given given' reader a b on in
-    let is = ends on.stream on.handed read in
+    let all = subst (λ (jobs : List Job). TakesSome jobs a c) (sym (map-append (job_under table) on.handed pending)) some in
     record {
       stream = on.stream;
       gave = on.gave;
-      version_is = told_some on.stream version on.told;
-      ran = (
-        subst (λ (arrivals : List Arrival). TakesIn (jobs_of table arrivals) a b) (sym (ap (λ (x : Arrivals). x.arrived) is)) on.took,
-        ap (λ (x : Arrivals). x.ending) is,
-        whole on.stream on.handed read,
-      );
+      version_is = told_some (past.read ++ on.stream) version on.told;
+      arrivals = on.handed ++ pending;
+      came = all-arrived reader (past.read ++ on.stream) (past.arrived ++ (on.handed ++ pending)) on.read;
+      ran = gave-up-some table (on.handed ++ pending) (arrivals_of (past.read ++ on.stream)).ending a c why no_read all;
+      left = λ is. absurd (no_read (same-fault why fault.Read is));
+    }
+
+-- a run whose stream has ended
+pub has-finished : (tells : Bool) (table : Table) (version : Version) (past : Past) (given given' : List ℕ) (reader reader' : FrameReader) (a b : Inbound) (end : Ending)
+    → GoesOn tells table version past given given' reader [] a b
+    → ((stream : List ℕ) (handed : List Arrival) → HasRead reader stream handed
+    → arrivals_of stream ≡ record { version = version_or_one reader.version; arrived = handed; ending = end })
+    → ((stream : List ℕ) (handed : List Arrival) → HasRead reader stream handed → end ≢ ending.Broken)
+    → HasRun tells table version past given given' reader' (Ok end) a b
+has-finished tells table version past given given' reader reader' a b end on ends whole =
+    let read = all-read tells table version past given given' reader a b on in
+    let is = ends (past.read ++ on.stream) (past.arrived ++ on.handed) read in
+    record {
+      stream = on.stream;
+      gave = on.gave;
+      version_is = told_some (past.read ++ on.stream) version on.told;
+      arrivals = on.handed;
+      came = ap (λ (x : Arrivals). x.arrived) is;
+      ran = (on.took, ap (λ (x : Arrivals). x.ending) is, whole (past.read ++ on.stream) (past.arrived ++ on.handed) read);
+      left = λ no. absurd cc;
     }
 
 -- ---- the first piece
@@ -292,84 +340,98 @@ has-finished tells table version given given' reader a b end on ends whole =
 known-version : (reader : FrameReader) (stream : List ℕ) → HasTold reader stream → (arrivals_of stream).version ≡ version_or_one (version_of reader)
 known-version reader stream told = sym (told_is stream) ∙ ap version_or_one (sym told)
 
+-- any bytes behind others are of a stream that tells its version
+pub is-told : (stream bytes : List ℕ) → 0 < length bytes → IsTold (stream ++ bytes)
+is-told [] [] some = absurd (omega (arith, some))
+is-told [] (b ∷ bytes) some = ((arrivals_of (b ∷ bytes)).version, refl)
+is-told (first ∷ rest) bytes some = ((arrivals_of (first ∷ (rest ++ bytes))).version, refl)
+
 -- a first piece came
-pub begins : (tells : Bool) (table : Table) (given given' : List ℕ) (reader : FrameReader) (a : Inbound) (more : Vec Arrival Global)
-    → Reads tells given given' [] [] (Ok (Some more)) reader → GoesOn tells table (version_or_one (version_of reader)) given given' reader more.items a a
-begins tells table given given' reader a more ([], gave, some, read) = absurd (omega (arith, some))
-begins tells table given given' reader a more (first ∷ rest, gave, some, read) =
+pub begins : (tells : Bool) (table : Table) (past : Past) (given given' : List ℕ) (reader : FrameReader) (a : Inbound) (more : Vec Arrival Global)
+    → Reads tells given given' past.read past.arrived (Ok (Some more)) reader → GoesOn tells table (version_or_one (version_of reader)) past given given' reader more.items a a
+begins tells table past given given' reader a more (bytes, gave, (version, told), read) =
+    let is : reader.version ≡ Some version = version_tells reader.version reader.stage (past.read ++ bytes) (past.arrived ++ more.items) read ∙ told in
     record {
-      stream = first ∷ rest;
+      stream = bytes;
       gave = gave;
-      told = told_first first rest reader.version (version_tells reader.version reader.stage (first ∷ rest) more.items read);
+      told = told ∙ ap Some (sym (ap version_or_one is));
       handed = [];
       read = read;
       took = took-nothing a;
     }
 
--- where a run ended that took nothing in
-nothing-taken : (table : Table) (stream : List ℕ) (a : Inbound) (why : InboundFault) → why ≢ fault.Read → Ran table stream (Err why) a a
-nothing-taken table stream a fault.Read no_read = absurd (no_read refl)
-nothing-taken table stream a fault.NoMemory no_read = takes-none (jobs_of table (arrivals_of stream).arrived) a a refl refl
-nothing-taken table stream a fault.Exhausted no_read = takes-none (jobs_of table (arrivals_of stream).arrived) a a refl refl
-nothing-taken table stream a fault.Stopped no_read = takes-none (jobs_of table (arrivals_of stream).arrived) a a refl refl
-
--- the first read failed
-pub began-badly : (tells : Bool) (table : Table) (given given' : List ℕ) (reader : FrameReader) (a : Inbound) (why : InboundFault)
-    → Reads tells given given' [] [] (Err why) reader → HasRun tells table (version_or_one (version_of reader)) given given' (Err why) a a
-began-badly tells table given given' reader a fault.Read (nothing, told) =
-    record { stream = []; gave = nothing; version_is = known-version reader [] told; ran = no-jobs table a }
-  where
-    no-jobs : (table : Table) (a : Inbound) → TakesIn (jobs_of table (arrivals_of []).arrived) a a
-    no-jobs table a = subst (λ (arrivals : List Arrival). TakesIn (jobs_of table arrivals) a a) (sym nothing_arrived) (took-nothing a)
-began-badly tells table given given' reader a fault.NoMemory (bytes, gave, told) =
-    record { stream = bytes; gave = gave; version_is = known-version reader bytes told; ran = nothing-taken table bytes a fault.NoMemory (λ is. absurd cc) }
-began-badly tells table given given' reader a fault.Exhausted (nothing, told) =
-    record { stream = []; gave = nothing; version_is = known-version reader [] told; ran = nothing-taken table [] a fault.Exhausted (λ is. absurd cc) }
-began-badly tells table given given' reader a fault.Stopped reads = absurd reads
-
--- a run that did not begin, whatever the first read gave
-pub not-begun : (tells : Bool) (table : Table) (given given' : List ℕ) (reader : FrameReader) (a : Inbound) (first : Option (Vec Arrival Global))
-    → Reads tells given given' [] [] (Ok first) reader → HasRun tells table (version_or_one (version_of reader)) given given' (Err fault.NoMemory) a a
-not-begun tells table given given' reader a (Some more) (bytes, gave, some, read) =
+-- a run that took nothing in of what came
+took-none-of : (tells : Bool) (table : Table) (past : Past) (given given' : List ℕ) (reader reader' : FrameReader) (a : Inbound) (why : InboundFault) (bytes : List ℕ) → IsPast past
+    → Gave tells given given' bytes → HasTold reader (past.read ++ bytes) → why ≢ fault.Read → HasRun tells table (version_or_one (version_of reader)) past given given' reader' (Err why) a a
+took-none-of tells table past given given' reader reader' a why bytes is_past gave told no_read =
+    let more = is_past bytes in
     record {
       stream = bytes;
       gave = gave;
-      version_is = known-version reader bytes (version_tells reader.version reader.stage bytes more.items read);
-      ran = nothing-taken table bytes a fault.NoMemory (λ is. absurd cc);
+      version_is = known-version reader (past.read ++ bytes) told;
+      arrivals = more.0;
+      came = more.1;
+      ran = gave-up-some table more.0 (arrivals_of (past.read ++ bytes)).ending a a why no_read (takes-none (jobs_of table more.0) a a ((refl, refl, refl, refl), refl) refl refl);
+      left = λ is. absurd (no_read (same-fault why fault.Read is));
     }
-not-begun tells table given given' reader a None (nothing, read) =
+
+told-nil : (reader : FrameReader) (stream : List ℕ) → HasTold reader stream → HasTold reader (stream ++ [])
+told-nil reader stream told = subst (λ (l : List ℕ). HasTold reader l) (sym (append-nil stream)) told
+
+-- the first read failed
+pub began-badly : (tells : Bool) (table : Table) (past : Past) (given given' : List ℕ) (reader : FrameReader) (a : Inbound) (why : InboundFault) → IsPast past
+    → Reads tells given given' past.read past.arrived (Err why) reader → HasRun tells table (version_or_one (version_of reader)) past given given' reader (Err why) a a
+began-badly tells table past given given' reader a fault.Read is_past (nothing, read, goes_on) =
+    let here : HasRead reader (past.read ++ []) (past.arrived ++ []) =
+    subst (λ (l : List Arrival). HasRead reader (past.read ++ []) l) (sym (append-nil past.arrived)) (subst (λ (l : List ℕ). HasRead reader l past.arrived) (sym (append-nil past.read)) read) in
     record {
       stream = [];
       gave = nothing;
-      version_is = known-version reader [] (version_tells reader.version reader.stage [] [] read);
-      ran = nothing-taken table [] a fault.NoMemory (λ is. absurd cc);
+      version_is = known-version reader (past.read ++ []) (version_tells reader.version reader.stage (past.read ++ []) (past.arrived ++ []) here);
+      arrivals = [];
+      came = all-arrived reader (past.read ++ []) (past.arrived ++ []) here;
+      ran = took-nothing a;
+      left = λ is. (here, goes_on);
     }
+began-badly tells table past given given' reader a fault.NoMemory is_past (bytes, gave, told) =
+    took-none-of tells table past given given' reader reader a fault.NoMemory bytes is_past gave told (λ is. absurd cc)
+began-badly tells table past given given' reader a fault.Exhausted is_past (nothing, told) =
+    took-none-of tells table past given given' reader reader a fault.Exhausted [] is_past nothing (told-nil reader past.read told) (λ is. absurd cc)
+began-badly tells table past given given' reader a fault.Stopped is_past reads = absurd reads
 
--- a stream of nothing
-pub ended-at-once : (tells : Bool) (table : Table) (given given' : List ℕ) (reader : FrameReader) (a : Inbound) (end : Ending)
-    → Reads tells given given' [] [] (Ok None) reader
+-- a run that did not begin, whatever the first read gave
+pub not-begun : (tells : Bool) (table : Table) (past : Past) (given given' : List ℕ) (reader : FrameReader) (a : Inbound) (first : Option (Vec Arrival Global)) → IsPast past
+    → Reads tells given given' past.read past.arrived (Ok first) reader → HasRun tells table (version_or_one (version_of reader)) past given given' reader (Err fault.NoMemory) a a
+not-begun tells table past given given' reader a (Some more) is_past (bytes, gave, some, read) =
+    took-none-of tells table past given given' reader reader a fault.NoMemory bytes is_past gave (version_tells reader.version reader.stage (past.read ++ bytes) (past.arrived ++ more.items) read) (λ is. absurd cc)
+not-begun tells table past given given' reader a None is_past (nothing, read) =
+    took-none-of tells table past given given' reader reader a fault.NoMemory [] is_past nothing (told-nil reader past.read (version_tells reader.version reader.stage past.read past.arrived read)) (λ is. absurd cc)
+
+-- a stream of nothing more
+pub ended-at-once : (tells : Bool) (table : Table) (past : Past) (given given' : List ℕ) (reader reader' : FrameReader) (a : Inbound) (end : Ending)
+    → Reads tells given given' past.read past.arrived (Ok None) reader
     → ((stream : List ℕ) (handed : List Arrival) → HasRead reader stream handed
     → arrivals_of stream ≡ record { version = version_or_one reader.version; arrived = handed; ending = end })
     → ((stream : List ℕ) (handed : List Arrival) → HasRead reader stream handed → end ≢ ending.Broken)
-    → HasRun tells table (version_or_one (version_of reader)) given given' (Ok end) a a
-ended-at-once tells table given given' reader a end (nothing, read) ends whole =
-    let is = ends [] [] read in
+    → HasRun tells table (version_or_one (version_of reader)) past given given' reader' (Ok end) a a
+ended-at-once tells table past given given' reader reader' a end (nothing, read) ends whole =
+    let is : arrivals_of (past.read ++ []) ≡ record { version = version_or_one reader.version; arrived = past.arrived; ending = end } =
+    ap arrivals_of (append-nil past.read) ∙ ends past.read past.arrived read in
     record {
       stream = [];
       gave = nothing;
       version_is = ap (λ (x : Arrivals). x.version) is;
-      ran = (
-        subst (λ (arrivals : List Arrival). TakesIn (jobs_of table arrivals) a a) (sym (ap (λ (x : Arrivals). x.arrived) is)) (took-nothing a),
-        ap (λ (x : Arrivals). x.ending) is,
-        whole [] [] read,
-      );
+      arrivals = [];
+      came = ap (λ (x : Arrivals). x.arrived) is ∙ sym (append-nil past.arrived);
+      ran = (took-nothing a, ap (λ (x : Arrivals). x.ending) is, whole past.read past.arrived read);
+      left = λ no. absurd cc;
     }
 
 -- a fault that is passed on
-pub run-residual : (tells : Bool) (table : Table) (version : Version) (given given' : List ℕ) (r : Result Ending InboundFault) (why : InboundFault) (a b : Inbound)
-    → IsErrAnd r (λ e. e ≡ why) → HasRun tells table version given given' (Err why) a b → HasRun tells table version given given' r a b
-run-residual tells table version given given' (Ok x) why a b is run = absurd is
-run-residual tells table version given given' (Err e) why a b is run = subst (λ (f : InboundFault). HasRun tells table version given given' (Err f) a b) (sym is) run
+pub run-residual : (tells : Bool) (table : Table) (version : Version) (past : Past) (given given' : List ℕ) (reader : FrameReader) (r : Result Ending InboundFault) (why : InboundFault) (a b : Inbound)
+    → IsErrAnd r (λ e. e ≡ why) → HasRun tells table version past given given' reader (Err why) a b → HasRun tells table version past given given' reader r a b
+run-residual tells table version past given given' reader (Ok x) why a b is run = absurd is
+run-residual tells table version past given given' reader (Err e) why a b is run = subst (λ (f : InboundFault). HasRun tells table version past given given' reader (Err f) a b) (sym is) run
 
 pub match-residual : {T : Type 0} (P : T → Type 0) (Q : InboundFault → Type 0) (r : Result T InboundFault) (why : InboundFault)
     → IsErrAnd r (λ e. e ≡ why) → Q why → MatchResult r P Q
@@ -377,13 +439,9 @@ match-residual P Q (Ok x) why is q = absurd is
 match-residual P Q (Err e) why is q = subst Q (sym is) q
 
 pub receives-residual : {T : Type 0} (jobs : List Job) (r : Result T InboundFault) (why : InboundFault) (a b : Inbound)
-    → IsErrAnd r (λ e. e ≡ why) → TakesSome jobs a b → Receives jobs r a b
-receives-residual jobs (Ok x) why a b is some = absurd is
-receives-residual jobs (Err e) why a b is some = some
-
--- the intake of one ring
-pub same-intake : (a b c : Inbound) → IsSameIntake a.ring b.ring → IsSameIntake b.ring c.ring → IsSameIntake a.ring c.ring
-same-intake a b c h k = ((k.0.0 ∙ h.0.0, k.0.1 ∙ h.0.1, k.0.2 ∙ h.0.2, k.0.3 ∙ h.0.3), k.1 ∙ h.1)
+    → IsErrAnd r (λ e. e ≡ why) → why ≢ fault.Read → TakesSome jobs a b → Receives jobs r a b
+receives-residual jobs (Ok x) why a b is other some = absurd is
+receives-residual jobs (Err e) why a b is other some = (λ read. other (sym is ∙ read), some)
 
 -- an ending that is told where reading stopped
 pub told-ended : (end : Ending) (has_ended : Type 0) (at_end : Type 0) → at_end ⊎ has_ended → (has_ended → end ≢ ending.Broken → end ≡ ending.Oversize) → end ≢ ending.Broken

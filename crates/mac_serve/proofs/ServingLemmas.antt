@@ -1,6 +1,6 @@
 -- What serving a connection tells, from what its two halves did.
-use Rattle.std.proofs.Common.{◌≡◌, ◌≢◌, inl, inr, ℕ, ◌≤◌, Bool, true, false, IsTrue, List, [], ◌∷◌, ◌++◌, length, take, drop, map, refl, sym, ap, subst, ◌∙◌, append_assoc, append-nil, arith}
-use Rattle.std.specs.Prelude.{Option, Some, None, Result, Ok, Err, OnOk}
+use Rattle.std.proofs.Common.{◌≡◌, ◌≢◌, inl, inr, ℕ, ◌+◌, ◌≤◌, Bool, true, false, IsTrue, List, [], ◌∷◌, ◌++◌, length, take, drop, map, refl, sym, ap, subst, ◌∙◌, append_assoc, append-nil, arith}
+use Rattle.std.specs.Prelude.{Option, Some, None, Result, Ok, Err, OnOk, IfSome, IsSome, ◌⊎◌}
 use Rattle.std.proofs.lemmas.List.{map-append, take_all, take-append-le, take-append-drop, length-append, length-map, length-take-le}
 use Rattle.std.proofs.lemmas.List.Concat.{flat_map-append}
 use Rattle.mac_ring.specs.Ring.{admitted, received}
@@ -11,9 +11,13 @@ use Rattle.mac_wire.specs.declared.arrival.Ending.{Ending}
 use Rattle.mac_wire.specs.declared.arrival.Ending.TheVariants as ending
 use Rattle.mac_wire.specs.declared.reply.Reply.{Reply}
 use Rattle.mac_wire.specs.declared.version.Version.{Version}
-use Rattle.mac_wire.specs.Frame.{frame, framed}
-use Rattle.mac_wire.specs.Stream.{arrivals_of}
-use Rattle.mac_wire.specs.Reply.{payloads_from, reply_payloads, reply_text}
+use Rattle.mac_wire.specs.Frame.{frame, framed, frames_of}
+use Rattle.mac_wire.specs.FrameReader.{HasRead, HasEnded}
+use Rattle.mac_wire.specs.Session.{HasCome}
+use Rattle.mac_wire.specs.declared.frame.FrameReader.{FrameReader}
+use Rattle.mac_wire.specs.declared.session.Session.{Session}
+use Rattle.mac_wire.specs.Stream.{Arrivals, arrivals_of}
+use Rattle.mac_wire.specs.Reply.{payloads_from}
 use Rattle.mac_wire.proofs.ReplyText.{length-payloads, payloads-append, payloads-take}
 use Rattle.mac_wire.specs.Whole.{HasWhole}
 use Rattle.mac_decide.specs.Answer.{answer_of}
@@ -29,9 +33,9 @@ use Rattle.mac_serve.specs.declared.outbound.Outbound.{Outbound}
 use Rattle.mac_serve.specs.declared.outbound.OutboundFault.{OutboundFault}
 use Rattle.mac_serve.specs.declared.outbound.OutboundFault.TheVariants as sending
 use Rattle.mac_serve.specs.Posts.{AreAnswered, TookForeign}
-use Rattle.mac_serve.specs.Receiving.{Gave, Ran, TakesIn, TakesSome, IsBehind, jobs_of, placed}
-use Rattle.mac_serve.specs.Sending.{answer_to, replies, payloads, next, out_text, Fell, Sends}
-use Rattle.mac_serve.specs.Serving.{answers, SentAll, SentSome, SentBeginning, Sent, HasServed, outcome_of}
+use Rattle.mac_serve.specs.Receiving.{Gave, CountsRead, Past, IsPast, Ran, TakesIn, TakesSome, IsBehind, jobs_of, placed}
+use Rattle.mac_serve.specs.Sending.{answer_to, replies, payloads, next, out_text, CountsWrite, Stands, Fell, Sends}
+use Rattle.mac_serve.specs.Serving.{answers, text_from, SentAll, SentSome, SentBeginning, Sent, IsLeft, HasServed, MayCount, CountsServed, GoesOnWith, GivesBack, outcome_of}
 use Rattle.mac_serve.proofs.Answered.{none-answered, answered-longer, took-longer}
 use Rattle.mac_serve.proofs.Gathered.{gathered-none, gathered-whole, whole-longer}
 use Rattle.mac_serve.proofs.ReceivingLemmas.{takes-some-all, same-after}
@@ -50,83 +54,93 @@ answers-are table (a ∷ more) = ap (λ (rs : List Reply). answer_of table a ∷
 pub released-count : {Job Answered : Type 0} (reply_to : Job → Answered) (jobs : List Job) (n : ℕ) → n ≤ length jobs → length (map reply_to (take n jobs)) ≡ n
 released-count reply_to jobs n within = length-map (take n jobs) reply_to ∙ length-take-le n jobs within
 
--- a run took in some jobs of the stream's arrivals, the first ones
-ran-some : (table : Table) (stream : List ℕ) (result : Result Ending InboundFault) (start i : Inbound) → Ran table stream result start i
-    → TakesSome (jobs_of table (arrivals_of stream).arrived) start i
-ran-some table stream (Ok end) start i ran = takes-some-all (jobs_of table (arrivals_of stream).arrived) start i ran.0
-ran-some table stream (Err reading.Read) start i ran = takes-some-all (jobs_of table (arrivals_of stream).arrived) start i ran
-ran-some table stream (Err reading.NoMemory) start i ran = ran
-ran-some table stream (Err reading.Exhausted) start i ran = ran
-ran-some table stream (Err reading.Stopped) start i ran = ran
+-- a run took in some jobs of the arrivals, the first ones
+ran-some : (table : Table) (arrivals : List Arrival) (last : Ending) (result : Result Ending InboundFault) (start i : Inbound) → Ran table arrivals last result start i
+    → TakesSome (jobs_of table arrivals) start i
+ran-some table arrivals last (Ok end) start i ran = takes-some-all (jobs_of table arrivals) start i ran.0
+ran-some table arrivals last (Err reading.Read) start i ran = takes-some-all (jobs_of table arrivals) start i ran
+ran-some table arrivals last (Err reading.NoMemory) start i ran = ran
+ran-some table arrivals last (Err reading.Exhausted) start i ran = ran
+ran-some table arrivals last (Err reading.Stopped) start i ran = ran
 
 -- what a connection tells
-abbrev pub told : Outbound → Inbound → ℕ → Ending → Served
-told o i count end = record {
+abbrev pub told : Outbound → Inbound → ℕ → Ending → Option Session → Served
+told o i count end onward = record {
   arrived = count;
   sent = o.sent;
   written = o.written;
   ending = end;
   desk = record { putter = i.putter; taker = o.taker };
+  session = onward;
 }
 
 -- where the jobs that an outbound half received are the first of those of these arrivals
-module _ (table : Table) (version : Version) (arrivals : List Arrival) (o : Outbound) (more : List Job) (is : received o.ring ++ more ≡ jobs_of table arrivals)
-    (same : o.version ≡ version) where
+module _ (table : Table) (version : Version) (base : ℕ) (arrivals : List Arrival) (o : Outbound) (more : List Job) (is : received o.ring ++ more ≡ jobs_of table arrivals)
+    (same : o.version ≡ version) (at : o.base ≡ base) where
   -- the frames behind those of the replies to them
   abbrev behind : List (List ℕ)
-  behind = payloads_from o.version (length (replies o)) (map answer_to more)
+  behind = payloads_from o.version (o.base + length (replies o)) (map answer_to more)
 
-  longer : reply_payloads version (answers table arrivals) ≡ payloads o ++ behind
+  longer : payloads_from version base (answers table arrivals) ≡ payloads o ++ behind
   longer =
-      ap (λ (v : Version). reply_payloads v (answers table arrivals)) (sym same)
-      ∙ ap (reply_payloads o.version) (sym (answers-are table arrivals) ∙ ap (map answer_to) (sym is) ∙ map-append answer_to (received o.ring) more)
-      ∙ payloads-append o.version 0 (replies o) (map answer_to more)
-      ∙ ap (λ (n : ℕ). payloads o ++ payloads_from o.version n (map answer_to more)) (omega arith)
+      ap (λ (v : Version). payloads_from v base (answers table arrivals)) (sym same)
+      ∙ ap (λ (n : ℕ). payloads_from o.version n (answers table arrivals)) (sym at)
+      ∙ ap (payloads_from o.version o.base) (sym (answers-are table arrivals) ∙ ap (map answer_to) (sym is) ∙ map-append answer_to (received o.ring) more)
+      ∙ payloads-append o.version o.base (replies o) (map answer_to more)
 
   -- a beginning of the answers' frames went out
-  beginning : o.written ≤ length (framed (payloads o)) → out_text o ≡ take o.written (reply_text version (answers table arrivals))
+  beginning : o.written ≤ length (framed (payloads o)) → out_text o ≡ take o.written (text_from version base (answers table arrivals))
   beginning within =
       sym (take-append-le o.written (framed (payloads o)) (framed behind) within)
       ∙ ap (take o.written) (sym (flat_map-append frame (payloads o) behind))
       ∙ ap (λ (ps : List (List ℕ)). take o.written (framed ps)) (sym longer)
 
   -- the frames of the first answers went out
-  some : o.sent ≤ length (payloads o) → out_text o ≡ framed (take o.sent (payloads o)) → out_text o ≡ reply_text version (take o.sent (answers table arrivals))
+  some : o.sent ≤ length (payloads o) → out_text o ≡ framed (take o.sent (payloads o)) → out_text o ≡ text_from version base (take o.sent (answers table arrivals))
   some there whole =
       whole ∙ ap framed (sym (take-append-le o.sent (payloads o) behind there))
       ∙ ap (λ (ps : List (List ℕ)). framed (take o.sent ps)) (sym longer)
-      ∙ ap framed (payloads-take version 0 o.sent (answers table arrivals))
+      ∙ ap framed (payloads-take version base o.sent (answers table arrivals))
 
-  whole_of : o.written ≤ length (framed (payloads o)) → HasWhole (payloads o) o.written o.sent → HasWhole (reply_payloads version (answers table arrivals)) o.written o.sent
+  whole_of : o.written ≤ length (framed (payloads o)) → HasWhole (payloads o) o.written o.sent → HasWhole (payloads_from version base (answers table arrivals)) o.written o.sent
   whole_of within frames =
       subst (λ (ps : List (List ℕ)). HasWhole ps o.written o.sent) (sym longer)
       (whole-longer (payloads o) behind o.written o.sent frames within)
 
   -- no more were sent than received
   sent-received : o.sent ≤ length (payloads o) → o.sent ≤ length (received o.ring)
-  sent-received there = omega (arith, there, length-payloads o.version 0 (replies o), length-map (received o.ring) answer_to)
+  sent-received there = omega (arith, there, length-payloads o.version o.base (replies o), length-map (received o.ring) answer_to)
 
--- What two halves did that ran over one ring, from its beginning: the source gave a stream, the sink took what went out, and the ends met.
-module _ (tells_in tells_out : Bool) (table : Table) (given given' wrote wrote' stream : List ℕ) (pass : Pass Job) (taken : List Entry)
-    (start i : Inbound) (o : Outbound) (rest : List Job) (count : ℕ)
+-- What two halves did that ran over one ring, from its beginning: behind what had come before the
+-- source gave more of a stream, the sink took what was unsent before and what went out, and the ends
+-- met.
+module _ (tells_in tells_out : Bool) (table : Table) (session : Session) (past : Past) (given given' wrote wrote' stream : List ℕ) (arrived : List Arrival) (ahead left : List ℕ)
+    (pass : Pass Job) (taken : List Entry) (start i : Inbound) (o : Outbound) (rest : List Job) (count : ℕ) (reader : FrameReader)
     (gave : Gave tells_in given given' stream)
-    (took : IsTrue tells_out → wrote' ≡ wrote ++ out_text o)
+    (came : (arrivals_of (past.read ++ stream)).arrived ≡ past.arrived ++ arrived)
+    (parts : session.unsent ≡ ahead ++ left)
+    (first_out : (left ≡ []) ⊎ (out_text o ≡ []))
+    (took : IsTrue tells_out → wrote' ≡ wrote ++ (ahead ++ out_text o))
     (empty : admitted start.ring ≡ [])
     (putter : start.putter ≡ pass)
     (met : received o.ring ++ rest ≡ admitted i.ring)
     (counted : count ≡ length (admitted i.ring))
-    (same : o.version ≡ (arrivals_of stream).version) where
+    (same : o.version ≡ (arrivals_of (past.read ++ stream)).version)
+    (at : o.base ≡ session.answered) where
   abbrev version : Version
-  version = (arrivals_of stream).version
+  version = (arrivals_of (past.read ++ stream)).version
 
-  abbrev arrived : List Arrival
-  arrived = (arrivals_of stream).arrived
+  abbrev last : Ending
+  last = (arrivals_of (past.read ++ stream)).ending
 
   abbrev jobs : List Job
   jobs = jobs_of table arrived
 
-  abbrev Serves : Option ServeFault → Ending → Type 0
-  Serves why end = HasServed tells_in tells_out table given given' wrote wrote' pass taken why (told o i count end)
+  abbrev IsOnward : Session → Type 0
+  IsOnward = GoesOnWith reader left (session.answered + count)
+
+  abbrev Serves : Option ServeFault → Ending → Option Session → Type 0
+  Serves why end onward = HasServed tells_in tells_out table session past given given' wrote wrote' pass taken why (told o i count end onward)
 
   first : (t : TakesSome jobs start i) → admitted i.ring ≡ take t.count jobs
   first t = t.admitted_is ∙ ap (λ (l : List Job). l ++ take t.count jobs) empty
@@ -139,8 +153,8 @@ module _ (tells_in tells_out : Bool) (table : Table) (given given' wrote wrote' 
   few : (t : TakesSome jobs start i) → count ≤ length arrived
   few t =
       let size = ap length (first t) in
-      let parts = ap length (take-append-drop t.count jobs) in
-      omega (arith, counted, size, parts, length-append (take t.count jobs) (drop t.count jobs), length-map arrived (job_under table))
+      let pieces = ap length (take-append-drop t.count jobs) in
+      omega (arith, counted, size, pieces, length-append (take t.count jobs) (drop t.count jobs), length-map arrived (job_under table))
 
   -- what is put into an empty ring stands at the places from 0 on
   put-first : (js : List Job) → record start.putter { put = start.putter.put ++ placed (length (admitted start.ring)) js }
@@ -149,23 +163,35 @@ module _ (tells_in tells_out : Bool) (table : Table) (given given' wrote wrote' 
       ap (λ (p : Pass Job). record p { put = p.put ++ placed (length (admitted start.ring)) js }) putter
       ∙ ap (λ (l : List Job). record pass { put = pass.put ++ placed (length l) js }) empty
 
+  abbrev IsBack : Option ServeFault → Option Session → Type 0
+  IsBack why onward = IfSome onward (λ next. (why ≡ Some fault.Read)
+      × IsLeft (past.read ++ stream) (past.arrived ++ arrived) (session.answered + length arrived) next)
+
   -- what is the same for each fault
-  serves : (why : Option ServeFault) (end : Ending) (w : OutboundFault) → Fell taken w o → TakesSome jobs start i
-      → (why ≡ Some fault.Stranger → w ≡ sending.Stranger) → Sent table (arrivals_of stream) pass (out_text o) why (told o i count end) → Serves why end
-  serves why end w fell t strange row =
+  serves : (why : Option ServeFault) (end : Ending) (onward : Option Session) (w : OutboundFault) → Fell taken w o → TakesSome jobs start i
+      → (why ≡ Some fault.Stranger → w ≡ sending.Stranger)
+      → Sent table (arrivals_of (past.read ++ stream)) session.answered arrived pass (out_text o) left why (told o i count end onward)
+      → (why ≡ Some fault.Read → IsSome onward) → IsBack why onward → Serves why end onward
+  serves why end onward w fell t strange row kept back =
       let more : List Job = rest ++ drop t.count jobs in
       let is : received o.ring ++ more ≡ jobs = goes-on t in
       record {
         stream = stream;
         gave = gave;
+        arrivals = arrived;
+        came = came;
+        ahead = ahead;
+        left = left;
+        parts = parts;
         output = out_text o;
+        behind = first_out;
         took = took;
         written_is = sym (length-take-le o.written (framed (payloads o)) fell.within);
         sent = row;
-        whole = whole_of table version arrived o more is same fell.within fell.frames;
+        whole = whole_of table version session.answered arrived o more is same at fell.within fell.frames;
         admitted = few t;
         answered_few = (let size = ap length met in
-            omega (arith, counted, size, sent-received table version arrived o more is same fell.frames.there, length-append (received o.ring) rest));
+            omega (arith, counted, size, sent-received table version session.answered arrived o more is same at fell.frames.there, length-append (received o.ring) rest));
         same_pool = subst (λ (p : Pass Job). IsSamePass p i.putter) putter (same-after jobs start i t);
         puts = t.puts;
         put_behind = subst (λ (n : ℕ). IsBehind t.puts n) (sym (counted ∙ ap length (first t) ∙ length-take-le t.count jobs t.there)) t.put_behind;
@@ -173,116 +199,195 @@ module _ (tells_in tells_out : Bool) (table : Table) (given given' wrote wrote' 
         posts = fell.posts;
         taken_is = fell.taken;
         answered = subst (λ (js : List Job). AreAnswered js o.sent fell.posts) is
-            (answered-longer (received o.ring) more o.sent fell.posts (sent-received table version arrived o more is same fell.frames.there) fell.answered);
+            (answered-longer (received o.ring) more o.sent fell.posts (sent-received table version session.answered arrived o more is same at fell.frames.there) fell.answered);
         foreign = λ told. subst (λ (js : List Job). TookForeign js o.sent fell.posts) is
             (took-longer (received o.ring) more o.sent fell.posts (fell.foreign (strange told)));
+        kept = kept;
+        back = back;
       }
 
   -- the frames of the first replies went out
-  sent-some : (w : OutboundFault) → (w ≢ sending.Write) → Fell taken w o → TakesSome jobs start i → SentSome table version arrived (out_text o) (told o i count ending.Broken)
+  sent-some : (w : OutboundFault) → (w ≢ sending.Write) → Fell taken w o → TakesSome jobs start i → SentSome table version session.answered arrived (out_text o) (told o i count ending.Broken None)
   sent-some w other fell t = record {
-    output_is = some table version arrived o (rest ++ drop t.count jobs) (goes-on t) same fell.frames.there (fell.whole other);
+    output_is = some table version session.answered arrived o (rest ++ drop t.count jobs) (goes-on t) same at fell.frames.there (fell.whole other);
     ending_is = refl;
   }
 
   -- a beginning of the frames went out
-  sent-beginning : (w : OutboundFault) → Fell taken w o → TakesSome jobs start i → SentBeginning table version arrived (out_text o) (told o i count ending.Broken)
+  sent-beginning : (w : OutboundFault) → Fell taken w o → TakesSome jobs start i → SentBeginning table version session.answered arrived (out_text o) (told o i count ending.Broken None)
   sent-beginning w fell t = record {
-    output_is = beginning table version arrived o (rest ++ drop t.count jobs) (goes-on t) same fell.within;
+    output_is = beginning table version session.answered arrived o (rest ++ drop t.count jobs) (goes-on t) same at fell.within;
     ending_is = refl;
   }
 
+  all-counted : TakesIn jobs start i → count ≡ length arrived
+  all-counted t =
+      let size = ap length (t.admitted_is ∙ ap (λ (l : List Job). l ++ jobs) empty) in
+      omega (arith, counted, size, length-map arrived (job_under table))
+
   -- all went out, where all jobs were taken in and each reply was released
-  sent-all : (end : Ending) → Fell taken sending.Exhausted o → TakesIn jobs start i → o.sent ≡ count → SentAll table version arrived pass (out_text o) (told o i count end)
-  sent-all end fell t sent =
+  sent-all : (end : Ending) (onward : Option Session) → Fell taken sending.Exhausted o → left ≡ [] → TakesIn jobs start i → o.sent ≡ count
+      → SentAll table version session.answered arrived pass (out_text o) left (told o i count end onward)
+  sent-all end onward fell none t sent =
       let s : TakesSome jobs start i = takes-some-all jobs start i t in
-      let all : admitted i.ring ≡ jobs = t.admitted_is ∙ ap (λ (l : List Job). l ++ jobs) empty in
-      let size = ap length all in
-      let has : count ≡ length arrived = omega (arith, counted, size, length-map arrived (job_under table)) in
+      let has : count ≡ length arrived = all-counted t in
       record {
-        output_is = some table version arrived o (rest ++ drop s.count jobs) (goes-on s) same fell.frames.there (fell.whole (λ is. absurd cc))
-            ∙ ap (reply_text version) (take_all o.sent (answers table arrived) (omega (arith, sent, has, length-map arrived (answer_of table))));
+        output_is = some table version session.answered arrived o (rest ++ drop s.count jobs) (goes-on s) same at fell.frames.there (fell.whole (λ is. absurd cc))
+            ∙ ap (text_from version session.answered) (take_all o.sent (answers table arrived) (omega (arith, sent, has, length-map arrived (answer_of table))));
+        none_left = none;
         arrived_is = has;
         sent_is = sent ∙ has;
         put_is = t.put_is ∙ put-first jobs;
       }
 
   -- where a half that sends fell by another fault than the sink's, or stands and another fault is told
-  serves-some : (why : ServeFault) (w : OutboundFault) → (w ≢ sending.Write) → (why ≡ fault.Stranger → w ≡ sending.Stranger)
-      → (SentSome table version arrived (out_text o) (told o i count ending.Broken) → Sent table (arrivals_of stream) pass (out_text o) (Some why) (told o i count ending.Broken))
-      → Fell taken w o → TakesSome jobs start i → Serves (Some why) ending.Broken
-  serves-some why w other strange row fell t = serves (Some why) ending.Broken w fell t (λ is. strange cc) (row (sent-some w other fell t))
+  serves-some : (why : ServeFault) (w : OutboundFault) → (w ≢ sending.Write) → (why ≡ fault.Stranger → w ≡ sending.Stranger) → (why ≢ fault.Read)
+      → (SentSome table version session.answered arrived (out_text o) (told o i count ending.Broken None)
+      → Sent table (arrivals_of (past.read ++ stream)) session.answered arrived pass (out_text o) left (Some why) (told o i count ending.Broken None))
+      → Fell taken w o → TakesSome jobs start i → Serves (Some why) ending.Broken None
+  serves-some why w other strange no_read row fell t =
+      serves (Some why) ending.Broken None w fell t (λ is. strange cc) (row (sent-some w other fell t)) (λ is. absurd (no_read cc)) tt
+
+  -- where the half that sends stands, and all is sent
+  serves-all : (why : Option ServeFault) (end : Ending) → Stands taken o → left ≡ [] → TakesIn jobs start i → o.sent ≡ count → (why ≢ Some fault.Read) → (why ≢ Some fault.Stranger)
+      → (SentAll table version session.answered arrived pass (out_text o) left (told o i count end None)
+      → Sent table (arrivals_of (past.read ++ stream)) session.answered arrived pass (out_text o) left why (told o i count end None))
+      → Serves why end None
+  serves-all why end s none t sent no_read no_stranger row =
+      let fell = fell-held taken o sending.Exhausted s.holds (λ is. absurd cc) in
+      serves why end None sending.Exhausted fell (takes-some-all jobs start i t) (λ is. absurd (no_stranger is)) (row (sent-all end None fell none t sent)) (λ is. absurd (no_read is)) tt
+
+  -- no session is given back
+  plainly : (w why : Option ServeFault) (end : Ending) (onward : Option Session) → Serves w end None → (why ≡ w) × (onward ≡ None) → Serves why end onward
+  plainly w why end onward plain e =
+      subst (λ (n : Option Session). Serves why end n) (sym e.1) (subst (λ (v : Option ServeFault). Serves v end None) (sym e.0) plain)
+
+  -- the source failed where all is sent
+  serves-onward : (why : Option ServeFault) (onward : Option Session) → Stands taken o → left ≡ [] → TakesIn jobs start i → o.sent ≡ count
+      → HasRead reader (past.read ++ stream) (past.arrived ++ arrived) × (HasEnded reader → ⊥)
+      → GivesBack IsOnward (Some fault.Read) why onward → Serves why ending.Broken onward
+  serves-onward why (Some onward) s none t sent reads (is, goes) =
+      let fell = fell-held taken o sending.Exhausted s.holds (λ is. absurd cc) in
+      let row : Serves (Some fault.Read) ending.Broken (Some onward) =
+      serves (Some fault.Read) ending.Broken (Some onward) sending.Exhausted fell (takes-some-all jobs start i t) (λ is. absurd cc)
+      (sent-all ending.Broken (Some onward) fell none t sent, refl) (λ _. refl) (
+        refl,
+        record {
+          came = goes.carries (past.read ++ stream) (past.arrived ++ arrived) reads.0 reads.1;
+          none_unsent = goes.unsent_is ∙ none;
+          answered_is = goes.answered_is ∙ ap (λ (n : ℕ). session.answered + n) (all-counted t);
+        },
+      ) in
+      subst (λ (v : Option ServeFault). Serves v ending.Broken (Some onward)) (sym is) row
+  serves-onward why None s none t sent reads (inl is) =
+      plainly (Some fault.NoMemory) why ending.Broken None
+      (serves-some fault.NoMemory sending.Exhausted (λ is. absurd cc) (λ is. absurd cc) (λ is. absurd cc) (λ row. row) (fell-held taken o sending.Exhausted s.holds (λ is. absurd cc)) (takes-some-all jobs start i t))
+      (is, refl)
+  serves-onward why None s none t sent reads (inr is) =
+      plainly (Some fault.Exhausted) why ending.Broken None
+      (serves-some fault.Exhausted sending.Exhausted (λ is. absurd cc) (λ is. absurd cc) (λ is. absurd cc) (λ row. row) (fell-held taken o sending.Exhausted s.holds (λ is. absurd cc)) (takes-some-all jobs start i t))
+      (is, refl)
+
+  held : Stands taken o → Fell taken sending.Exhausted o
+  held s = fell-held taken o sending.Exhausted s.holds (λ is. absurd cc)
 
   -- what is told, case by case of how the halves ended
-  rows : {T : Type 0} (sent : Result T OutboundFault) (read : Result Ending InboundFault) (all : Bool) → Sends taken sent o → OnOk sent (o.sent ≡ next o)
-      → Ran table stream read start i → (all ≡ true → count ≡ next o) → Serves (outcome_of sent read all).0 (outcome_of sent read all).1
-  rows (Err sending.Write) read all fell all_sent ran due =
-      let t = ran-some table stream read start i ran in
-      serves (Some fault.Write) ending.Broken sending.Write fell t (λ is. absurd cc) (sent-beginning sending.Write fell t)
-  rows (Err sending.NoMemory) read all fell all_sent ran due =
-      serves-some fault.NoMemory sending.NoMemory (λ is. absurd cc) (λ is. absurd cc) (λ row. row) fell (ran-some table stream read start i ran)
-  rows (Err sending.Stranger) read all fell all_sent ran due =
-      serves-some fault.Stranger sending.Stranger (λ is. absurd cc) (λ is. refl) (λ row. row) fell (ran-some table stream read start i ran)
-  rows (Err sending.Exhausted) read all fell all_sent ran due =
-      serves-some fault.Exhausted sending.Exhausted (λ is. absurd cc) (λ is. absurd cc) (λ row. row) fell (ran-some table stream read start i ran)
-  rows (Ok x) (Err reading.NoMemory) all s all_sent ran due =
-      serves-some fault.NoMemory sending.Exhausted (λ is. absurd cc) (λ is. absurd cc) (λ row. row) (fell-held taken o sending.Exhausted s.holds (λ is. absurd cc)) ran
-  rows (Ok x) (Err reading.Exhausted) all s all_sent ran due =
-      serves-some fault.Exhausted sending.Exhausted (λ is. absurd cc) (λ is. absurd cc) (λ row. row) (fell-held taken o sending.Exhausted s.holds (λ is. absurd cc)) ran
-  rows (Ok x) (Err reading.Stopped) all s all_sent ran due =
-      serves-some fault.Exhausted sending.Exhausted (λ is. absurd cc) (λ is. absurd cc) (λ row. row) (fell-held taken o sending.Exhausted s.holds (λ is. absurd cc)) ran
-  rows (Ok x) (Err reading.Read) false s all_sent ran due =
-      serves-some fault.Exhausted sending.Exhausted (λ is. absurd cc) (λ is. absurd cc) (λ row. row) (fell-held taken o sending.Exhausted s.holds (λ is. absurd cc))
-      (takes-some-all jobs start i ran)
-  rows (Ok x) (Err reading.Read) true s all_sent ran due =
-      let fell = fell-held taken o sending.Exhausted s.holds (λ is. absurd cc) in
-      serves (Some fault.Read) ending.Broken sending.Exhausted fell (takes-some-all jobs start i ran) (λ is. absurd cc)
-      (sent-all ending.Broken fell ran (all_sent ∙ sym (due refl)), refl)
-  rows (Ok x) (Ok end) false s all_sent ran due =
-      serves-some fault.Exhausted sending.Exhausted (λ is. absurd cc) (λ is. absurd cc) (λ row. row) (fell-held taken o sending.Exhausted s.holds (λ is. absurd cc))
-      (takes-some-all jobs start i ran.0)
-  rows (Ok x) (Ok ending.Clean) true s all_sent ran due =
-      let fell = fell-held taken o sending.Exhausted s.holds (λ is. absurd cc) in
-      serves None ending.Clean sending.Exhausted fell (takes-some-all jobs start i ran.0) (λ is. absurd cc)
-      (sent-all ending.Clean fell ran.0 (all_sent ∙ sym (due refl)), sym ran.1, inl ran.1)
-  rows (Ok x) (Ok ending.Oversize) true s all_sent ran due =
-      let fell = fell-held taken o sending.Exhausted s.holds (λ is. absurd cc) in
-      serves None ending.Oversize sending.Exhausted fell (takes-some-all jobs start i ran.0) (λ is. absurd cc)
-      (sent-all ending.Oversize fell ran.0 (all_sent ∙ sym (due refl)), sym ran.1, inr ran.1)
-  rows (Ok x) (Ok ending.Torn) true s all_sent ran due =
-      let fell = fell-held taken o sending.Exhausted s.holds (λ is. absurd cc) in
-      serves (Some fault.Torn) ending.Torn sending.Exhausted fell (takes-some-all jobs start i ran.0) (λ is. absurd cc)
-      (sent-all ending.Torn fell ran.0 (all_sent ∙ sym (due refl)), sym ran.1, ran.1)
-  rows (Ok x) (Ok ending.Broken) true s all_sent ran due = absurd (ran.2 refl)
+  rows : {T : Type 0} (sent : Result T OutboundFault) (read : Result Ending InboundFault) (all : Bool) (why : Option ServeFault) (onward : Option Session)
+      → Sends taken sent o → OnOk sent (o.sent ≡ next o) → OnOk sent (left ≡ [])
+      → Ran table arrived last read start i → (read ≡ Err reading.Read → HasRead reader (past.read ++ stream) (past.arrived ++ arrived) × (HasEnded reader → ⊥))
+      → (all ≡ true → count ≡ next o)
+      → GivesBack IsOnward (outcome_of sent read all).0 why onward → Serves why (outcome_of sent read all).1 onward
+  rows (Err sending.Write) read all why onward fell all_sent none ran reads due gives =
+      let t = ran-some table arrived last read start i ran in
+      plainly (Some fault.Write) why ending.Broken onward
+      (serves (Some fault.Write) ending.Broken None sending.Write fell t (λ is. absurd cc) (sent-beginning sending.Write fell t) (λ is. absurd cc) tt) gives
+  rows (Err sending.NoMemory) read all why onward fell all_sent none ran reads due gives =
+      plainly (Some fault.NoMemory) why ending.Broken onward
+      (serves-some fault.NoMemory sending.NoMemory (λ is. absurd cc) (λ is. absurd cc) (λ is. absurd cc) (λ row. row) fell (ran-some table arrived last read start i ran)) gives
+  rows (Err sending.Stranger) read all why onward fell all_sent none ran reads due gives =
+      plainly (Some fault.Stranger) why ending.Broken onward
+      (serves-some fault.Stranger sending.Stranger (λ is. absurd cc) (λ is. refl) (λ is. absurd cc) (λ row. row) fell (ran-some table arrived last read start i ran)) gives
+  rows (Err sending.Exhausted) read all why onward fell all_sent none ran reads due gives =
+      plainly (Some fault.Exhausted) why ending.Broken onward
+      (serves-some fault.Exhausted sending.Exhausted (λ is. absurd cc) (λ is. absurd cc) (λ is. absurd cc) (λ row. row) fell (ran-some table arrived last read start i ran)) gives
+  rows (Ok x) (Err reading.NoMemory) all why onward s all_sent none ran reads due gives =
+      plainly (Some fault.NoMemory) why ending.Broken onward
+      (serves-some fault.NoMemory sending.Exhausted (λ is. absurd cc) (λ is. absurd cc) (λ is. absurd cc) (λ row. row) (held s) ran) gives
+  rows (Ok x) (Err reading.Exhausted) all why onward s all_sent none ran reads due gives =
+      plainly (Some fault.Exhausted) why ending.Broken onward
+      (serves-some fault.Exhausted sending.Exhausted (λ is. absurd cc) (λ is. absurd cc) (λ is. absurd cc) (λ row. row) (held s) ran) gives
+  rows (Ok x) (Err reading.Stopped) all why onward s all_sent none ran reads due gives =
+      plainly (Some fault.Exhausted) why ending.Broken onward
+      (serves-some fault.Exhausted sending.Exhausted (λ is. absurd cc) (λ is. absurd cc) (λ is. absurd cc) (λ row. row) (held s) ran) gives
+  rows (Ok x) (Err reading.Read) false why onward s all_sent none ran reads due gives =
+      plainly (Some fault.Exhausted) why ending.Broken onward
+      (serves-some fault.Exhausted sending.Exhausted (λ is. absurd cc) (λ is. absurd cc) (λ is. absurd cc) (λ row. row) (held s) (takes-some-all jobs start i ran)) gives
+  rows (Ok x) (Err reading.Read) true why onward s all_sent none ran reads due gives =
+      serves-onward why onward s none ran (all_sent ∙ sym (due refl)) (reads refl) gives
+  rows (Ok x) (Ok end) false why onward s all_sent none ran reads due gives =
+      plainly (Some fault.Exhausted) why ending.Broken onward
+      (serves-some fault.Exhausted sending.Exhausted (λ is. absurd cc) (λ is. absurd cc) (λ is. absurd cc) (λ row. row) (held s) (takes-some-all jobs start i ran.0)) gives
+  rows (Ok x) (Ok ending.Clean) true why onward s all_sent none ran reads due gives =
+      plainly None why ending.Clean onward
+      (serves-all None ending.Clean s none ran.0 (all_sent ∙ sym (due refl)) (λ is. absurd cc) (λ is. absurd cc) (λ row. (row, sym ran.1, inl ran.1))) gives
+  rows (Ok x) (Ok ending.Oversize) true why onward s all_sent none ran reads due gives =
+      plainly None why ending.Oversize onward
+      (serves-all None ending.Oversize s none ran.0 (all_sent ∙ sym (due refl)) (λ is. absurd cc) (λ is. absurd cc) (λ row. (row, sym ran.1, inr ran.1))) gives
+  rows (Ok x) (Ok ending.Torn) true why onward s all_sent none ran reads due gives =
+      plainly (Some fault.Torn) why ending.Torn onward
+      (serves-all (Some fault.Torn) ending.Torn s none ran.0 (all_sent ∙ sym (due refl)) (λ is. absurd cc) (λ is. absurd cc) (λ row. (row, sym ran.1, ran.1))) gives
+  rows (Ok x) (Ok ending.Broken) true why onward s all_sent none ran reads due gives = absurd (ran.2 refl)
 
   -- the same by the names of what is told
-  pub has-served : {T : Type 0} (sent : Result T OutboundFault) (read : Result Ending InboundFault) (all : Bool) (out : Option ServeFault × Ending) (why : Option ServeFault)
-      → Sends taken sent o → OnOk sent (o.sent ≡ next o) → Ran table stream read start i → (all ≡ true → count ≡ next o)
-      → out ≡ outcome_of sent read all → out.0 ≡ why → Serves why out.1
-  has-served sent read all out why sends all_sent ran due is tells =
-      subst (λ (w : Option ServeFault). Serves w out.1) tells
-      (subst (λ (p : Option ServeFault × Ending). Serves p.0 p.1) (sym is) (rows sent read all sends all_sent ran due))
+  pub has-served : {T : Type 0} (sent : Result T OutboundFault) (read : Result Ending InboundFault) (all : Bool) (out : Option ServeFault × Ending) (why : Option ServeFault) (onward : Option Session)
+      → Sends taken sent o → OnOk sent (o.sent ≡ next o) → OnOk sent (left ≡ []) → Ran table arrived last read start i
+      → (read ≡ Err reading.Read → HasRead reader (past.read ++ stream) (past.arrived ++ arrived) × (HasEnded reader → ⊥)) → (all ≡ true → count ≡ next o)
+      → out ≡ outcome_of sent read all → GivesBack IsOnward out.0 why onward → Serves why out.1 onward
+  has-served sent read all out why onward sends all_sent none ran reads due is gives =
+      subst (λ (p : Option ServeFault × Ending). Serves why p.1 onward) (sym is)
+      (rows sent read all why onward sends all_sent none ran reads due (subst (λ (p : Option ServeFault × Ending). GivesBack IsOnward p.0 why onward) is gives))
 
 -- no reply is no byte
-sent-nothing : (v : Version) (replies : List Reply) → [] ≡ reply_text v (take 0 replies)
+sent-nothing : (v : Version) (place : ℕ) (replies : List Reply) → [] ≡ text_from v place (take 0 replies)
 unfolding payloads_from
-sent-nothing v replies = refl
+sent-nothing v place replies = refl
+
+-- what has come of a stream stays its first arrivals
+pub come-past : (v : Option Version) (past : Past) (carried : List ℕ) → HasCome v past.read past.arrived carried → IsPast past
+come-past None past carried (none, nothing, empty) bytes =
+    let more : List Arrival = (arrivals_of (past.read ++ bytes)).arrived in
+    (more, ap (λ (l : List Arrival). l ++ more) (sym nothing))
+come-past (Some v) past carried (told, are) bytes =
+    ((frames_of (carried ++ bytes)).arrived, ap (λ (a : Arrivals). a.arrived) (are bytes))
+
+-- nothing went out, since nothing was written
+pub nothing-out : (before after : Outbound) (left : List ℕ) → before.written ≡ 0 → (left ≡ []) ⊎ ((after.written ≡ before.written) × (after.sent ≡ before.sent)) → (left ≡ []) ⊎ (out_text after ≡ [])
+nothing-out before after left none (inl is) = inl is
+nothing-out before after left none (inr is) = inr (ap (λ (n : ℕ). take n (framed (payloads after))) (is.0 ∙ none))
 
 -- a connection that was not served
-pub nothing-served : (tells_in tells_out : Bool) (table : Table) (given wrote : List ℕ) (pass : Pass Job) (taken : List Entry) (served : Served)
-    → served ≡ record { arrived = 0; sent = 0; written = 0; ending = ending.Broken; desk = record { putter = pass; taker = taken } }
-    → HasServed tells_in tells_out table given given wrote wrote pass taken (Some fault.NoMemory) served
+pub nothing-served : (tells_in tells_out : Bool) (table : Table) (session : Session) (past : Past) (given wrote : List ℕ) (pass : Pass Job) (taken : List Entry) (served : Served) → IsPast past
+    → served ≡ record { arrived = 0; sent = 0; written = 0; ending = ending.Broken; desk = record { putter = pass; taker = taken }; session = None }
+    → HasServed tells_in tells_out table session past given given wrote wrote pass taken (Some fault.NoMemory) served
 unfolding placed
-nothing-served tells_in tells_out table given wrote pass taken served is =
-    let none : Served = record { arrived = 0; sent = 0; written = 0; ending = ending.Broken; desk = record { putter = pass; taker = taken } } in
-    let ps : List (List ℕ) = reply_payloads (arrivals_of []).version (answers table (arrivals_of []).arrived) in
-    let has : HasServed tells_in tells_out table given given wrote wrote pass taken (Some fault.NoMemory) none = record {
+nothing-served tells_in tells_out table session past given wrote pass taken served is_past is =
+    let none : Served = record { arrived = 0; sent = 0; written = 0; ending = ending.Broken; desk = record { putter = pass; taker = taken }; session = None } in
+    let more = is_past [] in
+    let version : Version = (arrivals_of (past.read ++ [])).version in
+    let ps : List (List ℕ) = payloads_from version session.answered (answers table more.0) in
+    let has : HasServed tells_in tells_out table session past given given wrote wrote pass taken (Some fault.NoMemory) none = record {
       stream = [];
       gave = λ _. sym (append-nil given);
+      arrivals = more.0;
+      came = more.1;
+      ahead = [];
+      left = session.unsent;
+      parts = refl;
       output = [];
+      behind = inr refl;
       took = λ _. sym (append-nil wrote);
       written_is = refl;
-      sent = record { output_is = sent-nothing (arrivals_of []).version (answers table (arrivals_of []).arrived); ending_is = refl };
+      sent = record { output_is = sent-nothing version session.answered (answers table more.0); ending_is = refl };
       whole = (gathered-whole ps 0 0 0 [] (gathered-none ps)).0;
       admitted = omega arith;
       answered_few = omega arith;
@@ -292,7 +397,46 @@ nothing-served tells_in tells_out table given wrote pass taken served is =
       put_is = ap (λ (l : List (ℕ × Job)). record pass { put = l }) (sym (append-nil pass.put));
       posts = [];
       taken_is = sym (append-nil taken);
-      answered = none-answered (jobs_of table (arrivals_of []).arrived);
+      answered = none-answered (jobs_of table more.0);
       foreign = λ no. absurd cc;
+      kept = λ no. absurd cc;
+      back = tt;
     } in
-    subst (λ (s : Served). HasServed tells_in tells_out table given given wrote wrote pass taken (Some fault.NoMemory) s) (sym is) has
+    subst (λ (s : Served). HasServed tells_in tells_out table session past given given wrote wrote pass taken (Some fault.NoMemory) s) (sym is) has
+
+-- what the devices counted, where a session is given back or not
+pub counts-back : (IsNext : Session → Type 0) (told why : Option ServeFault) (onward : Option Session) (r r' w w' : ℕ) → GivesBack IsNext told why onward → CountsServed told r r' w w' → CountsServed why r r' w w'
+counts-back IsNext (Some fault.Read) why (Some next) r r' w w' gives counts = subst (λ (f : Option ServeFault). CountsServed f r r' w w') (sym gives.0) counts
+counts-back IsNext (Some fault.Read) why None r r' w w' (inl is) counts = subst (λ (f : Option ServeFault). CountsServed f r r' w w') (sym is) (inr counts.0, counts.1)
+counts-back IsNext (Some fault.Read) why None r r' w w' (inr is) counts = subst (λ (f : Option ServeFault). CountsServed f r r' w w') (sym is) (inr counts.0, counts.1)
+counts-back IsNext (Some fault.Write) why onward r r' w w' gives counts = subst (λ (f : Option ServeFault). CountsServed f r r' w w') (sym gives.0) counts
+counts-back IsNext (Some fault.NoMemory) why onward r r' w w' gives counts = subst (λ (f : Option ServeFault). CountsServed f r r' w w') (sym gives.0) counts
+counts-back IsNext (Some fault.Torn) why onward r r' w w' gives counts = subst (λ (f : Option ServeFault). CountsServed f r r' w w') (sym gives.0) counts
+counts-back IsNext (Some fault.Stranger) why onward r r' w w' gives counts = subst (λ (f : Option ServeFault). CountsServed f r r' w w') (sym gives.0) counts
+counts-back IsNext (Some fault.Exhausted) why onward r r' w w' gives counts = subst (λ (f : Option ServeFault). CountsServed f r r' w w') (sym gives.0) counts
+counts-back IsNext None why onward r r' w w' gives counts = subst (λ (f : Option ServeFault). CountsServed f r r' w w') (sym gives.0) counts
+
+-- what the devices counted, by how the halves ended
+may-count : (read : Result Ending InboundFault) (r r' : ℕ) → CountsRead read r r' → MayCount r r'
+may-count (Ok x) r r' c = inl c
+may-count (Err reading.Read) r r' c = inr c
+may-count (Err reading.NoMemory) r r' c = inl c
+may-count (Err reading.Exhausted) r r' c = inl c
+may-count (Err reading.Stopped) r r' c = inl c
+
+pub counts-served : {T : Type 0} (sent : Result T OutboundFault) (read : Result Ending InboundFault) (all : Bool) (r r' w w' : ℕ) → CountsWrite sent w w' → CountsRead read r r'
+    → CountsServed (outcome_of sent read all).0 r r' w w'
+counts-served (Err sending.Write) read all r r' w w' cw cr = (may-count read r r' cr, cw)
+counts-served (Err sending.NoMemory) read all r r' w w' cw cr = (may-count read r r' cr, cw)
+counts-served (Err sending.Stranger) read all r r' w w' cw cr = (may-count read r r' cr, cw)
+counts-served (Err sending.Exhausted) read all r r' w w' cw cr = (may-count read r r' cr, cw)
+counts-served (Ok x) (Err reading.NoMemory) all r r' w w' cw cr = (inl cr, cw)
+counts-served (Ok x) (Err reading.Exhausted) all r r' w w' cw cr = (inl cr, cw)
+counts-served (Ok x) (Err reading.Stopped) all r r' w w' cw cr = (inl cr, cw)
+counts-served (Ok x) (Err reading.Read) true r r' w w' cw cr = (cr, cw)
+counts-served (Ok x) (Err reading.Read) false r r' w w' cw cr = (inr cr, cw)
+counts-served (Ok x) (Ok end) false r r' w w' cw cr = (inl cr, cw)
+counts-served (Ok x) (Ok ending.Clean) true r r' w w' cw cr = (cr, cw)
+counts-served (Ok x) (Ok ending.Oversize) true r r' w w' cw cr = (cr, cw)
+counts-served (Ok x) (Ok ending.Torn) true r r' w w' cw cr = (cr, cw)
+counts-served (Ok x) (Ok ending.Broken) true r r' w w' cw cr = (cr, cw)

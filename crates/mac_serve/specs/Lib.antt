@@ -1,5 +1,5 @@
 pub mod Gathered
-pub mod Incoming
+pub mod Joining
 pub mod Posts
 pub mod Receiving
 pub mod Sending

@@ -1,16 +1,17 @@
 -- What the inbound half of a connection takes in.
-use Rattle.std.specs.Prelude.{◌≡◌, ◌≢◌, ◌⊎◌, ℕ, ◌+◌, ◌<◌, ◌≤◌, Bool, IsTrue, List, [], ◌∷◌, ◌++◌, length, map, take, Option, Some, None, Result, Ok, Err}
+use Rattle.std.specs.Prelude.{◌≡◌, ◌≢◌, ◌⊎◌, ℕ, ◌+◌, ◌≤◌, Bool, IsTrue, List, [], ◌∷◌, ◌++◌, length, map, take, Option, Some, None, Result, Ok, Err, IfOk}
 use Rattle.std.specs.declared.alloc.Global.{Global}
 use Rattle.std.specs.declared.vec.Vec.{Vec}
-use Rattle.mac_ring.specs.Ring.{admitted}
+use Rattle.mac_ring.specs.Ring.{admitted, IsSameIntake}
+use Rattle.mac_queue.specs.Pass.{IsSamePass}
 use Rattle.mac_keys.specs.Table.{Table}
 use Rattle.mac_wire.specs.declared.arrival.Arrival.{Arrival}
 use Rattle.mac_wire.specs.declared.arrival.Ending.{Ending}
 use Rattle.mac_wire.specs.declared.arrival.Ending.TheVariants as ending
 use Rattle.mac_wire.specs.declared.frame.FrameReader.{FrameReader}
 use Rattle.mac_wire.specs.declared.version.Version.{Version}
-use Rattle.mac_wire.specs.Stream.{arrivals_of, version_told}
-use Rattle.mac_wire.specs.FrameReader.{HasRead, version_of}
+use Rattle.mac_wire.specs.Stream.{arrivals_of, version_told, version_or_one}
+use Rattle.mac_wire.specs.FrameReader.{HasRead, HasEnded, version_of}
 use Rattle.mac_decide.specs.declared.job.Job.{Job}
 use Rattle.mac_decide.specs.World.{job_under}
 use Rattle.mac_serve.specs.declared.incoming.InboundFault.{InboundFault}
@@ -25,18 +26,22 @@ Gave tells before after bytes = IsTrue tells → after ≡ before ++ bytes
 abbrev pub HasTold : FrameReader → List ℕ → Type 0
 HasTold reader stream = version_of reader ≡ version_told stream
 
+-- a stream has told its version
+abbrev pub IsTold : List ℕ → Type 0
+IsTold stream = (version : Version) × (version_told stream ≡ Some version)
+
 -- The next bytes of a stream were read: the arrivals that are whole with them came, or none where
 -- nothing was left; where the device failed or its failures can't be counted nothing came, and where
 -- memory ran out the bytes are lost. The reader knows the version that the stream has told.
 abbrev pub Reads : Bool → List ℕ → List ℕ → List ℕ → List Arrival
     → Result (Option (Vec Arrival Global)) InboundFault → FrameReader → Type 0
 Reads tells before after stream handed (Ok (Some more)) reader =
-    (bytes : List ℕ) × Gave tells before after bytes × (0 < length bytes)
+    (bytes : List ℕ) × Gave tells before after bytes × IsTold (stream ++ bytes)
     × HasRead reader (stream ++ bytes) (handed ++ more.items)
 Reads tells before after stream handed (Ok None) reader =
     Gave tells before after [] × HasRead reader stream handed
 Reads tells before after stream handed (Err fault.Read) reader =
-    Gave tells before after [] × HasTold reader stream
+    Gave tells before after [] × HasRead reader stream handed × (¬ HasEnded reader)
 Reads tells before after stream handed (Err fault.NoMemory) reader =
     (bytes : List ℕ) × Gave tells before after bytes × HasTold reader (stream ++ bytes)
 Reads tells before after stream handed (Err fault.Exhausted) reader =
@@ -64,8 +69,14 @@ placed place (job ∷ jobs) = (place, job) ∷ placed (place + 1) jobs
 abbrev pub IsBehind : ℕ → ℕ → Type 0
 IsBehind few count = (count ≡ few) ⊎ (count ≡ few + 1)
 
+-- the half is still that of the same ring, and puts by the same pass
+abbrev pub IsSameHalf : Inbound → Inbound → Type 0
+IsSameHalf before after =
+    IsSameIntake before.ring after.ring × IsSamePass before.putter after.putter
+
 -- from the one state to the other these jobs were admitted, and put into the queue at their places
 pub record TakesIn (jobs : List Job) (before after : Inbound) : Type 0 where
+  pub same : IsSameIntake before.ring after.ring
   pub admitted_is : admitted after.ring ≡ admitted before.ring ++ jobs
   pub put_is : after.putter
       ≡ record before.putter { put = before.putter.put ++ placed (length (admitted before.ring)) jobs }
@@ -73,6 +84,7 @@ pub record TakesIn (jobs : List Job) (before after : Inbound) : Type 0 where
 -- from the one state to the other some of these jobs, the first ones, were admitted, and all of
 -- them put into the queue at their places, or all but the last
 pub record TakesSome (jobs : List Job) (before after : Inbound) : Type 0 where
+  pub same : IsSameIntake before.ring after.ring
   pub count : ℕ
   pub there : count ≤ length jobs
   pub admitted_is : admitted after.ring ≡ admitted before.ring ++ take count jobs
@@ -82,51 +94,87 @@ pub record TakesSome (jobs : List Job) (before after : Inbound) : Type 0 where
     put = before.putter.put ++ placed (length (admitted before.ring)) (take puts jobs);
   }
 
--- what a step did with these jobs: it took in all, or some where it failed
+-- what a step did with these jobs, without the source: it took in all, or some where it failed
 abbrev pub Receives : {T : Type 0} → List Job → Result T InboundFault → Inbound → Inbound → Type 0
 Receives jobs (Ok x) before after = TakesIn jobs before after
-Receives jobs (Err why) before after = TakesSome jobs before after
+Receives jobs (Err why) before after = (why ≢ fault.Read) × TakesSome jobs before after
 
--- What a run did with a stream: to its end, or to where the source failed, it took in the jobs of
--- all arrivals, and else of some.
-abbrev pub Ran : Table → List ℕ → Result Ending InboundFault → Inbound → Inbound → Type 0
-Ran table stream (Ok end) before after =
-    TakesIn (jobs_of table (arrivals_of stream).arrived) before after
-    × ((arrivals_of stream).ending ≡ end) × (end ≢ ending.Broken)
-Ran table stream (Err fault.Read) before after =
-    TakesIn (jobs_of table (arrivals_of stream).arrived) before after
-Ran table stream (Err fault.NoMemory) before after =
-    TakesSome (jobs_of table (arrivals_of stream).arrived) before after
-Ran table stream (Err fault.Exhausted) before after =
-    TakesSome (jobs_of table (arrivals_of stream).arrived) before after
-Ran table stream (Err fault.Stopped) before after =
-    TakesSome (jobs_of table (arrivals_of stream).arrived) before after
+-- What a run did with arrivals, where the stream ends so: to its end, or to where the source
+-- failed, it took in the jobs of all of them, and else of some.
+abbrev pub Ran : Table → List Arrival → Ending → Result Ending InboundFault
+    → Inbound → Inbound → Type 0
+Ran table arrivals end (Ok told) before after =
+    TakesIn (jobs_of table arrivals) before after × (end ≡ told) × (told ≢ ending.Broken)
+Ran table arrivals end (Err fault.Read) before after =
+    TakesIn (jobs_of table arrivals) before after
+Ran table arrivals end (Err fault.NoMemory) before after =
+    TakesSome (jobs_of table arrivals) before after
+Ran table arrivals end (Err fault.Exhausted) before after =
+    TakesSome (jobs_of table arrivals) before after
+Ran table arrivals end (Err fault.Stopped) before after =
+    TakesSome (jobs_of table arrivals) before after
 
--- a run over the bytes that the source gave, a stream of this version
-pub record HasRun (tells : Bool) (table : Table) (version : Version) (given given' : List ℕ)
-    (result : Result Ending InboundFault) (before after : Inbound) : Type 0 where
+-- What came before a run: bytes of the stream, and of their arrivals those that were answered.
+pub record Past : Type 0 where
+  pub read : List ℕ
+  pub arrived : List Arrival
+
+-- however the stream goes on, these stay its first arrivals
+abbrev pub IsPast : Past → Type 0
+IsPast past =
+    (bytes : List ℕ)
+    → (more : List Arrival) × ((arrivals_of (past.read ++ bytes)).arrived ≡ past.arrived ++ more)
+
+-- A run over the bytes that the source gave, behind what came before it, a stream of this version.
+-- Where the source failed the reader can go on.
+pub record HasRun (tells : Bool) (table : Table) (version : Version) (past : Past)
+    (given given' : List ℕ) (reader : FrameReader) (result : Result Ending InboundFault)
+    (before after : Inbound) : Type 0 where
   pub stream : List ℕ
   pub gave : Gave tells given given' stream
-  pub version_is : (arrivals_of stream).version ≡ version
-  pub ran : Ran table stream result before after
+  pub version_is : (arrivals_of (past.read ++ stream)).version ≡ version
+  pub arrivals : List Arrival
+  pub came : (arrivals_of (past.read ++ stream)).arrived ≡ past.arrived ++ arrivals
+  pub ran : Ran table arrivals (arrivals_of (past.read ++ stream)).ending result before after
+  pub left : result ≡ Err fault.Read
+      → HasRead reader (past.read ++ stream) (past.arrived ++ arrivals) × (¬ HasEnded reader)
 
--- A run that goes on: the reader was fed a stream of this version, and of what it handed out the
--- jobs of all but these arrivals were taken in.
-pub record GoesOn (tells : Bool) (table : Table) (version : Version) (given given' : List ℕ)
-    (reader : FrameReader) (pending : List Arrival) (before after : Inbound) : Type 0 where
+-- A run that goes on: the reader was fed a stream of this version, and of what it handed out behind
+-- what came before, the jobs of all but these arrivals were taken in.
+pub record GoesOn (tells : Bool) (table : Table) (version : Version) (past : Past)
+    (given given' : List ℕ) (reader : FrameReader) (pending : List Arrival)
+    (before after : Inbound) : Type 0 where
   pub stream : List ℕ
   pub gave : Gave tells given given' stream
-  pub told : version_told stream ≡ Some version
+  pub told : version_told (past.read ++ stream) ≡ Some version
   pub handed : List Arrival
-  pub read : HasRead reader stream (handed ++ pending)
+  pub read : HasRead reader (past.read ++ stream) (past.arrived ++ (handed ++ pending))
   pub took : TakesIn (jobs_of table handed) before after
 
 -- how a read of a run that goes on ended: more arrivals came or none, or the run ends by a fault
-abbrev pub Continues : Bool → Table → Version → List ℕ → List ℕ
+abbrev pub Continues : Bool → Table → Version → Past → List ℕ → List ℕ
     → Result (Option (Vec Arrival Global)) InboundFault → FrameReader → Inbound → Inbound → Type 0
-Continues tells table version given given' (Ok (Some more)) reader before after =
-    GoesOn tells table version given given' reader more.items before after
-Continues tells table version given given' (Ok None) reader before after =
-    GoesOn tells table version given given' reader [] before after
-Continues tells table version given given' (Err why) reader before after =
-    HasRun tells table version given given' (Err why) before after
+Continues tells table version past given given' (Ok (Some more)) reader before after =
+    GoesOn tells table version past given given' reader more.items before after
+Continues tells table version past given given' (Ok None) reader before after =
+    GoesOn tells table version past given given' reader [] before after
+Continues tells table version past given given' (Err why) reader before after =
+    HasRun tells table version past given given' reader (Err why) before after
+
+-- What a run did that went on from what the first read gave, from the one state of the half and of
+-- the reader to the other, while its source went from these bytes, this end and this count of
+-- failures to those: it ran over the bytes, told an end where the source had one, and the source's
+-- failure is counted.
+pub record Runs (tells : Bool) (table : Table) (given given' : List ℕ) (ended ended' : Bool)
+    (faults faults' : ℕ) (first : Result (Option (Vec Arrival Global)) InboundFault)
+    (reader reader' : FrameReader) (result : Result Ending InboundFault)
+    (before after : Inbound) : Type 0 where
+  pub same : IsSameHalf before after
+  pub run : (past : Past) (from : List ℕ) → IsPast past
+      → Reads tells from given past.read past.arrived first reader
+      → HasRun tells table (version_or_one (version_of reader)) past from given' reader' result
+      before after
+  pub at_end : IfOk first (λ more. more ≡ None → IsTrue ended ⊎ HasEnded reader)
+      → (past : Past) (from : List ℕ) → Reads tells from given past.read past.arrived first reader
+      → IfOk result (λ told. told ≢ ending.Oversize → IsTrue ended')
+  pub counts : (count : ℕ) → CountsRead first count faults → CountsRead result count faults'

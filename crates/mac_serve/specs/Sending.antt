@@ -1,10 +1,10 @@
 -- How the outbound half of a connection stands, and how it ends.
-use Rattle.std.specs.Prelude.{◌≡◌, ◌≢◌, ℕ, ◌+◌, ◌≤◌, false, List, ◌++◌, length, map, take, Option, Some, Contains, Result, Ok, Err}
+use Rattle.std.specs.Prelude.{◌≡◌, ◌≢◌, ◌⊎◌, ℕ, ◌+◌, ◌≤◌, Bool, false, List, [], ◌++◌, length, map, take, Option, Some, Contains, Result, Ok, Err, IsTrue, MatchResult, OnOk}
 use Rattle.std.specs.FinMap.{get}
 use Rattle.mac_ring.specs.Ring.{received, IsKept, IsSameOutlet}
 use Rattle.mac_wire.specs.declared.reply.Reply.{Reply}
 use Rattle.mac_wire.specs.Frame.{framed}
-use Rattle.mac_wire.specs.Reply.{reply_payloads}
+use Rattle.mac_wire.specs.Reply.{payloads_from}
 use Rattle.mac_wire.specs.Whole.{HasWhole}
 use Rattle.mac_decide.specs.declared.job.Job.{Job}
 use Rattle.mac_decide.specs.Answer.{reply_of}
@@ -24,9 +24,9 @@ answer_to job = reply_of job.arrival job.key
 abbrev pub replies : Outbound → List Reply
 replies o = map answer_to (received o.ring)
 
--- the payloads of their frames, in the version of the stream
+-- the payloads of their frames, in the version of the stream, from the half's first place on
 abbrev pub payloads : Outbound → List (List ℕ)
-payloads o = reply_payloads o.version (replies o)
+payloads o = payloads_from o.version o.base (replies o)
 
 -- the place whose reply is released next
 abbrev pub next : Outbound → ℕ
@@ -36,9 +36,12 @@ next o = o.ring.buffer.next
 abbrev pub out_text : Outbound → List ℕ
 out_text o = take o.written (framed (payloads o))
 
--- the half is still that of the same ring, and frames replies in the same version
+-- the half is still that of the same ring, and frames replies in the same version, from the same
+-- place on
 abbrev pub IsSame : Outbound → Outbound → Type 0
-IsSame before after = IsSameOutlet before.ring after.ring × (after.version ≡ before.version)
+IsSame before after =
+    IsSameOutlet before.ring after.ring × (after.version ≡ before.version)
+    × (after.base ≡ before.base)
 
 -- The half holds what it should, where its taker took `before` earlier: replies are released and
 -- gathered in order, and each that was released had its post.
@@ -80,11 +83,81 @@ CountsWrite (Err fault.Stranger) old new = new ≡ old
 CountsWrite (Err fault.Exhausted) old new = new ≡ old
 CountsWrite (Ok x) old new = new ≡ old
 
--- what came of asking for the next reply: where an answer was to another job, the buffer is closed,
--- and that answer came by a foreign post, however many replies are out
-abbrev pub Releases : List (ℕ × Option Job) → Due → Outbound → Type 0
-Releases before due.Gathered o = Stands before o
-Releases before due.Waiting o = Stands before o
-Releases before due.Stranger o =
-    (h : Holds before o) × ((sent : ℕ) → TookForeign (received o.ring) sent h.posts)
-Releases before due.NoMemory o = Fell before fault.NoMemory o
+-- What a step did, from the one state of the half to the other, while its sink went from these
+-- bytes and this count of failures to those: it left the half's ring and version as they were; it
+-- ended so; behind what had gone out before, the sink took what went out in it; and the sink's
+-- failure is counted.
+pub record Steps {T : Type 0} (tells : Bool) (wrote wrote' : List ℕ) (faults faults' : ℕ)
+    (result : Result T OutboundFault) (before after : Outbound) : Type 0 where
+  pub same : IsSame before after
+  pub sends : (earlier : List (ℕ × Option Job)) → Stands earlier before → Sends earlier result after
+  pub written : IsTrue tells → (earlier : List (ℕ × Option Job)) (head : List ℕ)
+      → Stands earlier before → wrote ≡ head ++ out_text before → wrote' ≡ head ++ out_text after
+  pub counts : CountsWrite result faults faults'
+
+-- a step that didn't touch the sink
+abbrev pub StepsAlone : {T : Type 0} → Result T OutboundFault → Outbound → Outbound → Type 0
+StepsAlone result before after =
+    (tells : Bool) (wrote : List ℕ) (faults : ℕ)
+    → Steps tells wrote wrote faults faults result before after
+
+-- a step after which all that was released is out, unless it failed
+pub record SendsAll {T : Type 0} (tells : Bool) (wrote wrote' : List ℕ) (faults faults' : ℕ)
+    (result : Result T OutboundFault) (before after : Outbound) : Type 0 where
+  pub steps : Steps tells wrote wrote' faults faults' result before after
+  pub sent : OnOk result (after.sent ≡ next after)
+
+-- what writing all that is gathered did, whether the buffer is open or not
+pub record Flushes {T : Type 0} (tells : Bool) (wrote wrote' : List ℕ) (faults faults' : ℕ)
+    (result : Result T OutboundFault) (before after : Outbound) : Type 0 where
+  pub ring : after.ring ≡ before.ring
+  pub taker : after.taker ≡ before.taker
+  pub version : after.version ≡ before.version
+  pub base : after.base ≡ before.base
+  pub holds : (earlier : List (ℕ × Option Job)) → Holds earlier before
+      → MatchResult result (λ _. Holds earlier after)
+      (λ why. (why ≢ fault.Stranger) × Fell earlier why after)
+  pub written : IsTrue tells → (earlier : List (ℕ × Option Job)) (head : List ℕ)
+      → Holds earlier before → wrote ≡ head ++ out_text before → wrote' ≡ head ++ out_text after
+  pub sent : OnOk result (after.sent ≡ next after)
+  pub counts : CountsWrite result faults faults'
+
+-- an answer to another job closed the buffer, and it came by a foreign post, however many replies
+-- are out
+pub record MeetsStranger (before after : Outbound) : Type 0 where
+  pub same : IsSame before after
+  pub out : out_text after ≡ out_text before
+  pub holds : (earlier : List (ℕ × Option Job)) → Stands earlier before
+      → (h : Holds earlier after) × ((sent : ℕ) → TookForeign (received after.ring) sent h.posts)
+
+-- what came of asking for the next reply
+abbrev pub Releases : Due → Outbound → Outbound → Type 0
+Releases due.Gathered before after = StepsAlone (Ok (tt {0})) before after
+Releases due.Waiting before after = StepsAlone (Ok (tt {0})) before after
+Releases due.Stranger before after = MeetsStranger before after
+Releases due.NoMemory before after = StepsAlone {T = Unit {0}} (Err fault.NoMemory) before after
+Releases due.Exhausted before after = StepsAlone {T = Unit {0}} (Err fault.Exhausted) before after
+
+-- sending what was unsent from before: all of it went out, or a beginning where the sink failed
+pub record SendsUnsent {T : Type 0} (tells : Bool) (unsent unsent' wrote wrote' : List ℕ)
+    (faults faults' : ℕ) (result : Result T OutboundFault) : Type 0 where
+  pub ahead : List ℕ
+  pub parts : unsent ≡ ahead ++ unsent'
+  pub all : MatchResult result (λ _. unsent' ≡ []) (λ why. why ≡ fault.Write)
+  pub written : IsTrue tells → wrote' ≡ wrote ++ ahead
+  pub counts : CountsWrite result faults faults'
+
+-- What a run did that began with bytes that were unsent: it sent some of those, and all of them
+-- before anything else; the rest is as of any step.
+pub record SendsBoth {T : Type 0} (tells : Bool) (unsent unsent' wrote wrote' : List ℕ)
+    (faults faults' : ℕ) (result : Result T OutboundFault) (before after : Outbound) : Type 0 where
+  pub same : IsSame before after
+  pub sends : (earlier : List (ℕ × Option Job)) → Stands earlier before → Sends earlier result after
+  pub sent : OnOk result (after.sent ≡ next after)
+  pub counts : CountsWrite result faults faults'
+  pub ahead : List ℕ
+  pub parts : unsent ≡ ahead ++ unsent'
+  pub all : OnOk result (unsent' ≡ [])
+  pub none : (unsent' ≡ []) ⊎ ((after.written ≡ before.written) × (after.sent ≡ before.sent))
+  pub written : IsTrue tells → (earlier : List (ℕ × Option Job)) → Stands earlier before
+      → out_text before ≡ [] → wrote' ≡ wrote ++ (ahead ++ out_text after)

@@ -1,5 +1,5 @@
 -- What a run of `serve` did, for its callers.
-use Rattle.std.specs.Prelude.{◌≡◌, ◌⊎◌, ℕ, ◌+◌, ◌≤◌, Bool, if◌then◌else◌, List, ◌++◌, length, map, take, Option, Some, None, Result, Ok, Err}
+use Rattle.std.specs.Prelude.{◌≡◌, ◌⊎◌, ℕ, ◌+◌, ◌≤◌, Bool, if◌then◌else◌, List, [], ◌++◌, length, map, take, Option, Some, None, Result, Ok, Err, IfSome, IsSome}
 use Rattle.mac_queue.specs.Pass.{Pass, IsSamePass}
 use Rattle.mac_keys.specs.Table.{Table}
 use Rattle.mac_wire.specs.declared.arrival.Arrival.{Arrival}
@@ -8,11 +8,16 @@ use Rattle.mac_wire.specs.declared.arrival.Ending.TheVariants as ending
 use Rattle.mac_wire.specs.declared.reply.Reply.{Reply}
 use Rattle.mac_wire.specs.declared.version.Version.{Version}
 use Rattle.mac_wire.specs.Stream.{arrivals_of, Arrivals}
-use Rattle.mac_wire.specs.Reply.{reply_payloads, reply_text}
+use Rattle.mac_wire.specs.Frame.{framed}
+use Rattle.mac_wire.specs.FrameReader.{HasRead, HasEnded}
+use Rattle.mac_wire.specs.Reply.{payloads_from}
+use Rattle.mac_wire.specs.Session.{HasCome}
+use Rattle.mac_wire.specs.declared.frame.FrameReader.{FrameReader}
+use Rattle.mac_wire.specs.declared.session.Session.{Session}
 use Rattle.mac_wire.specs.Whole.{HasWhole}
 use Rattle.mac_decide.specs.Answer.{answer_of}
 use Rattle.mac_decide.specs.declared.job.Job.{Job}
-use Rattle.mac_serve.specs.Receiving.{Gave, jobs_of, placed, IsBehind}
+use Rattle.mac_serve.specs.Receiving.{Gave, Past, jobs_of, placed, IsBehind}
 use Rattle.mac_serve.specs.Posts.{AreAnswered, TookForeign}
 use Rattle.mac_serve.specs.declared.fault.ServeFault.{ServeFault}
 use Rattle.mac_serve.specs.declared.fault.ServeFault.TheVariants as fault
@@ -26,11 +31,16 @@ use Rattle.mac_serve.specs.declared.incoming.InboundFault.TheVariants as reading
 abbrev pub answers : Table → List Arrival → List Reply
 answers table arrivals = map (answer_of table) arrivals
 
+-- the frames of replies, the first of which is at this place
+abbrev pub text_from : Version → ℕ → List Reply → List ℕ
+text_from version place replies = framed (payloads_from version place replies)
+
 -- every arrival was admitted, put into the queue at its place, and its reply was sent in the
--- stream's version, and nothing else was written
-pub record SentAll (table : Table) (version : Version) (arrivals : List Arrival) (pass : Pass Job)
-    (output : List ℕ) (served : Served) : Type 0 where
-  pub output_is : output ≡ reply_text version (answers table arrivals)
+-- stream's version, and nothing else was written; nothing is left of what was unsent before
+pub record SentAll (table : Table) (version : Version) (place : ℕ) (arrivals : List Arrival)
+    (pass : Pass Job) (output left : List ℕ) (served : Served) : Type 0 where
+  pub output_is : output ≡ text_from version place (answers table arrivals)
+  pub none_left : left ≡ []
   pub arrived_is : served.arrived ≡ length arrivals
   pub sent_is : served.sent ≡ length arrivals
   pub put_is : served.desk.putter
@@ -38,65 +48,88 @@ pub record SentAll (table : Table) (version : Version) (arrivals : List Arrival)
 
 -- the frames of the replies that were sent were written, and nothing else; the stream was not read
 -- to its end, or not all was sent
-pub record SentSome (table : Table) (version : Version) (arrivals : List Arrival)
+pub record SentSome (table : Table) (version : Version) (place : ℕ) (arrivals : List Arrival)
     (output : List ℕ) (served : Served) : Type 0 where
-  pub output_is : output ≡ reply_text version (take served.sent (answers table arrivals))
+  pub output_is : output ≡ text_from version place (take served.sent (answers table arrivals))
   pub ending_is : served.ending ≡ ending.Broken
 
 -- the sink failed: a beginning of the replies' frames was written
-pub record SentBeginning (table : Table) (version : Version) (arrivals : List Arrival)
+pub record SentBeginning (table : Table) (version : Version) (place : ℕ) (arrivals : List Arrival)
     (output : List ℕ) (served : Served) : Type 0 where
-  pub output_is : output ≡ take served.written (reply_text version (answers table arrivals))
+  pub output_is : output ≡ take served.written (text_from version place (answers table arrivals))
   pub ending_is : served.ending ≡ ending.Broken
 
 -- What was written, and which ending is told, row by row: by the fault that is told, if any.
-abbrev pub Sent : Table → Arrivals → Pass Job → List ℕ → Option ServeFault → Served → Type 0
-Sent table a pass output None served =
-    SentAll table a.version a.arrived pass output served × (served.ending ≡ a.ending)
+abbrev pub Sent : Table → Arrivals → ℕ → List Arrival → Pass Job → List ℕ → List ℕ
+    → Option ServeFault → Served → Type 0
+Sent table a place arrivals pass output left None served =
+    SentAll table a.version place arrivals pass output left served × (served.ending ≡ a.ending)
     × ((a.ending ≡ ending.Clean) ⊎ (a.ending ≡ ending.Oversize))
-Sent table a pass output (Some fault.Torn) served =
-    SentAll table a.version a.arrived pass output served × (served.ending ≡ a.ending)
+Sent table a place arrivals pass output left (Some fault.Torn) served =
+    SentAll table a.version place arrivals pass output left served × (served.ending ≡ a.ending)
     × (a.ending ≡ ending.Torn)
-Sent table a pass output (Some fault.Read) served =
-    SentAll table a.version a.arrived pass output served × (served.ending ≡ ending.Broken)
-Sent table a pass output (Some fault.Write) served =
-    SentBeginning table a.version a.arrived output served
-Sent table a pass output (Some fault.NoMemory) served =
-    SentSome table a.version a.arrived output served
-Sent table a pass output (Some fault.Stranger) served =
-    SentSome table a.version a.arrived output served
-Sent table a pass output (Some fault.Exhausted) served =
-    SentSome table a.version a.arrived output served
+Sent table a place arrivals pass output left (Some fault.Read) served =
+    SentAll table a.version place arrivals pass output left served
+    × (served.ending ≡ ending.Broken)
+Sent table a place arrivals pass output left (Some fault.Write) served =
+    SentBeginning table a.version place arrivals output served
+Sent table a place arrivals pass output left (Some fault.NoMemory) served =
+    SentSome table a.version place arrivals output served
+Sent table a place arrivals pass output left (Some fault.Stranger) served =
+    SentSome table a.version place arrivals output served
+Sent table a place arrivals pass output left (Some fault.Exhausted) served =
+    SentSome table a.version place arrivals output served
 
--- What a run did: it read a stream, and wrote bytes. So many jobs of its arrivals were admitted, so
--- many bytes written, and so many replies went out whole. The admitted jobs were put into the queue
--- at their places, or all but the last. For each reply that went out the desk took a post with that
--- place's job. A stranger is told only where a post was foreign.
-pub record HasServed (tells_in tells_out : Bool) (table : Table)
+-- The connection can go on as this session: all that was read is whole frames and what is carried,
+-- all of it is answered, and nothing is unsent.
+pub record IsLeft (stream : List ℕ) (arrived : List Arrival) (answered : ℕ)
+    (session : Session) : Type 0 where
+  pub came : HasCome session.version stream arrived session.carried.items
+  pub none_unsent : session.unsent ≡ []
+  pub answered_is : session.answered ≡ answered
+
+-- What a run did: it read more of a stream, behind what had come of it before, and wrote bytes,
+-- those that were unsent before first of all. So many jobs of its arrivals were admitted, so many
+-- bytes of their replies written, and so many replies went out whole. The admitted jobs were put
+-- into the queue at their places, or all but the last. For each reply that went out the desk took a
+-- post with that place's job. A stranger is told only where a post was foreign. Where the source
+-- failed, and only there, the connection can go on.
+pub record HasServed (tells_in tells_out : Bool) (table : Table) (session : Session) (past : Past)
     (given given' wrote wrote' : List ℕ) (pass : Pass Job) (taken : List (ℕ × Option Job))
     (why : Option ServeFault) (served : Served) : Type 0 where
   pub stream : List ℕ
   pub gave : Gave tells_in given given' stream
+  pub arrivals : List Arrival
+  pub came : (arrivals_of (past.read ++ stream)).arrived ≡ past.arrived ++ arrivals
+  pub ahead : List ℕ
+  pub left : List ℕ
+  pub parts : session.unsent ≡ ahead ++ left
   pub output : List ℕ
-  pub took : Gave tells_out wrote wrote' output
+  pub behind : (left ≡ []) ⊎ (output ≡ [])
+  pub took : Gave tells_out wrote wrote' (ahead ++ output)
   pub written_is : served.written ≡ length output
-  pub sent : Sent table (arrivals_of stream) pass output why served
+  pub sent : Sent table (arrivals_of (past.read ++ stream)) session.answered arrivals pass output
+      left why served
   pub whole : HasWhole
-      (reply_payloads (arrivals_of stream).version (answers table (arrivals_of stream).arrived))
-      served.written served.sent
-  pub admitted : served.arrived ≤ length (arrivals_of stream).arrived
+      (payloads_from (arrivals_of (past.read ++ stream)).version session.answered
+      (answers table arrivals)) served.written served.sent
+  pub admitted : served.arrived ≤ length arrivals
   pub answered_few : served.sent ≤ served.arrived
   pub same_pool : IsSamePass pass served.desk.putter
   pub puts : ℕ
   pub put_behind : IsBehind puts served.arrived
   pub put_is : served.desk.putter ≡ record pass {
-    put = pass.put ++ placed 0 (take puts (jobs_of table (arrivals_of stream).arrived));
+    put = pass.put ++ placed 0 (take puts (jobs_of table arrivals));
   }
   pub posts : List (ℕ × Option Job)
   pub taken_is : served.desk.taker ≡ taken ++ posts
-  pub answered : AreAnswered (jobs_of table (arrivals_of stream).arrived) served.sent posts
+  pub answered : AreAnswered (jobs_of table arrivals) served.sent posts
   pub foreign : why ≡ Some fault.Stranger
-      → TookForeign (jobs_of table (arrivals_of stream).arrived) served.sent posts
+      → TookForeign (jobs_of table arrivals) served.sent posts
+  pub kept : why ≡ Some fault.Read → IsSome served.session
+  pub back : IfSome served.session (λ next. (why ≡ Some fault.Read)
+      × IsLeft (past.read ++ stream) (past.arrived ++ arrivals)
+      (session.answered + length arrivals) next)
 
 -- the fault that a result tells, if any, and what else it tells
 abbrev pub fault_of : Result Served (ServeFault × Served) → Option ServeFault
@@ -144,6 +177,28 @@ outcome_of (Ok sent) (Err reading.Read) all =
 outcome_of (Ok sent) (Err reading.Exhausted) all = (Some fault.Exhausted, ending.Broken)
 outcome_of (Ok sent) (Err reading.Stopped) all = (Some fault.Exhausted, ending.Broken)
 outcome_of (Ok sent) (Ok end) all = if all then ended_as end else (Some fault.Exhausted, ending.Broken)
+
+-- a session that goes on with this reader, whose places and unsent bytes are these
+pub record GoesOnWith (reader : FrameReader) (unsent : List ℕ) (answered : ℕ)
+    (session : Session) : Type 0 where
+  pub carries : (stream : List ℕ) (handed : List Arrival) → HasRead reader stream handed
+      → ¬ HasEnded reader → HasCome session.version stream handed session.carried.items
+  pub unsent_is : session.unsent ≡ unsent
+  pub answered_is : session.answered ≡ answered
+
+-- What is told in the end, and the session that is given back: that one where the source failed, or
+-- a fault of memory or count where none could be made; else what was told before, and none.
+abbrev pub GivesBack : (Session → Type 0) → Option ServeFault
+    → Option ServeFault → Option Session → Type 0
+GivesBack IsNext (Some fault.Read) why (Some next) = (why ≡ Some fault.Read) × IsNext next
+GivesBack IsNext (Some fault.Read) why None =
+    (why ≡ Some fault.NoMemory) ⊎ (why ≡ Some fault.Exhausted)
+GivesBack IsNext (Some fault.Write) why next = (why ≡ Some fault.Write) × (next ≡ None)
+GivesBack IsNext (Some fault.NoMemory) why next = (why ≡ Some fault.NoMemory) × (next ≡ None)
+GivesBack IsNext (Some fault.Torn) why next = (why ≡ Some fault.Torn) × (next ≡ None)
+GivesBack IsNext (Some fault.Stranger) why next = (why ≡ Some fault.Stranger) × (next ≡ None)
+GivesBack IsNext (Some fault.Exhausted) why next = (why ≡ Some fault.Exhausted) × (next ≡ None)
+GivesBack IsNext None why next = (why ≡ None) × (next ≡ None)
 
 -- the number of a fault
 abbrev pub serve_code : ServeFault → ℕ

@@ -1,15 +1,12 @@
-//! A connection, from its first byte to its last.
+//! A connection, from a session on to its last byte, or to the next session.
 
-ghost use Rattle.std.specs.Prelude.{◌≡◌, ◌≢◌, ◌++◌, ℕ, List, [], Option, None, IsTrue, IfOk, OnOk};
-ghost use Rattle.mac_decide.specs.declared.job.Job.{Job};
-ghost use Rattle.mac_order.specs.Buffer.{fresh_buffer};
-ghost use Rattle.mac_ring.specs.Ring.{admitted, received, waiting, IsRing, IsSameIntake};
-ghost use Rattle.mac_wire.specs.FrameReader.{HasRead, version_of};
-ghost use Rattle.mac_wire.specs.Stream.{version_or_one};
-ghost use Rattle.mac_serve.specs.Incoming.{HasRoom};
-ghost use Rattle.mac_serve.specs.Receiving.{CountsRead, HasRun, Reads};
-ghost use Rattle.mac_serve.specs.Sending.{Stands, Sends, CountsWrite, IsSame, out_text, next};
-ghost use Rattle.mac_serve.specs.Serving.{HasServed, CountsServed, fault_of, served_of, outcome_of};
+ghost use Rattle.std.specs.Prelude.{◌≡◌, ◌≢◌, ◌⊎◌, ◌+◌, ℕ, Bool, List, [], IsTrue, IsSome, IfOk, OnErr};
+ghost use Rattle.mac_queue.specs.Pass.{IsSamePass};
+ghost use Rattle.mac_wire.specs.FrameReader.{HasEnded};
+ghost use Rattle.mac_wire.specs.Session.{HasCome};
+ghost use Rattle.mac_serve.specs.Receiving.{Past, Reads, CountsRead, Runs};
+ghost use Rattle.mac_serve.specs.Sending.{SendsBoth};
+ghost use Rattle.mac_serve.specs.Serving.{HasServed, CountsServed, GoesOnWith, GivesBack, fault_of, served_of, outcome_of};
 
 use crate::fault::ServeFault;
 use crate::inbound::Inbound;
@@ -19,8 +16,8 @@ use crate::signals::Signals;
 use mac_decide::Macaroons;
 use mac_keys::KeyTable;
 use mac_queue::Desk;
-use mac_ring::{Intake, Outlet, Totals, make_ring, meet};
-use mac_wire::{Ending, NoMemory, Sink, Source};
+use mac_ring::{Totals, make_ring, meet};
+use mac_wire::{Ending, FrameReader, NoMemory, Session, Sink, Source, Unsent, Version};
 use std::alloc::Global;
 use std::sync::Wait;
 use std::thread::{Threads, join_mut};
@@ -30,20 +27,24 @@ use std::thread::{Threads, join_mut};
 pub struct Served {
     /// How many requests were admitted.
     pub arrived: u64,
-    /// How many replies went out whole.
+    /// How many of their replies went out whole.
     pub sent: u64,
-    /// How many bytes were written.
+    /// How many bytes of these were written.
     pub written: u64,
     /// How the stream ended: broken where it was not read to its end, or not all was sent.
     pub ending: Ending,
     /// The desk, for the pool that it came from.
     pub desk: Desk<Macaroons>,
+    /// What the connection goes on with elsewhere, where the source failed: a read that waits for so
+    /// long and no longer brings the connection back.
+    pub session: Option<Session>,
 }
 
-/// Serves a connection: reads requests from the source to its end, lets the workers of the desk's
-/// pool answer them under the keys, and writes the replies into the sink, in order, as the stream's
-/// version has them. Requests are read in this thread, and replies sent from a thread of their own,
-/// which begins once the first bytes are there.
+/// Serves a connection that is between two requests: writes what is unsent, reads requests from the
+/// source to its end, those that are carried first, lets the workers of the desk's pool answer them
+/// under the keys, and writes the replies into the sink, in order, as the stream's version has them,
+/// at the places that follow. Requests are read in this thread, and replies sent from a thread of
+/// their own, which begins once the stream's version is known.
 pub fn serve<R: Threads + Wait + Sync, In: Source, Out: Sink>(
     rt: &R,
     alloc: Global,
@@ -51,22 +52,36 @@ pub fn serve<R: Threads + Wait + Sync, In: Source, Out: Sink>(
     sink: &mut Out,
     keys: &KeyTable,
     desk: Desk<Macaroons>,
+    session: Session,
 ) -> Result<Served, (ServeFault, Served)>
-    ensures serves { HasServed In.tells Out.tells keys.now
+    ensures serves { (past : Past)
+        → HasCome session.version past.read past.arrived session.carried.items
+        → HasServed In.tells Out.tells keys.now session past
         (In.taken source.old) (In.taken source.new) (Out.written sink.old) (Out.written sink.new)
         desk.putter desk.taker (fault_of result) (served_of result) }
-    ensures end { (served_of result).ending ≢ Ending.Broken
+    ensures same_pool { IsSamePass desk.putter (served_of result).desk.putter }
+    ensures end { (past : Past)
+        → HasCome session.version past.read past.arrived session.carried.items
+        → (served_of result).ending ≢ Ending.Broken
         → (served_of result).ending ≢ Ending.Oversize → IsTrue (In.ended source.new) }
     ensures faults { CountsServed (fault_of result) (In.faults source.old) (In.faults source.new)
         (Out.faults sink.old) (Out.faults sink.new) }
 {
     let Desk { putter, taker } = desk;
-    let Ok((intake, outlet, mut incoming)) = parts(alloc) else {
+    let Session {
+        version,
+        answered,
+        carried,
+        mut unsent,
+    } = session;
+    let Ok((intake, outlet)) = make_ring(alloc) else {
         return Err((ServeFault::NoMemory, unserved(Desk { putter, taker })));
     };
-    let version = incoming.begin(source);
+    let Ok(mut incoming) = begun(alloc, source, version, carried.as_slice()) else {
+        return Err((ServeFault::NoMemory, unserved(Desk { putter, taker })));
+    };
     let mut inbound = Inbound::new(intake, putter);
-    let mut outbound = Outbound::new(alloc, outlet, taker, version);
+    let mut outbound = Outbound::new(alloc, outlet, taker, incoming.version(), answered);
     let (sending, reading) = run_both(
         rt,
         alloc,
@@ -76,9 +91,11 @@ pub fn serve<R: Threads + Wait + Sync, In: Source, Out: Sink>(
         &mut incoming,
         &mut inbound,
         &mut outbound,
+        &mut unsent,
     );
     let totals = meet(&mut inbound.ring, &mut outbound.ring);
     let (fault, ending) = outcome(sending, reading, totals.admitted == totals.released);
+    let (fault, session) = given_back(fault, incoming, unsent, answered, totals.admitted);
     let Inbound { putter, .. } = inbound;
     let Outbound {
         taker,
@@ -92,6 +109,7 @@ pub fn serve<R: Threads + Wait + Sync, In: Source, Out: Sink>(
         written,
         ending,
         desk: Desk { putter, taker },
+        session,
     };
     match fault {
         None => Ok(served),
@@ -99,18 +117,29 @@ pub fn serve<R: Threads + Wait + Sync, In: Source, Out: Sink>(
     }
 }
 
-/// What a connection's halves are made of.
-fn parts(alloc: Global) -> Result<(Intake<Macaroons>, Outlet<Macaroons>, Incoming), NoMemory>
-    ensures ring { IfOk result (λ p. IsRing p.0 p.1) }
-    ensures intake { IfOk result (λ p. admitted p.0 ≡ []) }
-    ensures outlet { IfOk result (λ p.
-        (received p.1 ≡ []) × (waiting p.1 ≡ []) × (p.1.buffer ≡ fresh_buffer)) }
-    ensures nothing { IfOk result (λ p. HasRead p.2.reader [] []) }
-    ensures room { IfOk result (λ p. HasRoom p.2) }
+/// What comes in of a stream, of this version if it has told one, from what is carried on. Where it
+/// has told none, its first piece is read.
+fn begun<In: Source>(
+    alloc: Global,
+    source: &mut In,
+    version: Option<Version>,
+    carried: &[u8],
+) -> Result<Incoming, NoMemory>
+    ensures reads { (past : Past) → HasCome version past.read past.arrived carried.now
+        → IfOk result (λ i. Reads In.tells (In.taken source.old) (In.taken source.new)
+        past.read past.arrived i.first i.reader) }
+    ensures end { IfOk result (λ i. IfOk i.first (λ more. more ≡ None
+        → IsTrue (In.ended source.new) ⊎ HasEnded i.reader)) }
+    ensures faults { IfOk result (λ i.
+        CountsRead i.first (In.faults source.old) (In.faults source.new)) }
+    ensures untouched { OnErr result (source.new ≡ source.old) }
 {
-    let (intake, outlet) = make_ring(alloc)?;
-    let incoming = Incoming::new(alloc)?;
-    Ok((intake, outlet, incoming))
+    if version.is_some() {
+        return Incoming::resumed(alloc, version, carried);
+    }
+    let mut incoming = Incoming::new(alloc)?;
+    incoming.begin(source);
+    Ok(incoming)
 }
 
 /// Runs both halves at once.
@@ -123,49 +152,57 @@ fn run_both<R: Threads + Wait + Sync, In: Source, Out: Sink>(
     incoming: &mut Incoming,
     inbound: &mut Inbound,
     outbound: &mut Outbound,
+    unsent: &mut Unsent,
 ) -> (Result<(), OutboundFault>, Result<Ending, InboundFault>)
-    requires { HasRoom incoming.old }
-    ensures outlet { IsSame outbound.old outbound.new }
-    ensures sends { (before : List (ℕ × Option Job)) → Stands before outbound.old
-        → Sends before result.0 outbound.new }
-    ensures sent { OnOk result.0 (outbound.new.sent ≡ next outbound.new) }
-    ensures written { IsTrue Out.tells → (before : List (ℕ × Option Job)) (head : List ℕ)
-        → Stands before outbound.old → Out.written sink.old ≡ head ++ out_text outbound.old
-        → Out.written sink.new ≡ head ++ out_text outbound.new }
-    ensures write_faults { CountsWrite result.0 (Out.faults sink.old) (Out.faults sink.new) }
-    ensures intake { IsSameIntake inbound.old.ring inbound.new.ring }
-    ensures run { (given : List ℕ)
-        → Reads In.tells given (In.taken source.old) [] [] incoming.old.first
-        incoming.old.reader
-        → HasRun In.tells keys.now (version_or_one (version_of incoming.old.reader)) given
-        (In.taken source.new) result.1 inbound.old inbound.new }
-    ensures end { IfOk incoming.old.first (λ more. more ≡ None → IsTrue (In.ended source.old))
-        → (given : List ℕ)
-        → Reads In.tells given (In.taken source.old) [] [] incoming.old.first
-        incoming.old.reader
-        → IfOk result.1 (λ ending. ending ≢ Ending.Oversize → IsTrue (In.ended source.new)) }
-    ensures read_faults { (count : ℕ) → CountsRead incoming.old.first count (In.faults source.old)
-        → CountsRead result.1 count (In.faults source.new) }
+    ensures sends { SendsBoth Out.tells unsent.old unsent.new (Out.written sink.old)
+        (Out.written sink.new) (Out.faults sink.old) (Out.faults sink.new) result.0 outbound.old
+        outbound.new }
+    ensures runs { Runs In.tells keys.now (In.taken source.old) (In.taken source.new)
+        (In.ended source.old) (In.ended source.new) (In.faults source.old) (In.faults source.new)
+        incoming.old.first incoming.old.reader incoming.new.reader result.1 inbound.old
+        inbound.new }
 {
     let signals = Signals::new();
     join_mut(
         rt,
-        &mut ||
-            ensures half { IsSame outbound.entry.now outbound.exit.now }
-            ensures sends { (before : List (ℕ × Option Job)) → Stands before outbound.entry.now
-                → Sends before result outbound.exit.now }
-            ensures sent { OnOk result (outbound.exit.now.sent ≡ next outbound.exit.now) }
-            ensures written { IsTrue Out.tells → (before : List (ℕ × Option Job)) (head : List ℕ)
-                → Stands before outbound.entry.now
-                → Out.written sink.entry.now ≡ head ++ out_text outbound.entry.now
-                → Out.written sink.exit.now ≡ head ++ out_text outbound.exit.now }
-            ensures faults { CountsWrite result
-                (Out.faults sink.entry.now) (Out.faults sink.exit.now) }
-        { outbound.run(rt, sink, &signals) },
-        &mut ||
-            requires { HasRoom incoming.now }
-        { inbound.run(rt, alloc, source, incoming, keys, &signals) },
+        &mut || outbound.run(rt, sink, unsent, &signals),
+        &mut || inbound.run(rt, alloc, source, incoming, keys, &signals),
     )
+}
+
+/// What is told in the end, and what the connection goes on with where the source failed. Memory
+/// may be refused for that.
+fn given_back(
+    fault: Option<ServeFault>,
+    incoming: Incoming,
+    unsent: Unsent,
+    answered: u64,
+    arrived: u64,
+) -> (Option<ServeFault>, Option<Session>)
+    ensures { GivesBack (GoesOnWith incoming.reader unsent (answered + arrived)) fault result.0
+        result.1 }
+{
+    match fault {
+        Some(ServeFault::Read) => {}
+        other => return (other, None),
+    }
+    let Some(answered) = answered.checked_add(arrived) else {
+        return (Some(ServeFault::Exhausted), None);
+    };
+    let Incoming { reader, .. } = incoming;
+    let version = reader.version();
+    match reader.into_carried() {
+        Ok(carried) => {
+            let session = Session {
+                version,
+                answered,
+                carried,
+                unsent,
+            };
+            (Some(ServeFault::Read), Some(session))
+        }
+        Err(_) => (Some(ServeFault::NoMemory), None),
+    }
 }
 
 /// What is told of how both halves ended.
@@ -198,6 +235,7 @@ fn unserved(desk: Desk<Macaroons>) -> Served
       written = 0;
       ending = Ending.Broken;
       desk = desk;
+      session = None;
     } }
 {
     Served {
@@ -206,5 +244,6 @@ fn unserved(desk: Desk<Macaroons>) -> Served
         written: 0,
         ending: Ending::Broken,
         desk,
+        session: None,
     }
 }

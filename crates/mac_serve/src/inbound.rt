@@ -4,8 +4,8 @@ ghost use Rattle.std.specs.Prelude.{◌≡◌, ◌≢◌, ◌<◌, ◌++◌, ◌
 ghost use Rattle.mac_decide.specs.World.{job_under};
 
 use crate::incoming::{InboundFault, Incoming};
+use crate::outstanding::Outstanding;
 use crate::signals::Signals;
-use crate::unsent::Unsent;
 use mac_decide::{Job, Macaroons, job_of};
 use mac_keys::KeyTable;
 use mac_mail::PutFault;
@@ -23,16 +23,14 @@ use std::{mem, thread};
 pub struct Inbound {
     pub ring: Intake<Macaroons>,
     pub putter: Putter<Macaroons>,
-    unsent: Unsent,
+    outstanding: Outstanding,
 }
 
 impl Inbound {
     ghost use Rattle.mac_ring.specs.Ring.{admitted, IsSameIntake, Knows};
     ghost use Rattle.mac_queue.specs.Pass.{with_put, IsSamePass};
-    ghost use Rattle.mac_serve.specs.Receiving.{CountsRead, Reads, jobs_of, Receives, HasRun, GoesOn, Continues};
-    ghost use Rattle.mac_serve.specs.Incoming.{HasRoom};
-    ghost use Rattle.mac_wire.specs.FrameReader.{HasEnded, version_of};
-    ghost use Rattle.mac_wire.specs.Stream.{version_or_one};
+    ghost use Rattle.mac_serve.specs.Receiving.{CountsRead, IsSameHalf, jobs_of, Receives, HasRun, Past, GoesOn, Continues, Runs};
+    ghost use Rattle.mac_wire.specs.FrameReader.{HasEnded};
     ghost use Rattle.mac_keys.specs.Table.{Table};
     ghost use Rattle.mac_wire.specs.declared.version.Version.{Version};
 
@@ -43,7 +41,7 @@ impl Inbound {
         Inbound {
             ring,
             putter,
-            unsent: Unsent::new(),
+            outstanding: Outstanding::new(),
         }
     }
 
@@ -58,11 +56,11 @@ impl Inbound {
             (admitted self.new.ring ≡ admitted self.old.ring) × (e.1 ≡ job)) }
     {
         let length = payload_length(&job);
-        if !self.unsent.has_room(length, signals.sent()) {
+        if !self.outstanding.has_room(length, signals.sent()) {
             return Err((AdmitFault::Full, job));
         }
         let place = self.ring.admit(job)?;
-        self.unsent.push(length);
+        self.outstanding.push(length);
         Ok(place)
     }
 
@@ -83,7 +81,7 @@ impl Inbound {
                 Err((AdmitFault::Last, _)) => return Err(InboundFault::Exhausted),
                 Err((AdmitFault::Full, back)) => job = back,
             }
-            let notice = signals.announce(self.unsent.wanted());
+            let notice = signals.announce(self.outstanding.wanted());
             match self.try_admit(job, signals) {
                 Ok(place) => {
                     signals.withdraw(notice);
@@ -138,9 +136,7 @@ impl Inbound {
         keys: &KeyTable,
         signals: &Signals,
     ) -> Result<(), InboundFault>
-        ensures ring { IsSameIntake self.old.ring self.new.ring }
-        ensures receives { Receives (job_under keys.now arrival ∷ []) result self.old self.new }
-        ensures no_read { result ≢ Err InboundFault.Read }
+        ensures { Receives (job_under keys.now arrival ∷ []) result self.old self.new }
     {
         let job = job_of(keys, arrival);
         let copy = Macaroons::copy(alloc, &job)?;
@@ -157,9 +153,7 @@ impl Inbound {
         keys: &KeyTable,
         signals: &Signals,
     ) -> Result<(), InboundFault>
-        ensures ring { IsSameIntake self.old.ring self.new.ring }
-        ensures receives { Receives (jobs_of keys.now arrivals.items) result self.old self.new }
-        ensures no_read { result ≢ Err InboundFault.Read }
+        ensures { Receives (jobs_of keys.now arrivals.items) result self.old self.new }
     {
         for arrival in arrivals {
             self.take_arrival(rt, alloc, arrival, keys, signals)?;
@@ -174,21 +168,16 @@ impl Inbound {
         incoming: &mut Incoming,
         signals: &Signals,
     ) -> Result<Option<Vec<Arrival>>, InboundFault>
-        requires { HasRoom incoming.old }
-        ensures goes_on { (table : Table) (version : Version) (given : List ℕ)
+        ensures goes_on { (table : Table) (version : Version) (past : Past) (given : List ℕ)
             (start now : Inbound)
-            → GoesOn In.tells table version given (In.taken source.old) incoming.old.reader []
-            start now
-            → Continues In.tells table version given (In.taken source.new) result
+            → GoesOn In.tells table version past given (In.taken source.old) incoming.old.reader
+            [] start now
+            → Continues In.tells table version past given (In.taken source.new) result
             incoming.new.reader start now }
         ensures end { result ≡ Ok None
             → IsTrue (In.ended source.new) ⊎ HasEnded incoming.new.reader }
-        ensures room { HasRoom incoming.new }
         ensures faults { CountsRead result (In.faults source.old) (In.faults source.new) }
     {
-        if incoming.reader.has_ended() {
-            return Ok(None);
-        }
         if signals.has_outbound_ended() {
             return Err(InboundFault::Stopped);
         }
@@ -207,16 +196,15 @@ impl Inbound {
         keys: &KeyTable,
         signals: &Signals,
     ) -> Result<(), InboundFault>
-        requires { HasRoom incoming.old }
-        ensures ring { IsSameIntake self.old.ring self.new.ring }
-        ensures goes_on { (version : Version) (given : List ℕ) (start : Inbound)
-            → GoesOn In.tells keys.now version given (In.taken source.old)
+        ensures same { IsSameHalf self.old self.new }
+        ensures goes_on { (version : Version) (past : Past) (given : List ℕ) (start : Inbound)
+            → GoesOn In.tells keys.now version past given (In.taken source.old)
             incoming.old.reader first.items start self.old
             → MatchResult result
-            (λ _. GoesOn In.tells keys.now version given (In.taken source.new)
+            (λ _. GoesOn In.tells keys.now version past given (In.taken source.new)
             incoming.new.reader [] start self.new)
-            (λ why. HasRun In.tells keys.now version given (In.taken source.new) (Err why)
-            start self.new) }
+            (λ why. HasRun In.tells keys.now version past given (In.taken source.new)
+            incoming.new.reader (Err why) start self.new) }
         ensures end { OnOk result
             (IsTrue (In.ended source.new) ⊎ HasEnded incoming.new.reader) }
         ensures faults { CountsRead result (In.faults source.old) (In.faults source.new) }
@@ -242,20 +230,10 @@ impl Inbound {
         keys: &KeyTable,
         signals: &Signals,
     ) -> Result<Ending, InboundFault>
-        requires { HasRoom incoming.old }
-        ensures ring { IsSameIntake self.old.ring self.new.ring }
-        ensures run { (given : List ℕ)
-            → Reads In.tells given (In.taken source.old) [] [] incoming.old.first
-            incoming.old.reader
-            → HasRun In.tells keys.now (version_or_one (version_of incoming.old.reader)) given
-            (In.taken source.new) result self.old self.new }
-        ensures end { IfOk incoming.old.first (λ more. more ≡ None → IsTrue (In.ended source.old))
-            → (given : List ℕ)
-            → Reads In.tells given (In.taken source.old) [] [] incoming.old.first
-            incoming.old.reader
-            → IfOk result (λ ending. ending ≢ Ending.Oversize → IsTrue (In.ended source.new)) }
-        ensures faults { (count : ℕ) → CountsRead incoming.old.first count (In.faults source.old)
-            → CountsRead result count (In.faults source.new) }
+        ensures { Runs In.tells keys.now (In.taken source.old) (In.taken source.new)
+            (In.ended source.old) (In.ended source.new) (In.faults source.old)
+            (In.faults source.new) incoming.old.first incoming.old.reader incoming.new.reader result
+            self.old self.new }
     {
         let first = mem::replace(&mut incoming.first, Ok(None))?;
         if !signals.await_outbound(rt) {
@@ -279,20 +257,10 @@ impl Inbound {
         keys: &KeyTable,
         signals: &Signals,
     ) -> Result<Ending, InboundFault>
-        requires { HasRoom incoming.old }
-        ensures ring { IsSameIntake self.old.ring self.new.ring }
-        ensures run { (given : List ℕ)
-            → Reads In.tells given (In.taken source.old) [] [] incoming.old.first
-            incoming.old.reader
-            → HasRun In.tells keys.now (version_or_one (version_of incoming.old.reader)) given
-            (In.taken source.new) result self.old self.new }
-        ensures end { IfOk incoming.old.first (λ more. more ≡ None → IsTrue (In.ended source.old))
-            → (given : List ℕ)
-            → Reads In.tells given (In.taken source.old) [] [] incoming.old.first
-            incoming.old.reader
-            → IfOk result (λ ending. ending ≢ Ending.Oversize → IsTrue (In.ended source.new)) }
-        ensures faults { (count : ℕ) → CountsRead incoming.old.first count (In.faults source.old)
-            → CountsRead result count (In.faults source.new) }
+        ensures { Runs In.tells keys.now (In.taken source.old) (In.taken source.new)
+            (In.ended source.old) (In.ended source.new) (In.faults source.old)
+            (In.faults source.new) incoming.old.first incoming.old.reader incoming.new.reader result
+            self.old self.new }
     {
         let ended = self.read_to_end(rt, alloc, source, incoming, keys, signals);
         signals.end_inbound(has_lost_jobs(&ended));

@@ -1,11 +1,7 @@
 //! The arrivals of a source.
 
-ghost use Rattle.std.specs.Prelude.{◌≡◌, ◌≢◌, ◌<◌, ℕ, List, [], None, length, IsTrue, IfOk, IfErr, OnOk};
-ghost use Rattle.mac_wire.specs.declared.arrival.Arrival.{Arrival};
-ghost use Rattle.mac_wire.specs.Stream.{arrivals_of, version_or_one};
-ghost use Rattle.mac_wire.specs.FrameReader.{HasRead, HasEnded, version_of};
+ghost use Rattle.std.specs.Prelude.{◌≡◌, ◌≢◌, ◌⊎◌, ◌<◌, ℕ, Bool, List, [], None, length, IsTrue, IfOk, IsOk, IsSome};
 ghost use Rattle.mac_serve.specs.declared.incoming.InboundFault.TheVariants.{NoMemory};
-ghost use Rattle.mac_serve.specs.Receiving.{Reads, CountsRead};
 
 use mac_wire::{Arrival, Ending, FrameReader, NoMemory, Source, Version};
 use std::alloc::{AllocError, AllocFailed, Global};
@@ -51,15 +47,19 @@ pub struct Incoming {
     pub reader: FrameReader,
     pub first: Result<Option<Vec<Arrival>>, InboundFault>,
     piece: Vec<u8>,
+    ghost has_room: { 0 < length piece.items },
 }
 
 impl Incoming {
-    ghost use Rattle.mac_serve.specs.Incoming.{HasRoom};
+    ghost use Rattle.mac_wire.specs.declared.arrival.Arrival.{Arrival};
+    ghost use Rattle.mac_wire.specs.Stream.{arrivals_of, version_or_one};
+    ghost use Rattle.mac_wire.specs.FrameReader.{HasRead, HasEnded, version_of};
+    ghost use Rattle.mac_wire.specs.Session.{HasCome};
+    ghost use Rattle.mac_serve.specs.Receiving.{Reads, CountsRead};
 
     /// Nothing has come yet.
     pub fn new(alloc: Global) -> Result<Incoming, NoMemory>
-        ensures nothing { IfOk result (λ incoming. HasRead incoming.reader [] []) }
-        ensures room { IfOk result HasRoom }
+        ensures { IfOk result (λ incoming. HasRead incoming.reader [] []) }
     {
         let mut piece = Vec::new(alloc);
         piece.resize(PIECE, 0)?;
@@ -70,36 +70,65 @@ impl Incoming {
         })
     }
 
-    /// Reads the first piece of a stream, and tells the stream's version.
-    pub fn begin<In: Source>(&mut self, source: &mut In) -> Version
-        requires nothing { HasRead self.old.reader [] [] }
-        requires room { HasRoom self.old }
-        ensures version { result ≡ version_or_one (version_of self.new.reader) }
+    /// What came behind the last arrival that is answered, of a stream of this version, comes again.
+    pub fn resumed(
+        alloc: Global,
+        version: Option<Version>,
+        carried: &[u8],
+    ) -> Result<Incoming, NoMemory>
+        ensures reads { (tells : Bool) (given stream : List ℕ) (arrived : List Arrival)
+            → IsSome version → HasCome version stream arrived carried.now
+            → IfOk result (λ i. Reads tells given given stream arrived i.first i.reader) }
+        ensures more { IfOk result (λ i. IfOk i.first (λ more. IsSome more)) }
+        ensures counts { IfOk result (λ i. IsOk i.first) }
+    {
+        let mut piece = Vec::new(alloc);
+        piece.resize(PIECE, 0)?;
+        let (reader, arrivals) = FrameReader::resumed(alloc, version, carried)?;
+        Ok(Incoming {
+            reader,
+            first: Ok(Some(arrivals)),
+            piece,
+        })
+    }
+
+    /// Reads the first piece of a stream, which tells its version.
+    pub fn begin<In: Source>(&mut self, source: &mut In)
+        requires { HasRead self.old.reader [] [] }
         ensures reads { Reads In.tells (In.taken source.old) (In.taken source.new) [] []
             self.new.first self.new.reader }
-        ensures end { IfOk self.new.first (λ more. more ≡ None → IsTrue (In.ended source.new)) }
-        ensures room { HasRoom self.new }
+        ensures end { IfOk self.new.first (λ more. more ≡ None
+            → IsTrue (In.ended source.new) ⊎ HasEnded self.new.reader) }
         ensures faults { CountsRead self.new.first (In.faults source.old) (In.faults source.new) }
     {
         self.first = self.next(source);
+    }
+
+    /// The version of the stream, if it was to end here.
+    pub fn version(&self) -> Version
+        ensures { result ≡ version_or_one (version_of self.now.reader) }
+    {
         self.reader.version().unwrap_or(Version::One)
     }
 
     /// Reads some bytes, and gives the arrivals that are whole with them: `None` at the end of the
-    /// source. Where a failure of the source couldn't be counted, nothing is read.
+    /// source, and behind an oversize frame. Where a failure of the source couldn't be counted,
+    /// nothing is read.
     pub fn next<In: Source>(
         &mut self,
         source: &mut In,
     ) -> Result<Option<Vec<Arrival>>, InboundFault>
-        requires { HasRoom self.old }
         ensures reads { (stream : List ℕ) (handed : List Arrival)
             → HasRead self.old.reader stream handed
             → Reads In.tells (In.taken source.old) (In.taken source.new) stream handed result
             self.new.reader }
-        ensures end { IfOk result (λ more. more ≡ None → IsTrue (In.ended source.new)) }
-        ensures room { HasRoom self.new }
+        ensures end { result ≡ Ok None
+            → IsTrue (In.ended source.new) ⊎ HasEnded self.new.reader }
         ensures faults { CountsRead result (In.faults source.old) (In.faults source.new) }
     {
+        if self.reader.has_ended() {
+            return Ok(None);
+        }
         if source.faults() == u64::MAX {
             return Err(InboundFault::Exhausted);
         }

@@ -6,9 +6,10 @@ mod connection;
 mod fault;
 mod inbound;
 mod incoming;
+pub mod laws;
 mod outbound;
+mod outstanding;
 mod signals;
-mod unsent;
 
 pub use connection::{Served, serve};
 pub use fault::ServeFault;

@@ -1,7 +1,6 @@
 //! The half of a connection that sends replies.
 
-ghost use Rattle.std.specs.Prelude.{◌≡◌, ◌<◌, ◌++◌, ℕ, List, [], Option, length, map, take, IsTrue, IsFalse, IfOk, IfErr, OnOk, OnErr, MatchResult, Err, ◌≢◌};
-ghost use Rattle.mac_decide.specs.declared.job.Job.{Job};
+ghost use Rattle.std.specs.Prelude.{◌≡◌, ◌<◌, [], Ok};
 
 use crate::signals::Signals;
 use mac_decide::{Macaroons, laws};
@@ -9,7 +8,7 @@ use mac_mail::{Post, Taker};
 use mac_order::Next;
 use mac_order::laws::equal_jobs_hold_the_same;
 use mac_ring::Outlet;
-use mac_wire::{Sink, Version, append_reply, send_all, whole_frames};
+use mac_wire::{Sink, Unsent, Version, append_reply, send_all, whole_frames};
 use std::alloc::Global;
 use std::sync::Wait;
 
@@ -25,7 +24,7 @@ pub enum OutboundFault {
     NoMemory,
     /// An answer came that was not due.
     Stranger,
-    /// The bytes written can't be counted any more.
+    /// The bytes written, the places or the sink's failures can't be counted any more.
     Exhausted,
 }
 
@@ -39,6 +38,8 @@ enum Due {
     Stranger,
     /// Memory ran out for the reply's frame.
     NoMemory,
+    /// The reply's place can't be told any more.
+    Exhausted,
 }
 
 /// The half of a connection that sends replies: its end of the ring, and the mailbox of its
@@ -48,6 +49,8 @@ pub struct Outbound {
     pub ring: Outlet<Macaroons>,
     pub taker: Taker<Macaroons>,
     pub version: Version,
+    /// The place of the first reply, which came first through the ring.
+    pub base: u64,
     pub gathered: Vec<u8>,
     pub sent: u64,
     pub written: u64,
@@ -56,27 +59,29 @@ pub struct Outbound {
 impl Outbound {
     ghost use Rattle.mac_ring.specs.Ring.{received};
     ghost use Rattle.mac_order.specs.Buffer.{fresh_buffer};
-    ghost use Rattle.mac_serve.specs.Posts.{TookForeign};
-    ghost use Rattle.mac_serve.specs.Sending.{Holds, Stands, Fell, Sends, Releases, CountsWrite, IsSame, out_text, next};
+    ghost use Rattle.mac_serve.specs.Sending.{Stands, StepsAlone, Releases, Flushes, SendsAll, SendsUnsent, SendsBoth};
 
-    /// A half that has sent nothing, for a stream of this version.
+    /// A half that has sent nothing, for a stream of this version, from this place on.
     pub fn new(
         alloc: Global,
         ring: Outlet<Macaroons>,
         taker: Taker<Macaroons>,
         version: Version,
+        base: u64,
     ) -> Outbound
         requires fresh { ring.buffer ≡ fresh_buffer }
         requires empty { received ring ≡ [] }
         ensures ring { result.ring ≡ ring }
         ensures version { result.version ≡ version }
+        ensures base { result.base ≡ base }
         ensures stands { Stands taker result }
-        ensures none { out_text result ≡ [] }
+        ensures none { result.written ≡ 0 }
     {
         Outbound {
             ring,
             taker,
             version,
+            base,
             gathered: Vec::new(alloc),
             sent: 0,
             written: 0,
@@ -85,9 +90,7 @@ impl Outbound {
 
     /// Opens every slip that it may. Whether there was one.
     fn look(&mut self) -> bool
-        ensures half { IsSame self.old self.new }
-        ensures stands { (before : List (ℕ × Option Job)) → Stands before self.old
-            → Stands before self.new × (out_text self.new ≡ out_text self.old) }
+        ensures { StepsAlone (Ok result) self.old self.new }
     {
         let mut found = false;
         while self.ring.look() {
@@ -98,11 +101,7 @@ impl Outbound {
 
     /// Takes one post, and settles its answer. Whether there was one.
     fn settle_next<R: Wait>(&mut self, rt: &R) -> Result<bool, OutboundFault>
-        ensures half { IsSame self.old self.new }
-        ensures sends { (before : List (ℕ × Option Job))
-            → Stands before self.old → Sends before result self.new }
-        ensures out { out_text self.new ≡ out_text self.old }
-        ensures no_write { result ≢ Err OutboundFault.Write }
+        ensures { StepsAlone result self.old self.new }
     {
         let Some(post) = self.taker.take(rt) else {
             return Ok(false);
@@ -118,33 +117,29 @@ impl Outbound {
 
     /// Takes every post that is there, and settles their answers. Whether there was one.
     fn settle_all<R: Wait>(&mut self, rt: &R) -> Result<bool, OutboundFault>
-        ensures half { IsSame self.old self.new }
-        ensures sends { (before : List (ℕ × Option Job))
-            → Stands before self.old → Sends before result self.new }
-        ensures out { out_text self.new ≡ out_text self.old }
-        ensures no_write { result ≢ Err OutboundFault.Write }
+        ensures { StepsAlone result self.old self.new }
     {
         let mut found = false;
         for _ in rt.forever() {
             if !self.settle_next(rt)? {
-                break;
+                return Ok(found);
             }
             found = true;
         }
-        Ok(found)
+        unreachable!()
     }
 
     /// Gathers the reply of the next place, where it is due.
     fn release_next(&mut self) -> Due
-        ensures half { IsSame self.old self.new }
-        ensures releases { (before : List (ℕ × Option Job))
-            → Stands before self.old → Releases before result self.new }
-        ensures out { out_text self.new ≡ out_text self.old }
+        ensures { Releases result self.old self.new }
     {
         laws::replies_can_be_sent();
         equal_jobs_hold_the_same::<Macaroons>();
+        let Some(place) = self.base.checked_add(self.ring.next_place()) else {
+            return Due::Exhausted;
+        };
         match self.ring.release() {
-            Next::Reply(place, reply) => {
+            Next::Reply(_, reply) => {
                 match append_reply(&mut self.gathered, &reply, self.version, place) {
                     Ok(()) => Due::Gathered,
                     Err(_) => Due::NoMemory,
@@ -159,18 +154,8 @@ impl Outbound {
     /// Writes what is gathered.
     fn flush<W: Sink>(&mut self, sink: &mut W) -> Result<(), OutboundFault>
         requires { W.faults sink.old < u64.MAX }
-        ensures same { (self.new.ring ≡ self.old.ring) × (self.new.taker ≡ self.old.taker)
-            × (self.new.version ≡ self.old.version) }
-        ensures holds { (before : List (ℕ × Option Job)) → Holds before self.old
-            → MatchResult result (λ _. Holds before self.new)
-            (λ why. (why ≢ OutboundFault.Stranger) × Fell before why self.new) }
-        ensures sends { (before : List (ℕ × Option Job))
-            → Stands before self.old → Sends before result self.new }
-        ensures sent { OnOk result (self.new.sent ≡ next self.new) }
-        ensures written { IsTrue W.tells → (before : List (ℕ × Option Job)) (head : List ℕ)
-            → Holds before self.old → W.written sink.old ≡ head ++ out_text self.old
-            → W.written sink.new ≡ head ++ out_text self.new }
-        ensures faults { CountsWrite result (W.faults sink.old) (W.faults sink.new) }
+        ensures { Flushes W.tells (W.written sink.old) (W.written sink.new)
+            (W.faults sink.old) (W.faults sink.new) result self.old self.new }
     {
         laws::replies_can_be_sent();
         let due = self.ring.next_place();
@@ -197,14 +182,8 @@ impl Outbound {
     /// Sends every reply that is due.
     fn release_all<R: Wait, W: Sink>(&mut self, rt: &R, sink: &mut W) -> Result<(), OutboundFault>
         requires { W.faults sink.old < u64.MAX }
-        ensures half { IsSame self.old self.new }
-        ensures sends { (before : List (ℕ × Option Job))
-            → Stands before self.old → Sends before result self.new }
-        ensures sent { OnOk result (self.new.sent ≡ next self.new) }
-        ensures written { IsTrue W.tells → (before : List (ℕ × Option Job)) (head : List ℕ)
-            → Stands before self.old → W.written sink.old ≡ head ++ out_text self.old
-            → W.written sink.new ≡ head ++ out_text self.new }
-        ensures faults { CountsWrite result (W.faults sink.old) (W.faults sink.new) }
+        ensures { SendsAll W.tells (W.written sink.old) (W.written sink.new)
+            (W.faults sink.old) (W.faults sink.new) result self.old self.new }
     {
         for _ in rt.forever() {
             match self.release_next() {
@@ -216,6 +195,7 @@ impl Outbound {
                     return Err(OutboundFault::Stranger);
                 }
                 Due::NoMemory => return Err(OutboundFault::NoMemory),
+                Due::Exhausted => return Err(OutboundFault::Exhausted),
             }
         }
         unreachable!()
@@ -225,14 +205,8 @@ impl Outbound {
     /// Whether anything was there.
     fn turn<R: Wait, W: Sink>(&mut self, rt: &R, sink: &mut W) -> Result<bool, OutboundFault>
         requires { W.faults sink.old < u64.MAX }
-        ensures half { IsSame self.old self.new }
-        ensures sends { (before : List (ℕ × Option Job))
-            → Stands before self.old → Sends before result self.new }
-        ensures sent { OnOk result (self.new.sent ≡ next self.new) }
-        ensures written { IsTrue W.tells → (before : List (ℕ × Option Job)) (head : List ℕ)
-            → Stands before self.old → W.written sink.old ≡ head ++ out_text self.old
-            → W.written sink.new ≡ head ++ out_text self.new }
-        ensures faults { CountsWrite result (W.faults sink.old) (W.faults sink.new) }
+        ensures { SendsAll W.tells (W.written sink.old) (W.written sink.new)
+            (W.faults sink.old) (W.faults sink.new) result self.old self.new }
     {
         let has_looked = self.look();
         let has_settled = self.settle_all(rt)?;
@@ -249,14 +223,8 @@ impl Outbound {
         signals: &Signals,
     ) -> Result<(), OutboundFault>
         requires { W.faults sink.old < u64.MAX }
-        ensures half { IsSame self.old self.new }
-        ensures sends { (before : List (ℕ × Option Job))
-            → Stands before self.old → Sends before result self.new }
-        ensures sent { OnOk result (self.new.sent ≡ next self.new) }
-        ensures written { IsTrue W.tells → (before : List (ℕ × Option Job)) (head : List ℕ)
-            → Stands before self.old → W.written sink.old ≡ head ++ out_text self.old
-            → W.written sink.new ≡ head ++ out_text self.new }
-        ensures faults { CountsWrite result (W.faults sink.old) (W.faults sink.new) }
+        ensures { SendsAll W.tells (W.written sink.old) (W.written sink.new)
+            (W.faults sink.old) (W.faults sink.new) result self.old self.new }
     {
         for _ in rt.forever() {
             if self.turn(rt, sink)? {
@@ -289,47 +257,57 @@ impl Outbound {
         self.ring.open_slips() > 0 && !signals.has_inbound_failed()
     }
 
+    /// Sends what is unsent from before.
+    fn send_unsent<W: Sink>(sink: &mut W, unsent: &mut Unsent) -> Result<(), OutboundFault>
+        requires { W.faults sink.old < u64.MAX }
+        ensures { SendsUnsent W.tells unsent.old unsent.new (W.written sink.old)
+            (W.written sink.new) (W.faults sink.old) (W.faults sink.new) result }
+    {
+        match send_all(sink, unsent.as_slice()) {
+            Ok(()) => {
+                unsent.remove(unsent.len());
+                Ok(())
+            }
+            Err((_, count)) => {
+                unsent.remove(count);
+                Err(OutboundFault::Write)
+            }
+        }
+    }
+
     /// Sends where the failures of the sink can be counted.
     fn send_if_counted<R: Wait, W: Sink>(
         &mut self,
         rt: &R,
         sink: &mut W,
+        unsent: &mut Unsent,
         signals: &Signals,
     ) -> Result<(), OutboundFault>
-        ensures half { IsSame self.old self.new }
-        ensures sends { (before : List (ℕ × Option Job))
-            → Stands before self.old → Sends before result self.new }
-        ensures sent { OnOk result (self.new.sent ≡ next self.new) }
-        ensures written { IsTrue W.tells → (before : List (ℕ × Option Job)) (head : List ℕ)
-            → Stands before self.old → W.written sink.old ≡ head ++ out_text self.old
-            → W.written sink.new ≡ head ++ out_text self.new }
-        ensures faults { CountsWrite result (W.faults sink.old) (W.faults sink.new) }
+        ensures { SendsBoth W.tells unsent.old unsent.new (W.written sink.old)
+            (W.written sink.new) (W.faults sink.old) (W.faults sink.new) result self.old self.new }
     {
         if sink.faults() == u64::MAX {
             return Err(OutboundFault::Exhausted);
         }
+        Outbound::send_unsent(sink, unsent)?;
         self.send_until_done(rt, sink, signals)
     }
 
-    /// Sends replies until the inbound half has ended and nothing more is due, or until a fault,
-    /// which the sink hears of. The inbound half hears of the end.
+    /// Sends what is unsent from before, and then replies until the inbound half has ended and
+    /// nothing more is due, or until a fault, which the sink hears of. The inbound half hears of
+    /// the end.
     pub fn run<R: Wait, W: Sink>(
         &mut self,
         rt: &R,
         sink: &mut W,
+        unsent: &mut Unsent,
         signals: &Signals,
     ) -> Result<(), OutboundFault>
-        ensures half { IsSame self.old self.new }
-        ensures sends { (before : List (ℕ × Option Job))
-            → Stands before self.old → Sends before result self.new }
-        ensures sent { OnOk result (self.new.sent ≡ next self.new) }
-        ensures written { IsTrue W.tells → (before : List (ℕ × Option Job)) (head : List ℕ)
-            → Stands before self.old → W.written sink.old ≡ head ++ out_text self.old
-            → W.written sink.new ≡ head ++ out_text self.new }
-        ensures faults { CountsWrite result (W.faults sink.old) (W.faults sink.new) }
+        ensures { SendsBoth W.tells unsent.old unsent.new (W.written sink.old)
+            (W.written sink.new) (W.faults sink.old) (W.faults sink.new) result self.old self.new }
     {
         signals.begin_outbound();
-        let ended = self.send_if_counted(rt, sink, signals);
+        let ended = self.send_if_counted(rt, sink, unsent, signals);
         if ended.is_err() {
             self.taker.close();
             sink.give_up();

@@ -14,7 +14,7 @@ use Rattle.mac_wire.specs.Steps.{Advances, Cuts}
 use Rattle.mac_wire.specs.FrameReader.{HasReadTo, HasEndedAt}
 use Rattle.mac_wire.proofs.Frames.{frames_of-nothing, frames_of-unfinished, frames_of-whole, frames_of-too_long}
 
-followed_by-append : (a b : List Arrival) (rest : Frames) → followed_by a (followed_by b rest) ≡ followed_by (a ++ b) rest
+pub followed_by-append : (a b : List Arrival) (rest : Frames) → followed_by a (followed_by b rest) ≡ followed_by (a ++ b) rest
 followed_by-append a b rest = ap (λ (xs : List Arrival). record { arrived = xs; ending = rest.ending }) (sym (append_assoc a b rest.arrived))
 
 -- the stream's arrivals are those handed out, and then those of what is held and of the rest of the piece
@@ -25,7 +25,7 @@ IsCutTo stream handed held rest =
 pub begins : (held piece : List ℕ) → IsUnfinished held → IsCutTo (held ++ piece) [] held piece
 begins held piece unfinished = (unfinished, λ more. ap frames_of (append_assoc held piece more))
 
-nothing_unfinished : IsUnfinished []
+pub nothing_unfinished : IsUnfinished []
 nothing_unfinished long = absurd (omega arith)
 
 regrouped : (held taken rest more : List ℕ) → held ++ ((taken ++ rest) ++ more) ≡ (held ++ taken) ++ (rest ++ more)

@@ -6,6 +6,7 @@ pub mod Partials
 pub mod Frames
 pub mod Cutting
 pub mod Opening
+pub mod Sessions
 pub mod Spelling
 pub mod Asking
 pub mod Replies

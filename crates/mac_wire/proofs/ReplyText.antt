@@ -2,13 +2,12 @@
 use Rattle.std.proofs.Common.{◌≡◌, ℕ, ◌+◌, ◌^◌, ◌<◌, ◌≤◌, zero, suc, List, [], ◌∷◌, ◌++◌, length, map, take, drop, refl, sym, ap, ◌∙◌, arith, length-append}
 use Rattle.std.specs.Int.{w64, from_be_bytes, to_be_bytes}
 use Rattle.std.specs.List.{AllByRecursion}
-use Rattle.std.specs.Prelude.{Option, Some, None, slice_get}
+use Rattle.std.specs.Prelude.{Some, slice_get}
 use Rattle.std.specs.Option.{option_map}
 use Rattle.std.proofs.lemmas.List.Concat.{flat_map-cons}
 use Rattle.std.proofs.lemmas.List.{take_at, drop_at}
 use Rattle.std.proofs.lemmas.Nat.{from_be_bytes-to_be_bytes_8}
 use Rattle.mac_wire.proofs.Replies.{one_reply}
-use Rattle.mac_wire.specs.declared.arrival.Arrival.{Arrival}
 use Rattle.mac_wire.specs.declared.arrival.Arrival.TheVariants as arrival
 use Rattle.mac_wire.specs.declared.arrival.Ending.TheVariants as ending
 use Rattle.mac_wire.specs.declared.arrival.TheConstants.{FRAME_MAX}
@@ -17,7 +16,7 @@ use Rattle.mac_wire.specs.declared.reply.Reply.TheVariants as reply
 use Rattle.mac_wire.specs.declared.version.Version.{Version}
 use Rattle.mac_wire.specs.declared.version.Version.TheVariants as version
 use Rattle.mac_wire.specs.Frame.{frame, framed, followed_by, frames_of}
-use Rattle.mac_wire.specs.Reply.{IsReply, reply_payload, place_bytes, placed_payload, payloads_from}
+use Rattle.mac_wire.specs.Reply.{IsReply, reply_payload, placed_payload, payloads_from}
 use Rattle.mac_wire.proofs.Frames.{frames_of-nothing, frames_of-whole, IsWhole-frame}
 use Rattle.mac_wire.proofs.Wholes.{Fits}
 

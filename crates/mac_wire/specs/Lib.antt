@@ -7,6 +7,8 @@ pub mod Request
 pub mod KeyName
 pub mod Reply
 pub mod Whole
+pub mod Cut
+pub mod Session
 pub mod Device
 pub mod Memory
 -- functions that a law ties to these, and what serves proofs

@@ -75,6 +75,7 @@ pub struct FrameReader {
 
 impl FrameReader {
     ghost use Rattle.mac_wire.specs.FrameReader.{HasRead, HasEnded, IsBroken, version_of};
+    ghost use Rattle.mac_wire.specs.Session.{HasCome};
     ghost use Rattle.mac_wire.specs.Stream.{arrivals_of, in_version, version_or_one, version_told};
 
     /// A reader that was fed nothing. It keeps the allocator.
@@ -85,6 +86,45 @@ impl FrameReader {
             alloc,
             version: None,
             stage: Stage::Open(Partial::new(alloc)),
+        }
+    }
+
+    /// A reader that goes on in the middle of a stream of this version, as if it had been fed all
+    /// that came. It is fed what is carried, and gives the arrivals that are whole in there.
+    pub fn resumed(
+        alloc: Global,
+        version: Option<Version>,
+        carried: &[u8],
+    ) -> Result<(FrameReader, Vec<Arrival>), NoMemory>
+        ensures arrivals { (stream : List ℕ) (arrived : List Arrival)
+            → HasCome version stream arrived carried.now
+            → IfOk result (λ r. HasRead r.0 stream (arrived ++ r.1.items)) }
+        ensures version { IfOk result (λ r. version_of r.0 ≡ version) }
+    {
+        let (arrivals, stage) = cut(alloc, Partial::new(alloc), carried)?;
+        let reader = FrameReader {
+            alloc,
+            version,
+            stage,
+        };
+        Ok((reader, arrivals))
+    }
+
+    /// The bytes of the frame that is unfinished, with which another reader can go on; none of a
+    /// reader that has ended.
+    pub fn into_carried(self) -> Result<Vec<u8>, NoMemory>
+        ensures { (stream : List ℕ) (handed : List Arrival)
+            → HasRead self stream handed → ¬ HasEnded self
+            → IfOk result (λ carried. HasCome (version_of self) stream handed carried.items) }
+    {
+        let FrameReader {
+            alloc,
+            version: _,
+            stage,
+        } = self;
+        match stage {
+            Stage::Open(partial) => partial.into_bytes(alloc),
+            Stage::Oversize | Stage::Broken => Ok(Vec::new(alloc)),
         }
     }
 
@@ -158,7 +198,7 @@ impl FrameReader {
 }
 
 /// The stream's version once a piece has come, and what of the piece is frames.
-fn opened(version: Option<Version>, piece: &[u8]) -> (Option<Version>, &[u8])
+pub fn opened(version: Option<Version>, piece: &[u8]) -> (Option<Version>, &[u8])
     ensures version { result.0 ≡ told_after version piece.now }
     ensures frames { result.1.now ≡ frames_after version piece.now }
 {

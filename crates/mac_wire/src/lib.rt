@@ -8,6 +8,7 @@
 
 mod arrival;
 mod bytes;
+mod cut;
 mod device;
 mod field_list;
 mod fields;
@@ -21,15 +22,18 @@ mod reader_source;
 mod reply;
 mod request;
 mod send;
+mod session;
+mod unsent;
 mod version;
 mod whole;
 mod writer_sink;
 
 pub use arrival::{Arrival, Ending, FRAME_MAX};
 pub use bytes::Bytes;
+pub use cut::{Cut, next_frame};
 pub use device::{DeviceFault, Sink, Source};
 pub use field_list::FieldList;
-pub use frame::{FeedFault, FrameReader};
+pub use frame::{FeedFault, FrameReader, opened};
 pub use mem_sink::MemSink;
 pub use mem_source::MemSource;
 pub use parse::{key_name, parse_request};
@@ -37,6 +41,8 @@ pub use reader_source::ReaderSource;
 pub use reply::{REPLY_TOKEN_MAX, Refusal, Reply, append_reply, reply_bytes};
 pub use request::{FACTS_MAX, Request, TokenForm};
 pub use send::send_all;
+pub use session::Session;
+pub use unsent::Unsent;
 pub use version::{HELLO, Version};
 pub use whole::whole_frames;
 pub use writer_sink::WriterSink;

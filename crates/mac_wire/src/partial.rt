@@ -64,6 +64,20 @@ impl Partial {
         }
     }
 
+    /// The bytes that have come.
+    pub fn into_bytes(self, alloc: Global) -> Result<Vec<u8>, NoMemory>
+        ensures { IfOk result (λ bytes. bytes.items ≡ self) }
+    {
+        let Partial {
+            length,
+            have,
+            payload,
+        } = self;
+        let mut bytes = Vec::from_slice(alloc, &length[..have])?;
+        bytes.extend_from_slice(payload.as_slice())?;
+        Ok(bytes)
+    }
+
     /// Takes bytes from the front of a piece, at least one, and gives the rest of the piece.
     pub fn advance(self, piece: &[u8]) -> Result<(Step, &[u8]), NoMemory>
         requires { 0 < length piece.now }

@@ -9,7 +9,7 @@ use mac_decide::Macaroons;
 use mac_keys::KeyTable;
 use mac_pool::{Desk, Gate, NoGate, Pool, Tally};
 use mac_serve::{ServeFault, Served, serve};
-use mac_wire::{MemSink, MemSource, Sink, Source};
+use mac_wire::{MemSink, MemSource, Session, Sink, Source};
 use std::alloc::Global;
 use std::sync::{Arc, Wait};
 use std::thread::Threads;
@@ -107,7 +107,7 @@ fn served<R: Threads + Wait + Sync, In: Source, Out: Sink>(
 ) -> Told
     ensures { result.desk.putter.queue ≡ desk.putter.queue }
 {
-    match serve(rt, alloc, source, sink, keys, desk) {
+    match serve(rt, alloc, source, sink, keys, desk, Session::new(alloc)) {
         Ok(served) => told_by(None, served),
         Err((fault, served)) => told_by(Some(fault), served),
     }
@@ -122,6 +122,7 @@ fn told_by(fault: Option<ServeFault>, served: Served) -> Told
         written,
         ending,
         desk,
+        session: _,
     } = served;
     let report = Report {
         fault,

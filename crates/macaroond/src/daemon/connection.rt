@@ -6,7 +6,7 @@ use mac_decide::Macaroons;
 use mac_keys::KeyTable;
 use mac_pool::Desk;
 use mac_serve::{ServeFault, serve};
-use mac_wire::{DeviceFault, Ending, NoMemory, ReaderSource, Sink, WriterSink};
+use mac_wire::{DeviceFault, Ending, NoMemory, ReaderSource, Session, Sink, WriterSink};
 use std::alloc::Global;
 use std::io::Read;
 use std::net::Shutdown;
@@ -122,7 +122,8 @@ fn serve_stream<R: Threads + Wait + Sync>(
 {
     let mut source = ReaderSource::new(stream);
     let mut sink = Outgoing::new(stream);
-    match serve(rt, alloc, &mut source, &mut sink, keys, desk) {
+    let session = Session::new(alloc);
+    match serve(rt, alloc, &mut source, &mut sink, keys, desk, session) {
         Ok(served) => {
             if served.ending == Ending::Oversize {
                 drop_rest(stream);

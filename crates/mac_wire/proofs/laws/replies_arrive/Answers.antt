@@ -1,4 +1,3 @@
-use Rattle.std.specs.List.{AllByRecursion}
 use Rattle.std.proofs.lemmas.List.Elements.{recursion_from_All}
 use Rattle.mac_wire.specs.Reply.{IsReply, reply_payloads}
 use Rattle.mac_wire.proofs.ReplyText.{frames_of-framed, payloads_fit}

@@ -1,18 +1,15 @@
 use Rattle.std.proofs.Common.{◌≡◌, ℕ, List}
-use Rattle.mac_ring.specs.Ring.{IsSameIntake}
 use Rattle.mac_wire.specs.declared.version.Version.{Version}
 use Rattle.mac_serve.specs.declared.inbound.Inbound.{Inbound}
-use Rattle.mac_serve.specs.Incoming.{HasRoom}
-use Rattle.mac_serve.specs.Receiving.{GoesOn}
+use Rattle.mac_serve.specs.Receiving.{IsSameHalf, Past, GoesOn}
 use Rattle.mac_serve.proofs.inbound.Inbound.take_all.Given as goal
 
 -- the stream goes on: no failure was counted, and the jobs of what came before these arrivals were taken in
 abbrev pub invariant-loop : goal.invariant-loop
 invariant-loop g l =
     (goal.iterator-loop g).can_next l.iterator' × (goal.iterator-loop g).is_finite l.iterator'
-    × IsSameIntake l.initial.self.ring l.self.ring
+    × IsSameHalf l.initial.self l.self
     × (g.In.Source.faults l.source ≡ g.In.Source.faults l.initial.source)
-    × HasRoom l.incoming
-    × ((version : Version) (given : List ℕ) (start : Inbound)
-    → GoesOn g.In.Source.tells l.keys version given (g.In.Source.taken l.initial.source) l.initial.incoming.reader l.initial.arrivals.items start l.initial.self
-    → GoesOn g.In.Source.tells l.keys version given (g.In.Source.taken l.source) l.incoming.reader l.arrivals.items start l.self)
+    × ((version : Version) (past : Past) (given : List ℕ) (start : Inbound)
+    → GoesOn g.In.Source.tells l.keys version past given (g.In.Source.taken l.initial.source) l.initial.incoming.reader l.initial.arrivals.items start l.initial.self
+    → GoesOn g.In.Source.tells l.keys version past given (g.In.Source.taken l.source) l.incoming.reader l.arrivals.items start l.self)

@@ -1,6 +1,5 @@
 use Rattle.std.proofs.Common.{◌≡◌, ◌++◌, length}
 use Rattle.std.specs.Vec.Iter.{into_iter_items, into_iter_len}
-use Rattle.mac_ring.specs.Ring.{IsSameIntake}
 use Rattle.mac_serve.specs.Receiving.{TakesIn, jobs_of}
 use Rattle.mac_serve.proofs.inbound.Inbound.take_arrivals.Given as goal
 
@@ -9,6 +8,5 @@ abbrev pub invariant-loop-arrival : goal.invariant-loop-arrival
 invariant-loop-arrival g l = record {
   all : l.yielded ++ into_iter_items l.arrival-iterator ≡ into_iter_items l.initial.arrival-iterator;
   left : into_iter_len l.arrival-iterator ≡ length (into_iter_items l.arrival-iterator);
-  ring : IsSameIntake l.initial.self.ring l.self.ring;
   took : TakesIn (jobs_of l.keys l.yielded) l.initial.self l.self;
 }

@@ -1,20 +1,22 @@
-use Rattle.std.proofs.Common.{◌∙◌, ◌++◌, List, ℕ, ap, sym}
+use Rattle.mac_serve.proofs.SendingLemmas.{then, done, all-failed}
 use Rattle.mac_serve.proofs.outbound.Outbound.turn.Goals as goal
 
-pub returns-in_err-has_settled-clause-written : goal.returns-in_err-has_settled-clause-written
-returns-in_err-has_settled-clause-written g c tells before head s was =
-    was ∙ ap (λ (l : List ℕ). head ++ l) (sym (c.look-has_looked.ensures.stands before s).1) ∙ ap (λ (l : List ℕ). head ++ l) (sym c.settle_all.ensures.out)
+pub returns-in_err-has_settled : goal.returns-in_err-has_settled
+returns-in_err-has_settled g c =
+    let looked = c.look-has_looked.ensures g.W.Sink.tells (g.W.Sink.written c.args.sink.now) (g.W.Sink.faults c.args.sink.now) in
+    let settled = rw c.in_err-has_settled.was at (c.settle_all.ensures g.W.Sink.tells (g.W.Sink.written c.args.sink.now) (g.W.Sink.faults c.args.sink.now)) in
+    all-failed c.from_residual.result c.from_residual.ensures.1 (then looked settled)
 
-pub returns-in_err-release_all-clause-written : goal.returns-in_err-release_all-clause-written
-returns-in_err-release_all-clause-written g c tells before head s was =
-    let looked = c.look-has_looked.ensures.stands before s in
-    let settled = rw c.in_ok-has_settled.was at (c.settle_all.ensures.sends before looked.0) in
-    c.release_all.ensures.written tells before head settled
-    (was ∙ ap (λ (l : List ℕ). head ++ l) (sym looked.1) ∙ ap (λ (l : List ℕ). head ++ l) (sym c.settle_all.ensures.out))
+pub returns-in_err-release_all : goal.returns-in_err-release_all
+returns-in_err-release_all g c =
+    let looked = c.look-has_looked.ensures g.W.Sink.tells (g.W.Sink.written c.args.sink.now) (g.W.Sink.faults c.args.sink.now) in
+    let settled = rw c.in_ok-has_settled.was at (c.settle_all.ensures g.W.Sink.tells (g.W.Sink.written c.args.sink.now) (g.W.Sink.faults c.args.sink.now)) in
+    let released = rw c.in_err-release_all.was at c.release_all.ensures in
+    all-failed c.from_residual-in_err-release_all.result c.from_residual-in_err-release_all.ensures.1 (then (then looked settled) released.steps)
 
-pub returns-clause-written : goal.returns-clause-written
-returns-clause-written g c tells before head s was =
-    let looked = c.look-has_looked.ensures.stands before s in
-    let settled = rw c.in_ok-has_settled.was at (c.settle_all.ensures.sends before looked.0) in
-    c.release_all.ensures.written tells before head settled
-    (was ∙ ap (λ (l : List ℕ). head ++ l) (sym looked.1) ∙ ap (λ (l : List ℕ). head ++ l) (sym c.settle_all.ensures.out))
+pub returns : goal.returns
+returns g c =
+    let looked = c.look-has_looked.ensures g.W.Sink.tells (g.W.Sink.written c.args.sink.now) (g.W.Sink.faults c.args.sink.now) in
+    let settled = rw c.in_ok-has_settled.was at (c.settle_all.ensures g.W.Sink.tells (g.W.Sink.written c.args.sink.now) (g.W.Sink.faults c.args.sink.now)) in
+    let released = rw c.in_ok-release_all.was at c.release_all.ensures in
+    record { steps = done (then (then looked settled) released.steps); sent = released.sent }

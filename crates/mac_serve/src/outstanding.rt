@@ -13,7 +13,7 @@ const PLACES_LEFT: u64 = 64;
 /// The lengths of the payloads whose replies have not been sent. They bound what a connection
 /// holds: no contract speaks of them.
 #[derive(Drop)]
-pub struct Unsent {
+pub struct Outstanding {
     /// The length of the payload at each place, by the place's remainder.
     lengths: [u32; 256],
     /// The first place whose reply has not been sent, as far as it is known.
@@ -24,10 +24,10 @@ pub struct Unsent {
     bytes: usize,
 }
 
-impl Unsent {
+impl Outstanding {
     /// There is no job yet.
-    pub fn new() -> Unsent {
-        Unsent {
+    pub fn new() -> Outstanding {
+        Outstanding {
             lengths: [0; 256],
             first: 0,
             next: 0,

@@ -1,0 +1,215 @@
+-- What each step of a round does to a session.
+use Rattle.std.proofs.Common.{◌≡◌, ℕ, ◌+◌, suc, List, [], ◌∷◌, ◌++◌, length, map, take, drop, refl, sym, ap, subst, ◌∙◌, append_assoc, arith}
+use Rattle.std.specs.Prelude.{Option, Some, None, Bool, IsTrue}
+use Rattle.std.proofs.lemmas.List.{append-nil, length-append, map-append, length-map, take-append-drop}
+use Rattle.std.proofs.lemmas.List.Concat.{flat_map-append}
+use Rattle.mac_keys.specs.Table.{Table}
+use Rattle.mac_wire.specs.declared.arrival.Arrival.{Arrival}
+use Rattle.mac_wire.specs.declared.arrival.Arrival.TheVariants as arrival
+use Rattle.mac_wire.specs.declared.reply.Reply.{Reply}
+use Rattle.mac_wire.specs.declared.session.Session.{Session}
+use Rattle.mac_wire.specs.declared.version.Version.{Version}
+use Rattle.mac_wire.specs.Frame.{frame, framed, frames_of}
+use Rattle.mac_wire.specs.Reply.{reply_text, reply_frame, payloads_from, placed_payload}
+use Rattle.mac_wire.specs.Session.{HasCome, Stands}
+use Rattle.mac_wire.specs.Stream.{Arrivals, arrivals_of, version_told, version_or_one}
+use Rattle.mac_wire.proofs.ReplyText.{payloads-append}
+use Rattle.mac_wire.proofs.Opening.{nothing_arrived}
+use Rattle.mac_wire.proofs.Sessions.{first_nil}
+use Rattle.mac_decide.specs.declared.job.Job.{Job}
+use Rattle.mac_decide.specs.Prepared.{reply_to_job}
+use Rattle.mac_decide.specs.World.{job_under}
+use Rattle.mac_plain.specs.Client.{HasFallen, Passed, StandsSo, answer_under, arrivals, jobs_of, replies}
+use Rattle.mac_plain.specs.Goes.{Goes, Owes, OwesSo, after_reply, asked}
+use Rattle.mac_plain.specs.declared.client.Client.{Client}
+use Rattle.mac_plain.specs.declared.course.Course.{Course}
+use Rattle.mac_plain.specs.declared.course.Course.TheVariants as course
+use Rattle.mac_plain.specs.declared.course.Fall.{Fall}
+
+-- ---- one more reply
+
+text-snoc : (v : Version) (rs : List Reply) (r : Reply) → reply_text v (rs ++ r ∷ []) ≡ reply_text v rs ++ reply_frame v (length rs) r
+unfolding payloads_from
+text-snoc v rs r =
+    ap framed (payloads-append v 0 rs (r ∷ []))
+    ∙ flat_map-append frame (payloads_from v 0 rs) (placed_payload v (0 + length rs) r ∷ [])
+    ∙ ap (λ (l : List ℕ). framed (payloads_from v 0 rs) ++ l) (append-nil (frame (placed_payload v (0 + length rs) r)))
+    ∙ ap (λ (n : ℕ). framed (payloads_from v 0 rs) ++ reply_frame v n r) (omega arith)
+
+-- the next payload that is owed has its reply
+pub owes_reply : (session : Session) (read sent : List ℕ) (done : List Job) (table : Table) (payload : List ℕ) (owed : List (List ℕ)) (reply : Reply)
+    → reply ≡ answer_under table payload → Owes session read sent done (payload ∷ owed)
+    → Owes (after_reply session reply) read sent (done ++ job_under table (arrival.Payload payload) ∷ []) owed
+owes_reply session read sent done table payload owed reply is o =
+    let job : Job = job_under table (arrival.Payload payload) in
+    let v = version_or_one session.version in
+    record {
+      came = subst (λ (l : List Arrival). HasCome session.version read l session.carried.items)
+          (sym (append_assoc (arrivals done) (arrival.Payload payload ∷ []) (asked owed)) ∙ ap (λ (l : List Arrival). l ++ asked owed) (sym (map-append (λ (j : Job). j.arrival) done (job ∷ [])))) o.came;
+      went = sym (append_assoc sent session.unsent (reply_frame v session.answered reply))
+          ∙ ap (λ (l : List ℕ). l ++ reply_frame v session.answered reply) o.went
+          ∙ ap (λ (n : ℕ). reply_text v (replies done) ++ reply_frame v n reply) (o.counted ∙ sym (length-map done reply_to_job))
+          ∙ ap (λ (r : Reply). reply_text v (replies done) ++ reply_frame v (length (replies done)) r) is
+          ∙ sym (text-snoc v (replies done) (reply_to_job job))
+          ∙ ap (reply_text v) (sym (map-append reply_to_job done (job ∷ [])));
+      counted = ap (λ (n : ℕ). n + 1) o.counted ∙ sym (length-append done (job ∷ []));
+    }
+
+-- ---- a fall
+
+-- what is owed is lost, whatever was to be answered
+pub owes_falls : (session : Session) (read sent : List ℕ) (done more : List Job) (owed : List (List ℕ)) → Owes session read sent done owed → HasFallen session read sent (done ++ more)
+owes_falls session read sent done more owed o = falls session.version refl o.came where
+  falls : (v : Option Version) → session.version ≡ v → HasCome v read (arrivals done ++ asked owed) session.carried.items → HasFallen session read sent (done ++ more)
+  falls None is (none, nothing, empty) = record {
+    told = is ∙ ap version_told (sym none);
+    done = done;
+    missed = more;
+    are = refl;
+    lost = [];
+    came = ap (λ (l : List ℕ). (arrivals_of l).arrived) none ∙ nothing_arrived ∙ sym (first_nil (arrivals done) (asked owed) nothing) ∙ sym (append-nil (arrivals done));
+    went = o.went;
+  }
+  falls (Some v) is (told, are) = record {
+    told = is ∙ sym told;
+    done = done;
+    missed = more;
+    are = refl;
+    lost = asked owed ++ (frames_of (session.carried.items ++ [])).arrived;
+    came = ap (λ (l : List ℕ). (arrivals_of l).arrived) (sym (append-nil read)) ∙ ap (λ (a : Arrivals). a.arrived) (are [])
+        ∙ append_assoc (arrivals done) (asked owed) (frames_of (session.carried.items ++ [])).arrived;
+    went = o.went;
+  }
+
+pub fallen_more : (session : Session) (read sent : List ℕ) (jobs more : List Job) → HasFallen session read sent jobs → HasFallen session read sent (jobs ++ more)
+fallen_more session read sent jobs more f = record {
+  told = f.told;
+  done = f.done;
+  missed = f.missed ++ more;
+  are = ap (λ (l : List Job). l ++ more) f.are ∙ append_assoc f.done f.missed more;
+  lost = f.lost;
+  came = f.came;
+  went = f.went;
+}
+
+-- ---- bytes that went out
+
+pub owes_flush : (session : Session) (n : ℕ) (read sent : List ℕ) (done : List Job) (owed : List (List ℕ)) → Owes session read sent done owed
+    → Owes (record session { unsent = drop n session.unsent }) read (sent ++ take n session.unsent) done owed
+owes_flush session n read sent done owed o = record {
+  came = o.came;
+  went = append_assoc sent (take n session.unsent) (drop n session.unsent) ∙ ap (λ (l : List ℕ). sent ++ l) (take-append-drop n session.unsent) ∙ o.went;
+  counted = o.counted;
+}
+
+pub fallen_flush : (session : Session) (n : ℕ) (read sent : List ℕ) (jobs : List Job) → HasFallen session read sent jobs
+    → HasFallen (record session { unsent = drop n session.unsent }) read (sent ++ take n session.unsent) jobs
+fallen_flush session n read sent jobs f = record {
+  told = f.told;
+  done = f.done;
+  missed = f.missed;
+  are = f.are;
+  lost = f.lost;
+  came = f.came;
+  went = append_assoc sent (take n session.unsent) (drop n session.unsent) ∙ ap (λ (l : List ℕ). sent ++ l) (take-append-drop n session.unsent) ∙ f.went;
+}
+
+pub flush_so : (c : Course) (session : Session) (n : ℕ) (read sent : List ℕ) (done : List Job) (owed : List (List ℕ)) → OwesSo c session read sent done owed
+    → OwesSo c (record session { unsent = drop n session.unsent }) read (sent ++ take n session.unsent) done owed
+flush_so course.Open session n read sent done owed o = owes_flush session n read sent done owed o
+flush_so course.Wide session n read sent done owed o = owes_flush session n read sent done owed o
+flush_so (course.Ended why) session n read sent done owed o = owes_flush session n read sent done owed o
+flush_so (course.Fallen why) session n read sent done owed o = fallen_flush session n read sent done o
+
+-- ---- by how it goes on
+
+abbrev pub IsUp : Course → Type 0
+IsUp c = (why : Fall) → c ≡ course.Fallen why → ⊥
+
+pub so_owes : (c : Course) → IsUp c → (session : Session) (read sent : List ℕ) (done : List Job) (owed : List (List ℕ)) → OwesSo c session read sent done owed → Owes session read sent done owed
+so_owes course.Open up session read sent done owed o = o
+so_owes course.Wide up session read sent done owed o = o
+so_owes (course.Ended why) up session read sent done owed o = o
+so_owes (course.Fallen why) up session read sent done owed o = absurd (up why refl)
+
+pub owes_so : (c : Course) → IsUp c → (session : Session) (read sent : List ℕ) (done : List Job) (owed : List (List ℕ)) → Owes session read sent done owed → OwesSo c session read sent done owed
+owes_so course.Open up session read sent done owed o = o
+owes_so course.Wide up session read sent done owed o = o
+owes_so (course.Ended why) up session read sent done owed o = o
+owes_so (course.Fallen why) up session read sent done owed o = absurd (up why refl)
+
+-- a session stands where nothing is owed
+pub stands_owes : (session : Session) (read sent : List ℕ) (done : List Job) → Stands session read sent (arrivals done) (replies done) → Owes session read sent done []
+stands_owes session read sent done s = record {
+  came = subst (λ (l : List Arrival). HasCome session.version read l session.carried.items) (sym (append-nil (arrivals done))) s.came;
+  went = s.went;
+  counted = s.counted ∙ length-map done reply_to_job;
+}
+
+pub owes_stands : (session : Session) (read sent : List ℕ) (done : List Job) → Owes session read sent done [] → Stands session read sent (arrivals done) (replies done)
+owes_stands session read sent done o = record {
+  came = subst (λ (l : List Arrival). HasCome session.version read l session.carried.items) (append-nil (arrivals done)) o.came;
+  went = o.went;
+  each = length-map done reply_to_job ∙ sym (length-map done (λ (j : Job). j.arrival));
+  counted = o.counted ∙ sym (length-map done reply_to_job);
+}
+
+pub begins_so : (c : Course) (session : Session) (read sent : List ℕ) (done : List Job) → StandsSo c session read sent done → OwesSo c session read sent done []
+begins_so course.Open session read sent done s = stands_owes session read sent done s
+begins_so course.Wide session read sent done s = stands_owes session read sent done s
+begins_so (course.Ended why) session read sent done s = stands_owes session read sent done s
+begins_so (course.Fallen why) session read sent done s = s
+
+pub ends_so : (c : Course) (session : Session) (read sent : List ℕ) (done : List Job) → OwesSo c session read sent done [] → StandsSo c session read sent done
+ends_so course.Open session read sent done s = owes_stands session read sent done s
+ends_so course.Wide session read sent done s = owes_stands session read sent done s
+ends_so (course.Ended why) session read sent done s = owes_stands session read sent done s
+ends_so (course.Fallen why) session read sent done s = s
+
+-- ---- steps of one client, of which nothing came and nothing went
+
+pub still : (tells : Bool) (before after : List ℕ) → after ≡ before → Passed tells before after []
+still tells before after same told = same ∙ sym (append-nil before)
+
+pub steps_still : (c c' : Course) (s s' : Session) (read sent : List ℕ) (done more : List Job) (answered owed : List (List ℕ))
+    → (OwesSo c s read sent done (answered ++ owed) → OwesSo c' s' read sent (done ++ more) owed)
+    → OwesSo c s read sent done (answered ++ owed) → OwesSo c' s' (read ++ []) (sent ++ []) (done ++ more) (owed ++ [])
+steps_still c c' s s' read sent done more answered owed step o =
+    subst (λ (l : List (List ℕ)). OwesSo c' s' (read ++ []) (sent ++ []) (done ++ more) l) (sym (append-nil owed))
+    (subst (λ (l : List ℕ). OwesSo c' s' (read ++ []) l (done ++ more) owed) (sym (append-nil sent))
+    (subst (λ (l : List ℕ). OwesSo c' s' l sent (done ++ more) owed) (sym (append-nil read)) (step o)))
+
+-- a client that falls, whatever was to be answered
+pub falls_so : (c : Course) (why : Fall) (s : Session) (read sent : List ℕ) (done more : List Job) (owed rest : List (List ℕ))
+    → OwesSo c s read sent done owed → OwesSo (course.Fallen why) s read sent (done ++ more) rest
+falls_so course.Open why s read sent done more owed rest o = owes_falls s read sent done more owed o
+falls_so course.Wide why s read sent done more owed rest o = owes_falls s read sent done more owed o
+falls_so (course.Ended w) why s read sent done more owed rest o = owes_falls s read sent done more owed o
+falls_so (course.Fallen w) why s read sent done more owed rest o = fallen_more s read sent done more o
+
+-- a step of which nothing came and nothing went
+pub goes_still : {P : Type 0} (tells : Bool) (taken written : P → List ℕ) (table : Table) (before after : Client P) (answered : List (List ℕ)) → after.port ≡ before.port
+    → ((read sent : List ℕ) (done : List Job) (owed : List (List ℕ)) → OwesSo before.course before.session read sent done (answered ++ owed)
+    → OwesSo after.course after.session read sent (done ++ jobs_of table answered) owed)
+    → Goes tells taken written table before after answered []
+goes_still tells taken written table before after answered same step = record {
+  came = [];
+  gone = [];
+  took = still tells (taken before.port) (taken after.port) (ap taken same);
+  wrote = still tells (written before.port) (written after.port) (ap written same);
+  goes_on = λ read sent done owed. steps_still before.course after.course before.session after.session read sent done (jobs_of table answered) answered owed (step read sent done owed);
+}
+
+-- nothing is answered of nothing
+pub none_done : (c : Course) (s : Session) (read sent : List ℕ) (done : List Job) (owed : List (List ℕ)) → OwesSo c s read sent done owed → OwesSo c s read sent (done ++ []) owed
+none_done c s read sent done owed o = subst (λ (l : List Job). OwesSo c s read sent l owed) (sym (append-nil done)) o
+
+-- bytes that went out
+pub flushes : (c : Course) (s : Session) (n : ℕ) (read sent : List ℕ) (done : List Job) (owed : List (List ℕ)) → OwesSo c s read sent done owed
+    → OwesSo c (record s { unsent = drop n s.unsent }) (read ++ []) (sent ++ take n s.unsent) (done ++ []) (owed ++ [])
+flushes c s n read sent done owed o =
+    let s' : Session = record s { unsent = drop n s.unsent } in
+    let gone : List ℕ = sent ++ take n s.unsent in
+    subst (λ (l : List (List ℕ)). OwesSo c s' (read ++ []) gone (done ++ []) l) (sym (append-nil owed))
+    (subst (λ (l : List Job). OwesSo c s' (read ++ []) gone l owed) (sym (append-nil done))
+    (subst (λ (l : List ℕ). OwesSo c s' l gone done owed) (sym (append-nil read)) (flush_so c s n read sent done owed o)))

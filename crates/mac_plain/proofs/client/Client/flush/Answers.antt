@@ -1,0 +1,24 @@
+use Rattle.std.proofs.Common.{◌≡◌, ◌++◌, ℕ, List, [], ◌∷◌, refl, sym, ap, subst, ◌∙◌, take, drop}
+use Rattle.mac_wire.specs.declared.session.Session.{Session}
+use Rattle.mac_plain.specs.Goes.{OwesSo}
+use Rattle.mac_plain.proofs.Steps.{flushes, still, goes_still, none_done}
+use Rattle.mac_plain.proofs.client.Client.flush.Goals as goal
+
+pub returns-in-Bytes : goal.returns-in-Bytes
+returns-in-Bytes g c table =
+    let me = c.args.self.now in
+    let n = c.in-Bytes.count in
+    record {
+      came = [];
+      gone = take n me.session.unsent;
+      took = λ told. still g.P.Port.tells (g.P.Port.taken me.port) (g.P.Port.taken c.write.new.self) (c.in-Bytes.ensures.taken told) told;
+      wrote = λ told. c.in-Bytes.ensures.written told ∙ ap (λ (l : List ℕ). g.P.Port.written me.port ++ take n l) c.as_slice.ensures;
+      goes_on = λ read sent done owed o.
+          subst (λ (u : List ℕ). OwesSo me.course (record me.session { unsent = u }) (read ++ []) (sent ++ take n me.session.unsent) (done ++ []) (owed ++ [])) (sym c.remove.ensures)
+          (flushes me.course me.session n read sent done owed o);
+    }
+
+pub returns-then-not-may_write : goal.returns-then-not-may_write
+returns-then-not-may_write g c table =
+    let me = c.args.self.now in
+    goes_still g.P.Port.tells g.P.Port.taken g.P.Port.written table me me [] refl (λ read sent done owed o. none_done me.course me.session read sent done owed o)

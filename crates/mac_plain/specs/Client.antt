@@ -1,0 +1,78 @@
+-- A plain connection: how it stands, and what came and went meanwhile.
+use Rattle.std.specs.Prelude.{◌≡◌, ℕ, Bool, IsTrue, List, [], ◌++◌, length, map}
+use Rattle.mac_keys.specs.Table.{Table}
+use Rattle.mac_wire.specs.declared.arrival.Arrival.{Arrival}
+use Rattle.mac_wire.specs.declared.arrival.Arrival.TheVariants as arrival
+use Rattle.mac_wire.specs.declared.reply.Reply.{Reply}
+use Rattle.mac_wire.specs.declared.session.Session.{Session}
+use Rattle.mac_wire.specs.Stream.{arrivals_of, version_told, version_or_one}
+use Rattle.mac_wire.specs.Reply.{reply_text}
+use Rattle.mac_wire.specs.Session.{HasCome, Stands}
+use Rattle.mac_decide.specs.declared.job.Job.{Job}
+use Rattle.mac_decide.specs.Prepared.{reply_to_job}
+use Rattle.mac_decide.specs.World.{job_under}
+use Rattle.mac_plain.specs.declared.client.Client.{Client}
+use Rattle.mac_plain.specs.declared.course.Course.{Course}
+use Rattle.mac_plain.specs.declared.course.Course.TheVariants as course
+
+-- the arrivals of jobs, and the replies to them
+abbrev pub arrivals : List Job → List Arrival
+arrivals jobs = map (λ (job : Job). job.arrival) jobs
+
+abbrev pub replies : List Job → List Reply
+replies jobs = map reply_to_job jobs
+
+-- the reply to a payload under a table
+abbrev pub answer_under : Table → List ℕ → Reply
+answer_under table payload = reply_to_job (job_under table (arrival.Payload payload))
+
+-- the jobs of payloads under a table
+abbrev pub jobs_of : Table → List (List ℕ) → List Job
+jobs_of table payloads = map (λ p. job_under table (arrival.Payload p)) payloads
+
+-- Of these jobs the first ones are answered, the others and what else was read are lost; what was
+-- written and what is unsent are together the frames of their replies.
+pub record HasFallen (session : Session) (read written : List ℕ) (jobs : List Job) : Type 0 where
+  pub told : session.version ≡ version_told read
+  pub done : List Job
+  pub missed : List Job
+  pub are : jobs ≡ done ++ missed
+  pub lost : List Arrival
+  pub came : (arrivals_of read).arrived ≡ arrivals done ++ lost
+  pub went : written ++ session.unsent
+      ≡ reply_text (version_or_one session.version) (replies done)
+
+-- how the session of a client stands that goes on so
+abbrev pub StandsSo : Course → Session → (read written : List ℕ) → List Job → Type 0
+StandsSo course.Open session read written done =
+    Stands session read written (arrivals done) (replies done)
+StandsSo course.Wide session read written done =
+    Stands session read written (arrivals done) (replies done)
+StandsSo (course.Ended why) session read written done =
+    Stands session read written (arrivals done) (replies done)
+StandsSo (course.Fallen why) session read written done = HasFallen session read written done
+
+-- so much was read and written on a client, and these are the jobs that it has answered
+abbrev pub HasAnswered : {P : Type 0} → Client P → (read written : List ℕ) → List Job → Type 0
+HasAnswered client read written done = StandsSo client.course client.session read written done
+
+-- a device passed these bytes, where it tells what it passes
+abbrev pub Passed : Bool → List ℕ → List ℕ → List ℕ → Type 0
+Passed tells before after bytes = IsTrue tells → after ≡ before ++ bytes
+
+-- From the one to the other, these jobs more were answered: whatever was read and written before,
+-- with what came and went meanwhile the jobs are those before and these.
+pub record Answers {P : Type 0} (tells : Bool) (taken written : P → List ℕ)
+    (before after : Client P) (jobs : List Job) : Type 0 where
+  pub came : List ℕ
+  pub gone : List ℕ
+  pub took : Passed tells (taken before.port) (taken after.port) came
+  pub wrote : Passed tells (written before.port) (written after.port) gone
+  pub goes_on : (read sent : List ℕ) (done : List Job) → HasAnswered before read sent done
+      → HasAnswered after (read ++ came) (sent ++ gone) (done ++ jobs)
+
+-- from the one to the other, some requests were answered, each under this table
+pub record Serves {P : Type 0} (tells : Bool) (taken written : P → List ℕ) (table : Table)
+    (before after : Client P) : Type 0 where
+  pub payloads : List (List ℕ)
+  pub answers : Answers tells taken written before after (jobs_of table payloads)

@@ -1,0 +1,58 @@
+-- The requests of a round, where they lie in what was read.
+use Rattle.std.specs.Prelude.{◌≡◌, ℕ, ◌≤◌, Bool, List, [], ◌++◌, All, Some, Option, ◌==◌, length, map, slice_get, slice_range}
+use Rattle.std.specs.List.{filter}
+use Rattle.mac_keys.specs.Table.{Table}
+use Rattle.mac_wire.specs.declared.reply.Reply.{Reply}
+use Rattle.mac_wire.specs.Reply.{IsReply}
+use Rattle.mac_decide.specs.declared.job.Job.{Job}
+use Rattle.mac_decide.specs.Prepared.{reply_to_job}
+use Rattle.mac_plain.specs.Client.{jobs_of}
+use Rattle.mac_plain.specs.Goes.{Goes}
+use Rattle.mac_plain.specs.declared.client.Client.{Client}
+use Rattle.mac_plain.specs.declared.request.Request.{Request}
+
+-- the payload of a request
+abbrev pub payload_at : List ℕ → Request → List ℕ
+payload_at arena request = slice_range arena request.start request.end
+
+-- the payloads of one owner's requests
+abbrev pub asked_of : ℕ → List ℕ → List Request → List (List ℕ)
+asked_of owner arena requests = map (payload_at arena) (filter (λ r. r.owner == owner) requests)
+
+-- the jobs of requests under a table
+abbrev pub jobs_at : Table → List ℕ → List Request → List Job
+jobs_at table arena requests = jobs_of table (map (payload_at arena) requests)
+
+-- each reply that isn't missing is that to the job at its place
+abbrev pub AreReplies : List Job → List (Option Reply) → Type 0
+AreReplies jobs replies =
+    (i : ℕ) (reply : Reply) → slice_get replies i ≡ Some (Some reply)
+    → slice_get (map reply_to_job jobs) i ≡ Some reply
+
+-- each reply that isn't missing can be sent
+abbrev pub AreSendable : List (Option Reply) → Type 0
+AreSendable replies =
+    (i : ℕ) (reply : Reply) → slice_get replies i ≡ Some (Some reply) → IsReply reply
+
+-- each request lies in that many bytes
+abbrev pub AreWithin : ℕ → List Request → Type 0
+AreWithin room requests = All (λ r. (r.start ≤ r.end) × (r.end ≤ room)) requests
+
+-- each pair of elements at the same place, with that place
+abbrev pub EachPair : {A : Type 0} → (ℕ → A → A → Type 0) → List A → List A → Type 0
+EachPair {A} R olds news =
+    (k : ℕ) → (old new : A) → slice_get olds k ≡ Some old → slice_get news k ≡ Some new
+    → R k old new
+
+-- From the one to the other, a client was read: what came lies behind what lay there, and the
+-- requests of it that are whole are behind those that were there, as its own.
+pub record Receives {P : Type 0} (tells : Bool) (taken written : P → List ℕ) (table : Table)
+    (owner : ℕ) (before after : Client P) (arena arena' : List ℕ)
+    (requests requests' : List Request) : Type 0 where
+  pub piece : List ℕ
+  pub arena_is : arena' ≡ arena ++ piece
+  pub own : List Request
+  pub requests_are : requests' ≡ requests ++ own
+  pub owned : All (λ r. r.owner ≡ owner) own
+  pub within : AreWithin (length arena') requests'
+  pub goes : Goes tells taken written table before after [] (map (payload_at arena') own)

@@ -1,0 +1,200 @@
+//! A plain connection.
+
+ghost use Rattle.std.specs.Prelude.{◌≡◌, ◌⊎◌, ◌↔◌, ℕ, List, [], ◌∷◌, length, IsTrue, IfSome, OnOk, OnErr};
+ghost use Rattle.mac_keys.specs.Table.{Table};
+ghost use Rattle.mac_wire.specs.declared.arrival.Arrival.TheVariants as arrival;
+ghost use Rattle.mac_wire.specs.Reply.{IsReply};
+ghost use Rattle.mac_wire.specs.Session.{Stands};
+ghost use Rattle.mac_decide.specs.declared.job.Job.{Job};
+ghost use Rattle.mac_plain.specs.Client.{HasAnswered, answer_under, arrivals, replies};
+ghost use Rattle.mac_plain.specs.Goes.{Goes, after_reply};
+ghost use Rattle.mac_wire.specs.Stream.{version_or_one as version_so_far};
+
+use crate::course::{Course, Fall};
+use crate::port::{Port, Went};
+use mac_wire::{Cut, Reply, Session, Version, next_frame};
+
+/// How many bytes of replies a connection may have unsent and still be read: what 1 MiB of the
+/// smallest mints is answered.
+pub const UNSENT_MAX: usize = 10_485_760;
+
+/// The greatest payload that is answered in a loop, in bytes.
+pub const PLAIN_MAX: usize = 4_096;
+
+/// A connection in a loop: its device, and how it stands.
+#[derive(Drop)]
+pub struct Client<P> {
+    pub(crate) port: P,
+    pub(crate) session: Session,
+    pub(crate) course: Course,
+    /// Whether the device may have something to be read.
+    pub(crate) is_readable: bool,
+    /// Whether the device may take something.
+    is_writable: bool,
+    /// Whether a write has failed, so that nothing more goes out.
+    is_mute: bool,
+}
+
+impl<P: Port> Client<P> {
+    /// A connection that goes on from a session. Where more than the beginning of a small request is
+    /// carried it goes on wide.
+    pub fn new(port: P, session: Session) -> Client<P>
+        ensures stands { (read written : List ℕ) (done : List Job)
+            → Stands session read written (arrivals done) (replies done)
+            → HasAnswered result read written done }
+    {
+        let course = match next_frame(session.carried.as_slice(), PLAIN_MAX) {
+            Cut::Unfinished => Course::Open,
+            Cut::Whole(_, _) | Cut::TooLong(_) => Course::Wide,
+        };
+        Client {
+            port,
+            session,
+            course,
+            is_readable: true,
+            is_writable: true,
+            is_mute: false,
+        }
+    }
+
+    /// The device and the session, for who answers it from now on.
+    pub fn into_parts(self) -> (P, Session) {
+        let Client {
+            port,
+            session,
+            course: _,
+            is_readable: _,
+            is_writable: _,
+            is_mute: _,
+        } = self;
+        (port, session)
+    }
+
+    /// The device.
+    pub fn port(&self) -> &P {
+        &self.port
+    }
+
+    /// How it goes on.
+    pub fn course(&self) -> Course {
+        self.course
+    }
+
+    /// How many bytes of replies are unsent.
+    pub fn unsent(&self) -> usize {
+        self.session.unsent.len()
+    }
+
+    /// Whether a request has begun to come, and isn't whole.
+    pub fn has_begun(&self) -> bool {
+        !self.session.carried.is_empty()
+    }
+
+    /// How many requests are answered.
+    pub fn answered(&self) -> u64 {
+        self.session.answered
+    }
+
+    /// The device says that something may be read.
+    pub fn wake_reading(&mut self) {
+        self.is_readable = true;
+    }
+
+    /// The device says that something may be written.
+    pub fn wake_writing(&mut self) {
+        self.is_writable = true;
+    }
+
+    /// Whether a next round does something on it, though the device says nothing new.
+    pub fn is_busy(&self, unsent_max: usize) -> bool {
+        self.may_read(unsent_max) || self.may_write()
+    }
+
+    /// Whether nothing more is to be done on it: nothing comes, and nothing goes out.
+    pub fn is_over(&self) -> bool {
+        match self.course {
+            Course::Open | Course::Wide => self.is_mute,
+            Course::Ended(_) | Course::Fallen(_) => {
+                self.is_mute || self.session.unsent.is_empty()
+            }
+        }
+    }
+
+    /// Whether it is to be read: it is open, something may be there, and not too much is unsent.
+    pub(crate) fn may_read(&self, unsent_max: usize) -> bool {
+        self.course == Course::Open
+            && self.is_readable
+            && !self.is_mute
+            && self.session.unsent.len() < unsent_max
+    }
+
+    /// Whether something is unsent and the device may take it.
+    fn may_write(&self) -> bool {
+        !self.session.unsent.is_empty() && self.is_writable && !self.is_mute
+    }
+
+    /// Takes the reply to its next request; where there is none it has fallen, and takes no more.
+    pub(crate) fn answer(&mut self, reply: Option<&Reply>)
+        requires { IfSome reply (λ r. IsReply r.now) }
+        ensures { (table : Table) (payload : List ℕ)
+            → IfSome reply.entry (λ r. r.now ≡ answer_under table payload)
+            → Goes P.tells P.taken P.written table self.old self.new (payload ∷ []) [] }
+    {
+        if let Course::Fallen(_) = self.course {
+            return;
+        }
+        let Some(reply) = reply else {
+            self.course = Course::Fallen(Fall::NoMemory);
+            return;
+        };
+        if let Err(fall) = self.put(reply) {
+            self.course = Course::Fallen(fall);
+        }
+    }
+
+    /// Puts a reply's frame behind what is unsent.
+    fn put(&mut self, reply: &Reply) -> Result<(), Fall>
+        requires { IsReply reply.now }
+        ensures put { OnOk result (self.new
+            ≡ record self.old { session = after_reply self.old.session reply.now }) }
+        ensures unchanged { OnErr result (self.new ≡ self.old) }
+    {
+        let place = self.session.answered;
+        let Some(answered) = place.checked_add(1) else {
+            return Err(Fall::Exhausted);
+        };
+        let version = version_or_one(self.session.version);
+        if self.session.unsent.append(reply, version, place).is_err() {
+            return Err(Fall::NoMemory);
+        }
+        self.session.answered = answered;
+        Ok(())
+    }
+
+    /// Writes once, where something is unsent.
+    pub(crate) fn flush(&mut self)
+        ensures { (table : Table) → Goes P.tells P.taken P.written table self.old self.new [] [] }
+    {
+        if !self.may_write() {
+            return;
+        }
+        match self.port.write(self.session.unsent.as_slice()) {
+            Went::Bytes(count) => {
+                self.is_writable = count == self.session.unsent.len();
+                self.session.unsent.remove(count);
+            }
+            Went::Later => self.is_writable = false,
+            Went::Fault => self.is_mute = true,
+        }
+    }
+}
+
+/// The version of a stream that has told this much.
+fn version_or_one(version: Option<Version>) -> Version
+    ensures { result ≡ version_so_far version }
+{
+    match version {
+        Some(version) => version,
+        None => Version::One,
+    }
+}

@@ -1,0 +1,2 @@
+//! What follows from the definitions alone. Each law is the contract of a function that does
+//! nothing.
