@@ -5,6 +5,7 @@ use Rattle.mac_wire.specs.declared.arrival.Arrival.{Arrival}
 use Rattle.mac_wire.specs.declared.arrival.Arrival.TheVariants as arrival
 use Rattle.mac_wire.specs.declared.reply.Reply.{Reply}
 use Rattle.mac_wire.specs.declared.session.Session.{Session}
+use Rattle.mac_wire.specs.Frame.{IsUnfinished}
 use Rattle.mac_wire.specs.Stream.{version_or_one}
 use Rattle.mac_wire.specs.Reply.{reply_text, reply_frame}
 use Rattle.mac_wire.specs.Session.{HasCome}
@@ -28,9 +29,11 @@ pub record Owes (session : Session) (read written : List ℕ) (done : List Job)
 
 -- how the session of a client stands in the middle of a round, where it goes on so
 abbrev pub OwesSo : Course → Session → (read written : List ℕ) → List Job → List (List ℕ) → Type 0
-OwesSo course.Open session read written done owed = Owes session read written done owed
+OwesSo course.Open session read written done owed =
+    Owes session read written done owed × IsUnfinished session.carried.items
 OwesSo course.Wide session read written done owed = Owes session read written done owed
-OwesSo (course.Ended why) session read written done owed = Owes session read written done owed
+OwesSo (course.Ended why) session read written done owed =
+    Owes session read written done owed × IsUnfinished session.carried.items
 OwesSo (course.Fallen why) session read written done owed = HasFallen session read written done
 
 -- a session after one more reply

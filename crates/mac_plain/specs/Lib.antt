@@ -3,3 +3,4 @@ pub mod Port
 pub mod Client
 pub mod Goes
 pub mod Requests
+pub mod Receiving

@@ -1,0 +1,160 @@
+-- Clients at their places, step by step.
+use Rattle.std.proofs.Common.{◌≡◌, ◌≢◌, ℕ, zero, suc, ◌+◌, ◌-◌, ◌≤◌, ◌<◌, List, [], ◌∷◌, ◌++◌, length, map, take, drop, set, refl, sym, ap, subst, ◌∙◌, append_assoc, arith, inl, inr, eqb}
+use Rattle.std.specs.Prelude.{Bool, true, false, Option, Some, None, ◌==◌, slice_get, slice_set, slice_range, All, if◌then◌else◌}
+use Rattle.std.specs.List.{filter, AllByRecursion}
+use Rattle.std.proofs.lemmas.Bool.{cases_eq, eq-eqb, ne_eqb}
+use Rattle.std.proofs.lemmas.List.{append-nil, length-append, take-append-le, drop-append-le, length-drop, map-append}
+use Rattle.std.proofs.lemmas.List.Elements.{filter-append, recursion_from_All}
+use Rattle.mac_keys.specs.Table.{Table}
+use Rattle.mac_wire.specs.declared.arrival.Arrival.TheVariants as arrival
+use Rattle.mac_decide.specs.World.{job_under}
+use Rattle.mac_decide.specs.declared.job.Job.{Job}
+use Rattle.mac_wire.proofs.Spelling.{some_is}
+use Rattle.mac_plain.specs.Client.{Answers, HasAnswered, Passed, Serves, jobs_of}
+use Rattle.mac_plain.specs.Goes.{Goes, OwesSo}
+use Rattle.mac_plain.specs.Requests.{AreOwned, AreWithin, EachPair, asked_of, payload_at}
+use Rattle.mac_plain.specs.declared.client.Client.{Client}
+use Rattle.mac_plain.specs.declared.request.Request.{Request}
+use Rattle.mac_plain.proofs.Steps.{begins_so, ends_so, goes_still, none_done}
+
+-- ---- what is one owner's
+
+asked-append : (owner : ℕ) (arena : List ℕ) (a b : List Request) → asked_of owner arena (a ++ b) ≡ asked_of owner arena a ++ asked_of owner arena b
+asked-append owner arena a b =
+    ap (map (payload_at arena)) (filter-append (λ (r : Request). r.owner == owner) a b)
+    ∙ map-append (payload_at arena) (filter (λ (r : Request). r.owner == owner) a) (filter (λ (r : Request). r.owner == owner) b)
+
+-- all of an owner's own requests are its own, and none is another's
+pub asked_own : (owner : ℕ) (arena : List ℕ) (own : List Request) → AreOwned owner own → asked_of owner arena own ≡ map (payload_at arena) own
+asked_own owner arena [] owned = refl
+asked_own owner arena (r ∷ rs) owned = rw (eq-eqb r.owner owner owned.0) (ap (λ (l : List (List ℕ)). payload_at arena r ∷ l) (asked_own owner arena rs owned.1))
+
+pub asked_other : (owner other : ℕ) (arena : List ℕ) (own : List Request) → AreOwned owner own → other ≢ owner → asked_of other arena own ≡ []
+asked_other owner other arena [] owned differ = refl
+asked_other owner other arena (r ∷ rs) owned differ = rw (ne_eqb r.owner other (λ e. differ (sym e ∙ owned.0))) (asked_other owner other arena rs owned.1 differ)
+
+-- what lies behind changes nothing of what lies there
+payload_kept : (arena part : List ℕ) (r : Request) → (r.start ≤ r.end) × (r.end ≤ length arena) → payload_at (arena ++ part) r ≡ payload_at arena r
+payload_kept arena part r (starts, ends) =
+    ap (take (r.end - r.start)) (drop-append-le r.start arena part (omega arith))
+    ∙ take-append-le (r.end - r.start) (drop r.start arena) part (omega (arith, length-drop r.start arena))
+
+asked_kept_by : (owner : ℕ) (arena part : List ℕ) (rs : List Request) → AllByRecursion (λ (r : Request). (r.start ≤ r.end) × (r.end ≤ length arena)) rs
+    → asked_of owner (arena ++ part) rs ≡ asked_of owner arena rs
+asked_kept_by owner arena part [] within = refl
+asked_kept_by owner arena part (r ∷ rs) within = elim (cases_eq r.owner owner) [
+  | inl mine ↦ rw (eq-eqb r.owner owner mine)
+      (ap (λ (p : List ℕ). p ∷ asked_of owner (arena ++ part) rs) (payload_kept arena part r within.0) ∙ ap (λ (l : List (List ℕ)). payload_at arena r ∷ l) (asked_kept_by owner arena part rs within.1))
+  | inr other ↦ rw (ne_eqb r.owner owner other) (asked_kept_by owner arena part rs within.1)
+]
+
+pub asked_kept : (owner : ℕ) (arena part : List ℕ) (rs : List Request) → AreWithin (length arena) rs → asked_of owner (arena ++ part) rs ≡ asked_of owner arena rs
+asked_kept owner arena part rs within = asked_kept_by owner arena part rs (recursion_from_All (λ (r : Request). (r.start ≤ r.end) × (r.end ≤ length arena)) rs within)
+
+-- ---- two steps of one client
+
+-- more is owed, and more again
+pub owes_more : {P : Type 0} (tells : Bool) (taken written : P → List ℕ) (table : Table) (a b c : Client P) (first second : List (List ℕ))
+    → Goes tells taken written table a b [] first → Goes tells taken written table b c [] second → Goes tells taken written table a c [] (first ++ second)
+owes_more {P} tells taken written table a b c first second x y = record {
+  came = x.came ++ y.came;
+  gone = x.gone ++ y.gone;
+  took = λ told. y.took told ∙ ap (λ (l : List ℕ). l ++ y.came) (x.took told) ∙ append_assoc (taken a.port) x.came y.came;
+  wrote = λ told. y.wrote told ∙ ap (λ (l : List ℕ). l ++ y.gone) (x.wrote told) ∙ append_assoc (written a.port) x.gone y.gone;
+  goes_on = λ read sent done owed o. joined read sent done owed
+      (y.goes_on (read ++ x.came) (sent ++ x.gone) (done ++ []) (owed ++ first) (x.goes_on read sent done owed o));
+} where
+  joined : (read sent : List ℕ) (done : List Job) (owed : List (List ℕ)) → OwesSo c.course c.session ((read ++ x.came) ++ y.came) ((sent ++ x.gone) ++ y.gone) ((done ++ []) ++ []) ((owed ++ first) ++ second)
+      → OwesSo c.course c.session (read ++ (x.came ++ y.came)) (sent ++ (x.gone ++ y.gone)) (done ++ []) (owed ++ (first ++ second))
+  joined read sent done owed o =
+      rw (← append_assoc read x.came y.came, ← append_assoc sent x.gone y.gone, ← append_assoc owed first second) (subst (λ (l : List Job). OwesSo c.course c.session ((read ++ x.came) ++ y.came) ((sent ++ x.gone) ++ y.gone) l ((owed ++ first) ++ second)) (append-nil (done ++ [])) o)
+
+-- some are answered, and others after them
+pub answers_more : {P : Type 0} (tells : Bool) (taken written : P → List ℕ) (table : Table) (a b c : Client P) (first second : List (List ℕ))
+    → Goes tells taken written table a b first [] → Goes tells taken written table b c second [] → Goes tells taken written table a c (first ++ second) []
+answers_more {P} tells taken written table a b c first second x y = record {
+  came = x.came ++ y.came;
+  gone = x.gone ++ y.gone;
+  took = λ told. y.took told ∙ ap (λ (l : List ℕ). l ++ y.came) (x.took told) ∙ append_assoc (taken a.port) x.came y.came;
+  wrote = λ told. y.wrote told ∙ ap (λ (l : List ℕ). l ++ y.gone) (x.wrote told) ∙ append_assoc (written a.port) x.gone y.gone;
+  goes_on = λ read sent done owed o. joined read sent done owed
+      (y.goes_on (read ++ x.came) (sent ++ x.gone) (done ++ jobs_of table first) owed
+      (subst (λ (l : List (List ℕ)). OwesSo b.course b.session (read ++ x.came) (sent ++ x.gone) (done ++ jobs_of table first) l) (append-nil (second ++ owed))
+      (x.goes_on read sent done (second ++ owed) (subst (λ (l : List (List ℕ)). OwesSo a.course a.session read sent done l) (append_assoc first second owed) o))));
+} where
+  joined : (read sent : List ℕ) (done : List Job) (owed : List (List ℕ)) → OwesSo c.course c.session ((read ++ x.came) ++ y.came) ((sent ++ x.gone) ++ y.gone) ((done ++ jobs_of table first) ++ jobs_of table second) (owed ++ [])
+      → OwesSo c.course c.session (read ++ (x.came ++ y.came)) (sent ++ (x.gone ++ y.gone)) (done ++ jobs_of table (first ++ second)) (owed ++ [])
+  joined read sent done owed o =
+      rw (← append_assoc read x.came y.came, ← append_assoc sent x.gone y.gone, map-append (λ (p : List ℕ). job_under table (arrival.Payload p)) first second, ← append_assoc done (jobs_of table first) (jobs_of table second)) o
+
+-- a whole round of one client: it is read, all that it owes is answered, and it is written to
+pub serves : {P : Type 0} (tells : Bool) (taken written : P → List ℕ) (table : Table) (a b c d : Client P) (payloads : List (List ℕ))
+    → Goes tells taken written table a b [] payloads → Goes tells taken written table b c payloads [] → Goes tells taken written table c d [] []
+    → Serves tells taken written table a d
+serves {P} tells taken written table a b c d payloads x y z = record {
+  payloads = payloads;
+  answers = record {
+    came = x.came ++ (y.came ++ z.came);
+    gone = x.gone ++ (y.gone ++ z.gone);
+    took = λ told. z.took told ∙ ap (λ (l : List ℕ). l ++ z.came) (y.took told ∙ ap (λ (l : List ℕ). l ++ y.came) (x.took told)) ∙ three (taken a.port) x.came y.came z.came;
+    wrote = λ told. z.wrote told ∙ ap (λ (l : List ℕ). l ++ z.gone) (y.wrote told ∙ ap (λ (l : List ℕ). l ++ y.gone) (x.wrote told)) ∙ three (written a.port) x.gone y.gone z.gone;
+    goes_on = λ read sent done h. ends_so d.course d.session (read ++ (x.came ++ (y.came ++ z.came))) (sent ++ (x.gone ++ (y.gone ++ z.gone))) (done ++ jobs_of table payloads)
+        (joined read sent done (z.goes_on ((read ++ x.came) ++ y.came) ((sent ++ x.gone) ++ y.gone) ((done ++ []) ++ jobs_of table payloads) []
+        (y.goes_on (read ++ x.came) (sent ++ x.gone) (done ++ []) []
+        (subst (λ (l : List (List ℕ)). OwesSo b.course b.session (read ++ x.came) (sent ++ x.gone) (done ++ []) l) (sym (append-nil payloads))
+        (x.goes_on read sent done [] (begins_so a.course a.session read sent done h))))));
+  };
+} where
+  three : (p q r s : List ℕ) → ((p ++ q) ++ r) ++ s ≡ p ++ (q ++ (r ++ s))
+  three p q r s = append_assoc (p ++ q) r s ∙ append_assoc p q (r ++ s)
+  joined : (read sent : List ℕ) (done : List Job) → OwesSo d.course d.session (((read ++ x.came) ++ y.came) ++ z.came) (((sent ++ x.gone) ++ y.gone) ++ z.gone) (((done ++ []) ++ jobs_of table payloads) ++ []) []
+      → OwesSo d.course d.session (read ++ (x.came ++ (y.came ++ z.came))) (sent ++ (x.gone ++ (y.gone ++ z.gone))) (done ++ jobs_of table payloads) []
+  joined read sent done o =
+      subst (λ (l : List ℕ). OwesSo d.course d.session l (sent ++ (x.gone ++ (y.gone ++ z.gone))) (done ++ jobs_of table payloads) []) (three read x.came y.came z.came)
+      (subst (λ (l : List ℕ). OwesSo d.course d.session (((read ++ x.came) ++ y.came) ++ z.came) l (done ++ jobs_of table payloads) []) (three sent x.gone y.gone z.gone)
+      (subst (λ (l : List Job). OwesSo d.course d.session (((read ++ x.came) ++ y.came) ++ z.came) (((sent ++ x.gone) ++ y.gone) ++ z.gone) l [])
+      (append-nil ((done ++ []) ++ jobs_of table payloads) ∙ ap (λ (l : List Job). l ++ jobs_of table payloads) (append-nil done)) o))
+
+-- ---- many clients
+
+-- the element at a place after a write
+get-set : {A : Type 0} (xs : List A) (i : ℕ) (v x : A) → slice_get (set xs i v) i ≡ Some x → v ≡ x
+get-set [] i v x e = absurd cc
+get-set (y ∷ xs) zero v x e = some_is v x e
+get-set (y ∷ xs) (suc i) v x e = get-set xs i v x e
+
+get-set_other : {A : Type 0} (xs : List A) (i k : ℕ) (v : A) → k ≢ i → slice_get (set xs i v) k ≡ slice_get xs k
+get-set_other [] i k v differ = refl
+get-set_other (y ∷ xs) zero zero v differ = absurd (differ refl)
+get-set_other (y ∷ xs) zero (suc k) v differ = refl
+get-set_other (y ∷ xs) (suc i) zero v differ = refl
+get-set_other (y ∷ xs) (suc i) (suc k) v differ = get-set_other xs i k v (λ e. differ (ap suc e))
+
+-- where there is an element after a step, there was one before
+get-length : {A B : Type 0} (xs : List A) (ys : List B) (k : ℕ) (y : B) → length xs ≡ length ys → slice_get ys k ≡ Some y → (x : A) × (slice_get xs k ≡ Some x)
+get-length [] [] k y same e = absurd cc
+get-length (x ∷ xs) [] k y same e = absurd cc
+get-length [] (z ∷ ys) k y same e = absurd (omega arith)
+get-length (x ∷ xs) (z ∷ ys) zero y same e = (x, refl)
+get-length (x ∷ xs) (z ∷ ys) (suc k) y same e = get-length xs ys k y (omega (arith, same)) e
+
+pub each_same : {A : Type 0} (R : ℕ → A → A → Type 0) (xs : List A) → ((k : ℕ) (x : A) → R k x x) → EachPair R xs xs
+each_same R xs same k x y first second = subst (R k x) (some_is x y (sym first ∙ second)) (same k x)
+
+-- a step of each, and another
+pub each_then : {A : Type 0} (R S Q : ℕ → A → A → Type 0) (xs ys zs : List A) → length ys ≡ length zs → EachPair R xs ys → EachPair S ys zs
+    → ((k : ℕ) (x y z : A) → R k x y → S k y z → Q k x z) → EachPair Q xs zs
+each_then R S Q xs ys zs same one two both k x z first last =
+    let m = get-length ys zs k z same last in
+    both k x m.0 z (one k x m.0 first m.1) (two k m.0 z m.1 last)
+
+-- a step of the one at a place, which changes nothing for the others
+pub each_set : {A : Type 0} (R Q : ℕ → A → A → Type 0) (xs ys : List A) (i : ℕ) (now next : A) → EachPair R xs ys → slice_get ys i ≡ Some now
+    → ((x : A) → R i x now → Q i x next) → ((k : ℕ) (x y : A) → k ≢ i → R k x y → Q k x y) → EachPair Q xs (set ys i next)
+each_set R Q xs ys i now next are there step others k x z first last = elim (cases_eq k i) [
+  | inl same ↦
+      let at : slice_get (set ys i next) i ≡ Some z = ap (slice_get (set ys i next)) (sym same) ∙ last in
+      let is : next ≡ z = get-set ys i next z at in
+      subst (λ (n : ℕ). Q n x z) (sym same) (subst (Q i x) is (step x (subst (λ (n : ℕ). R n x now) same (are k x now first (ap (slice_get ys) same ∙ there)))))
+  | inr differ ↦ others k x z differ (are k x z first (sym (get-set_other ys i k next differ) ∙ last))
+]
