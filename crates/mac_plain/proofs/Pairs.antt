@@ -1,20 +1,23 @@
 -- Clients at their places, step by step.
-use Rattle.std.proofs.Common.{◌≡◌, ◌≢◌, ℕ, zero, suc, ◌+◌, ◌-◌, ◌≤◌, ◌<◌, List, [], ◌∷◌, ◌++◌, length, map, take, drop, set, refl, sym, ap, subst, ◌∙◌, append_assoc, arith, inl, inr, eqb}
+use Rattle.std.proofs.Common.{◌≡◌, ◌≢◌, ℕ, zero, suc, ◌+◌, ◌-◌, ◌≤◌, ◌<◌, List, [], ◌∷◌, ◌++◌, length, map, take, drop, set, get_or, refl, sym, ap, subst, ◌∙◌, append_assoc, arith, inl, inr, eqb}
 use Rattle.std.specs.Prelude.{Bool, true, false, Option, Some, None, ◌==◌, slice_get, slice_set, slice_range, All, if◌then◌else◌}
 use Rattle.std.specs.List.{filter, AllByRecursion}
+use Rattle.std.proofs.lemmas.Option.{slice_get-get_or}
 use Rattle.std.proofs.lemmas.Bool.{cases_eq, eq-eqb, ne_eqb}
 use Rattle.std.proofs.lemmas.List.{append-nil, length-append, take-append-le, drop-append-le, length-drop, map-append}
-use Rattle.std.proofs.lemmas.List.Elements.{filter-append, recursion_from_All}
+use Rattle.std.proofs.lemmas.List.Elements.{All-append, filter-append, recursion_from_All}
 use Rattle.mac_keys.specs.Table.{Table}
 use Rattle.mac_wire.specs.declared.arrival.Arrival.TheVariants as arrival
 use Rattle.mac_decide.specs.World.{job_under}
 use Rattle.mac_decide.specs.declared.job.Job.{Job}
-use Rattle.mac_wire.proofs.Spelling.{some_is}
 use Rattle.mac_plain.specs.Client.{Answers, HasAnswered, Passed, Serves, jobs_of}
-use Rattle.mac_plain.specs.Goes.{Goes, OwesSo}
-use Rattle.mac_plain.specs.Requests.{AreOwned, AreWithin, EachPair, asked_of, payload_at}
+use Rattle.mac_plain.specs.Goes.{AreAnswered, AreRead, Goes, OwesSo}
+use Rattle.mac_plain.specs.Requests.{Adds, AreOwned, AreWithin, asked_of, payload_at}
+use Rattle.mac_plain.specs.Receiving.{Receives}
+use Rattle.mac_plain.specs.Pairs.{EachPair}
 use Rattle.mac_plain.specs.declared.client.Client.{Client}
 use Rattle.mac_plain.specs.declared.request.Request.{Request}
+use Rattle.mac_plain.proofs.Pieces.{none_added}
 use Rattle.mac_plain.proofs.Steps.{begins_so, ends_so, goes_still, none_done}
 
 -- ---- what is one owner's
@@ -117,6 +120,14 @@ serves {P} tells taken written table a b c d payloads x y z = record {
 
 -- ---- many clients
 
+some_is : {A : Type 0} (x y : A) → Some x ≡ Some y → x ≡ y
+some_is x y e = cc
+
+pub below : {A : Type 0} (xs : List A) (k : ℕ) (x : A) → slice_get xs k ≡ Some x → k < length xs
+below [] k x e = absurd cc
+below (y ∷ xs) zero x e = omega arith
+below (y ∷ xs) (suc k) x e = let less = below xs k x e in omega arith
+
 -- the element at a place after a write
 get-set : {A : Type 0} (xs : List A) (i : ℕ) (v x : A) → slice_get (set xs i v) i ≡ Some x → v ≡ x
 get-set [] i v x e = absurd cc
@@ -138,8 +149,8 @@ get-length [] (z ∷ ys) k y same e = absurd (omega arith)
 get-length (x ∷ xs) (z ∷ ys) zero y same e = (x, refl)
 get-length (x ∷ xs) (z ∷ ys) (suc k) y same e = get-length xs ys k y (omega (arith, same)) e
 
-pub each_same : {A : Type 0} (R : ℕ → A → A → Type 0) (xs : List A) → ((k : ℕ) (x : A) → R k x x) → EachPair R xs xs
-each_same R xs same k x y first second = subst (R k x) (some_is x y (sym first ∙ second)) (same k x)
+pub each_same : {A : Type 0} (R : ℕ → A → A → Type 0) (xs : List A) → ((k : ℕ) (x : A) → slice_get xs k ≡ Some x → R k x x) → EachPair R xs xs
+each_same R xs same k x y first second = subst (R k x) (some_is x y (sym first ∙ second)) (same k x first)
 
 -- a step of each, and another
 pub each_then : {A : Type 0} (R S Q : ℕ → A → A → Type 0) (xs ys zs : List A) → length ys ≡ length zs → EachPair R xs ys → EachPair S ys zs
@@ -158,3 +169,116 @@ each_set R Q xs ys i now next are there step others k x z first last = elim (cas
       subst (λ (n : ℕ). Q n x z) (sym same) (subst (Q i x) is (step x (subst (λ (n : ℕ). R n x now) same (are k x now first (ap (slice_get ys) same ∙ there)))))
   | inr differ ↦ others k x z differ (are k x z first (sym (get-set_other ys i k next differ) ∙ last))
 ]
+
+-- ---- a round's steps over all clients
+
+-- nothing is done, and nothing owed
+pub nothing_goes : {P : Type 0} (tells : Bool) (taken written : P → List ℕ) (table : Table) (x : Client P) → Goes tells taken written table x x [] []
+nothing_goes tells taken written table x =
+    goes_still tells taken written table x x [] refl (λ read sent done owed o. none_done x.course x.session read sent done owed o)
+
+pub still_read : {P : Type 0} (tells : Bool) (taken written : P → List ℕ) (table : Table) (arena : List ℕ) (requests : List Request) (xs : List (Client P)) → requests ≡ []
+    → AreRead tells taken written table (λ k. asked_of k arena requests) xs xs
+still_read {P} tells taken written table arena requests xs none =
+    each_same (λ k (b a : Client P). Goes tells taken written table b a [] (asked_of k arena requests)) xs
+    (λ k x there. subst (λ (l : List Request). Goes tells taken written table x x [] (asked_of k arena l)) (sym none) (nothing_goes tells taken written table x))
+
+-- one more client was read
+pub one_read : {P : Type 0} (tells : Bool) (taken written : P → List ℕ) (table : Table) (olds news : List (Client P)) (i : ℕ) (now next : Client P) (arena arena' : List ℕ) (requests requests' : List Request)
+    → slice_get news i ≡ Some now → AreWithin (length arena) requests → Receives tells taken written table i now next arena arena' requests requests'
+    → AreRead tells taken written table (λ k. asked_of k arena requests) olds news
+    → AreRead tells taken written table (λ k. asked_of k arena' requests') olds (set news i next)
+one_read {P} tells taken written table olds news i now next arena arena' requests requests' there within r are =
+    each_set (λ k (b a : Client P). Goes tells taken written table b a [] (asked_of k arena requests)) (λ k (b a : Client P). Goes tells taken written table b a [] (asked_of k arena' requests'))
+    olds news i now next are there
+    (λ x g. subst (λ (l : List (List ℕ)). Goes tells taken written table x next [] l)
+    (ap (λ (l : List (List ℕ)). asked_of i arena requests ++ l) (sym (asked_own i arena' r.own r.adds.owned)) ∙ sym (parts i))
+    (owes_more tells taken written table x now next (asked_of i arena requests) (map (payload_at arena') r.own) g r.goes))
+    (λ k x y differ g. subst (λ (l : List (List ℕ)). Goes tells taken written table x y [] l)
+    (sym (append-nil (asked_of k arena requests)) ∙ ap (λ (l : List (List ℕ)). asked_of k arena requests ++ l) (sym (asked_other i k arena' r.own r.adds.owned differ)) ∙ sym (parts k)) g)
+    where
+    parts : (k : ℕ) → asked_of k arena' requests' ≡ asked_of k arena requests ++ asked_of k arena' r.own
+    parts k =
+        ap (asked_of k arena') r.adds.are ∙ asked-append k arena' requests r.own
+        ∙ ap (λ (l : List (List ℕ)). l ++ asked_of k arena' r.own) (ap (λ (l : List ℕ). asked_of k l requests) r.arena_is ∙ asked_kept k arena r.part requests within)
+
+-- some requests were answered, and others after them
+pub more_answered : {P : Type 0} (tells : Bool) (taken written : P → List ℕ) (table : Table) (arena : List ℕ) (first second : List Request) (xs ys zs : List (Client P)) → length ys ≡ length zs
+    → AreAnswered tells taken written table (λ k. asked_of k arena first) xs ys → AreAnswered tells taken written table (λ k. asked_of k arena second) ys zs
+    → AreAnswered tells taken written table (λ k. asked_of k arena (first ++ second)) xs zs
+more_answered {P} tells taken written table arena first second xs ys zs same one two =
+    each_then (λ k (b a : Client P). Goes tells taken written table b a (asked_of k arena first) []) (λ k (b a : Client P). Goes tells taken written table b a (asked_of k arena second) [])
+    (λ k (b a : Client P). Goes tells taken written table b a (asked_of k arena (first ++ second)) []) xs ys zs same one two
+    (λ k x y z f s. subst (λ (l : List (List ℕ)). Goes tells taken written table x z l []) (sym (asked-append k arena first second))
+    (answers_more tells taken written table x y z (asked_of k arena first) (asked_of k arena second) f s))
+
+-- no request is answered
+pub none_answered : {P : Type 0} (tells : Bool) (taken written : P → List ℕ) (table : Table) (arena : List ℕ) (xs : List (Client P))
+    → AreAnswered tells taken written table (λ k. asked_of k arena []) xs xs
+none_answered {P} tells taken written table arena xs =
+    each_same (λ k (b a : Client P). Goes tells taken written table b a (asked_of k arena []) []) xs (λ k x there. nothing_goes tells taken written table x)
+
+-- the request of a client that isn't there
+pub nobody_answered : {P : Type 0} (tells : Bool) (taken written : P → List ℕ) (table : Table) (arena : List ℕ) (r : Request) (xs : List (Client P)) → length xs ≤ r.owner
+    → AreAnswered tells taken written table (λ k. asked_of k arena (r ∷ [])) xs xs
+nobody_answered {P} tells taken written table arena r xs out =
+    each_same (λ k (b a : Client P). Goes tells taken written table b a (asked_of k arena (r ∷ [])) []) xs
+    (λ k x there. subst (λ (l : List (List ℕ)). Goes tells taken written table x x l [])
+    (sym (asked_other r.owner k arena (r ∷ []) (refl, tt) (λ e. let less = below xs k x there in absurd (omega (arith, less, out, e)))))
+    (nothing_goes tells taken written table x))
+
+-- one client took the reply to its request
+pub one_answered : {P : Type 0} (tells : Bool) (taken written : P → List ℕ) (table : Table) (arena : List ℕ) (r : Request) (xs : List (Client P)) (now next : Client P) → slice_get xs r.owner ≡ Some now
+    → Goes tells taken written table now next (payload_at arena r ∷ []) []
+    → AreAnswered tells taken written table (λ k. asked_of k arena (r ∷ [])) xs (set xs r.owner next)
+one_answered {P} tells taken written table arena r xs now next there g =
+    each_set (λ k (b a : Client P). b ≡ a) (λ k (b a : Client P). Goes tells taken written table b a (asked_of k arena (r ∷ [])) [])
+    xs xs r.owner now next (each_same (λ k (b a : Client P). b ≡ a) xs (λ k x there. refl)) there
+    (λ x same. subst (λ (b : Client P). Goes tells taken written table b next (asked_of r.owner arena (r ∷ [])) []) (sym same)
+    (subst (λ (l : List (List ℕ)). Goes tells taken written table now next l []) (sym (asked_own r.owner arena (r ∷ []) (refl, tt))) g))
+    (λ k x y differ same. subst (λ (l : List (List ℕ)). Goes tells taken written table x y l []) (sym (asked_other r.owner k arena (r ∷ []) (refl, tt) differ))
+    (subst (λ (a : Client P). Goes tells taken written table x a [] []) same (nothing_goes tells taken written table x)))
+
+-- one more client was written to
+pub one_flushed : {P : Type 0} (tells : Bool) (taken written : P → List ℕ) (table : Table) (xs ys : List (Client P)) (i : ℕ) (now next : Client P) → slice_get ys i ≡ Some now
+    → Goes tells taken written table now next [] [] → AreRead tells taken written table (λ _. []) xs ys → AreRead tells taken written table (λ _. []) xs (set ys i next)
+one_flushed {P} tells taken written table xs ys i now next there g are =
+    each_set (λ k (b a : Client P). Goes tells taken written table b a [] []) (λ k (b a : Client P). Goes tells taken written table b a [] []) xs ys i now next are there
+    (λ x first. answers_more tells taken written table x now next [] [] first g) (λ k x y differ first. first)
+
+-- all three steps of a round
+pub all_served : {P : Type 0} (tells : Bool) (taken written : P → List ℕ) (table : Table) (owed : ℕ → List (List ℕ)) (xs bs cs ds : List (Client P)) → length bs ≡ length cs → length cs ≡ length ds
+    → AreRead tells taken written table owed xs bs → AreAnswered tells taken written table owed bs cs → AreRead tells taken written table (λ _. []) cs ds
+    → EachPair (λ k (b a : Client P). Serves tells taken written table b a) xs ds
+all_served {P} tells taken written table owed xs bs cs ds first second one two three =
+    each_then (λ k (a c : Client P). (b : Client P) × Goes tells taken written table a b [] (owed k) × Goes tells taken written table b c (owed k) [])
+    (λ k (c d : Client P). Goes tells taken written table c d [] []) (λ k (a d : Client P). Serves tells taken written table a d) xs cs ds second
+    (each_then (λ k (a b : Client P). Goes tells taken written table a b [] (owed k)) (λ k (b c : Client P). Goes tells taken written table b c (owed k) [])
+    (λ k (a c : Client P). (b : Client P) × Goes tells taken written table a b [] (owed k) × Goes tells taken written table b c (owed k) []) xs bs cs first one two (λ k a b c x y. (b, x, y)))
+    three (λ k a c d x z. serves tells taken written table a x.0 c d (owed k) x.1 x.2 z)
+
+pub within_more : (room more : ℕ) (rs : List Request) → room ≤ more → AreWithin room rs → AreWithin more rs
+within_more room more rs less within k d there = let w = within k d there in (w.0, omega (arith, w.1, less))
+
+-- the requests that a read added lie within, as the others
+pub within_added : (arena arena' part : List ℕ) (owner : ℕ) (requests requests' own : List Request) → arena' ≡ arena ++ part → AreWithin (length arena) requests
+    → Adds owner (length arena') requests requests' own → AreWithin (length arena') requests'
+within_added arena arena' part owner requests requests' own is within adds =
+    subst (AreWithin (length arena')) (sym adds.are)
+    (All-append (λ (r : Request). (r.start ≤ r.end) × (r.end ≤ length arena')) requests own
+    (within_more (length arena) (length arena') requests (omega (arith, ap length is, length-append arena part)) within) adds.within)
+
+-- the element that was read by index
+pub read_at : {A : Type 0} (xs : List A) (i : ℕ) (x : A) → i < length xs → x ≡ get_or xs i x → slice_get xs i ≡ Some x
+read_at {A} xs i x there is = slice_get-get_or xs i x there ∙ ap (λ (y : A). Some y) (sym is)
+
+-- a client that isn't read
+pub nothing_received : {P : Type 0} (tells : Bool) (taken written : P → List ℕ) (table : Table) (owner : ℕ) (x : Client P) (arena : List ℕ) (requests : List Request)
+    → Receives tells taken written table owner x x arena arena requests requests
+nothing_received tells taken written table owner x arena requests = record {
+  part = [];
+  arena_is = sym (append-nil arena);
+  own = [];
+  adds = none_added owner (length arena) requests;
+  goes = nothing_goes tells taken written table x;
+}

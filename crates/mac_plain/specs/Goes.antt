@@ -10,6 +10,7 @@ use Rattle.mac_wire.specs.Stream.{version_or_one}
 use Rattle.mac_wire.specs.Reply.{reply_text, reply_frame}
 use Rattle.mac_wire.specs.Session.{HasCome}
 use Rattle.mac_decide.specs.declared.job.Job.{Job}
+use Rattle.mac_plain.specs.Pairs.{EachPair}
 use Rattle.mac_plain.specs.Client.{HasFallen, Passed, arrivals, jobs_of, replies}
 use Rattle.mac_plain.specs.declared.client.Client.{Client}
 use Rattle.mac_plain.specs.declared.course.Course.{Course}
@@ -56,3 +57,17 @@ pub record Goes {P : Type 0} (tells : Bool) (taken written : P → List ℕ) (ta
       → OwesSo before.course before.session read sent done (answered ++ owed)
       → OwesSo after.course after.session (read ++ came) (sent ++ gone)
       (done ++ jobs_of table answered) (owed ++ more)
+
+-- of each client what it owed was answered, the payloads of its place
+abbrev pub AreAnswered : {P : Type 0} → Bool → (taken written : P → List ℕ) → Table
+    → (ℕ → List (List ℕ)) → List (Client P) → List (Client P) → Type 0
+AreAnswered tells taken written table owed olds news =
+    EachPair (λ k before after. Goes tells taken written table before after (owed k) [])
+    olds news
+
+-- each client owes besides what came on it, the payloads of its place
+abbrev pub AreRead : {P : Type 0} → Bool → (taken written : P → List ℕ) → Table
+    → (ℕ → List (List ℕ)) → List (Client P) → List (Client P) → Type 0
+AreRead tells taken written table owed olds news =
+    EachPair (λ k before after. Goes tells taken written table before after [] (owed k))
+    olds news

@@ -23,16 +23,11 @@ asked_of owner arena requests = map (payload_at arena) (filter (λ r. r.owner ==
 abbrev pub jobs_at : Table → List ℕ → List Request → List Job
 jobs_at table arena requests = jobs_of table (map (payload_at arena) requests)
 
--- each reply that isn't missing is that to the job at its place
-abbrev pub AreReplies : List Job → List (Option Reply) → Type 0
+-- each reply is that to the job at its place; some at the end may be missing
+abbrev pub AreReplies : List Job → List Reply → Type 0
 AreReplies jobs replies =
-    (i : ℕ) (reply : Reply) → slice_get replies i ≡ Some (Some reply)
+    (i : ℕ) (reply : Reply) → slice_get replies i ≡ Some reply
     → slice_get (map reply_to_job jobs) i ≡ Some reply
-
--- each reply that isn't missing can be sent
-abbrev pub AreSendable : List (Option Reply) → Type 0
-AreSendable replies =
-    (i : ℕ) (reply : Reply) → slice_get replies i ≡ Some (Some reply) → IsReply reply
 
 -- each request lies in that many bytes
 abbrev pub AreWithin : ℕ → List Request → Type 0
@@ -48,9 +43,3 @@ pub record Adds (owner room : ℕ) (before after own : List Request) : Type 0 wh
   pub are : after ≡ before ++ own
   pub owned : AreOwned owner own
   pub within : AreWithin room own
-
--- each pair of elements at the same place, with that place
-abbrev pub EachPair : {A : Type 0} → (ℕ → A → A → Type 0) → List A → List A → Type 0
-EachPair {A} R olds news =
-    (k : ℕ) → (old new : A) → slice_get olds k ≡ Some old → slice_get news k ≡ Some new
-    → R k old new

@@ -1,6 +1,6 @@
 //! What comes on a plain connection.
 
-ghost use Rattle.std.specs.Prelude.{◌≡◌, ◌≤◌, ℕ, List, length, IfOk, vec_len};
+ghost use Rattle.std.specs.Prelude.{◌≡◌, ◌≤◌, ℕ, List, length, IfOk};
 ghost use Rattle.mac_keys.specs.Table.{Table};
 ghost use Rattle.mac_plain.specs.Receiving.{Cuts, Joins, Receives, TakesIn};
 ghost use Rattle.mac_plain.specs.Requests.{AreWithin};
@@ -20,8 +20,9 @@ pub fn receive<P: Port>(
     requests: &mut Vec<Request>,
     owner: usize,
 )
-    requires { AreWithin (vec_len arena.old) requests.old.items }
-    ensures { (table : Table) → Receives P.tells P.taken P.written table
+    requires { AreWithin (length arena.old.items) requests.old.items }
+    ensures within { AreWithin (length arena.new.items) requests.new.items }
+    ensures receives { (table : Table) → Receives P.tells P.taken P.written table
         owner client.old client.new arena.old.items arena.new.items
         requests.old.items requests.new.items }
 {
@@ -48,7 +49,7 @@ fn take_in(
     requests: &mut Vec<Request>,
     owner: usize,
 ) -> Course
-    requires { AreWithin (vec_len arena.old) requests.old.items }
+    requires { AreWithin (length arena.old.items) requests.old.items }
     ensures { TakesIn owner piece.now session.old session.new arena.old.items arena.new.items
         requests.old.items requests.new.items result }
 {

@@ -8,11 +8,12 @@ use Rattle.mac_plain.specs.declared.course.Course.{Course}
 use Rattle.mac_plain.specs.declared.course.Course.TheVariants as course
 use Rattle.mac_plain.specs.declared.course.Ended.TheVariants as ended
 use Rattle.mac_plain.proofs.Steps.{goes_still, none_done, still, steps_still}
+use Rattle.mac_plain.proofs.Pairs.{within_added}
 use Rattle.mac_plain.proofs.Pieces.{came_so, none_added}
 use Rattle.mac_plain.proofs.receiving.receive.Goals as goal
 
-pub returns-in_default : goal.returns-in_default
-returns-in_default g c table =
+pub returns-in_default-clause-receives : goal.returns-in_default-clause-receives
+returns-in_default-clause-receives g c table =
     let me = c.args.client.now in
     record {
       part = [];
@@ -22,8 +23,8 @@ returns-in_default g c table =
       goes = goes_still g.P.Port.tells g.P.Port.taken g.P.Port.written table me me [] refl (λ read sent done owed o. none_done me.course me.session read sent done owed o);
     }
 
-pub returns-in-Later : goal.returns-in-Later
-returns-in-Later g c table =
+pub returns-in-Later-clause-receives : goal.returns-in-Later-clause-receives
+returns-in-Later-clause-receives g c table =
     let me = c.args.client.now in
     record {
       part = [];
@@ -40,8 +41,8 @@ returns-in-Later g c table =
       };
     }
 
-pub returns-in-End : goal.returns-in-End
-returns-in-End g c table =
+pub returns-in-End-clause-receives : goal.returns-in-End-clause-receives
+returns-in-End-clause-receives g c table =
     let me = c.args.client.now in
     record {
       part = [];
@@ -59,8 +60,8 @@ returns-in-End g c table =
       };
     }
 
-pub returns-in-Fault : goal.returns-in-Fault
-returns-in-Fault g c table =
+pub returns-in-Fault-clause-receives : goal.returns-in-Fault-clause-receives
+returns-in-Fault-clause-receives g c table =
     let me = c.args.client.now in
     record {
       part = [];
@@ -78,8 +79,8 @@ returns-in-Fault g c table =
       };
     }
 
-pub returns-in-Bytes : goal.returns-in-Bytes
-returns-in-Bytes g c table =
+pub returns-in-Bytes-clause-receives : goal.returns-in-Bytes-clause-receives
+returns-in-Bytes-clause-receives g c table =
     let me = c.args.client.now in
     let t = c.take_in-client.ensures in
     let came : List ℕ = take c.in-Bytes.count c.read.new.buf in
@@ -99,3 +100,8 @@ returns-in-Bytes g c table =
             (t.goes_on read sent done owed (subst (λ (k : Course). OwesSo k me.session read sent done owed) c.in-Open.is o));
       };
     }
+
+pub returns-in-Bytes-clause-within : goal.returns-in-Bytes-clause-within
+returns-in-Bytes-clause-within g c =
+    let t = c.take_in-client.ensures in
+    within_added c.args.arena.now.items c.take_in-client.new.arena.items t.part c.args.owner c.args.requests.now.items c.take_in-client.new.requests.items t.own t.arena_is c.requires t.adds
