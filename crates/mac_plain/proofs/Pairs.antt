@@ -1,6 +1,7 @@
 -- Clients at their places, step by step.
 use Rattle.std.proofs.Common.{◌≡◌, ◌≢◌, ℕ, zero, suc, ◌+◌, ◌-◌, ◌≤◌, ◌<◌, List, [], ◌∷◌, ◌++◌, length, map, take, drop, set, get_or, refl, sym, ap, subst, ◌∙◌, append_assoc, arith, inl, inr, eqb}
-use Rattle.std.specs.Prelude.{Bool, true, false, Option, Some, None, ◌==◌, slice_get, slice_set, slice_range, All, if◌then◌else◌}
+use Rattle.std.proofs.Math.Seq.{take-add}
+use Rattle.std.specs.Prelude.{IfSome, Bool, true, false, Option, Some, None, ◌==◌, slice_get, slice_set, slice_range, All, if◌then◌else◌}
 use Rattle.std.specs.List.{filter, AllByRecursion}
 use Rattle.std.proofs.lemmas.Option.{slice_get-get_or}
 use Rattle.std.proofs.lemmas.Bool.{cases_eq, eq-eqb, ne_eqb}
@@ -8,11 +9,13 @@ use Rattle.std.proofs.lemmas.List.{append-nil, length-append, take-append-le, dr
 use Rattle.std.proofs.lemmas.List.Elements.{All-append, filter-append, recursion_from_All}
 use Rattle.mac_keys.specs.Table.{Table}
 use Rattle.mac_wire.specs.declared.arrival.Arrival.TheVariants as arrival
+use Rattle.mac_wire.specs.declared.reply.Reply.{Reply}
+use Rattle.mac_decide.specs.Prepared.{reply_to_job}
 use Rattle.mac_decide.specs.World.{job_under}
 use Rattle.mac_decide.specs.declared.job.Job.{Job}
-use Rattle.mac_plain.specs.Client.{Answers, HasAnswered, Passed, Serves, jobs_of}
+use Rattle.mac_plain.specs.Client.{Answers, HasAnswered, Passed, Serves, answer_under, jobs_of}
 use Rattle.mac_plain.specs.Goes.{AreAnswered, AreRead, Goes, OwesSo}
-use Rattle.mac_plain.specs.Requests.{Adds, AreOwned, AreWithin, asked_of, payload_at}
+use Rattle.mac_plain.specs.Requests.{Adds, AreOwned, AreWithin, asked_of, jobs_at, payload_at}
 use Rattle.mac_plain.specs.Receiving.{Receives}
 use Rattle.mac_plain.specs.Pairs.{EachPair}
 use Rattle.mac_plain.specs.declared.client.Client.{Client}
@@ -282,3 +285,29 @@ nothing_received tells taken written table owner x arena requests = record {
   adds = none_added owner (length arena) requests;
   goes = nothing_goes tells taken written table x;
 }
+
+-- ---- the requests of a run
+
+-- those before a place, and those from there on up to another
+pub run_more : (at end : ℕ) (xs : List Request) → at ≤ end → take at xs ++ take (end - at) (drop at xs) ≡ take end xs
+run_more at end xs less = sym (take-add at (end - at) xs) ∙ ap (λ (n : ℕ). take n xs) (let e : at + (end - at) ≡ end = omega arith in e)
+
+first_of_rest : (i : ℕ) (xs : List Request) (d : Request) → i < length xs → take 1 (drop i xs) ≡ get_or xs i d ∷ []
+first_of_rest i [] d there = absurd (omega arith)
+first_of_rest zero (x ∷ xs) d there = refl
+first_of_rest (suc i) (x ∷ xs) d there = first_of_rest i xs d (omega arith)
+
+-- one request
+pub run_one : (i : ℕ) (xs : List Request) (d : Request) → i < length xs → take ((i + 1) - i) (drop i xs) ≡ get_or xs i d ∷ []
+run_one i xs d there = ap (λ (n : ℕ). take n (drop i xs)) (let e : (i + 1) - i ≡ 1 = omega arith in e) ∙ first_of_rest i xs d there
+
+-- the reply at a place is that to the request there
+pub answered_at : (table : Table) (arena : List ℕ) (run : List Request) (i : ℕ) (d : Request) (reply : Reply) → slice_get (map reply_to_job (jobs_at table arena run)) i ≡ Some reply
+    → reply ≡ answer_under table (payload_at arena (get_or run i d))
+answered_at table arena [] i d reply e = absurd cc
+answered_at table arena (r ∷ rs) zero d reply e = sym (some_is (answer_under table (payload_at arena r)) reply e)
+answered_at table arena (r ∷ rs) (suc i) d reply e = answered_at table arena rs i d reply e
+
+pub some_then : {A : Type 0} (P Q : A → Type 0) (o : Option A) → ((x : A) → P x → Q x) → IfSome o P → IfSome o Q
+some_then P Q (Some x) f h = f x h
+some_then P Q None f h = h

@@ -1,6 +1,6 @@
 //! The replies to all requests of a round, and whose they are.
 
-ghost use Rattle.std.specs.Prelude.{◌≡◌, ◌≤◌, ℕ, List, [], ◌∷◌, length, map, All, IfOk, IfSome};
+ghost use Rattle.std.specs.Prelude.{◌≡◌, ◌≤◌, ℕ, List, [], ◌∷◌, length, map, slice_get, All, IfOk, IfSome, Some};
 ghost use Rattle.mac_keys.specs.Table.{Table};
 ghost use Rattle.mac_wire.specs.Reply.{IsReply};
 ghost use Rattle.mac_decide.specs.Viewed.{viewed};
@@ -144,8 +144,17 @@ fn hand_out<P: Port>(run: &[Request], replies: &[Reply], clients: &mut [Client<P
         (λ k. asked_of k arena run.now) clients.old clients.new }
 {
     for index in 0..run.len() {
-        give(&run[index..index + 1], replies.get(index), clients);
+        give(&run[index..index + 1], reply_at(replies, index), clients);
     }
+}
+
+/// The reply at a place, where there is one.
+fn reply_at(replies: &[Reply], index: usize) -> Option<&Reply>
+    requires { All IsReply replies.now }
+    ensures sendable { IfSome result (λ reply. IsReply reply.now) }
+    ensures there { IfSome result (λ reply. slice_get replies.now index ≡ Some reply.now) }
+{
+    replies.get(index)
 }
 
 /// Gives a request's client the reply to it.
