@@ -113,6 +113,7 @@ serves {P} tells taken written table a b c d payloads x y z = record {
 } where
   three : (p q r s : List ℕ) → ((p ++ q) ++ r) ++ s ≡ p ++ (q ++ (r ++ s))
   three p q r s = append_assoc (p ++ q) r s ∙ append_assoc p q (r ++ s)
+
   joined : (read sent : List ℕ) (done : List Job) → OwesSo d.course d.session (((read ++ x.came) ++ y.came) ++ z.came) (((sent ++ x.gone) ++ y.gone) ++ z.gone) (((done ++ []) ++ jobs_of table payloads) ++ []) []
       → OwesSo d.course d.session (read ++ (x.came ++ (y.came ++ z.came))) (sent ++ (x.gone ++ (y.gone ++ z.gone))) (done ++ jobs_of table payloads) []
   joined read sent done o =
@@ -199,7 +200,7 @@ one_read {P} tells taken written table olds news i now next arena arena' request
     (owes_more tells taken written table x now next (asked_of i arena requests) (map (payload_at arena') r.own) g r.goes))
     (λ k x y differ g. subst (λ (l : List (List ℕ)). Goes tells taken written table x y [] l)
     (sym (append-nil (asked_of k arena requests)) ∙ ap (λ (l : List (List ℕ)). asked_of k arena requests ++ l) (sym (asked_other i k arena' r.own r.adds.owned differ)) ∙ sym (parts k)) g)
-    where
+  where
     parts : (k : ℕ) → asked_of k arena' requests' ≡ asked_of k arena requests ++ asked_of k arena' r.own
     parts k =
         ap (asked_of k arena') r.adds.are ∙ asked-append k arena' requests r.own
