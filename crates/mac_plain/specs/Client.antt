@@ -80,3 +80,14 @@ pub record Serves {P : Type 0} (tells : Bool) (taken written : P → List ℕ) (
     (before after : Client P) : Type 0 where
   pub payloads : List (List ℕ)
   pub answers : Answers tells taken written before after (jobs_of table payloads)
+
+-- What is promised of so much that was read and written: the first of these jobs are those of what
+-- arrived first, in order, and what was written begins the frames of their replies.
+pub record IsPromised (read written : List ℕ) (jobs : List Job) : Type 0 where
+  pub done : List Job
+  pub missed : List Job
+  pub are : jobs ≡ done ++ missed
+  pub others : List Arrival
+  pub came : (arrivals_of read).arrived ≡ arrivals done ++ others
+  pub rest : List ℕ
+  pub went : written ++ rest ≡ reply_text (arrivals_of read).version (replies done)
