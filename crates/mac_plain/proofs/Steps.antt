@@ -14,8 +14,7 @@ use Rattle.mac_wire.specs.Reply.{reply_text, reply_frame, payloads_from, placed_
 use Rattle.mac_wire.specs.Session.{HasCome, Stands}
 use Rattle.mac_wire.specs.Stream.{Arrivals, arrivals_of, version_told, version_or_one}
 use Rattle.mac_wire.proofs.ReplyText.{payloads-append}
-use Rattle.mac_wire.proofs.Opening.{nothing_arrived}
-use Rattle.mac_wire.proofs.Sessions.{first_nil}
+use Rattle.mac_wire.proofs.Sessions.{come_fronts}
 use Rattle.mac_decide.specs.declared.job.Job.{Job}
 use Rattle.mac_decide.specs.Prepared.{reply_to_job}
 use Rattle.mac_decide.specs.World.{job_under}
@@ -59,27 +58,9 @@ owes_reply session read sent done table payload owed reply is o =
 
 -- what is owed is lost, whatever was to be answered
 pub owes_falls : (session : Session) (read sent : List ℕ) (done more : List Job) (owed : List (List ℕ)) → Owes session read sent done owed → HasFallen session read sent (done ++ more)
-owes_falls session read sent done more owed o = falls session.version refl o.came where
-  falls : (v : Option Version) → session.version ≡ v → HasCome v read (arrivals done ++ asked owed) session.carried.items → HasFallen session read sent (done ++ more)
-  falls None is (none, nothing, empty) = record {
-    told = is ∙ ap version_told (sym none);
-    done = done;
-    missed = more;
-    are = refl;
-    lost = [];
-    came = ap (λ (l : List ℕ). (arrivals_of l).arrived) none ∙ nothing_arrived ∙ sym (first_nil (arrivals done) (asked owed) nothing) ∙ sym (append-nil (arrivals done));
-    went = o.went;
-  }
-  falls (Some v) is (told, are) = record {
-    told = is ∙ sym told;
-    done = done;
-    missed = more;
-    are = refl;
-    lost = asked owed ++ (frames_of (session.carried.items ++ [])).arrived;
-    came = ap (λ (l : List ℕ). (arrivals_of l).arrived) (sym (append-nil read)) ∙ ap (λ (a : Arrivals). a.arrived) (are [])
-        ∙ append_assoc (arrivals done) (asked owed) (frames_of (session.carried.items ++ [])).arrived;
-    went = o.went;
-  }
+owes_falls session read sent done more owed o =
+    let f = come_fronts session.version read session.carried.items (arrivals done) (asked owed) o.came in
+    record { told = f.told; done = done; missed = more; are = refl; lost = f.lost; came = f.came; went = o.went }
 
 pub fallen_more : (session : Session) (read sent : List ℕ) (jobs more : List Job) → HasFallen session read sent jobs → HasFallen session read sent (jobs ++ more)
 fallen_more session read sent jobs more f = record {
@@ -116,9 +97,9 @@ fallen_flush session n read sent jobs f = record {
 
 pub flush_so : (c : Course) (session : Session) (n : ℕ) (read sent : List ℕ) (done : List Job) (owed : List (List ℕ)) → OwesSo c session read sent done owed
     → OwesSo c (record session { unsent = drop n session.unsent }) read (sent ++ take n session.unsent) done owed
-flush_so course.Open session n read sent done owed o = owes_flush session n read sent done owed o
+flush_so course.Open session n read sent done owed o = (owes_flush session n read sent done owed o.0, o.1)
 flush_so course.Wide session n read sent done owed o = owes_flush session n read sent done owed o
-flush_so (course.Ended why) session n read sent done owed o = owes_flush session n read sent done owed o
+flush_so (course.Ended why) session n read sent done owed o = (owes_flush session n read sent done owed o.0, o.1)
 flush_so (course.Fallen why) session n read sent done owed o = fallen_flush session n read sent done o
 
 -- ---- by how it goes on
@@ -126,17 +107,14 @@ flush_so (course.Fallen why) session n read sent done owed o = fallen_flush sess
 abbrev pub IsUp : Course → Type 0
 IsUp c = (why : Fall) → c ≡ course.Fallen why → ⊥
 
-pub so_owes : (c : Course) → IsUp c → (session : Session) (read sent : List ℕ) (done : List Job) (owed : List (List ℕ)) → OwesSo c session read sent done owed → Owes session read sent done owed
-so_owes course.Open up session read sent done owed o = o
-so_owes course.Wide up session read sent done owed o = o
-so_owes (course.Ended why) up session read sent done owed o = o
-so_owes (course.Fallen why) up session read sent done owed o = absurd (up why refl)
-
-pub owes_so : (c : Course) → IsUp c → (session : Session) (read sent : List ℕ) (done : List Job) (owed : List (List ℕ)) → Owes session read sent done owed → OwesSo c session read sent done owed
-owes_so course.Open up session read sent done owed o = o
-owes_so course.Wide up session read sent done owed o = o
-owes_so (course.Ended why) up session read sent done owed o = o
-owes_so (course.Fallen why) up session read sent done owed o = absurd (up why refl)
+-- the next payload that is owed has its reply, and the client goes on as before
+pub reply_so : (c : Course) → IsUp c → (session : Session) (read sent : List ℕ) (done : List Job) (table : Table) (payload : List ℕ) (owed : List (List ℕ)) (reply : Reply)
+    → reply ≡ answer_under table payload → OwesSo c session read sent done (payload ∷ owed)
+    → OwesSo c (after_reply session reply) read sent (done ++ job_under table (arrival.Payload payload) ∷ []) owed
+reply_so course.Open up session read sent done table payload owed reply is o = (owes_reply session read sent done table payload owed reply is o.0, o.1)
+reply_so course.Wide up session read sent done table payload owed reply is o = owes_reply session read sent done table payload owed reply is o
+reply_so (course.Ended why) up session read sent done table payload owed reply is o = (owes_reply session read sent done table payload owed reply is o.0, o.1)
+reply_so (course.Fallen why) up session read sent done table payload owed reply is o = absurd (up why refl)
 
 -- a session stands where nothing is owed
 pub stands_owes : (session : Session) (read sent : List ℕ) (done : List Job) → Stands session read sent (arrivals done) (replies done) → Owes session read sent done []
@@ -155,15 +133,15 @@ owes_stands session read sent done o = record {
 }
 
 pub begins_so : (c : Course) (session : Session) (read sent : List ℕ) (done : List Job) → StandsSo c session read sent done → OwesSo c session read sent done []
-begins_so course.Open session read sent done s = stands_owes session read sent done s
+begins_so course.Open session read sent done s = (stands_owes session read sent done s.0, s.1)
 begins_so course.Wide session read sent done s = stands_owes session read sent done s
-begins_so (course.Ended why) session read sent done s = stands_owes session read sent done s
+begins_so (course.Ended why) session read sent done s = (stands_owes session read sent done s.0, s.1)
 begins_so (course.Fallen why) session read sent done s = s
 
 pub ends_so : (c : Course) (session : Session) (read sent : List ℕ) (done : List Job) → OwesSo c session read sent done [] → StandsSo c session read sent done
-ends_so course.Open session read sent done s = owes_stands session read sent done s
+ends_so course.Open session read sent done s = (owes_stands session read sent done s.0, s.1)
 ends_so course.Wide session read sent done s = owes_stands session read sent done s
-ends_so (course.Ended why) session read sent done s = owes_stands session read sent done s
+ends_so (course.Ended why) session read sent done s = (owes_stands session read sent done s.0, s.1)
 ends_so (course.Fallen why) session read sent done s = s
 
 -- ---- steps of one client, of which nothing came and nothing went
@@ -182,9 +160,9 @@ steps_still c c' s s' read sent done more answered owed step o =
 -- a client that falls, whatever was to be answered
 pub falls_so : (c : Course) (why : Fall) (s : Session) (read sent : List ℕ) (done more : List Job) (owed rest : List (List ℕ))
     → OwesSo c s read sent done owed → OwesSo (course.Fallen why) s read sent (done ++ more) rest
-falls_so course.Open why s read sent done more owed rest o = owes_falls s read sent done more owed o
+falls_so course.Open why s read sent done more owed rest o = owes_falls s read sent done more owed o.0
 falls_so course.Wide why s read sent done more owed rest o = owes_falls s read sent done more owed o
-falls_so (course.Ended w) why s read sent done more owed rest o = owes_falls s read sent done more owed o
+falls_so (course.Ended w) why s read sent done more owed rest o = owes_falls s read sent done more owed o.0
 falls_so (course.Fallen w) why s read sent done more owed rest o = fallen_more s read sent done more o
 
 -- a step of which nothing came and nothing went

@@ -5,6 +5,7 @@ use Rattle.mac_wire.specs.declared.arrival.Arrival.{Arrival}
 use Rattle.mac_wire.specs.declared.arrival.Arrival.TheVariants as arrival
 use Rattle.mac_wire.specs.declared.reply.Reply.{Reply}
 use Rattle.mac_wire.specs.declared.session.Session.{Session}
+use Rattle.mac_wire.specs.Frame.{IsUnfinished}
 use Rattle.mac_wire.specs.Stream.{arrivals_of, version_told, version_or_one}
 use Rattle.mac_wire.specs.Reply.{reply_text}
 use Rattle.mac_wire.specs.Session.{HasCome, Stands}
@@ -42,14 +43,17 @@ pub record HasFallen (session : Session) (read written : List ℕ) (jobs : List 
   pub went : written ++ session.unsent
       ≡ reply_text (version_or_one session.version) (replies done)
 
--- how the session of a client stands that goes on so
+-- How the session of a client stands that goes on so. Only where it goes on wide is a whole frame
+-- carried.
 abbrev pub StandsSo : Course → Session → (read written : List ℕ) → List Job → Type 0
 StandsSo course.Open session read written done =
     Stands session read written (arrivals done) (replies done)
+    × IsUnfinished session.carried.items
 StandsSo course.Wide session read written done =
     Stands session read written (arrivals done) (replies done)
 StandsSo (course.Ended why) session read written done =
     Stands session read written (arrivals done) (replies done)
+    × IsUnfinished session.carried.items
 StandsSo (course.Fallen why) session read written done = HasFallen session read written done
 
 -- so much was read and written on a client, and these are the jobs that it has answered
@@ -76,3 +80,14 @@ pub record Serves {P : Type 0} (tells : Bool) (taken written : P → List ℕ) (
     (before after : Client P) : Type 0 where
   pub payloads : List (List ℕ)
   pub answers : Answers tells taken written before after (jobs_of table payloads)
+
+-- What is promised of so much that was read and written: the first of these jobs are those of what
+-- arrived first, in order, and what was written begins the frames of their replies.
+pub record IsPromised (read written : List ℕ) (jobs : List Job) : Type 0 where
+  pub done : List Job
+  pub missed : List Job
+  pub are : jobs ≡ done ++ missed
+  pub others : List Arrival
+  pub came : (arrivals_of read).arrived ≡ arrivals done ++ others
+  pub rest : List ℕ
+  pub went : written ++ rest ≡ reply_text (arrivals_of read).version (replies done)

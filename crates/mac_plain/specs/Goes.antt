@@ -5,10 +5,12 @@ use Rattle.mac_wire.specs.declared.arrival.Arrival.{Arrival}
 use Rattle.mac_wire.specs.declared.arrival.Arrival.TheVariants as arrival
 use Rattle.mac_wire.specs.declared.reply.Reply.{Reply}
 use Rattle.mac_wire.specs.declared.session.Session.{Session}
+use Rattle.mac_wire.specs.Frame.{IsUnfinished}
 use Rattle.mac_wire.specs.Stream.{version_or_one}
 use Rattle.mac_wire.specs.Reply.{reply_text, reply_frame}
 use Rattle.mac_wire.specs.Session.{HasCome}
 use Rattle.mac_decide.specs.declared.job.Job.{Job}
+use Rattle.mac_plain.specs.Pairs.{EachPair}
 use Rattle.mac_plain.specs.Client.{HasFallen, Passed, arrivals, jobs_of, replies}
 use Rattle.mac_plain.specs.declared.client.Client.{Client}
 use Rattle.mac_plain.specs.declared.course.Course.{Course}
@@ -28,9 +30,11 @@ pub record Owes (session : Session) (read written : List ℕ) (done : List Job)
 
 -- how the session of a client stands in the middle of a round, where it goes on so
 abbrev pub OwesSo : Course → Session → (read written : List ℕ) → List Job → List (List ℕ) → Type 0
-OwesSo course.Open session read written done owed = Owes session read written done owed
+OwesSo course.Open session read written done owed =
+    Owes session read written done owed × IsUnfinished session.carried.items
 OwesSo course.Wide session read written done owed = Owes session read written done owed
-OwesSo (course.Ended why) session read written done owed = Owes session read written done owed
+OwesSo (course.Ended why) session read written done owed =
+    Owes session read written done owed × IsUnfinished session.carried.items
 OwesSo (course.Fallen why) session read written done owed = HasFallen session read written done
 
 -- a session after one more reply
@@ -53,3 +57,17 @@ pub record Goes {P : Type 0} (tells : Bool) (taken written : P → List ℕ) (ta
       → OwesSo before.course before.session read sent done (answered ++ owed)
       → OwesSo after.course after.session (read ++ came) (sent ++ gone)
       (done ++ jobs_of table answered) (owed ++ more)
+
+-- of each client what it owed was answered, the payloads of its place
+abbrev pub AreAnswered : {P : Type 0} → Bool → (taken written : P → List ℕ) → Table
+    → (ℕ → List (List ℕ)) → List (Client P) → List (Client P) → Type 0
+AreAnswered tells taken written table owed olds news =
+    EachPair (λ k before after. Goes tells taken written table before after (owed k) [])
+    olds news
+
+-- each client owes besides what came on it, the payloads of its place
+abbrev pub AreRead : {P : Type 0} → Bool → (taken written : P → List ℕ) → Table
+    → (ℕ → List (List ℕ)) → List (Client P) → List (Client P) → Type 0
+AreRead tells taken written table owed olds news =
+    EachPair (λ k before after. Goes tells taken written table before after [] (owed k))
+    olds news

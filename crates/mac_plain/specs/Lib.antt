@@ -1,5 +1,7 @@
 -- what the contracts mean
 pub mod Port
 pub mod Client
+pub mod Pairs
 pub mod Goes
 pub mod Requests
+pub mod Receiving

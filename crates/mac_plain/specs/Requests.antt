@@ -1,5 +1,5 @@
 -- The requests of a round, where they lie in what was read.
-use Rattle.std.specs.Prelude.{◌≡◌, ℕ, ◌≤◌, Bool, List, [], ◌++◌, All, Some, Option, ◌==◌, length, map, slice_get, slice_range}
+use Rattle.std.specs.Prelude.{◌≡◌, ℕ, ◌≤◌, Bool, List, [], ◌∷◌, ◌++◌, All, Some, Option, ◌==◌, length, map, slice_get, slice_range}
 use Rattle.std.specs.List.{filter}
 use Rattle.mac_keys.specs.Table.{Table}
 use Rattle.mac_wire.specs.declared.reply.Reply.{Reply}
@@ -23,36 +23,23 @@ asked_of owner arena requests = map (payload_at arena) (filter (λ r. r.owner ==
 abbrev pub jobs_at : Table → List ℕ → List Request → List Job
 jobs_at table arena requests = jobs_of table (map (payload_at arena) requests)
 
--- each reply that isn't missing is that to the job at its place
-abbrev pub AreReplies : List Job → List (Option Reply) → Type 0
+-- each reply is that to the job at its place; some at the end may be missing
+abbrev pub AreReplies : List Job → List Reply → Type 0
 AreReplies jobs replies =
-    (i : ℕ) (reply : Reply) → slice_get replies i ≡ Some (Some reply)
+    (i : ℕ) (reply : Reply) → slice_get replies i ≡ Some reply
     → slice_get (map reply_to_job jobs) i ≡ Some reply
-
--- each reply that isn't missing can be sent
-abbrev pub AreSendable : List (Option Reply) → Type 0
-AreSendable replies =
-    (i : ℕ) (reply : Reply) → slice_get replies i ≡ Some (Some reply) → IsReply reply
 
 -- each request lies in that many bytes
 abbrev pub AreWithin : ℕ → List Request → Type 0
 AreWithin room requests = All (λ r. (r.start ≤ r.end) × (r.end ≤ room)) requests
 
--- each pair of elements at the same place, with that place
-abbrev pub EachPair : {A : Type 0} → (ℕ → A → A → Type 0) → List A → List A → Type 0
-EachPair {A} R olds news =
-    (k : ℕ) → (old new : A) → slice_get olds k ≡ Some old → slice_get news k ≡ Some new
-    → R k old new
+-- each request is this owner's
+abbrev pub AreOwned : ℕ → List Request → Type 0
+AreOwned owner [] = Unit {0}
+AreOwned owner (r ∷ rs) = (r.owner ≡ owner) × AreOwned owner rs
 
--- From the one to the other, a client was read: what came lies behind what lay there, and the
--- requests of it that are whole are behind those that were there, as its own.
-pub record Receives {P : Type 0} (tells : Bool) (taken written : P → List ℕ) (table : Table)
-    (owner : ℕ) (before after : Client P) (arena arena' : List ℕ)
-    (requests requests' : List Request) : Type 0 where
-  pub piece : List ℕ
-  pub arena_is : arena' ≡ arena ++ piece
-  pub own : List Request
-  pub requests_are : requests' ≡ requests ++ own
-  pub owned : All (λ r. r.owner ≡ owner) own
-  pub within : AreWithin (length arena') requests'
-  pub goes : Goes tells taken written table before after [] (map (payload_at arena') own)
+-- these requests of this owner, which lie in that many bytes, were put behind others
+pub record Adds (owner room : ℕ) (before after own : List Request) : Type 0 where
+  pub are : after ≡ before ++ own
+  pub owned : AreOwned owner own
+  pub within : AreWithin room own

@@ -1,13 +1,15 @@
 //! The replies to all requests of a round, and whose they are.
 
-ghost use Rattle.std.specs.Prelude.{◌≡◌, ◌≤◌, ℕ, List, [], length, map, slice_get, Some, IfSome};
+ghost use Rattle.std.specs.Prelude.{◌≡◌, ◌≤◌, ℕ, List, [], ◌∷◌, length, map, slice_get, All, IfOk, IfSome, Some};
 ghost use Rattle.mac_keys.specs.Table.{Table};
 ghost use Rattle.mac_wire.specs.Reply.{IsReply};
-ghost use Rattle.mac_decide.specs.Prepared.{reply_to_job};
 ghost use Rattle.mac_decide.specs.Viewed.{viewed};
-ghost use Rattle.mac_plain.specs.Goes.{Goes};
-ghost use Rattle.mac_plain.specs.Requests.{AreReplies, AreSendable, AreWithin, EachPair, asked_of, jobs_at};
+ghost use Rattle.mac_plain.specs.declared.request.Request.{Request};
+ghost use Rattle.mac_plain.specs.Client.{answer_under};
+ghost use Rattle.mac_plain.specs.Goes.{AreAnswered};
+ghost use Rattle.mac_plain.specs.Requests.{AreReplies, AreWithin, asked_of, jobs_at, payload_at};
 
+use crate::NoMemory;
 use crate::client::Client;
 use crate::port::Port;
 use crate::request::Request;
@@ -27,26 +29,57 @@ pub fn answer_requests<P: Port>(
     clients: &mut [Client<P>],
 )
     requires { AreWithin (length arena.now) requests.now }
-    ensures { EachPair (λ k before after. Goes P.tells P.taken P.written keys.now
-        before after (asked_of k arena.now requests.now) []) clients.old clients.new }
+    ensures { AreAnswered P.tells P.taken P.written keys.now
+        (λ k. asked_of k arena.now requests.now) clients.old clients.new }
 {
     let mut at = 0;
     while at < requests.len() {
         let end = requests.len().min(at + RUN);
-        let run = &requests[at..end];
-        let jobs = jobs_of_run(keys, arena, run);
-        let replies = replies_to(rooms, alloc, jobs.as_slice());
-        hand_out(run, replies.as_slice(), clients);
+        answer_some(rooms, alloc, keys, arena, &requests[at..end], clients);
         at = end;
     }
 }
 
-/// The requests of a run, with the keys that they name, where they lie.
-fn jobs_of_run<'a>(
+/// Answers a run of requests together, or each by itself where memory is refused for all.
+fn answer_some<P: Port>(
+    rooms: &mut Rooms,
+    alloc: Global,
     keys: &KeyTable,
-    arena: &'a [u8],
+    arena: &[u8],
     run: &[Request],
-) -> ArrayVec<JobView<'a>, RUN>
+    clients: &mut [Client<P>],
+)
+    requires count { length run.now ≤ RUN }
+    requires within { AreWithin (length arena.now) run.now }
+    ensures { AreAnswered P.tells P.taken P.written keys.now
+        (λ k. asked_of k arena.now run.now) clients.old clients.new }
+{
+    match replies_to(rooms, alloc, keys, arena, run) {
+        Ok(replies) => hand_out(run, replies.as_slice(), clients),
+        Err(_) => answer_apart(rooms, alloc, keys, arena, run, clients),
+    }
+}
+
+/// The replies to a run of requests.
+fn replies_to(
+    rooms: &mut Rooms,
+    alloc: Global,
+    keys: &KeyTable,
+    arena: &[u8],
+    run: &[Request],
+) -> Result<ArrayVec<Reply, RUN>, NoMemory>
+    requires count { length run.now ≤ RUN }
+    requires within { AreWithin (length arena.now) run.now }
+    ensures replies { IfOk result (λ replies.
+        AreReplies (jobs_at keys.now arena.now run.now) replies.items) }
+    ensures sendable { IfOk result (λ replies. All IsReply replies.items) }
+{
+    let jobs = jobs_of_run(keys, arena, run);
+    answer_run(rooms, alloc, jobs.as_slice())
+}
+
+/// The requests of a run, with the keys that they name, where they lie.
+fn jobs_of_run<'a>(keys: &KeyTable, arena: &'a [u8], run: &[Request]) -> ArrayVec<JobView<'a>, RUN>
     requires count { length run.now ≤ RUN }
     requires within { AreWithin (length arena.now) run.now }
     ensures { map viewed result.items ≡ jobs_at keys.now arena.now run.now }
@@ -58,76 +91,79 @@ fn jobs_of_run<'a>(
     jobs
 }
 
-/// The replies to the jobs of a run. One is missing where memory is refused for it alone.
-fn replies_to(
+/// Answers each request of a run by itself.
+fn answer_apart<P: Port>(
     rooms: &mut Rooms,
     alloc: Global,
-    jobs: &[JobView<'_>],
-) -> ArrayVec<Option<Reply>, RUN>
-    requires { length jobs.now ≤ RUN }
-    ensures replies { AreReplies (map viewed jobs.now) result.items }
-    ensures sendable { AreSendable result.items }
+    keys: &KeyTable,
+    arena: &[u8],
+    run: &[Request],
+    clients: &mut [Client<P>],
+)
+    requires { AreWithin (length arena.now) run.now }
+    ensures { AreAnswered P.tells P.taken P.written keys.now
+        (λ k. asked_of k arena.now run.now) clients.old clients.new }
 {
-    match answer_run(rooms, alloc, jobs) {
-        Ok(replies) => all_there(replies),
-        Err(_) => replies_apart(rooms, alloc, jobs),
+    for index in 0..run.len() {
+        let one = &run[index..index + 1];
+        answer_alone(rooms, alloc, keys, arena, one, clients);
     }
 }
 
-/// Replies of which none is missing.
-fn all_there(replies: ArrayVec<Reply, RUN>) -> ArrayVec<Option<Reply>, RUN>
-    ensures { result.items ≡ map Some replies.items }
-{
-    let mut all = ArrayVec::new();
-    for reply in replies {
-        all.push(Some(reply));
-    }
-    all
-}
-
-/// The replies to the jobs of a run, each answered by itself.
-fn replies_apart(
+/// Answers one request, or lets its client fall where memory is refused for it.
+fn answer_alone<P: Port>(
     rooms: &mut Rooms,
     alloc: Global,
-    jobs: &[JobView<'_>],
-) -> ArrayVec<Option<Reply>, RUN>
-    requires { length jobs.now ≤ RUN }
-    ensures replies { AreReplies (map viewed jobs.now) result.items }
-    ensures sendable { AreSendable result.items }
+    keys: &KeyTable,
+    arena: &[u8],
+    one: &[Request],
+    clients: &mut [Client<P>],
+)
+    requires count { length one.now ≤ RUN }
+    requires within { AreWithin (length arena.now) one.now }
+    ensures { AreAnswered P.tells P.taken P.written keys.now
+        (λ k. asked_of k arena.now one.now) clients.old clients.new }
 {
-    let mut replies = ArrayVec::new();
-    for job in jobs {
-        replies.push(answer_alone(rooms, alloc, *job));
+    match replies_to(rooms, alloc, keys, arena, one) {
+        Ok(replies) => hand_out(one, replies.as_slice(), clients),
+        Err(_) => hand_out(one, &[], clients),
     }
-    replies
 }
 
-/// The reply to a job by itself, where memory isn't refused.
-fn answer_alone(rooms: &mut Rooms, alloc: Global, job: JobView<'_>) -> Option<Reply>
-    ensures { IfSome result (λ reply. (reply ≡ reply_to_job (viewed job)) × IsReply reply) }
-{
-    answer_run(rooms, alloc, &[job]).ok()?.pop()
-}
-
-/// Gives each client the replies to its own requests, in order. Where a reply is missing the client
-/// has fallen.
-fn hand_out<P: Port>(run: &[Request], replies: &[Option<Reply>], clients: &mut [Client<P>])
-    requires { AreSendable replies.now }
+/// Gives each client the replies to its own requests, in order. Where one is missing the client has
+/// fallen.
+fn hand_out<P: Port>(run: &[Request], replies: &[Reply], clients: &mut [Client<P>])
+    requires { All IsReply replies.now }
     ensures { (table : Table) (arena : List ℕ)
         → AreReplies (jobs_at table arena run.now) replies.now
-        → EachPair (λ k before after. Goes P.tells P.taken P.written table
-        before after (asked_of k arena run.now) []) clients.old clients.new }
+        → AreAnswered P.tells P.taken P.written table
+        (λ k. asked_of k arena run.now) clients.old clients.new }
 {
-    for (index, request) in run.iter().enumerate() {
-        if request.owner < clients.len() {
-            clients[request.owner].answer(reply_at(replies, index));
-        }
+    for index in 0..run.len() {
+        give(&run[index..index + 1], reply_at(replies, index), clients);
     }
 }
 
-/// The reply at a place, where it isn't missing.
-fn reply_at(replies: &[Option<Reply>], index: usize) -> Option<&Reply>
-    ensures { IfSome result (λ reply. slice_get replies.now index ≡ Some (Some reply.now)) }
+/// The reply at a place, where there is one.
+fn reply_at(replies: &[Reply], index: usize) -> Option<&Reply>
+    requires { All IsReply replies.now }
+    ensures sendable { IfSome result (λ reply. IsReply reply.now) }
+    ensures there { IfSome result (λ reply. slice_get replies.now index ≡ Some reply.now) }
 {
-    replies.get(index)?.as_ref()
+    replies.get(index)
+}
+
+/// Gives a request's client the reply to it.
+fn give<P: Port>(one: &[Request], reply: Option<&Reply>, clients: &mut [Client<P>])
+    requires reply { IfSome reply (λ r. IsReply r.now) }
+    requires one { length one.now ≡ 1 }
+    ensures { (table : Table) (arena : List ℕ) (request : Request) → one.now ≡ request ∷ []
+        → IfSome reply.entry (λ r. r.now ≡ answer_under table (payload_at arena request))
+        → AreAnswered P.tells P.taken P.written table
+        (λ k. asked_of k arena one.now) clients.old clients.new }
+{
+    let owner = one[0].owner;
+    if owner < clients.len() {
+        clients[owner].answer(reply);
+    }
 }

@@ -1,6 +1,6 @@
 //! A plain connection.
 
-ghost use Rattle.std.specs.Prelude.{◌≡◌, ◌⊎◌, ◌↔◌, ℕ, List, [], ◌∷◌, length, IsTrue, IfSome, OnOk, OnErr};
+ghost use Rattle.std.specs.Prelude.{◌≡◌, ◌⊎◌, ◌↔◌, ℕ, List, [], ◌∷◌, ◌<◌, length, IsTrue, IfSome, OnOk, OnErr};
 ghost use Rattle.mac_keys.specs.Table.{Table};
 ghost use Rattle.mac_wire.specs.declared.arrival.Arrival.TheVariants as arrival;
 ghost use Rattle.mac_wire.specs.Reply.{IsReply};
@@ -121,7 +121,9 @@ impl<P: Port> Client<P> {
     }
 
     /// Whether it is to be read: it is open, something may be there, and not too much is unsent.
-    pub(crate) fn may_read(&self, unsent_max: usize) -> bool {
+    pub(crate) fn may_read(&self, unsent_max: usize) -> bool
+        ensures { IsTrue result → length self.now.session.unsent < unsent_max }
+    {
         self.course == Course::Open
             && self.is_readable
             && !self.is_mute

@@ -1,19 +1,18 @@
 //! What comes on a plain connection.
 
-ghost use Rattle.std.specs.Prelude.{◌≡◌, ◌≤◌, ◌++◌, ◌∷◌, [], ℕ, List, length, drop, map, IfOk, vec_len, All};
+ghost use Rattle.std.specs.Prelude.{◌≡◌, ◌≤◌, ℕ, List, length, IfOk};
 ghost use Rattle.mac_keys.specs.Table.{Table};
-ghost use Rattle.mac_plain.specs.Goes.{Goes};
-ghost use Rattle.mac_plain.specs.Requests.{AreWithin, Receives};
-ghost use Rattle.mac_plain.specs.declared.request.Request.{Request};
+ghost use Rattle.mac_plain.specs.Receiving.{Cuts, Joins, Receives, TakesIn};
+ghost use Rattle.mac_plain.specs.Requests.{AreWithin};
 
 use crate::NoMemory;
 use crate::client::{Client, PLAIN_MAX};
 use crate::course::{Course, Ended, Fall};
 use crate::port::{Came, Port};
 use crate::request::Request;
-use mac_wire::{Cut, Version, next_frame, opened};
+use mac_wire::{Cut, Session, next_frame, opened};
 
-/// Reads a client once, and cuts what has come into requests. What is carried stands in front.
+/// Reads a client once, where it is open, and cuts what has come into requests.
 pub fn receive<P: Port>(
     client: &mut Client<P>,
     piece: &mut [u8],
@@ -21,50 +20,60 @@ pub fn receive<P: Port>(
     requests: &mut Vec<Request>,
     owner: usize,
 )
-    requires { AreWithin (vec_len arena.old) requests.old.items }
-    ensures { (table : Table) → Receives P.tells P.taken P.written table
+    requires { AreWithin (length arena.old.items) requests.old.items }
+    ensures within { AreWithin (length arena.new.items) requests.new.items }
+    ensures receives { (table : Table) → Receives P.tells P.taken P.written table
         owner client.old client.new arena.old.items arena.new.items
         requests.old.items requests.new.items }
 {
-    let count = match client.port.read(piece) {
-        Came::Bytes(count) => count,
-        Came::Later => {
-            client.is_readable = false;
-            return;
-        }
-        Came::End => {
-            client.course = Course::Ended(Ended::Peer);
-            return;
-        }
-        Came::Fault => {
-            client.course = Course::Ended(Ended::Fault);
-            return;
-        }
+    let Course::Open = client.course else {
+        return;
     };
-    client.is_readable = count == piece.len();
-    if take_in(client, &piece[..count], arena, requests, owner).is_err() {
-        client.course = Course::Fallen(Fall::NoMemory);
+    match client.port.read(piece) {
+        Came::Bytes(count) => {
+            client.is_readable = count == piece.len();
+            let came = &piece[..count];
+            client.course = take_in(&mut client.session, came, arena, requests, owner);
+        }
+        Came::Later => client.is_readable = false,
+        Came::End => client.course = Course::Ended(Ended::Peer),
+        Came::Fault => client.course = Course::Ended(Ended::Fault),
     }
 }
 
-/// Takes in what came: the requests that are whole with it, and the rest, which is carried.
-fn take_in<P: Port>(
-    client: &mut Client<P>,
+/// Takes in what came, and says how the connection goes on.
+fn take_in(
+    session: &mut Session,
     piece: &[u8],
     arena: &mut Vec<u8>,
     requests: &mut Vec<Request>,
     owner: usize,
-) -> Result<(), NoMemory> {
-    let (version, frames) = opened(client.session.version, piece);
-    client.session.version = version;
+) -> Course
+    requires { AreWithin (length arena.old.items) requests.old.items }
+    ensures { TakesIn owner piece.now session.old session.new arena.old.items arena.new.items
+        requests.old.items requests.new.items result }
+{
+    let (version, frames) = opened(session.version, piece);
+    session.version = version;
     let start = arena.len();
-    arena.extend_from_slice(client.session.carried.as_slice())?;
-    arena.extend_from_slice(frames)?;
-    let (rest, is_plain) = cut_requests(arena.as_slice(), start, owner, requests)?;
-    if !is_plain {
-        client.course = Course::Wide;
+    if let Err(_) = join(arena, session.carried.as_slice(), frames) {
+        return Course::Fallen(Fall::NoMemory);
     }
-    carry(&mut client.session.carried, &arena[rest..])
+    match cut_requests(arena.as_slice(), start, owner, requests) {
+        Ok((at, course)) => match carry(&mut session.carried, &arena[at..]) {
+            Ok(()) => course,
+            Err(_) => Course::Fallen(Fall::NoMemory),
+        },
+        Err(_) => Course::Fallen(Fall::NoMemory),
+    }
+}
+
+/// Puts two pieces behind what lies there.
+fn join(arena: &mut Vec<u8>, first: &[u8], second: &[u8]) -> Result<(), NoMemory>
+    ensures { Joins arena.old.items first.now second.now result arena.new.items }
+{
+    arena.extend_from_slice(first)?;
+    arena.extend_from_slice(second)
 }
 
 /// Carries these bytes, and no others. It keeps no memory for none.
@@ -78,15 +87,16 @@ fn carry(carried: &mut Vec<u8>, bytes: &[u8]) -> Result<(), NoMemory>
     carried.extend_from_slice(bytes)
 }
 
-/// Cuts what lies behind a place into requests of this owner. It gives the place of the rest, and
-/// whether that is the beginning of a request that isn't too great for a loop.
+/// Cuts what lies behind a place into requests of this owner, as long as they aren't too great for
+/// a loop. It gives the place of the rest, and how the connection goes on.
 fn cut_requests(
     arena: &[u8],
     from: usize,
     owner: usize,
     requests: &mut Vec<Request>,
-) -> Result<(usize, bool), NoMemory>
-    requires from { from ≤ length arena.now }
+) -> Result<(usize, Course), NoMemory>
+    requires { from ≤ length arena.now }
+    ensures { Cuts arena.now from owner requests.old.items requests.new.items result }
 {
     let mut at = from;
     loop {
@@ -97,8 +107,8 @@ fn cut_requests(
                 requests.push(Request { owner, start, end })?;
                 at = end;
             }
-            Cut::Unfinished => return Ok((at, true)),
-            Cut::TooLong(_) => return Ok((at, false)),
+            Cut::Unfinished => return Ok((at, Course::Open)),
+            Cut::TooLong(_) => return Ok((at, Course::Wide)),
         }
     }
 }

@@ -1,16 +1,19 @@
 //! A round of a loop: what has come on many connections is answered together.
 
-ghost use Rattle.std.specs.Prelude.{◌≡◌, ◌<◌, ◌≤◌, [], ℕ, List, length, vec_len, IfOk, IfSome, slice_get, Some};
+ghost use Rattle.std.specs.Prelude.{◌≡◌, ◌≤◌, [], length, vec_len};
+ghost use Rattle.mac_keys.specs.Table.{Table};
 ghost use Rattle.mac_plain.specs.Client.{Serves};
-ghost use Rattle.mac_plain.specs.Goes.{Goes};
-ghost use Rattle.mac_plain.specs.Requests.{AreWithin, EachPair, asked_of};
+ghost use Rattle.mac_plain.specs.Goes.{AreAnswered, AreRead};
+ghost use Rattle.mac_plain.specs.Receiving.{Receives};
+ghost use Rattle.mac_plain.specs.Pairs.{EachPair};
+ghost use Rattle.mac_plain.specs.Requests.{AreWithin, asked_of};
 
 use crate::NoMemory;
+use crate::answering::answer_requests;
 use crate::client::Client;
 use crate::port::Port;
 use crate::receiving::receive;
 use crate::request::Request;
-use crate::answering::answer_requests;
 use mac_decide::Rooms;
 use mac_keys::KeyTable;
 use std::alloc::Global;
@@ -21,7 +24,7 @@ pub const PIECE: usize = 16_384;
 /// How many bytes a round reads from all clients together: past them the others wait for the next.
 pub const ROUND_MAX: usize = 131_072;
 
-/// What a loop keeps from round to round: room for what it reads.
+/// What a loop keeps from round to round: room for what it reads, and for what answering asks for.
 #[derive(Drop)]
 pub struct Round {
     alloc: Global,
@@ -53,7 +56,13 @@ impl Round {
     {
         self.arena.clear();
         self.requests.clear();
-        self.receive_all(clients, unsent_max);
+        receive_all(
+            self.piece.as_mut_slice(),
+            &mut self.arena,
+            &mut self.requests,
+            clients,
+            unsent_max,
+        );
         answer_requests(
             &mut self.rooms,
             self.alloc,
@@ -62,23 +71,66 @@ impl Round {
             self.requests.as_slice(),
             clients,
         );
-        for index in 0..clients.len() {
-            clients[index].flush();
-        }
+        flush_all(clients);
     }
+}
 
-    /// Reads each client that is to be read, as long as there is room.
-    fn receive_all<P: Port>(&mut self, clients: &mut [Client<P>], unsent_max: usize) {
-        for index in 0..clients.len() {
-            if self.arena.len() < ROUND_MAX && clients[index].may_read(unsent_max) {
-                receive(
-                    &mut clients[index],
-                    self.piece.as_mut_slice(),
-                    &mut self.arena,
-                    &mut self.requests,
-                    index,
-                );
-            }
-        }
+/// Reads each client that is to be read, as long as there is room.
+fn receive_all<P: Port>(
+    piece: &mut [u8],
+    arena: &mut Vec<u8>,
+    requests: &mut Vec<Request>,
+    clients: &mut [Client<P>],
+    unsent_max: usize,
+)
+    requires { requests.old.items ≡ [] }
+    ensures within { AreWithin (length arena.new.items) requests.new.items }
+    ensures read { (table : Table) → AreRead P.tells P.taken P.written table
+        (λ k. asked_of k arena.new.items requests.new.items) clients.old clients.new }
+{
+    for index in 0..clients.len() {
+        visit(
+            &mut clients[index],
+            piece,
+            arena,
+            requests,
+            index,
+            unsent_max,
+        );
+    }
+}
+
+/// Reads a client, where it is to be read and there is room.
+fn visit<P: Port>(
+    client: &mut Client<P>,
+    piece: &mut [u8],
+    arena: &mut Vec<u8>,
+    requests: &mut Vec<Request>,
+    owner: usize,
+    unsent_max: usize,
+)
+    requires { AreWithin (length arena.old.items) requests.old.items }
+    ensures receives { (table : Table) → Receives P.tells P.taken P.written table
+        owner client.old client.new arena.old.items arena.new.items
+        requests.old.items requests.new.items }
+    ensures within { AreWithin (length arena.new.items) requests.new.items }
+    ensures unread { unsent_max ≤ length client.old.session.unsent → client.new ≡ client.old }
+{
+    if arena.len() >= ROUND_MAX {
+        return;
+    }
+    if !client.may_read(unsent_max) {
+        return;
+    }
+    receive(client, piece, arena, requests, owner);
+}
+
+/// Writes to each client that has something unsent.
+fn flush_all<P: Port>(clients: &mut [Client<P>])
+    ensures { (table : Table) → AreRead P.tells P.taken P.written table
+        (λ _. []) clients.old clients.new }
+{
+    for index in 0..clients.len() {
+        clients[index].flush();
     }
 }

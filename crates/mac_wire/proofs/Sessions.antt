@@ -1,27 +1,28 @@
 -- A connection between two requests, and the reader that goes on with it.
-use Rattle.std.proofs.Common.{◌≡◌, ℕ, inl, inr, List, [], ◌∷◌, ◌++◌, refl, sym, ap, subst, ◌∙◌, arith}
+use Rattle.std.proofs.Common.{◌≡◌, ℕ, ◌+◌, ◌≤◌, inl, inr, List, [], ◌∷◌, ◌++◌, length, take, drop, refl, sym, ap, subst, ◌∙◌, append_assoc, arith}
 use Rattle.std.specs.Prelude.{Option, Some, None}
-use Rattle.std.proofs.lemmas.Bool.{cases_eq}
-use Rattle.std.proofs.lemmas.List.{append-nil}
+use Rattle.std.specs.Int.{w32, from_be_bytes}
+use Rattle.std.proofs.lemmas.Bool.{cases_eq, eq-eqb, ne_eqb}
+use Rattle.std.proofs.lemmas.List.{append-nil, nil_from_length, take-append-drop, length-take, take-take, drop-take}
 use Rattle.mac_wire.specs.declared.arrival.Arrival.{Arrival}
+use Rattle.mac_wire.specs.declared.arrival.Arrival.TheVariants as arrival
 use Rattle.mac_wire.specs.declared.arrival.Ending.TheVariants as ending
+use Rattle.mac_wire.specs.declared.arrival.TheConstants.{FRAME_MAX}
 use Rattle.mac_wire.specs.declared.frame.Stage.{Stage}
 use Rattle.mac_wire.specs.declared.frame.Stage.TheVariants as stage
 use Rattle.mac_wire.specs.declared.version.Version.{Version}
 use Rattle.mac_wire.specs.declared.version.Version.TheVariants as version
 use Rattle.mac_wire.specs.declared.version.TheConstants.{HELLO}
-use Rattle.mac_wire.specs.Frame.{Frames, frames_of, followed_by}
+use Rattle.mac_wire.specs.Cut.{IsFront}
+use Rattle.mac_wire.specs.Frame.{Frames, Arrive, frames_of, followed_by, told_length}
+use Rattle.mac_wire.specs.Partial.{IsWhole}
 use Rattle.mac_wire.specs.Stream.{Arrivals, arrivals_of, in_version, version_told}
 use Rattle.mac_wire.specs.FrameReader.{HasReadTo, HasReadIn}
-use Rattle.mac_wire.specs.Session.{HasCome}
-use Rattle.mac_wire.specs.Steps.{Cuts}
+use Rattle.mac_wire.specs.Session.{HasCome, Fronts}
+use Rattle.mac_wire.specs.Steps.{Cuts, told_after, frames_after}
 use Rattle.mac_wire.proofs.Cutting.{followed_by-append, nothing_unfinished}
-use Rattle.mac_wire.proofs.Frames.{frames_of-nothing, frames_of-unfinished}
-use Rattle.mac_wire.proofs.Opening.{arrivals_of-hello, arrivals_of-other, tells_hello, tells_other}
-
--- however the frames go on, these are their arrivals, and then those of the rest
-abbrev Arrive : List ℕ → List Arrival → List ℕ → Type 0
-Arrive frames arrived rest = (more : List ℕ) → frames_of (frames ++ more) ≡ followed_by arrived (frames_of (rest ++ more))
+use Rattle.mac_wire.proofs.Frames.{frames_of-nothing, frames_of-unfinished, frames_of-whole}
+use Rattle.mac_wire.proofs.Opening.{arrivals_of-hello, arrivals_of-other, nothing_arrived, tells_hello, tells_other, told_more}
 
 goes_on : (s : Stage) (frames carried : List ℕ) (arrived more : List Arrival) → Arrive frames arrived carried
     → HasReadTo s carried more → HasReadTo s frames (arrived ++ more)
@@ -95,3 +96,70 @@ carries (Some version.Two) held stream handed (rest, is, read) = (
   ap version_told is ∙ sym (tells_hello HELLO rest refl),
   λ more. ap (λ (l : List ℕ). arrivals_of (l ++ more)) is ∙ arrivals_of-hello (rest ++ more) ∙ ap (in_version version.Two) (read.1 more),
 )
+
+-- ---- more of a stream, behind what is carried
+
+-- a piece more came: it stands behind what was carried
+pub come_more : (v : Option Version) (read carried piece : List ℕ) (arrived : List Arrival) → HasCome v read arrived carried
+    → HasCome (told_after v piece) (read ++ piece) arrived (carried ++ frames_after v piece)
+unfolding arrivals_of
+come_more None read carried [] arrived (none, nothing, empty) = (ap (λ (l : List ℕ). l ++ []) none, nothing, ap (λ (l : List ℕ). l ++ []) empty)
+come_more None read carried (first ∷ rest) arrived (none, nothing, empty) =
+    let piece : List ℕ = first ∷ rest in
+    subst (λ (l : List ℕ). HasCome (version_told piece) (l ++ piece) arrived (carried ++ frames_after None piece)) (sym none)
+    (subst (λ (l : List ℕ). HasCome (version_told piece) piece arrived (l ++ frames_after None piece)) (sym empty)
+    (subst (λ (l : List Arrival). HasCome (version_told piece) piece l (frames_after None piece)) (sym nothing)
+    (elim (cases_eq first HELLO) [
+      | inl hello ↦ rw (eq-eqb first HELLO hello) (refl, λ more. refl)
+      | inr other ↦ rw (ne_eqb first HELLO other) (refl, λ more. refl)
+    ])))
+come_more (Some v) read carried piece arrived (told, are) = (
+  told_more read piece v told,
+  λ more. ap arrivals_of (append_assoc read piece more) ∙ are (piece ++ more)
+      ∙ ap (λ (l : List ℕ). in_version v (followed_by arrived (frames_of l))) (sym (append_assoc carried piece more)),
+)
+
+-- some of the rest was cut off
+pub come_cut : (v : Option Version) (read rest behind : List ℕ) (arrived more : List Arrival) → HasCome v read arrived rest
+    → Arrive rest more behind → length behind ≤ length rest → HasCome v read (arrived ++ more) behind
+come_cut None read rest behind arrived more (none, nothing, empty) are shorter =
+    let same : behind ≡ [] = nil_from_length behind (omega (arith, shorter, ap length empty)) in
+    let clean : more ++ (frames_of []).arrived ≡ [] =
+    ap (λ (l : List ℕ). more ++ (frames_of (l ++ [])).arrived) (sym same) ∙ ap (λ (f : Frames). f.arrived) (sym (are []))
+    ∙ ap (λ (l : List ℕ). (frames_of (l ++ [])).arrived) empty ∙ ap (λ (f : Frames). f.arrived) frames_of-nothing in
+    (none, ap (λ (l : List Arrival). l ++ more) nothing ∙ first_nil more (frames_of []).arrived clean, same)
+come_cut (Some v) read rest behind arrived more (told, come) are shorter =
+    (told, λ m. come m ∙ ap (λ (f : Frames). in_version v (followed_by arrived f)) (are m) ∙ ap (in_version v) (followed_by-append arrived more (frames_of (behind ++ m))))
+
+pub come_fronts : (v : Option Version) (read rest : List ℕ) (front owed : List Arrival) → HasCome v read (front ++ owed) rest → Fronts v read front
+come_fronts None read rest front owed (none, nothing, empty) = record {
+  told = ap version_told (sym none);
+  lost = [];
+  came = ap (λ (l : List ℕ). (arrivals_of l).arrived) none ∙ nothing_arrived ∙ sym (first_nil front owed nothing) ∙ sym (append-nil front);
+}
+come_fronts (Some v) read rest front owed (told, are) = record {
+  told = sym told;
+  lost = owed ++ (frames_of (rest ++ [])).arrived;
+  came = ap (λ (l : List ℕ). (arrivals_of l).arrived) (sym (append-nil read)) ∙ ap (λ (a : Arrivals). a.arrived) (are [])
+      ∙ append_assoc front owed (frames_of (rest ++ [])).arrived;
+}
+
+-- a frame in front arrives, and then what is behind it
+pub front_arrives : (most : ℕ) (bytes payload rest : List ℕ) → most ≤ FRAME_MAX → IsFront most bytes payload rest → Arrive bytes (arrival.Payload payload ∷ []) rest
+front_arrives most bytes payload rest fits f more =
+    let told : ℕ = told_length bytes in
+    let front : List ℕ = take (4 + told) bytes in
+    let parts : bytes ≡ front ++ rest = sym (take-append-drop (4 + told) bytes) ∙ ap (λ (l : List ℕ). front ++ l) (sym f.rest_is) in
+    let size : length front ≡ 4 + told = omega (arith, length-take (4 + told) bytes, f.whole) in
+    let same : told_length front ≡ told = ap (from_be_bytes w32) (take-take 4 (4 + told) bytes (omega arith)) in
+    let whole : IsWhole front payload = record {
+      long = omega (arith, size);
+      allowed = subst (λ (n : ℕ). n ≤ FRAME_MAX) (sym same) (omega (arith, f.allowed, fits));
+      complete = size ∙ ap (λ (n : ℕ). 4 + n) (sym same);
+      is_payload = f.payload_is ∙ sym (drop-take 4 told bytes);
+    } in
+    ap (λ (l : List ℕ). frames_of (l ++ more)) parts ∙ ap frames_of (append_assoc front rest more) ∙ frames_of-whole front payload (rest ++ more) whole
+
+pub arrive_both : (a b c : List ℕ) (first second : List Arrival) → Arrive a first b → Arrive b second c → Arrive a (first ++ second) c
+arrive_both a b c first second one two more =
+    one more ∙ ap (followed_by first) (two more) ∙ followed_by-append first second (frames_of (c ++ more))

@@ -1,5 +1,5 @@
 -- Frames, and the arrivals of a run of them. The format is this project's own.
-use Rattle.std.specs.Prelude.{ℕ, zero, suc, ◌+◌, ◌<◌, ◌≤◌, List, [], ◌∷◌, ◌++◌, length, take, drop, nat_lt, ◌==◌, if◌then◌else◌}
+use Rattle.std.specs.Prelude.{◌≡◌, ℕ, zero, suc, ◌+◌, ◌<◌, ◌≤◌, List, [], ◌∷◌, ◌++◌, length, take, drop, nat_lt, ◌==◌, if◌then◌else◌}
 use Rattle.std.specs.Int.{w32, to_be_bytes, from_be_bytes}
 use Rattle.std.specs.List.{flat_map}
 use Rattle.mac_wire.specs.declared.arrival.Arrival.{Arrival}
@@ -53,3 +53,8 @@ frames_within (suc frames) bytes =
 -- the arrivals of frames: no frame is empty, so there are at most as many frames as bytes
 unfoldable pub frames_of : List ℕ → Frames
 frames_of bytes = frames_within (length bytes) bytes
+
+-- however the frames go on, these are their arrivals, and then those of the rest and of what comes
+abbrev pub Arrive : List ℕ → List Arrival → List ℕ → Type 0
+Arrive frames arrived rest =
+    (more : List ℕ) → frames_of (frames ++ more) ≡ followed_by arrived (frames_of (rest ++ more))

@@ -17,6 +17,12 @@ HasCome (Some v) read arrived rest =
     × ((more : List ℕ) → arrivals_of (read ++ more)
     ≡ in_version v (followed_by arrived (frames_of (rest ++ more))))
 
+-- what stands in front of all that arrived, and the version that it was told in
+pub record Fronts (v : Option Version) (read : List ℕ) (front : List Arrival) : Type 0 where
+  pub told : v ≡ version_told read
+  pub lost : List Arrival
+  pub came : (arrivals_of read).arrived ≡ front ++ lost
+
 -- These arrivals of what was read have their replies, the others are in the rest; what was written
 -- and what is unsent are together the frames of the replies, in order, each at its place.
 pub record HasAnswered (session : Session) (rest read written : List ℕ)

@@ -7,7 +7,10 @@ ghost use Rattle.std.specs.Option.{option_map};
 ghost use Rattle.mac_wire.specs.declared.arrival.Arrival.{Arrival};
 ghost use Rattle.mac_wire.specs.declared.reply.Reply.{Reply};
 ghost use Rattle.mac_wire.specs.declared.frame.FrameReader.{FrameReader};
-ghost use Rattle.mac_wire.specs.Frame.{frame, frames_of, followed_by};
+ghost use Rattle.mac_wire.specs.declared.session.Session.{Session};
+ghost use Rattle.mac_wire.specs.Cut.{IsFront};
+ghost use Rattle.mac_wire.specs.Session.{Fronts, Stands};
+ghost use Rattle.mac_wire.specs.Frame.{frame, frames_of, followed_by, Arrive};
 ghost use Rattle.mac_wire.specs.Stream.{arrivals_of, in_version};
 ghost use Rattle.mac_wire.specs.FrameReader.{HasRead, HasEnded};
 ghost use Rattle.mac_wire.specs.KeyName.{HasName};
@@ -158,4 +161,19 @@ pub fn oversize_ends()
 /// Frames that compare as equal are equal.
 pub fn equal_arrivals()
     ensures { (a b : Arrival) → ⟦<Arrival as PartialEq>⟧.eq a b ≡ true → a ≡ b }
+{}
+
+/// A frame that is cut off arrives, and then what is behind it.
+pub fn cut_frames_arrive()
+    ensures { (most : ℕ) (bytes payload rest : List ℕ) → most ≤ FRAME_MAX
+        → IsFront most bytes payload rest
+        → Arrive bytes (Arrival.Payload payload ∷ []) rest }
+{}
+
+/// Where a session stands, what arrived before what is carried is answered: what was written is a
+/// beginning of the replies' frames.
+pub fn what_stands_has_arrived()
+    ensures { (session : Session) (read written : List ℕ) (arrived : List Arrival)
+        (replies : List Reply) → Stands session read written arrived replies
+        → Fronts session.version read arrived }
 {}

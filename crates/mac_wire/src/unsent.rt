@@ -62,12 +62,7 @@ impl Unsent {
     }
 
     /// Puts the whole frame of the reply at a place behind what waits.
-    pub fn append(
-        &mut self,
-        reply: &Reply,
-        version: Version,
-        place: u64,
-    ) -> Result<(), NoMemory>
+    pub fn append(&mut self, reply: &Reply, version: Version, place: u64) -> Result<(), NoMemory>
         requires { IsReply reply.now }
         ensures appended { OnOk result
             (self.new ≡ self.old ++ reply_frame version place reply.now) }

@@ -7,7 +7,7 @@ use Rattle.mac_plain.specs.declared.client.Client.{Client}
 use Rattle.mac_plain.specs.declared.course.Course.{Course}
 use Rattle.mac_plain.specs.declared.course.Course.TheVariants as course
 use Rattle.mac_plain.specs.declared.course.Fall.TheVariants as fall
-use Rattle.mac_plain.proofs.Steps.{goes_still, falls_so, so_owes, owes_so, owes_reply}
+use Rattle.mac_plain.proofs.Steps.{goes_still, falls_so, reply_so}
 use Rattle.mac_plain.proofs.client.Client.answer.Goals as goal
 
 pub returns-in-Fallen : goal.returns-in-Fallen
@@ -40,6 +40,4 @@ returns-in_default-put g c table payload is =
     goes_still g.P.Port.tells g.P.Port.taken g.P.Port.written table me c.put.new.self (payload ∷ [])
     (ap (λ (x : Client g.row.P.Denot). x.port) put)
     (λ read sent done owed o. subst (λ (x : Client g.row.P.Denot). OwesSo x.course x.session read sent (done ++ jobs_of table (payload ∷ [])) owed) (sym put)
-    (owes_so me.course c.in_default.not-Fallen (after_reply me.session c.in-Some.reply.now) read sent (done ++ jobs_of table (payload ∷ [])) owed
-    (owes_reply me.session read sent done table payload owed c.in-Some.reply.now told
-    (so_owes me.course c.in_default.not-Fallen me.session read sent done (payload ∷ owed) o))))
+    (reply_so me.course c.in_default.not-Fallen me.session read sent done table payload owed c.in-Some.reply.now told o))

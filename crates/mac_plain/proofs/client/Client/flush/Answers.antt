@@ -1,7 +1,7 @@
 use Rattle.std.proofs.Common.{◌≡◌, ◌++◌, ℕ, List, [], ◌∷◌, refl, sym, ap, subst, ◌∙◌, take, drop}
 use Rattle.mac_wire.specs.declared.session.Session.{Session}
 use Rattle.mac_plain.specs.Goes.{OwesSo}
-use Rattle.mac_plain.proofs.Steps.{flushes, still, goes_still, none_done}
+use Rattle.mac_plain.proofs.Steps.{flushes, still, goes_still, none_done, steps_still}
 use Rattle.mac_plain.proofs.client.Client.flush.Goals as goal
 
 pub returns-in-Bytes : goal.returns-in-Bytes
@@ -22,3 +22,25 @@ pub returns-then-not-may_write : goal.returns-then-not-may_write
 returns-then-not-may_write g c table =
     let me = c.args.self.now in
     goes_still g.P.Port.tells g.P.Port.taken g.P.Port.written table me me [] refl (λ read sent done owed o. none_done me.course me.session read sent done owed o)
+
+pub returns-in-Later : goal.returns-in-Later
+returns-in-Later g c table =
+    let me = c.args.self.now in
+    record {
+      came = [];
+      gone = [];
+      took = λ told. still g.P.Port.tells (g.P.Port.taken me.port) (g.P.Port.taken c.write.new.self) (c.in-Later.ensures.taken told) told;
+      wrote = λ told. c.in-Later.ensures.written told;
+      goes_on = λ read sent done owed. steps_still me.course me.course me.session me.session read sent done [] [] owed (λ o. none_done me.course me.session read sent done owed o);
+    }
+
+pub returns-in-Fault : goal.returns-in-Fault
+returns-in-Fault g c table =
+    let me = c.args.self.now in
+    record {
+      came = [];
+      gone = [];
+      took = λ told. still g.P.Port.tells (g.P.Port.taken me.port) (g.P.Port.taken c.write.new.self) (c.in-Fault.ensures.taken told) told;
+      wrote = λ told. c.in-Fault.ensures.written told;
+      goes_on = λ read sent done owed. steps_still me.course me.course me.session me.session read sent done [] [] owed (λ o. none_done me.course me.session read sent done owed o);
+    }

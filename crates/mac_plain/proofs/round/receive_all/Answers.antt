@@ -1,0 +1,28 @@
+use Rattle.std.proofs.Common.{◌≤◌, [], length, rules, sym, subst}
+use Rattle.std.proofs.lemmas.List.Elements.{All-nil}
+use Rattle.mac_plain.specs.Requests.{AreWithin}
+use Rattle.mac_plain.specs.Receiving.{Receives}
+use Rattle.mac_plain.specs.declared.client.Client.{Client}
+use Rattle.mac_plain.specs.declared.request.Request.{Request}
+use Rattle.mac_plain.proofs.Pairs.{one_read, read_at, still_read}
+use Rattle.mac_plain.proofs.round.receive_all.Goals as goal
+
+pub loop-index-init : goal.loop-index-init
+loop-index-init g c = record {
+  within = subst (AreWithin (length c.args.arena.now.items)) (sym c.requires) (All-nil (λ (r : Request). (r.start ≤ r.end) × (r.end ≤ length c.args.arena.now.items)));
+  read = λ table. still_read g.P.Port.tells g.P.Port.taken g.P.Port.written table c.args.arena.now.items c.args.requests.now.items c.args.clients.now c.requires;
+}
+
+pub loop-index-preserved : goal.loop-index-preserved
+loop-index-preserved g c =
+    let i = c.loop-index.index in
+    let now = c.index-clients-index.result in
+    let there = read_at c.loop-index.clients i now (search rules) c.index-clients-index.is in
+    record {
+      within = c.visit.ensures.within;
+      read = λ table.
+          one_read g.P.Port.tells g.P.Port.taken g.P.Port.written table c.args.clients.now c.loop-index.clients i now c.visit.new.client
+          c.loop-index.arena.items c.visit.new.arena.items c.loop-index.requests.items c.visit.new.requests.items there c.loop-index.invariant.within
+          (subst (λ (x : Client g.row.P.Denot). Receives g.P.Port.tells g.P.Port.taken g.P.Port.written table i x c.visit.new.client c.loop-index.arena.items c.visit.new.arena.items
+          c.loop-index.requests.items c.visit.new.requests.items) (sym c.index-clients-index.is) (c.visit.ensures.receives table)) (c.loop-index.invariant.read table);
+    }
