@@ -1,10 +1,16 @@
-//! The limit of a pool, as a number.
+//! What the limits of a pool are made of.
 
-ghost use Rattle.std.specs.Prelude.{◌≡◌};
+ghost use Rattle.std.specs.Prelude.{◌≡◌, ◌+◌, ◌*◌};
 
-use crate::pool::WORKERS_MAX;
+use crate::pool::{DESKS_MAX, WORKERS_MAX};
+use mac_mail::MAIL_MAX;
+use mac_queue::{PASSES, QUEUE_MAX};
 
-/// A pool has up to 16 workers.
-pub fn a_pool_has_16_workers()
-    ensures { WORKERS_MAX ≡ 16 }
+/// A pool has up to 16 workers and 64 desks. Its queue has a pass for each of them, and room for as
+/// many tickets as the mailboxes of all desks hold posts.
+pub fn each_has_a_pass_and_each_post_a_ticket()
+    ensures workers { WORKERS_MAX ≡ 16 }
+    ensures desks { DESKS_MAX ≡ 64 }
+    ensures passes { PASSES ≡ WORKERS_MAX + DESKS_MAX }
+    ensures tickets { QUEUE_MAX ≡ DESKS_MAX * MAIL_MAX }
 {}

@@ -15,11 +15,16 @@ use std::alloc::Global;
 use std::marker::{Model, PhantomData};
 use std::snapshot::Snapshot;
 use std::sync::{Arc, Wait};
-use std::thread;
-use std::thread::{Promise, PromisedHandle, Threads};
+use std::thread::{Builder, Promise, PromisedHandle, Threads};
 
 /// The most workers of a pool, and the passes that are kept for workers and hands.
 pub const WORKERS_MAX: usize = 16;
+
+/// The greatest number of desks that are out at a time.
+pub const DESKS_MAX: usize = 64;
+
+/// The stack of a worker's thread, in bytes, whatever limit the process was started under.
+const STACK: usize = 1_048_576;
 
 /// What a worker's thread leaves behind comes from the pass that it was given.
 #[derive(Drop)]
@@ -297,7 +302,10 @@ where
         requires { pass.queue ≡ arc_value queue }
         ensures { HasClaimed pass result.claimed result.pass }
     { worker(&rt, alloc, &queue, pass, &*gate) };
-    thread::spawn_with(&rt, promise, work).ok()
+    Builder::new()
+        .stack_size(STACK)
+        .spawn_with(&rt, promise, work)
+        .ok()
 }
 
 /// The first pass at home from one number up to another.

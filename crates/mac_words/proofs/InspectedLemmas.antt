@@ -1,10 +1,11 @@
 -- The text of a token that is looked at, as it is put together.
-use Rattle.std.proofs.Common.{◌≡◌, ◌∙◌, ℕ, ℤ, suc, ◌+◌, ◌<◌, ◌↔◌, inl, inr, List, [], ◌∷◌, ◌++◌, length, get_or, Option, Some, None, refl, sym, ap, subst, add-one, append-nil}
+use Rattle.std.proofs.Common.{◌≡◌, ◌∙◌, ℕ, ℤ, suc, ◌+◌, ◌<◌, ◌↔◌, inl, inr, List, [], ◌∷◌, ◌++◌, length, get_or, Option, Some, None, refl, sym, ap, subst, add-one}
 use Rattle.std.specs.List.{slice_get}
 use Rattle.std.proofs.lemmas.Option.{slice_get_read}
 use Rattle.mac_decide.specs.Time.{IsTimeLimit, IsLowerBound}
 use Rattle.mac_token.specs.RawToken.{CaveatParts, RawParts}
 use Rattle.mac_words.specs.Escaped.{escaped}
+use Rattle.mac_words.specs.NearBound.{IsNoBound, no_bound_words}
 use Rattle.mac_words.proofs.Appends.{two, three}
 use Rattle.mac_words.specs.Inspected.{AreBareWords, AreBoundWords, AreLines, AreWords, IsCaveatLine, IsInspected, caveat_front, head_text, limit_words, place_words, since_words, tail_text, third_party}
 
@@ -43,8 +44,11 @@ limit_told id second o0 o1 limit e1 = (limit_words second, inl (second, (limit s
 pub since_told : (id : List ℕ) (second : ℤ) (o0 o1 : List ℕ) → ((v : ℤ) → (◌≡◌ {A = Option ℤ} (Some second) (Some v)) ↔ IsLowerBound id v) → o1 ≡ o0 ++ since_words second → Adds (AreBoundWords id) o0 o1
 since_told id second o0 o1 since e1 = (since_words second, inr (inl (second, (since second).0 refl, refl)), e1)
 
-pub none_told : (id o0 : List ℕ) → ((v : ℤ) → (◌≡◌ {A = Option ℤ} None (Some v)) ↔ IsTimeLimit id v) → ((v : ℤ) → (◌≡◌ {A = Option ℤ} None (Some v)) ↔ IsLowerBound id v) → Adds (AreBoundWords id) o0 o0
-none_told id o0 limit since = ([], inr (inr ((λ v. (never (IsTimeLimit id) limit v, never (IsLowerBound id) since v)), refl)), sym (append-nil o0))
+pub no_bound : (id : List ℕ) → ((v : ℤ) → (◌≡◌ {A = Option ℤ} None (Some v)) ↔ IsTimeLimit id v) → ((v : ℤ) → (◌≡◌ {A = Option ℤ} None (Some v)) ↔ IsLowerBound id v) → IsNoBound id
+no_bound id limit since = λ v. (never (IsTimeLimit id) limit v, never (IsLowerBound id) since v)
+
+pub none_told : (id o0 o1 : List ℕ) → ((v : ℤ) → (◌≡◌ {A = Option ℤ} None (Some v)) ↔ IsTimeLimit id v) → ((v : ℤ) → (◌≡◌ {A = Option ℤ} None (Some v)) ↔ IsLowerBound id v) → o1 ≡ o0 ++ no_bound_words id → Adds (AreBoundWords id) o0 o1
+none_told id o0 o1 limit since e1 = (no_bound_words id, inr (inr (no_bound id limit since, refl)), e1)
 
 pub bare_told : (id o0 o1 o2 : List ℕ) → o1 ≡ o0 ++ escaped id → Adds (AreBoundWords id) o1 o2 → Adds (AreBareWords id) o0 o2
 bare_told id o0 o1 o2 e1 (bound, are, e2) = (escaped id ++ bound, (bound, are, refl), two o0 o1 o2 (escaped id) bound e1 e2)

@@ -1,5 +1,6 @@
 pub mod Appends
 pub mod InspectedLemmas
 pub mod MomentLemmas
+pub mod NearBoundLemmas
 pub mod PayloadLemmas
 pub mod KeyLineLemmas

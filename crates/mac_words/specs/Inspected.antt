@@ -10,6 +10,7 @@ use Rattle.mac_token.specs.Read.{raw_read_of}
 use Rattle.mac_token.specs.declared.fault.TokenFault.{TokenFault}
 use Rattle.mac_token.specs.declared.fault.TokenFault.TheVariants as fault
 use Rattle.mac_words.specs.Escaped.{escaped}
+use Rattle.mac_words.specs.NearBound.{IsNoBound, no_bound_words}
 use Rattle.mac_words.specs.Spelling.{spelling_name, spelling_of}
 
 -- words with a second
@@ -24,11 +25,11 @@ limit_words v = second_words (codes " (holds before second ") v
 unfoldable pub since_words : ℤ → List ℕ
 since_words v = second_words (codes " (holds from second ") v
 
--- what is told behind a caveat: what it means as a bound of time, and nothing where it is none
+-- what is told behind a caveat: what it means as a bound of time, or that it only begins as one
 abbrev pub AreBoundWords : List ℕ → List ℕ → Type 0
 AreBoundWords id words = ((v : ℤ) × IsTimeLimit id v × (words ≡ limit_words v))
     ⊎ ((v : ℤ) × IsLowerBound id v × (words ≡ since_words v))
-    ⊎ (((v : ℤ) → ¬ (IsTimeLimit id v) × ¬ (IsLowerBound id v)) × (words ≡ []))
+    ⊎ (IsNoBound id × (words ≡ no_bound_words id))
 
 -- the words of a first-party caveat: its bytes, and what a bound of time means
 abbrev pub AreBareWords : List ℕ → List ℕ → Type 0

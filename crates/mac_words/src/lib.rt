@@ -12,6 +12,7 @@ mod fault;
 mod inspected;
 mod key_lines;
 mod moments;
+mod near_bounds;
 mod payload;
 mod refusal;
 mod reply_text;
@@ -24,6 +25,7 @@ pub use fault::{FieldFault, TextFault};
 pub use inspected::inspect;
 pub use key_lines::{NameFault, key_line};
 pub use moments::moment;
+pub use near_bounds::warnings;
 pub use payload::{
     CAVEATS_TOLD_MAX, KEY_NAME_MAX, TEXT_MAX, attenuate_payload, mint_payload, reply_to,
     verify_payload,
