@@ -10,6 +10,7 @@ import (
 	"strings"
 	"sync"
 	"sync/atomic"
+	"syscall"
 	"testing"
 	"time"
 )
@@ -450,6 +451,25 @@ func TestHalfClosed(t *testing.T) {
 	if came := <-first; came != "\x01first" {
 		t.Errorf("%q", came)
 	}
+}
+
+// A client that waits takes no processor time.
+func TestIdle(t *testing.T) {
+	client := dialled(t, server(t, echoes))
+	atOnce(client, 100)
+	before := processorTime(t)
+	time.Sleep(time.Second)
+	if took := processorTime(t) - before; took > 100*time.Millisecond {
+		t.Errorf("%v of a second", took)
+	}
+}
+
+func processorTime(t *testing.T) time.Duration {
+	var used syscall.Rusage
+	if err := syscall.Getrusage(syscall.RUSAGE_SELF, &used); err != nil {
+		t.Fatal(err)
+	}
+	return time.Duration(used.Utime.Nano() + used.Stime.Nano())
 }
 
 func TestClosed(t *testing.T) {

@@ -327,6 +327,17 @@ class Ended(OverScripts):
 
         self.each(look, *[ends] * 2000)
 
+    def test_who_waits_takes_no_processor_time(self):
+        """Also behind a time in which the socket was full."""
+
+        def look(client):
+            client.many("ask_many", [bytes(30_000)] * 100)
+            before = time.process_time()
+            client.pause(0.3)
+            self.assertLess(time.process_time() - before, 0.1)
+
+        self.each(look, lambda stream: stream.echo_all())
+
     def test_closed(self):
         def look(client):
             client.leave()
