@@ -54,11 +54,11 @@ def debian(folder):
 
 
 def until(what, holds):
-    """Waits until it holds."""
+    """Waits until it holds; that it takes too long is a fault."""
     end = time.monotonic() + PATIENCE
     while not (found := holds()):
         if time.monotonic() > end:
-            raise CannotBe(f"{what} takes more than {PATIENCE} seconds")
+            raise TimeoutError(f"{what} takes more than {PATIENCE} seconds")
         time.sleep(0.1)
     return found
 
@@ -68,14 +68,20 @@ class System:
 
     def __init__(self, folder, container):
         self.folder, self.container = pathlib.Path(folder), container
-        self.leader = until("a first process", self.first_process)
-        until("its start", lambda: self.run("systemctl", "is-system-running").output.strip() in ("running", "degraded"))
+        try:
+            self.leader = until("a first process", self.first_process)
+            until("its start", self.has_started)
+        except TimeoutError as why:
+            raise CannotBe(f"systemd-nspawn: {why}") from why
 
     def first_process(self):
         if self.container.poll() is not None:
             raise CannotBe(f"systemd-nspawn: {last_line(self.container.stderr.read())}")
         number = self.container.pid
         return pathlib.Path(f"/proc/{number}/task/{number}/children").read_text().split()[:1]
+
+    def has_started(self):
+        return self.run("systemctl", "is-system-running").output.strip() in ("running", "degraded")
 
     def run(self, *words):
         """How a command ends in the system, and what it prints."""
