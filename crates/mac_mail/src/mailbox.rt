@@ -59,6 +59,11 @@ pub struct Mailbox<S: Service> {
     // Who waits for posts waits for the one at this place, or for one before it.
     due: CachePadded<AtomicU64>,
     room: Bell,
+    // How many posts have come in all.
+    came: CachePadded<AtomicU64>,
+    // Who puts jobs and waits for their posts waits until so many have come.
+    awaited: CachePadded<AtomicU64>,
+    answers: Bell,
     pub(crate) is_closed: AtomicBool,
 }
 
@@ -83,6 +88,9 @@ impl<S: Service> Mailbox<S> {
             posts: Bell::new(),
             due: CachePadded::new(AtomicU64::new(u64::MAX)),
             room: Bell::new(),
+            came: CachePadded::new(AtomicU64::new(0)),
+            awaited: CachePadded::new(AtomicU64::new(0)),
+            answers: Bell::new(),
             is_closed: AtomicBool::new(false),
         };
         Ok((mail, pass))
@@ -110,9 +118,46 @@ impl<S: Service> Mailbox<S> {
         }
         let mut pass = self.queue.pass();
         match self.queue.push_as::<Free, R>(rt, &mut pass, post) {
-            Ok(()) => Ok(()),
+            Ok(()) => {
+                self.tell_came();
+                Ok(())
+            }
             Err(post) => Err((PutFault::Full, post)),
         }
+    }
+
+    /// One more post has come: wakes who puts jobs, where that one waits for no more.
+    fn tell_came(&self) {
+        let before = self.came.fetch_add(1, SeqCst);
+        if self.answers.is_awaited() && before >= self.awaited.load(SeqCst).saturating_sub(1) {
+            self.answers.ring();
+        }
+    }
+
+    /// How many posts have come in all. No contract speaks of them.
+    pub fn came(&self) -> u64 {
+        self.came.load(SeqCst)
+    }
+
+    /// Announces a wait until so many posts have come. Look once more after it.
+    pub fn announce_answers(&self, count: u64) -> Notice {
+        self.awaited.store(count, SeqCst);
+        self.answers.announce()
+    }
+
+    /// Sleeps until these posts may have come.
+    pub fn sleep_answers<R: Wait>(&self, rt: &R, notice: Notice) {
+        self.answers.sleep(rt, notice);
+    }
+
+    /// Ends a wait for posts that have come.
+    pub fn withdraw_answers(&self, notice: Notice) {
+        self.answers.withdraw(notice);
+    }
+
+    /// Wakes who puts jobs and waits for their posts, to look at something else.
+    pub fn ring_answers(&self) {
+        self.answers.ring_all();
     }
 
     /// Takes the oldest post, by this pass.

@@ -102,6 +102,11 @@ impl<S: Service> Taker<S> {
         self.mail.posts.withdraw(notice);
     }
 
+    /// Wakes who puts jobs and waits for their posts, to look at something else.
+    pub fn ring_putter(&self) {
+        self.mail.ring_answers();
+    }
+
     /// Closes the mailbox: further posts are dropped.
     pub fn close(&mut self)
         ensures { self.new ≡ self.old }

@@ -6,7 +6,7 @@ ghost use Rattle.mac_queue.specs.Pass.{with_put};
 
 use crate::queue::{Queue, QueuePass};
 use crate::ticket::Ticket;
-use mac_mail::{Mailbox, PutFault, Taker};
+use mac_mail::{Mailbox, Notice, PutFault, Taker};
 use mac_order::Service;
 use std::alloc::Global;
 use std::marker::Model;
@@ -97,6 +97,28 @@ impl<S: Service> Putter<S> {
             Ok(()) => Ok(()),
             Err((fault, ticket)) => Err((fault, ticket.job)),
         }
+    }
+
+    /// How many posts have come to this desk in all, for jobs that were put. No contract speaks of
+    /// them.
+    pub fn answered(&self) -> u64 {
+        self.mail.came()
+    }
+
+    /// Announces a wait until so many posts have come. Look once more after it, and then sleep, or
+    /// withdraw where that is done.
+    pub fn announce(&self, count: u64) -> Notice {
+        self.mail.announce_answers(count)
+    }
+
+    /// Sleeps until these posts may have come, or the taker rings.
+    pub fn sleep<R: Wait>(&self, rt: &R, notice: Notice) {
+        self.mail.sleep_answers(rt, notice);
+    }
+
+    /// Ends a wait for posts that have come.
+    pub fn withdraw(&self, notice: Notice) {
+        self.mail.withdraw_answers(notice);
     }
 
     /// Wakes who waits for posts at this desk, to look at something else.

@@ -17,13 +17,23 @@ use std::alloc::Global;
 use std::sync::Wait;
 use std::{mem, thread};
 
+/// How many bytes of requests may be without a reply that was sent.
+const UNSENT_MAX: usize = 1_048_576;
+
+/// How many bytes of requests may be in the queue, put and not answered: so the workers take from
+/// each connection in turn, and no connection's dear requests stand before all of another's.
+const QUEUED_MAX: usize = 65_536;
+
 /// The half of a connection that reads requests: its end of the ring, and its way into the queue of
 /// jobs.
 #[derive(Drop)]
 pub struct Inbound {
     pub ring: Intake<Macaroons>,
     pub putter: Putter<Macaroons>,
-    outstanding: Outstanding,
+    unsent: Outstanding,
+    queued: Outstanding,
+    /// How many posts had come to the desk before.
+    earlier: u64,
 }
 
 impl Inbound {
@@ -38,10 +48,13 @@ impl Inbound {
     pub fn new(ring: Intake<Macaroons>, putter: Putter<Macaroons>) -> Inbound
         ensures { (result.ring ≡ ring) × (result.putter ≡ putter) }
     {
+        let earlier = putter.answered();
         Inbound {
             ring,
             putter,
-            outstanding: Outstanding::new(),
+            unsent: Outstanding::new(UNSENT_MAX),
+            queued: Outstanding::new(QUEUED_MAX),
+            earlier,
         }
     }
 
@@ -56,11 +69,11 @@ impl Inbound {
             (admitted self.new.ring ≡ admitted self.old.ring) × (e.1 ≡ job)) }
     {
         let length = payload_length(&job);
-        if !self.outstanding.has_room(length, signals.sent()) {
+        if !self.unsent.has_room(length, signals.sent()) {
             return Err((AdmitFault::Full, job));
         }
         let place = self.ring.admit(job)?;
-        self.outstanding.push(length);
+        self.unsent.push(length);
         Ok(place)
     }
 
@@ -81,7 +94,7 @@ impl Inbound {
                 Err((AdmitFault::Last, _)) => return Err(InboundFault::Exhausted),
                 Err((AdmitFault::Full, back)) => job = back,
             }
-            let notice = signals.announce(self.outstanding.wanted());
+            let notice = signals.announce(self.unsent.wanted());
             match self.try_admit(job, signals) {
                 Ok(place) => {
                     signals.withdraw(notice);
@@ -98,7 +111,36 @@ impl Inbound {
         unreachable!()
     }
 
-    /// Puts the job at its place into the queue.
+    /// Whether one more job of that length may go into the queue.
+    fn may_queue(&mut self, length: usize) -> bool
+        ensures ring { self.new.ring ≡ self.old.ring }
+        ensures putter { self.new.putter ≡ self.old.putter }
+    {
+        let answered = self.putter.answered().saturating_sub(self.earlier);
+        self.queued.has_room(length, answered)
+    }
+
+    /// Waits until one more job of that length may go into the queue, or until the outbound half
+    /// has ended.
+    fn await_turn<R: Wait>(&mut self, rt: &R, length: usize, signals: &Signals)
+        ensures ring { self.new.ring ≡ self.old.ring }
+        ensures putter { self.new.putter ≡ self.old.putter }
+    {
+        for _ in rt.forever() {
+            if self.may_queue(length) {
+                return;
+            }
+            let wanted = self.earlier.saturating_add(self.queued.wanted());
+            let notice = self.putter.announce(wanted);
+            if self.may_queue(length) || signals.has_outbound_ended() {
+                self.putter.withdraw(notice);
+                return;
+            }
+            self.putter.sleep(rt, notice);
+        }
+    }
+
+    /// Puts the job at its place into the queue, in its turn.
     fn put<R: Wait>(
         &mut self,
         rt: &R,
@@ -111,6 +153,9 @@ impl Inbound {
         ensures same { OnErr result (self.new.putter ≡ self.old.putter) }
         ensures no_read { result ≢ Err InboundFault.Read }
     {
+        let length = payload_length(&job);
+        self.await_turn(rt, length, signals);
+        self.queued.push(length);
         let mut job = job;
         for _ in rt.forever() {
             match self.putter.put(rt, place, job) {

@@ -313,6 +313,7 @@ impl Outbound {
             sink.give_up();
         }
         signals.end_outbound();
+        self.taker.ring_putter();
         ended
     }
 }
