@@ -3,12 +3,13 @@ how it ends connections."""
 import contextlib
 import os
 import re
+import resource
 import subprocess
 import tempfile
 import time
 
 import pipe_runs
-from daemon_rows import KEYS, NO_REQUEST, connected, frame, received
+from daemon_rows import KEYS, MALFORMED, NO_REQUEST, connected, frame, received, request
 
 # How many seconds a client waits at most: a daemon that hangs is told from a machine that is busy.
 LONGEST_WAIT = 30
@@ -18,16 +19,18 @@ TORN = 1400
 TORN_LINE = "a connection ended: the stream ended inside a frame"
 # The length of a frame past the limit, which a socket's buffer holds whole, and the reply to it.
 OVERSIZE, TOO_LONG = 200_000, frame(b"\x11")
+# The bytes of a stack that a daemon is started under, and how deep the JSON of a request is nested then.
+LITTLE_STACK, DEPTH = 65_536, 120
 LEFT_OUT = re.compile(r"(\d+) more lines were left out")
 
 
 @contextlib.contextmanager
-def listening(error, *words):
+def listening(error, *words, **how):
     """The path of a daemon that listens, and its process. It prints its faults to `error`."""
     with tempfile.TemporaryDirectory() as folder:
         path = folder + "/socket"
         command = [pipe_runs.PROGRAM, "listen", "--socket", path, "--keys", KEYS, "--workers", "2", *words]
-        with subprocess.Popen(command, stdout=subprocess.PIPE, stderr=error) as run:
+        with subprocess.Popen(command, stdout=subprocess.PIPE, stderr=error, **how) as run:
             try:
                 run.stdout.readline()
                 yield path, run
@@ -106,6 +109,19 @@ def oversize_frames():
         yield "the next client", answered(path), NO_REQUEST
 
 
+def deep_requests():
+    """The deepest request, under a limit that is less of a stack than it takes to read."""
+    limited = lambda: resource.setrlimit(resource.RLIMIT_STACK, (LITTLE_STACK, LITTLE_STACK))
+    nested = {"lists": "[" * DEPTH + "]" * DEPTH, "members": '{"a":' * DEPTH + "1" + "}" * DEPTH}
+    with listening(subprocess.DEVNULL, preexec_fn=limited) as (path, run):
+        for kind, deep in nested.items():
+            with connected(path) as stream:
+                stream.sendall(frame(request.verify("bank", '{"v":' + deep + "}", 0)))
+                yield f"{kind} nested {DEPTH} deep, on little stack", received(stream, len(MALFORMED)), MALFORMED
+        yield "the next client", answered(path), NO_REQUEST
+        yield "the daemon stays up", run.poll(), None
+
+
 def end_of(stream):
     try:
         return "an end" if stream.recv(1) == b"" else "more"
@@ -115,7 +131,7 @@ def end_of(stream):
 
 def faults():
     """What went otherwise than it must, and how many checks there were."""
-    seen = [*unread_errors(), *oversize_frames()]
+    seen = [*unread_errors(), *oversize_frames(), *deep_requests()]
     found = [f"lasting: {what}: {got!r} where {due!r} is due" for what, got, due in seen if got != due]
     return found, len(seen)
 

@@ -3,6 +3,7 @@
 Each wrong use has a clear line and a status of its kind: 1 refused, 2 a bad command line, 3 a file or
 a device. Tokens and signatures are those of libmacaroons' README, as the rest of the tests have them.
 """
+import base64
 import os
 import pathlib
 import tempfile
@@ -37,6 +38,8 @@ LATER = (
 ACCOUNT = "account = 3735928559"
 LIMIT = "time < 2030-01-01T00:00"
 SINCE = "time >= 2020-01-01T00:00"
+# Caveats that begin as a bound of time does, and are none: a day without a time, and a month that isn't.
+DAY, MONTH = "time < 2020-01-01", "time >= 2026-13-01T00:00"
 MINT = ["mint", "--keys", KEYS, "--key", "bank", "--location", "http://mybank/"]
 IDENTIFIER = ["--identifier", "we used our secret key"]
 NO_TEXT = "refused 19: the token is neither a bare form nor base64 text\n"
@@ -65,6 +68,18 @@ def inspected(*caveats):
     return good(front + "".join(f"caveat {place}: {caveat}\n" for place, caveat in enumerate(caveats)) + "signature: ")
 
 
+def unsigned(caveat):
+    """The text of a token of the README with a caveat, in version 2 binary, that nobody has signed."""
+    parts = [(1, b"http://mybank/"), (2, b"we used our secret key"), None, (2, caveat.encode()), None, None, (6, bytes(32))]
+    fields = [bytes([part[0], len(part[1])]) + part[1] if part else b"\0" for part in parts]
+    return base64.urlsafe_b64encode(b"\x02" + b"".join(fields)).decode().rstrip("=")
+
+
+def warned(caveat):
+    """A token is printed, and a warning that a caveat of it is no bound of time."""
+    return Ending(0, "AgEO", f"warning: a caveat is no bound of time, and holds only as a fact: {caveat}\n")
+
+
 def refused(printed):
     return Ending(1, "", printed)
 
@@ -91,6 +106,7 @@ RIGHT = {
     ),
     "granted": (Case("", verify("--fact", ACCOUNT, "--at", "1780272000")), good("granted\n")),
     "granted_at": (Case("", verify("--at", "2026-06-01T00:00:00Z", "--fact", ACCOUNT)), good("granted\n")),
+    "granted_at_plus": (Case("", verify("--at", "+1780272000", "--fact", ACCOUNT)), good("granted\n")),
     "granted_line": (Case(TOKEN + "\n", verify(token="-")), good("granted\n")),
     "granted_digits": (Case("", verify(token=f"hex:{DIGITS.upper()}")), good("granted\n")),
     "too_late": (
@@ -105,6 +121,12 @@ RIGHT = {
     ),
     "inspect": (Case("", ["inspect", NARROW]), inspected(ACCOUNT, f"{LIMIT} (holds before second 1893456000 since 1970)")),
     "inspect_since": (Case("", ["inspect", LATER]), inspected(f"{SINCE} (holds from second 1577836800 since 1970)")),
+    "inspect_near_bound": (
+        Case("", ["inspect", unsigned(DAY)]),
+        inspected(f"{DAY} (is no bound of time, and holds only as a fact)"),
+    ),
+    "mint_near_bound": (Case("", [*MINT, *IDENTIFIER, "--caveat", DAY]), warned(DAY)),
+    "attenuate_near_bound": (Case("", ["attenuate", "--caveat", LIMIT, "--caveat", MONTH, TOKEN]), warned(MONTH)),
     "help": (Case("", ["mint", "--help"]), good("Prints a new token\n")),
 }
 
@@ -124,7 +146,7 @@ WRONG = {
         Ending(1, "refused 18: the key file has no key of this name\n", ""),
     ),
     "unknown_key_of_a_mint": (
-        Case("", ["mint", "--keys", KEYS, "--key", "pier", *IDENTIFIER]),
+        Case("", ["mint", "--keys", KEYS, "--key", "pier", *IDENTIFIER, "--caveat", DAY]),
         refused("refused 18: the key file has no key of this name\n"),
     ),
     "other_key": (

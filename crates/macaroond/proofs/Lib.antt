@@ -1,6 +1,7 @@
 pub mod CommandLineLemmas
 pub mod CrewLemmas
 pub mod DeskLemmas
+pub mod DoingLemmas
 pub mod KeyText
 pub mod LineLemmas
 pub mod OptionLemmas

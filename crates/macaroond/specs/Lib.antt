@@ -2,6 +2,7 @@ pub mod Arguments
 pub mod Arrived
 pub mod CommandLine
 pub mod Crew
+pub mod Doing
 pub mod Inner
 pub mod Lines
 pub mod Options

@@ -1,4 +1,7 @@
 //! Reading the key file of a daemon.
+ghost use Rattle.std.specs.Prelude.{IfOk};
+ghost use Rattle.macaroond.specs.Doing.{IsKeyTable};
+
 use crate::fault::PipeFault;
 use crate::input::read_input;
 use crate::piping::read_table;
@@ -12,6 +15,7 @@ pub(crate) fn read_keys<R>(rt: &R, path: &str) -> Result<KeyTable, PipeFault>
 where
     R: Files + Alloc<A = Global>,
     R::File: Send,
+    ensures { IfOk result IsKeyTable }
 {
     let Ok(file) = File::open(rt, path) else {
         return Err(PipeFault::Device);

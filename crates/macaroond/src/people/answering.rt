@@ -1,5 +1,7 @@
 //! Doing what a person asks.
-ghost use Rattle.std.specs.Prelude.{◌≡◌, []};
+ghost use Rattle.std.specs.Prelude.{◌≡◌, [], IfOk};
+ghost use Rattle.macaroond.specs.Doing.{DoesAttenuate, DoesInspect, DoesKeygen, DoesMint, DoesTask};
+ghost use Rattle.macaroond.specs.Doing.{DoesVerify, EndsTask};
 ghost use Rattle.macaroond.specs.People.{IsToldSo, SaysWords, SaysWordsAlone, attenuate_asked};
 ghost use Rattle.macaroond.specs.People.{mint_asked, person_status, said_status, verify_asked};
 
@@ -9,7 +11,7 @@ use super::{PersonFault, Task};
 use crate::status::Status;
 use mac_keys::KeyTable;
 use mac_wire::{TokenForm, WriterSink, send_all};
-use mac_words::{Said, key_line, say_attenuate, say_inspect, say_mint, say_verify};
+use mac_words::{Said, key_line, say_attenuate, say_inspect, say_mint, say_verify, warnings};
 use std::alloc::{Alloc, Global};
 use std::fs::Files;
 use std::io;
@@ -22,9 +24,13 @@ where
     R: Alloc<A = Global> + Input + Print + Eprint + Files + Clock + RandomSource + Sync,
     R::Reader: Send,
     R::File: Send,
+    ensures { EndsTask task.now result }
 {
     match do_task(rt, task) {
-        Ok(said) => tell_said(rt, task, &said),
+        Ok(said) => {
+            warn_of_caveats(rt, task, &said);
+            tell_said(rt, task, &said)
+        }
         Err(fault) => tell_person(rt, fault),
     }
 }
@@ -35,6 +41,7 @@ where
     R: Alloc<A = Global> + Input + Files + Clock + RandomSource,
     R::Reader: Send,
     R::File: Send,
+    ensures { IfOk result (DoesTask task.now) }
 {
     match task {
         Task::Keygen { name } => do_keygen(rt, name.as_str()),
@@ -49,6 +56,7 @@ where
 fn do_keygen<'a, R>(rt: &R, name: &str) -> Result<Said, PersonFault<'a>>
 where
     R: Alloc<A = Global> + RandomSource,
+    ensures { IfOk result (DoesKeygen name.now) }
 {
     let secret = draw_secret(rt)?;
     let text = key_line(rt.alloc(), name, &secret)?;
@@ -63,6 +71,7 @@ fn do_mint<'a, R>(rt: &R, words: &'a MintWords) -> Result<Said, PersonFault<'a>>
 where
     R: Alloc<A = Global> + Files,
     R::File: Send,
+    ensures { IfOk result (DoesMint words.now) }
 {
     let form = read_form(&words.form)?;
     let table = load_keys(rt, words.keys.as_str())?;
@@ -74,6 +83,7 @@ fn do_attenuate<'a, R>(rt: &R, words: &'a AttenuateWords) -> Result<Said, Person
 where
     R: Alloc<A = Global> + Input,
     R::Reader: Send,
+    ensures { IfOk result (DoesAttenuate words.now) }
 {
     let form = read_form(&words.form)?;
     let token = read_token(rt, words.token.as_str())?;
@@ -86,6 +96,7 @@ where
     R: Alloc<A = Global> + Input + Files + Clock,
     R::Reader: Send,
     R::File: Send,
+    ensures { IfOk result (DoesVerify words.now) }
 {
     let moment = read_moment(rt, &words.at)?;
     let table = load_keys(rt, words.keys.as_str())?;
@@ -98,6 +109,7 @@ fn do_inspect<'a, R>(rt: &R, token: &str) -> Result<Said, PersonFault<'a>>
 where
     R: Alloc<A = Global> + Input,
     R::Reader: Send,
+    ensures { IfOk result (DoesInspect token.now) }
 {
     let token = read_token(rt, token)?;
     Ok(say_inspect(rt.alloc(), token.as_slice())?)
@@ -155,15 +167,35 @@ fn say_verify_under<'a>(
     )?)
 }
 
+/// Warns on standard error of the caveats of a new token that will not hold as bounds of time.
+fn warn_of_caveats<R: Alloc<A = Global> + Eprint>(rt: &R, task: &Task, said: &Said) {
+    if said.is_refusal {
+        return;
+    }
+    let caveats = match task {
+        Task::Mint(words) => words.caveats.as_slice(),
+        Task::Attenuate(words) => words.caveats.as_slice(),
+        Task::Keygen { .. } | Task::Verify(_) | Task::Inspect { .. } => return,
+    };
+    if let Ok(text) = warnings(rt.alloc(), caveats) {
+        tell_text(rt, text.as_slice());
+    }
+}
+
+/// Tells a text on standard error.
+fn tell_text<R: Eprint>(rt: &R, text: &[u8]) {
+    if let Ok(text) = str::from_utf8(text) {
+        let _ = eprint!(rt; "{text}");
+    }
+}
+
 /// Tells what is said, and says how the run ends. A refusal goes to standard error, so that nobody
 /// takes it for a token, but for that of a verify, which is its answer.
 fn tell_said<R: Print + Eprint + Sync>(rt: &R, task: &Task, said: &Said) -> Status
     ensures { IsToldSo said.now.is_refusal result }
 {
     if said.is_refusal && !matches!(task, Task::Verify(_)) {
-        if let Ok(text) = str::from_utf8(said.text.as_slice()) {
-            let _ = eprint!(rt; "{text}");
-        }
+        tell_text(rt, said.text.as_slice());
         return Status::Refused;
     }
     match send_all(&mut WriterSink::new(io::writer(rt)), said.text.as_slice()) {

@@ -1,6 +1,8 @@
 //! What the words of a person name.
 ghost use Rattle.std.specs.Prelude.{◌≡◌, ◌≢◌, [], ◌∷◌, ℕ, List, option_map, string_bytes};
-ghost use Rattle.std.specs.Prelude.{IfSome, MatchOption};
+ghost use Rattle.std.specs.Prelude.{IfOk, IfSome, MatchOption};
+ghost use Rattle.mac_words.specs.TokenText.{bytes_told};
+ghost use Rattle.macaroond.specs.Doing.{IsKeyTable, StandsFor};
 ghost use Rattle.macaroond.specs.Lines.{lines};
 ghost use Rattle.macaroond.specs.People.{GivesForm, GivesMoment};
 
@@ -17,14 +19,12 @@ use std::fs::Files;
 use std::random::RandomSource;
 use std::time::{Clock, SystemTime, UNIX_EPOCH};
 
-/// The word for a token that is read from standard input.
-const STANDARD_INPUT: &str = "-";
-
 /// The keys of a file.
 pub(super) fn load_keys<'a, R>(rt: &R, path: &'a str) -> Result<KeyTable, PersonFault<'a>>
 where
     R: Files + Alloc<A = Global>,
     R::File: Send,
+    ensures { IfOk result IsKeyTable }
 {
     match read_keys(rt, path) {
         Ok(table) => Ok(table),
@@ -34,23 +34,44 @@ where
     }
 }
 
-/// The bytes of a token: those of the word, or of the one line of standard input.
+/// The bytes of a token: those of the word, or for a hyphen of the one line of standard input.
 pub(super) fn read_token<'a, R>(rt: &R, word: &str) -> Result<Vec<u8>, PersonFault<'a>>
 where
     R: Input + Alloc<A = Global>,
     R::Reader: Send,
+    ensures { IfOk result (λ bytes. StandsFor word.now bytes.items) }
 {
-    if word != STANDARD_INPUT {
-        return Ok(token_bytes(rt.alloc(), word.as_bytes())?);
+    match word {
+        "-" => read_token_line(rt),
+        _ => Ok(token_bytes(rt.alloc(), word.as_bytes())?),
     }
-    let input = match read_input(rt.alloc(), &mut ReaderSource::new(rt.reader())) {
-        Ok(input) => input,
-        Err(PipeFault::Memory) => return Err(PersonFault::Memory),
-        Err(_) => return Err(PersonFault::Input),
-    };
+}
+
+/// The bytes of the token that the one line of standard input tells.
+fn read_token_line<'a, R>(rt: &R) -> Result<Vec<u8>, PersonFault<'a>>
+where
+    R: Input + Alloc<A = Global>,
+    R::Reader: Send,
+    ensures { IfOk result (λ bytes. (input : List ℕ) × (line : List ℕ)
+        × (lines input ≡ line ∷ []) × (bytes_told line ≡ Ok bytes.items)) }
+{
+    let input = read_standard_input(rt)?;
     match only_line(input.as_slice()) {
         Some(line) => Ok(token_bytes(rt.alloc(), line)?),
         None => Err(PersonFault::Lines),
+    }
+}
+
+/// All that standard input gives.
+fn read_standard_input<'a, R>(rt: &R) -> Result<Vec<u8>, PersonFault<'a>>
+where
+    R: Input + Alloc<A = Global>,
+    R::Reader: Send,
+{
+    match read_input(rt.alloc(), &mut ReaderSource::new(rt.reader())) {
+        Ok(input) => Ok(input),
+        Err(PipeFault::Memory) => Err(PersonFault::Memory),
+        Err(_) => Err(PersonFault::Input),
     }
 }
 

@@ -29,7 +29,8 @@ Exit status:
 
 /// What the help of `mint` says below its options.
 const MINT_HELP: &str = "\
-Prints a new token, one of form v2 as `hex:` and its digits. A refusal is told on standard error.
+Prints a new token, one of form v2 as `hex:` and its digits. A refusal is told on standard error,
+and so is a caveat that begins as a bound of time does and is none: it holds only as a fact.
 
 Example:
   macaroond mint --keys keys --key bank --identifier alice --caveat 'time < 2030-01-01T00:00'
@@ -45,7 +46,8 @@ Exit status:
 const ATTENUATE_HELP: &str = "\
 Prints the token with the caveats behind its own: one that is granted in fewer cases. No key is
 needed for it. TOKEN is the token's text, `hex:` and its digits, or - for one line of standard
-input. A refusal is told on standard error.
+input. A refusal is told on standard error, and so is a caveat that begins as a bound of time does
+and is none: it holds only as a fact.
 
 Example:
   macaroond attenuate --caveat 'account = 3735928559' \"$token\"
