@@ -1,0 +1,130 @@
+//! What loops share: where each gets clients from, how busy each is, and what is unsent on all.
+
+use crate::handover::Handover;
+use crate::meter::{Meter, Shares};
+use crossbeam_queue::SegQueue;
+use mac_plain::UNSENT_MAX;
+use mio::Waker;
+use std::alloc::{AllocError, Global};
+use std::sync::Wait;
+use std::sync::atomic::Ordering::SeqCst;
+use std::sync::atomic::{AtomicBool, AtomicU64};
+
+/// How many bytes may be unsent on all clients before each may have less.
+const UNSENT_ALL: u64 = 67_108_864;
+
+/// How much may be unsent on a client then.
+const UNSENT_LITTLE: usize = 65_536;
+
+/// Where a loop gets clients from.
+#[derive(Drop)]
+pub struct Inbox {
+    queue: SegQueue<Handover>,
+    waker: Waker,
+    meter: Meter,
+}
+
+impl Inbox {
+    /// An empty inbox, whose loop is woken so.
+    pub fn new(alloc: Global, waker: Waker) -> Result<Inbox, AllocError> {
+        Ok(Inbox {
+            queue: SegQueue::new(alloc)?,
+            waker,
+            meter: Meter::new(),
+        })
+    }
+}
+
+/// The loops of a daemon, as others see them.
+#[derive(Drop)]
+pub struct Loops {
+    inboxes: Vec<Inbox>,
+    unsent: AtomicU64,
+    is_closed: AtomicBool,
+}
+
+impl Loops {
+    /// No loops yet.
+    pub fn new(alloc: Global) -> Loops {
+        Loops {
+            inboxes: Vec::new(alloc),
+            unsent: AtomicU64::new(0),
+            is_closed: AtomicBool::new(false),
+        }
+    }
+
+    /// The inbox of one loop more.
+    pub fn push(&mut self, inbox: Inbox) -> Result<(), AllocError> {
+        self.inboxes.push(inbox)?;
+        Ok(())
+    }
+
+    /// How many loops there are.
+    pub fn len(&self) -> usize {
+        self.inboxes.len()
+    }
+
+    /// Hands a client to a loop. Without memory it comes back.
+    pub fn hand<R: Wait>(&self, rt: &R, number: usize, client: Handover) -> Result<(), Handover> {
+        let Some(inbox) = self.inboxes.get(number) else {
+            return Err(client);
+        };
+        inbox.queue.push(rt, client)?;
+        let _ = inbox.waker.wake();
+        Ok(())
+    }
+
+    /// The next client that was handed to a loop.
+    pub fn take<R: Wait>(&self, rt: &R, number: usize) -> Option<Handover> {
+        match self.inboxes.get(number) {
+            Some(inbox) => inbox.queue.pop(rt),
+            None => None,
+        }
+    }
+
+    /// Adds what a turn of a loop took.
+    pub fn add_work(&self, number: usize, microseconds: u64) {
+        if let Some(inbox) = self.inboxes.get(number) {
+            inbox.meter.add(microseconds);
+        }
+    }
+
+    /// Takes a look at how busy all loops are.
+    pub fn look(&self, shares: &mut Shares, now: u64) {
+        for (number, inbox) in self.inboxes.iter().enumerate() {
+            shares.look(now, number, inbox.meter.worked());
+        }
+        shares.finish(now);
+    }
+
+    /// How many bytes may be unsent on a client that is read: less, once much is unsent on all.
+    pub fn unsent_max(&self) -> usize {
+        if self.unsent.load(SeqCst) < UNSENT_ALL {
+            UNSENT_MAX
+        } else {
+            UNSENT_LITTLE
+        }
+    }
+
+    /// What is unsent on a client was so much, and is so much now.
+    pub fn count_unsent(&self, before: usize, now: usize) {
+        if now > before {
+            self.unsent.fetch_add((now - before) as u64, SeqCst);
+        } else if before > now {
+            self.unsent.fetch_sub((before - now) as u64, SeqCst);
+        }
+    }
+
+    /// Has each loop return that has no clients.
+    pub fn close(&self) {
+        self.is_closed.store(true, SeqCst);
+        for inbox in self.inboxes.iter() {
+            let _ = inbox.waker.wake();
+        }
+    }
+
+    /// Whether the loops are to return.
+    pub fn is_closed(&self) -> bool {
+        self.is_closed.load(SeqCst)
+    }
+}

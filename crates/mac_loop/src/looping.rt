@@ -1,0 +1,388 @@
+//! A loop: a thread's turns over its clients.
+
+use crate::fault::LoopFault;
+use crate::handover::Handover;
+use crate::inbox::{Inbox, Loops};
+use crate::members::{Members, Progress};
+use crate::meter::{Shares, microseconds};
+use crate::port::SocketPort;
+use crate::watch::{PlainFault, Watch};
+use mac_keys::KeyTable;
+use mac_plain::{Client, Course, Round};
+use mio::{Events, Poll, Token, Waker};
+use std::alloc::Global;
+use std::net::Net;
+use std::sync::{Arc, Wait};
+use std::time::{Clock, Duration};
+
+/// The token of a loop's inbox, which no slot has.
+const INBOX: usize = 1 << 40;
+
+/// How many events are taken at a time.
+const EVENTS: usize = 256;
+
+/// How many parts a turn has at most: one for each client.
+const PARTS_MAX: usize = 256;
+
+/// How many of them a client takes that has more to be read than a turn takes.
+const DEEP: usize = 32;
+
+/// How many microseconds a turn should take at most.
+const TURN_LONG: u64 = 2_000;
+
+/// A turn that took less may have more parts.
+const TURN_SHORT: u64 = 500;
+
+/// How many microseconds pass between two looks at who makes progress.
+const SWEEP: u64 = 1_000_000;
+
+/// A loop that worked a greater share of the time, in thousandths, gives clients away.
+const SHARE_HIGH: u64 = 900;
+
+/// A loop that worked no more may take them.
+const SHARE_LOW: u64 = 500;
+
+/// Two loops that together worked no more become one.
+const SHARE_ONE: u64 = 600;
+
+/// A loop, with the clients of its slots.
+#[derive(Drop)]
+pub struct Loop {
+    number: usize,
+    poll: Poll,
+    events: Events,
+    members: Members,
+    // The slots and the clients of a turn.
+    turn: Vec<usize>,
+    batch: Vec<Client<SocketPort>>,
+    round: Round,
+    parts: usize,
+    shares: Shares,
+    // The seconds after which a client that makes no progress is ended.
+    idle: Option<u64>,
+    swept: u64,
+}
+
+/// As many loops as are asked for, which end a client that makes no progress for so many seconds.
+pub fn make_loops<R: Net>(
+    rt: &R,
+    alloc: Global,
+    count: usize,
+    idle: Option<u64>,
+) -> Result<(Arc<Loops, Global>, Vec<Loop>), LoopFault> {
+    let mut loops = Loops::new(alloc);
+    let mut made = Vec::with_capacity(alloc, count)?;
+    for number in 0..count {
+        let poll = Poll::new(rt)?;
+        let waker = Waker::new(poll.registry(), Token(INBOX))?;
+        loops.push(Inbox::new(alloc, waker)?)?;
+        made.push(Loop {
+            number,
+            poll,
+            events: Events::with_capacity(alloc, EVENTS)?,
+            members: Members::new(alloc),
+            turn: Vec::with_capacity(alloc, PARTS_MAX)?,
+            batch: Vec::with_capacity(alloc, PARTS_MAX)?,
+            round: Round::new(alloc)?,
+            parts: PARTS_MAX,
+            shares: Shares::new(alloc, count)?,
+            idle,
+            swept: 0,
+        })?;
+    }
+    Ok((Arc::new(alloc, loops)?, made))
+}
+
+impl Loop {
+    /// Serves clients until the loops are closed and this one has none.
+    pub fn run<R, W>(mut self, rt: &R, loops: &Loops, keys: &KeyTable, watch: &W)
+    where
+        R: Wait + Clock,
+        W: Watch,
+    {
+        for _ in rt.forever() {
+            self.wait();
+            let begin = microseconds(rt);
+            self.take_events();
+            self.welcome(rt, loops, watch);
+            self.serve_ready(rt, loops, keys, watch);
+            self.sweep(rt, begin, loops, watch);
+            self.keep_time(rt, begin, loops);
+            if self.members.count() == 0 && loops.is_closed() {
+                return;
+            }
+        }
+    }
+
+    /// Waits for events; where clients are ready still, only looks for them.
+    fn wait(&mut self) {
+        let patience = if self.members.has_ready() {
+            Some(Duration::from_millis(0))
+        } else if self.idle.is_some() && self.members.count() > 0 {
+            Some(Duration::from_micros(SWEEP))
+        } else {
+            None
+        };
+        let _ = self.poll.poll(&mut self.events, patience);
+    }
+
+    /// Wakes the clients that events tell of.
+    fn take_events(&mut self) {
+        for event in self.events.iter() {
+            let slot = event.token().0;
+            let closes = event.is_read_closed();
+            self.members
+                .wake(slot, event.is_readable(), event.is_writable(), closes);
+        }
+    }
+
+    /// Takes in the clients that were handed over.
+    fn welcome<R: Wait, W: Watch>(&mut self, rt: &R, loops: &Loops, watch: &W) {
+        for _ in rt.forever() {
+            let Some(client) = loops.take(rt, self.number) else {
+                return;
+            };
+            if !self.take_in(client, loops) {
+                watch.end(rt, Some(PlainFault::NoMemory));
+            }
+        }
+    }
+
+    /// Whether there was memory to take a client in.
+    fn take_in(&mut self, client: Handover, loops: &Loops) -> bool {
+        let Handover { port, session } = client;
+        let Ok(slot) = self.members.free_slot() else {
+            return false;
+        };
+        if port.join(self.poll.registry(), Token(slot)).is_err() {
+            self.members.free(slot);
+            return false;
+        }
+        let client = Client::new(port, session);
+        // Who has to go on wide waits for bytes first.
+        let is_ready = client.course() == Course::Open || client.unsent() > 0;
+        loops.count_unsent(0, client.unsent());
+        self.members.begin(slot, client);
+        if is_ready {
+            self.members.list(slot);
+        }
+        true
+    }
+
+    /// Answers what clients that are ready have sent.
+    fn serve_ready<R: Wait, W: Watch>(
+        &mut self,
+        rt: &R,
+        loops: &Loops,
+        keys: &KeyTable,
+        watch: &W,
+    ) {
+        self.pick(rt, loops);
+        let unsent_max = loops.unsent_max();
+        self.round
+            .serve(keys, self.batch.as_mut_slice(), unsent_max);
+        for _ in rt.forever() {
+            let (Some(client), Some(slot)) = (self.batch.pop(), self.turn.pop()) else {
+                return;
+            };
+            loops.count_unsent(0, client.unsent());
+            self.look_after(rt, slot, client, unsent_max, loops, watch);
+        }
+    }
+
+    /// Takes the clients of a turn out of their slots.
+    fn pick<R: Wait>(&mut self, rt: &R, loops: &Loops) {
+        let mut parts = 0usize;
+        for _ in rt.forever() {
+            if parts >= self.parts {
+                return;
+            }
+            let Some((slot, more)) = self.members.next_ready(DEEP) else {
+                return;
+            };
+            parts = parts.saturating_add(more);
+            if let Some(client) = self.members.take(slot) {
+                loops.count_unsent(client.unsent(), 0);
+                self.add(slot, client);
+            }
+        }
+    }
+
+    /// Adds a client to a turn.
+    fn add(&mut self, slot: usize, client: Client<SocketPort>) {
+        if self.turn.push(slot).is_err() {
+            self.members.put(slot, client);
+            return;
+        }
+        if let Err(refused) = self.batch.push(client) {
+            self.members.put(slot, refused.value);
+            let _ = self.turn.pop();
+        }
+    }
+
+    /// Does what a client's turn has left to do.
+    fn look_after<R: Wait, W: Watch>(
+        &mut self,
+        rt: &R,
+        slot: usize,
+        mut client: Client<SocketPort>,
+        unsent_max: usize,
+        loops: &Loops,
+        watch: &W,
+    ) {
+        if client.is_over() {
+            loops.count_unsent(client.unsent(), 0);
+            self.members.end(slot);
+            watch.end(rt, PlainFault::of(&client));
+            return;
+        }
+        if client.course() == Course::Wide {
+            loops.count_unsent(client.unsent(), 0);
+            self.members.end(slot);
+            watch.widen(rt, self.part(client));
+            return;
+        }
+        self.note_turn(slot, &mut client, unsent_max);
+        self.members.put(slot, client);
+    }
+
+    /// A client that leaves the loop's poll.
+    fn part(&self, client: Client<SocketPort>) -> Handover {
+        let (port, session) = client.into_parts();
+        let _ = port.leave(self.poll.registry());
+        Handover { port, session }
+    }
+
+    /// Notes what a client waits for after its turn.
+    fn note_turn(&mut self, slot: usize, client: &mut Client<SocketPort>, unsent_max: usize) {
+        let awaits = client.unsent() > 0;
+        let Some(note) = self.members.note(slot) else {
+            return;
+        };
+        // A read that ends within a request may have left some of it.
+        if note.is_closing || (client.has_begun() && client.port().has_read()) {
+            client.wake_reading();
+        }
+        note.is_deep = client.is_busy(unsent_max);
+        let (is_deep, awaited) = (note.is_deep, note.awaits_room);
+        note.awaits_room = awaits;
+        if awaits != awaited {
+            let _ = client
+                .port()
+                .await_room(self.poll.registry(), Token(slot), awaits);
+        }
+        if is_deep {
+            self.members.list(slot);
+        }
+    }
+
+    /// Ends the clients that have made no progress for as long as they may.
+    fn sweep<R: Wait, W: Watch>(&mut self, rt: &R, now: u64, loops: &Loops, watch: &W) {
+        let Some(idle) = self.idle else {
+            return;
+        };
+        if now.saturating_sub(self.swept) < SWEEP {
+            return;
+        }
+        self.swept = now;
+        for slot in 0..self.members.slots() {
+            if self.is_idle(slot, idle) {
+                if let Some(client) = self.members.take(slot) {
+                    loops.count_unsent(client.unsent(), 0);
+                    self.members.end(slot);
+                    watch.end(rt, Some(PlainFault::Idle));
+                }
+            }
+        }
+    }
+
+    /// Notes a client's progress. Whether it has made none so often in a row.
+    fn is_idle(&mut self, slot: usize, idle: u64) -> bool {
+        let Some(client) = self.members.client(slot) else {
+            return false;
+        };
+        let progress = Progress {
+            answered: client.answered(),
+            has_begun: client.has_begun(),
+            unsent: client.unsent(),
+        };
+        let Some(note) = self.members.note(slot) else {
+            return false;
+        };
+        if note.progress != progress {
+            note.progress = progress;
+            note.quiet = 0;
+            return false;
+        }
+        note.quiet = note.quiet.saturating_add(1);
+        note.quiet > idle
+    }
+
+    /// Counts what a turn took, fits the next one to it, and shares clients with other loops.
+    fn keep_time<R: Wait + Clock>(&mut self, rt: &R, begin: u64, loops: &Loops) {
+        let now = microseconds(rt);
+        let spent = now.saturating_sub(begin);
+        if spent > TURN_LONG {
+            self.parts = (self.parts / 2).max(1);
+        } else if spent < TURN_SHORT {
+            self.parts = self.parts.saturating_mul(2).min(PARTS_MAX);
+        }
+        loops.add_work(self.number, spent);
+        if self.shares.is_due(now) {
+            loops.look(&mut self.shares, now);
+            self.spread(rt, loops);
+        }
+    }
+
+    /// Gives clients to another loop: half of those that are active where this one can't keep up,
+    /// all of them where one before it has time for them.
+    fn spread<R: Wait>(&mut self, rt: &R, loops: &Loops) {
+        let own = self.shares.of(self.number);
+        let least = self.shares.least();
+        if own >= SHARE_HIGH && self.shares.of(least) <= SHARE_LOW {
+            self.give(rt, loops, least, 2);
+        } else if own <= SHARE_ONE {
+            if let Some(before) = self.shares.first_below(SHARE_ONE - own) {
+                if before < self.number {
+                    self.give(rt, loops, before, 1);
+                }
+            }
+        }
+        self.rest();
+    }
+
+    /// Gives one of so many active clients to another loop.
+    fn give<R: Wait>(&mut self, rt: &R, loops: &Loops, number: usize, of: usize) {
+        let mut seen = 0usize;
+        for slot in 0..self.members.slots() {
+            let is_active = self.members.note(slot).map_or(false, |note| note.is_active);
+            if is_active && self.members.client(slot).is_some() {
+                seen = seen.saturating_add(1);
+                if seen % of.max(1) == 0 {
+                    self.move_to(rt, loops, number, slot);
+                }
+            }
+        }
+    }
+
+    fn move_to<R: Wait>(&mut self, rt: &R, loops: &Loops, number: usize, slot: usize) {
+        let Some(client) = self.members.take(slot) else {
+            return;
+        };
+        loops.count_unsent(client.unsent(), 0);
+        self.members.end(slot);
+        let client = self.part(client);
+        if let Err(client) = loops.hand(rt, number, client) {
+            let _ = self.take_in(client, loops);
+        }
+    }
+
+    /// Forgets which clients were active.
+    fn rest(&mut self) {
+        for slot in 0..self.members.slots() {
+            if let Some(note) = self.members.note(slot) {
+                note.is_active = false;
+            }
+        }
+    }
+}

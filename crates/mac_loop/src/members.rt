@@ -1,0 +1,190 @@
+//! The clients of a loop, each in a slot, and which of them are ready.
+
+use crate::port::SocketPort;
+use mac_plain::Client;
+use std::alloc::{AllocError, Global};
+use std::collections::VecDeque;
+
+/// How a client stood when a loop last looked at its progress.
+#[derive(Clone, Copy, PartialEq, Eq)]
+pub struct Progress {
+    pub answered: u64,
+    pub has_begun: bool,
+    pub unsent: usize,
+}
+
+/// What a loop knows of a slot's client, beside the client.
+#[derive(Clone, Copy)]
+pub struct Note {
+    /// It stands in the list of those that are ready.
+    pub is_listed: bool,
+    /// Its peer writes no more.
+    pub is_closing: bool,
+    /// A poll tells of room to write to it.
+    pub awaits_room: bool,
+    /// Its last read was full, or it wasn't read in its last turn.
+    pub is_deep: bool,
+    /// It had a turn since the loop last looked whether it is busy.
+    pub is_active: bool,
+    /// How it stood when its progress was last looked at.
+    pub progress: Progress,
+    /// How often in a row it had made none.
+    pub quiet: u64,
+}
+
+impl Note {
+    fn fresh(is_listed: bool) -> Note {
+        Note {
+            is_listed,
+            is_closing: false,
+            awaits_room: false,
+            is_deep: false,
+            is_active: true,
+            progress: Progress {
+                answered: 0,
+                has_begun: false,
+                unsent: 0,
+            },
+            quiet: 0,
+        }
+    }
+}
+
+/// The clients of a loop.
+#[derive(Drop)]
+pub struct Members {
+    clients: Vec<Option<Client<SocketPort>>>,
+    notes: Vec<Note>,
+    free: Vec<usize>,
+    ready: VecDeque<usize>,
+    count: usize,
+}
+
+impl Members {
+    /// No clients.
+    pub fn new(alloc: Global) -> Members {
+        Members {
+            clients: Vec::new(alloc),
+            notes: Vec::new(alloc),
+            free: Vec::new(alloc),
+            ready: VecDeque::new(alloc),
+            count: 0,
+        }
+    }
+
+    /// How many clients there are.
+    pub fn count(&self) -> usize {
+        self.count
+    }
+
+    /// How many slots there are.
+    pub fn slots(&self) -> usize {
+        self.clients.len()
+    }
+
+    /// A free slot. Room is had for what its client may ask for later.
+    pub fn free_slot(&mut self) -> Result<usize, AllocError> {
+        if let Some(slot) = self.free.pop() {
+            return Ok(slot);
+        }
+        let slot = self.clients.len();
+        self.free.reserve(slot.saturating_add(1))?;
+        self.ready.reserve(slot.saturating_add(1))?;
+        self.notes.push(Note::fresh(false))?;
+        self.clients.push(None)?;
+        Ok(slot)
+    }
+
+    /// Gives back a slot that was not taken.
+    pub fn free(&mut self, slot: usize) {
+        let _ = self.free.push(slot);
+    }
+
+    /// A new client takes a free slot.
+    pub fn begin(&mut self, slot: usize, client: Client<SocketPort>) {
+        if let Some(note) = self.notes.get_mut(slot) {
+            *note = Note::fresh(note.is_listed);
+        }
+        self.count = self.count.saturating_add(1);
+        self.put(slot, client);
+    }
+
+    /// The client of a slot leaves it for good.
+    pub fn end(&mut self, slot: usize) {
+        self.count = self.count.saturating_sub(1);
+        self.free(slot);
+    }
+
+    /// Puts a client into its slot.
+    pub fn put(&mut self, slot: usize, client: Client<SocketPort>) {
+        if let Some(place) = self.clients.get_mut(slot) {
+            *place = Some(client);
+        }
+    }
+
+    /// Takes a client out of its slot, which stays its own.
+    pub fn take(&mut self, slot: usize) -> Option<Client<SocketPort>> {
+        match self.clients.get_mut(slot) {
+            Some(place) => place.take(),
+            None => None,
+        }
+    }
+
+    /// The client of a slot.
+    pub fn client(&self, slot: usize) -> Option<&Client<SocketPort>> {
+        match self.clients.get(slot) {
+            Some(Some(client)) => Some(client),
+            _ => None,
+        }
+    }
+
+    /// What is known of a slot's client.
+    pub fn note(&mut self, slot: usize) -> Option<&mut Note> {
+        self.notes.get_mut(slot)
+    }
+
+    /// A poll has told of a slot.
+    pub fn wake(&mut self, slot: usize, reads: bool, writes: bool, closes: bool) {
+        if let Some(Some(client)) = self.clients.get_mut(slot) {
+            if reads {
+                client.wake_reading();
+            }
+            if writes {
+                client.wake_writing();
+            }
+        }
+        if let Some(note) = self.notes.get_mut(slot) {
+            note.is_closing = note.is_closing || closes;
+        }
+        self.list(slot);
+    }
+
+    /// Lists a slot as ready, once.
+    pub fn list(&mut self, slot: usize) {
+        if let Some(note) = self.notes.get_mut(slot) {
+            if !note.is_listed && self.ready.push_back(slot).is_ok() {
+                note.is_listed = true;
+            }
+        }
+    }
+
+    /// Whether a client is ready.
+    pub fn has_ready(&self) -> bool {
+        !self.ready.is_empty()
+    }
+
+    /// The next slot that is ready, and how much of a turn its client takes: one part, or `deep` of
+    /// them where it has more to be read than a turn takes.
+    pub fn next_ready(&mut self, deep: usize) -> Option<(usize, usize)> {
+        let slot = self.ready.pop_front()?;
+        let mut parts = 1;
+        if let Some(note) = self.notes.get_mut(slot) {
+            note.is_listed = false;
+            note.is_active = true;
+            if note.is_deep {
+                parts = deep;
+            }
+        }
+        Some((slot, parts))
+    }
+}

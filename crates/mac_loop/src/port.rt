@@ -1,0 +1,116 @@
+//! A connection's socket as a loop has it: reads and writes don't wait.
+
+ghost use Rattle.std.specs.Prelude.{length};
+ghost use Rattle.mac_plain.specs.Port.{FitsCame};
+
+use mac_plain::{Came, Port, Went};
+use mio::net::UnixStream;
+use mio::unix::SourceFd;
+use mio::{Interest, Registry, Token};
+use std::io;
+use std::io::{ErrorKind, Read, Write};
+use std::os::fd::AsRawFd;
+use std::os::unix::net;
+
+/// A socket that a loop reads and writes.
+#[derive(Drop)]
+pub struct SocketPort {
+    stream: UnixStream,
+    // Whether the last read gave bytes.
+    has_read: bool,
+}
+
+impl SocketPort {
+    /// A port at a stream, whose reads and writes wait no more.
+    pub fn new(stream: net::UnixStream) -> io::Result<SocketPort> {
+        stream.set_nonblocking(true)?;
+        Ok(SocketPort {
+            stream: UnixStream::from_std(stream),
+            has_read: false,
+        })
+    }
+
+    /// The stream, whose reads and writes wait again.
+    pub fn into_stream(self) -> io::Result<net::UnixStream> {
+        let SocketPort {
+            stream,
+            has_read: _,
+        } = self;
+        let stream = net::UnixStream::from(stream);
+        stream.set_nonblocking(false)?;
+        Ok(stream)
+    }
+
+    /// Whether the last read gave bytes.
+    pub fn has_read(&self) -> bool {
+        self.has_read
+    }
+
+    /// Has a poll tell of what comes, under this token.
+    pub fn join(&self, registry: &Registry, token: Token) -> io::Result<()> {
+        registry.register(
+            &mut SourceFd(&self.stream.as_raw_fd()),
+            token,
+            Interest::READABLE,
+        )
+    }
+
+    /// Has a poll tell of room to write too, or no longer.
+    pub fn await_room(&self, registry: &Registry, token: Token, awaits: bool) -> io::Result<()> {
+        let interest = if awaits {
+            Interest::READABLE | Interest::WRITABLE
+        } else {
+            Interest::READABLE
+        };
+        registry.reregister(&mut SourceFd(&self.stream.as_raw_fd()), token, interest)
+    }
+
+    /// Has a poll tell of nothing more.
+    pub fn leave(&self, registry: &Registry) -> io::Result<()> {
+        registry.deregister(&mut SourceFd(&self.stream.as_raw_fd()))
+    }
+}
+
+impl Port for SocketPort {
+    ghost use Rattle.std.specs.Prelude.{[], false};
+
+    ghost tells = { false };
+
+    ghost taken = { λ _. [] };
+
+    ghost written = { λ _. [] };
+
+    fn read(&mut self, buf: &mut [u8]) -> Came {
+        let came = read_past_signals(&mut self.stream, buf);
+        self.has_read = matches!(came, Came::Bytes(_));
+        came
+    }
+
+    fn write(&mut self, buf: &[u8]) -> Went {
+        for _ in 0..u64::MAX {
+            match self.stream.write(buf) {
+                Ok(count) => return Went::Bytes(count),
+                Err(fault) if fault.kind() == ErrorKind::WouldBlock => return Went::Later,
+                Err(fault) if fault.kind() == ErrorKind::Interrupted => {}
+                Err(_) => return Went::Fault,
+            }
+        }
+        Went::Fault
+    }
+}
+
+/// Reads, and reads again where a signal broke that off.
+fn read_past_signals(stream: &mut UnixStream, buf: &mut [u8]) -> Came
+    ensures { FitsCame result (length buf.new) }
+{
+    for _ in 0..u64::MAX {
+        match stream.read(buf) {
+            Ok(0) => return Came::End,
+            Ok(count) => return Came::Bytes(count),
+            Err(fault) if fault.kind() == ErrorKind::WouldBlock => return Came::Later,
+            Err(fault) if fault.kind() == ErrorKind::Interrupted => {}
+            Err(_) => return Came::Fault,
+        }
+    }
+    Came::Fault
+}

@@ -1,0 +1,54 @@
+//! What loops ask of the daemon around them.
+
+use crate::handover::Handover;
+use crate::port::SocketPort;
+use mac_plain::{Client, Course, Ended, Fall};
+use std::sync::Wait;
+use thiserror::Error;
+
+/// How a client ended that is served no more.
+#[derive(Clone, Copy, Debug, PartialEq, Eq, Error)]
+pub enum PlainFault {
+    /// The stream ended within a frame.
+    #[error("the stream ended inside a frame")]
+    Torn,
+    /// A read failed.
+    #[error("the source failed")]
+    Read,
+    /// A write failed.
+    #[error("the sink failed")]
+    Write,
+    /// Memory ran out.
+    #[error("memory was refused")]
+    NoMemory,
+    /// There is no further place for a reply.
+    #[error("no further reply has a place")]
+    Exhausted,
+    /// It made no progress for as long as it may.
+    #[error("it made no progress")]
+    Idle,
+}
+
+impl PlainFault {
+    /// The fault that a client ended in, on which nothing more is to be done.
+    pub fn of(client: &Client<SocketPort>) -> Option<PlainFault> {
+        match client.course() {
+            Course::Open | Course::Wide => Some(PlainFault::Write),
+            Course::Ended(Ended::Fault) => Some(PlainFault::Read),
+            Course::Ended(Ended::Peer) if client.unsent() > 0 => Some(PlainFault::Write),
+            Course::Ended(Ended::Peer) if client.has_begun() => Some(PlainFault::Torn),
+            Course::Ended(Ended::Peer) => None,
+            Course::Fallen(Fall::NoMemory) => Some(PlainFault::NoMemory),
+            Course::Fallen(Fall::Exhausted) => Some(PlainFault::Exhausted),
+        }
+    }
+}
+
+/// Who is told what becomes of the clients of loops.
+pub trait Watch: Send + Sync {
+    /// A client has ended, well or in a fault.
+    fn end<R: Wait>(&self, rt: &R, fault: Option<PlainFault>);
+
+    /// A client asks for what a loop must not do: it goes on in threads of its own.
+    fn widen<R: Wait>(&self, rt: &R, client: Handover);
+}
