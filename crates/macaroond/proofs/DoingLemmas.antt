@@ -1,11 +1,17 @@
 -- What doing a person's task comes to, from what is said of its words.
-use Rattle.std.proofs.Common.{◌≡◌, List, [], Result, Ok, Err, ℕ, IfOk}
-use Rattle.mac_keys.specs.Table.{Table, table_of}
+use Rattle.std.proofs.Common.{inl, List, Option, Some, None, Result, Ok, Err, ℕ, IfOk, option_map, string_bytes}
+use Rattle.std.specs.Prelude.{IfSome}
+use Rattle.std.specs.declared.alloc.Global.{Global}
+use Rattle.std.specs.declared.string.String.{String}
+use Rattle.mac_keys.specs.Table.{Table}
 use Rattle.mac_wire.specs.Request.{Asked}
 use Rattle.mac_words.specs.Said.{Says, SaysAlone}
 use Rattle.mac_words.specs.declared.saying.Said.{Said}
-use Rattle.macaroond.specs.People.{SaysWords, SaysWordsAlone}
+use Rattle.macaroond.specs.Doing.{DoesTask, EndsTask, IsMomentGiven}
+use Rattle.macaroond.specs.People.{GivesMoment, IsToldSo, SaysWords, SaysWordsAlone}
+use Rattle.macaroond.specs.declared.people.asking.Task.{Task}
 use Rattle.macaroond.specs.declared.people.fault.PersonFault.{PersonFault}
+use Rattle.macaroond.specs.declared.status.Status.{Status}
 
 -- what is said of a request, as it is said of the words
 pub said_of_words : (P : Said → Type 0) (table : Table) (token : List ℕ) (request : Asked) (result : Result Said PersonFault)
@@ -17,3 +23,13 @@ pub said_of_words_alone : (P : Said → Type 0) (token : List ℕ) (request : As
     → SaysWordsAlone token request result → ((said : Said) → SaysAlone token request (Ok said) → P said) → IfOk result P
 said_of_words_alone P token request (Ok said) says then = then said says
 said_of_words_alone P token request (Err why) says then = tt
+
+-- the moment that a word names, if there is a word
+pub moment_given : (at : Option (String Global)) (moment : ℕ)
+    → IfSome at (λ word. GivesMoment (string_bytes word) (Ok moment)) → IsMomentGiven (option_map string_bytes at) moment
+moment_given (Some word) moment gives = gives
+moment_given None moment gives = tt
+
+-- a run that does a task ends as what it says
+pub ends_told : (task : Task) (said : Said) (ended : Status) → DoesTask task said → IsToldSo said.is_refusal ended → EndsTask task ended
+ends_told task said ended does told = inl (said, does, told)

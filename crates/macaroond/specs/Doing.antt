@@ -1,6 +1,6 @@
 -- What doing a person's task comes to: what is said, and how the run ends.
-use Rattle.std.specs.Prelude.{◌≡◌, ◌≢◌, ◌⊎◌, ℕ, Bool, false, List, [], ◌∷◌, Option, Some, None, codes, length}
-use Rattle.std.specs.Prelude.{option_map, string_bytes, Result, Ok, Err}
+use Rattle.std.specs.Prelude.{◌≡◌, ◌≢◌, ◌⊎◌, ℕ, false, List, [], ◌∷◌, Option, Some, None, codes, length}
+use Rattle.std.specs.Prelude.{option_map, string_bytes, Ok}
 use Rattle.mac_keys.specs.Table.{Table, table_of}
 use Rattle.mac_wire.specs.declared.request.TokenForm.{TokenForm}
 use Rattle.mac_words.specs.KeyLine.{GivesLine}

@@ -1,7 +1,7 @@
-use Rattle.std.proofs.Common.{◌≡◌, ℕ, List, rules, string_bytes, subst, sym}
+use Rattle.std.proofs.Common.{◌≡◌, ℕ, List, rules, string_bytes, subst}
 use Rattle.macaroond.specs.Doing.{DoesVerify, StandsFor}
 use Rattle.macaroond.specs.People.{verify_asked}
-use Rattle.macaroond.proofs.DoingLemmas.{said_of_words}
+use Rattle.macaroond.proofs.DoingLemmas.{moment_given, said_of_words}
 use Rattle.macaroond.proofs.people.answering.do_verify.Goals as goal
 
 pub returns : goal.returns
@@ -13,4 +13,4 @@ returns g c =
     let of_word : StandsFor c.as_str-2.result.now token = subst (λ (bytes : List ℕ). StandsFor c.as_str-2.result.now bytes) is c.in_ok-token.ensures in
     let stands : StandsFor (string_bytes c.args.words.now.token) token = subst (λ (word : List ℕ). StandsFor word token) is_word of_word in
     said_of_words (DoesVerify words) c.in_ok-table.table token (verify_asked token c.in_ok-moment.moment words) c.say_verify_under.result c.say_verify_under.ensures
-    (λ said says. (c.in_ok-table.table, c.in_ok-moment.moment, token, c.in_ok-table.ensures, c.in_ok-moment.ensures, stands, says))
+    (λ said says. (c.in_ok-table.table, c.in_ok-moment.moment, token, c.in_ok-table.ensures, moment_given c.args.words.now.at c.in_ok-moment.moment c.in_ok-moment.ensures, stands, says))
