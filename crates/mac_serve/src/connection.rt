@@ -35,15 +35,15 @@ pub struct Served {
     pub ending: Ending,
     /// The desk, for the pool that it came from.
     pub desk: Desk<Macaroons>,
-    /// What the connection goes on with elsewhere, where the source failed: a read that waits for so
-    /// long and no longer brings the connection back.
+    /// What the connection goes on with elsewhere, where the source failed: a read that waits for
+    /// so long and no longer brings the connection back.
     pub session: Option<Session>,
 }
 
 /// Serves a connection that is between two requests: writes what is unsent, reads requests from the
 /// source to its end, those that are carried first, lets the workers of the desk's pool answer them
-/// under the keys, and writes the replies into the sink, in order, as the stream's version has them,
-/// at the places that follow. Requests are read in this thread, and replies sent from a thread of
+/// under the keys, and writes the replies into the sink, in order, as the stream's version has
+/// them, at the places that follow. Requests are read in this thread, and replies sent from a thread of
 /// their own, which begins once the stream's version is known.
 pub fn serve<R: Threads + Wait + Sync, In: Source, Out: Sink>(
     rt: &R,

@@ -70,7 +70,8 @@ impl Incoming {
         })
     }
 
-    /// What came behind the last arrival that is answered, of a stream of this version, comes again.
+    /// What came behind the last arrival that is answered, of a stream of this version, comes
+    /// again.
     pub fn resumed(
         alloc: Global,
         version: Option<Version>,
