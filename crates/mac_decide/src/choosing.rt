@@ -127,13 +127,14 @@ impl Sizes {
         }
     }
 
-    /// The group that fills the lanes best, the one of shorter texts where two fill them alike.
+    /// The group that fills the lanes best, the one of shorter texts where two fill them alike. It
+    /// has no texts only where none is left.
     fn best_group(&self) -> Group {
         let mut best = self.group_up_to(0);
         for size in 1..SIZES {
             if self.counts[size] > 0 {
                 let group = self.group_up_to(size);
-                if group.fills_better_than(&best) {
+                if best.longest == 0 || group.fills_better_than(&best) {
                     best = group;
                 }
             }

@@ -37,7 +37,8 @@ const UNKNOWN_MODE: &str = "error: the mode of a socket is 600, 660 or 666\n";
 /// An error holds how the run ends and the text to show, as that of `choose`: a word that is not
 /// UTF-8 makes a bad line.
 pub fn read_words<R: Env + Alloc<A = Global>>(rt: &R) -> Result<Vec<String>, (Status, String)>
-    ensures refused { IfErr result (λ fault. (fault.0 ≡ Status.BadLine) ⊎ (fault.0 ≡ Status.NoMemory)) }
+    ensures refused { IfErr result (λ fault.
+        (fault.0 ≡ Status.BadLine) ⊎ (fault.0 ≡ Status.NoMemory)) }
     ensures memory { IfErr result (λ fault. fault.0 ≡ Status.NoMemory → string_bytes fault.1 ≡ []) }
 {
     match env::args(rt) {

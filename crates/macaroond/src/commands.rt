@@ -18,7 +18,8 @@ pub const ACCEPT_MAX: u64 = 1000;
 /// The most seconds that `--idle` takes: a day.
 pub const IDLE_MAX: u64 = 86400;
 
-/// The version, as `--version` prints it. A build of a commit writes its first digits over the last word.
+/// The version, as `--version` prints it. A build of a commit writes its first digits over the last
+/// word.
 const VERSION: &str = "0.1.0 (uncommitted)";
 
 /// What the help of `pipe` says below its options.

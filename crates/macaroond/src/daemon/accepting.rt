@@ -36,8 +36,8 @@ pub struct Day {
 }
 
 /// Accepts as many connections as the limits say, and serves each. Some may not have ended yet
-/// where it returns. With a count, a socket that accepts nothing is an error, with how the run ends;
-/// without one, it is asked again after a pause.
+/// where it returns. With a count, a socket that accepts nothing is an error, with how the run
+/// ends; without one, it is asked again after a pause.
 pub fn accept_each<R>(
     rt: &R,
     alloc: Global,

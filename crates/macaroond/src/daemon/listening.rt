@@ -31,7 +31,8 @@ pub struct Terms<'a> {
 }
 
 /// Serves the connections of a socket without end. It returns only where it can't begin, and says
-/// how the run ended: `NoMemory` also where there is no thread, and for workers that aren't 1 to 16.
+/// how the run ended: `NoMemory` also where there is no thread, and for workers that aren't 1 to
+/// 16.
 pub fn listen<R>(
     rt: &R,
     alloc: Global,

@@ -16,8 +16,8 @@ use std::thread::Threads;
 use std::time::Clock;
 
 /// Serves so many connections of a socket that it makes at `path`, each in threads of its own, and
-/// prints a line once clients can connect and one once all connections have ended. An error says how
-/// the run ended.
+/// prints a line once clients can connect and one once all connections have ended. An error says
+/// how the run ended.
 pub fn accept_all<R, W>(
     rt: &R,
     alloc: Global,
