@@ -1,5 +1,5 @@
 .PHONY: test wrong-bodies demo build build-runs install uninstall deb tarball reproduce completions
-.PHONY: clients faults bench load soak
+.PHONY: clients faults bench load soak pages taken
 
 # Every proof from nothing, the wrong bodies, every test and program; then the proved program beside its pages and the
 # work of others, over sockets, with memory refused and calls failed. It installs nothing: what isn't there is told as
@@ -15,7 +15,7 @@ CRATES = $(filter-out wrong-bodies,$(MAKECMDGOALS))
 $(notdir $(wildcard crates/*)):
 	@:
 
-# The README's token, through the proved program where there is one, else through an unproved run.
+# What README's sessions show, in words: by the proved program where there is one, else by an unproved run.
 demo:
 	scripts/demo.sh
 
@@ -34,6 +34,7 @@ define proved
 cd crates/$(1) && rt run -- $(2) > /dev/null
 @test -e crates/$(1)/out/$(1).stamp || { echo "crates/$(1)/out/$(1) is not of this text: make build again"; exit 1; }
 cp crates/$(1)/out/$(1) bin/
+
 endef
 
 bin/macaroond: packaging/launcher.c
@@ -62,15 +63,26 @@ reproduce:
 completions:
 	scripts/completions.py
 
-# The same for bin/try_pool, which drives the ring and the pool, bin/try_serve, which drives serve over memory,
-# bin/try_refused, which makes single calls, and bin/try_cases.
+# What stands in pages and is made of other files: the counts, laws and wrong bodies in the pages of promises, from
+# the tree; docs/architecture.svg, from docs/architecture.dot, where Graphviz is there or the text is as it was.
+pages:
+	scripts/promises.py
+	scripts/draw.py
+
+# The same for the programs that try the libraries: try_pool drives the ring and the pool, try_serve drives serve over
+# memory, try_refused makes single calls, and try_cases asks for answers to the cases of its stdin.
+TRIALS = try_pool try_serve try_refused try_cases
 build-runs:
 	mkdir -p bin
-	rm -f bin/try_*
-	$(call proved,try_pool)
-	$(call proved,try_serve)
-	$(call proved,try_refused)
-	$(call proved,try_cases,< stdin)
+	rm -f $(TRIALS:%=bin/%)
+	$(foreach it,$(TRIALS),$(call proved,$(it),$(if $(wildcard crates/$(it)/stdin),< stdin)))
+
+# The programs that `rt ci` left where it built them, as make build and make build-runs would leave them.
+taken:
+	scripts/build.py --taken
+	rm -f bin/macaroond
+	$(MAKE) --silent bin/macaroond
+	for program in time_blocks $(TRIALS); do cp crates/$$program/out/$$program bin/ || exit 1; done
 
 # Each request for memory refused in turn, and each call of a device failed, of the programs and the daemon. After
 # make build build-runs, and with a C compiler.

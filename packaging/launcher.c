@@ -37,6 +37,15 @@ static const char *own_folder(char path[PATH_MAX])
     return path;
 }
 
+/* Has the C library give large blocks back to the system as soon as they are free, and what is free at the end of a
+   heap past this many bytes. By itself it raises both bounds to the largest block that it saw, and keeps what a burst
+   of long requests took. What is set outside stays. */
+static void give_memory_back(void)
+{
+    setenv("MALLOC_MMAP_THRESHOLD_", "32768", 0);
+    setenv("MALLOC_TRIM_THRESHOLD_", "65536", 0);
+}
+
 /* Starts the program of this name. It returns only where that fails, with errno. */
 static void start(const char *folder, const char *name, char **words)
 {
@@ -52,6 +61,7 @@ int main(int count, char **words)
     const char *folder = own_folder(path);
 
     (void)count;
+    give_memory_back();
     if (folder != NULL) {
         __builtin_cpu_init();
         if (__builtin_cpu_supports("x86-64-v3"))

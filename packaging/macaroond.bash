@@ -21,7 +21,7 @@ _macaroond() {
         --mode) words='600 660 666' ;;
         --form) words='v1 v2 json v2-text' ;;
         --key) words=$(_macaroond_key_names) ;;
-        --workers | --accept | --idle | --location | --identifier | --caveat | --fact | --at) return ;;
+        --workers | --accept | --idle | --loops | --connections | --location | --identifier | --caveat | --fact | --at) return ;;
         *)
             if ((COMP_CWORD == 1)); then
                 words='pipe serve listen keygen mint attenuate verify inspect --help --version'
@@ -29,7 +29,7 @@ _macaroond() {
                 case ${COMP_WORDS[1]} in
                     pipe) words='--help' ;;
                     serve) words='--socket --keys --workers --accept --help' ;;
-                    listen) words='--socket --keys --workers --mode --idle --help' ;;
+                    listen) words='--socket --keys --workers --mode --idle --loops --connections --help' ;;
                     keygen) words='--help' ;;
                     mint) words='--keys --key --location --identifier --caveat --form --help' ;;
                     attenuate) words='--caveat --form --help' ;;

@@ -1,12 +1,15 @@
 #!/usr/bin/env python3
-"""Counts how often `macaroond pipe` asks for memory at each request: once for the payload that its line spells, and then to answer it.
-Asks for the program that `make build` leaves in bin/, and for a C compiler."""
+"""Counts how often `macaroond pipe` asks for memory at each request.
+
+That is once for the payload that its line spells, and then to answer it. Asks for the program that
+`make build` leaves in bin/, and for a C compiler.
+"""
 import base64
-import os
 import pathlib
 import subprocess
 import sys
-import tempfile
+
+import refusing
 
 TOP = pathlib.Path(__file__).resolve().parent.parent
 sys.path.append(str(TOP / "examples"))
@@ -29,43 +32,29 @@ MOST |= {f"mint {form}": most for form, most in MINT.items()}
 MOST |= {f"attenuate {old} {new}": VERIFY[old] + MINT[new] - 1 for old in VERIFY for new in MINT}
 
 
-def counter(folder):
-    """The library that counts, built into the folder; none where there is no C compiler."""
-    library = pathlib.Path(folder) / "allocations.so"
-    source = TOP / "scripts" / "allocations.c"
-    try:
-        subprocess.run(["cc", "-O2", "-shared", "-fPIC", "-o", library, source, "-ldl"], check=True)
-    except FileNotFoundError:
-        return None
-    return library
+def piped(line, count, watch=None):
+    """What the pipe prints for so many of this line."""
+    how = {"env": watch.environment} if watch else {}
+    given = KEYS + (line + "\n") * count
+    return subprocess.run([PROGRAM, "pipe"], input=given, text=True, check=True, capture_output=True, **how).stdout
 
 
-def piped(line, count, library=None):
-    """What the pipe prints for so many of this line, and how often it asked for memory."""
-    with tempfile.TemporaryDirectory() as folder:
-        told = pathlib.Path(folder) / "told"
-        told.write_bytes(bytes(8))
-        preload = {"LD_PRELOAD": str(library), "ALLOCATIONS": str(told)} if library else {}
-        run = subprocess.run([PROGRAM, "pipe"], input=KEYS + (line + "\n") * count, text=True, check=True,
-                             capture_output=True, env={**os.environ, **preload})
-        return run.stdout, int.from_bytes(told.read_bytes(), sys.byteorder)
-
-
-def each(payload, answer, library):
+def each(payload, answer):
     """How often memory is asked for, for each request of this payload; the nearest whole number."""
     counts = []
     for count in (FEW, MANY):
-        printed, taken = piped(payload.hex(), count, library)
+        with refusing.Watch("memory") as watch:
+            printed = piped(payload.hex(), count, watch)
+            counts.append(watch.calls)
         if printed != (answer + "\n") * count:
             sys.exit(f"the pipe doesn't answer as it should: {printed[:100]}")
-        counts.append(taken)
     return round((counts[1] - counts[0]) / (MANY - FEW))
 
 
 def token(form):
     """The bytes of a token in this form."""
     asked = "v1-text" if form == "v1-packets" else form
-    printed, _ = piped(request.mint(asked, "bank", "https://bank.example/", "user:1001", *CAVEATS).hex(), 1)
+    printed = piped(request.mint(asked, "bank", "https://bank.example/", "user:1001", *CAVEATS).hex(), 1)
     text = printed.removeprefix("token ").rstrip("\n")
     if form != "v1-packets":
         return text
@@ -83,35 +72,38 @@ def payloads():
             yield f"attenuate {old} {new}", request.attenuate(new, token(old), "amount < 100")
 
 
-def counts(library):
+def counts():
     """How often memory is asked for at each of these requests."""
     for kind, payload in payloads():
-        answer = piped(payload.hex(), 1)[0].rstrip("\n")
+        answer = piped(payload.hex(), 1).rstrip("\n")
         if not answer.startswith("granted" if kind.startswith("verify") else "token "):
             sys.exit(f"the pipe doesn't answer a {kind} as it should: {answer[:100]}")
-        yield kind, each(payload, answer, library)
+        yield kind, each(payload, answer)
 
 
 def faults():
     """What a request takes that it may not, and how many kinds of request were counted."""
-    with tempfile.TemporaryDirectory() as folder:
-        library = counter(folder)
-        if library is None:
-            return [], 0, ["there is no C compiler `cc`"]
-        counted = [it for it in counts(library) if it[0] in MOST]
-    found = [f"{kind} asks for memory {count} times and not {MOST[kind]}"
-             for kind, count in counted if count > MOST[kind]]
-    return found, len(counted)
+    if not refusing.has_compiler():
+        return [], 0, ["there is no C compiler `cc`"]
+    with refusing.watching():
+        return beyond(counts())
+
+
+def beyond(counted):
+    """Which of these kinds ask for more than they may, and how many kinds there are."""
+    bounded = [it for it in counted if it[0] in MOST]
+    above = [it for it in bounded if it[1] > MOST[it[0]]]
+    return [f"{kind} asks for memory {count} times and not {MOST[kind]}" for kind, count in above], len(bounded)
 
 
 def main():
-    with tempfile.TemporaryDirectory() as folder:
-        library = counter(folder)
-        if library is None:
-            sys.exit("there is no C compiler `cc`")
-        for kind, count in counts(library):
-            print(f"{kind}: {count}")
-    found = faults()[0]
+    if not refusing.has_compiler():
+        sys.exit("there is no C compiler `cc`")
+    with refusing.watching():
+        counted = list(counts())
+    for kind, count in counted:
+        print(f"{kind}: {count}")
+    found, _ = beyond(counted)
     if found:
         sys.exit("\n".join(found))
 

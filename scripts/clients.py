@@ -26,11 +26,12 @@ import urllib.request
 import client_cases
 import client_tokens
 import peers
+import sessions
 
 TOP = pathlib.Path(__file__).resolve().parent.parent
 PROGRAM = os.environ.get("MACAROOND", str(TOP / "bin" / "macaroond"))
 PYTHON, GO = TOP / "clients" / "python", TOP / "clients" / "go"
-README = (TOP / "clients" / "README.md").read_text()
+README = TOP / "clients" / "README.md"
 KEYS = TOP / "examples" / "keys"
 GO_LIBRARIES = pathlib.Path("/usr/share/gocode")
 # How many requests each client is compared in, by the gate and else.
@@ -98,25 +99,20 @@ def daemon():
                 process.kill()
 
 
-def blocks(language):
-    """The README's blocks of code in a language."""
-    return re.findall(rf"^```{language}\n(.*?)^```", README, re.MULTILINE | re.DOTALL)
-
-
 def quote_faults():
     """Blocks of the README that stand in no file that is run; sessions of Python are run as they are."""
     service = (TOP / "examples" / "service.py").read_text()
     sources = [(GO / "readme_test.go").read_text(), (TOP / "examples" / "service_go" / "main.go").read_text()]
-    indented = [textwrap.indent(block, "\t") for block in blocks("go")]
-    quoted = [(block, service == block) for block in blocks("python") if not block.startswith(">>>")]
-    for plain, inner in zip(blocks("go"), indented):
+    indented = [textwrap.indent(block, "\t") for block in sessions.blocks(README, "go")]
+    quoted = [(block, service == block) for block in sessions.blocks(README, "python") if not block.startswith(">>>")]
+    for plain, inner in zip(sessions.blocks(README, "go"), indented):
         quoted.append((plain, any(plain == source or inner in source for source in sources)))
     return [f"clients/README.md quotes what isn't run:\n{block}" for block, is_run in quoted if not is_run], len(quoted)
 
 
 def session_faults(folder):
     """What the README's sessions of Python print otherwise, and how many commands they have."""
-    text = "\n".join(block for block in blocks("python") if block.startswith(">>>"))
+    text = "\n".join(block for block in sessions.blocks(README, "python") if block.startswith(">>>"))
     (pathlib.Path(folder) / "session.txt").write_text(text)
     printed = run([sys.executable, "-m", "doctest", "session.txt"], cwd=folder, env=PYTHON_PATH)
     return [] if printed.returncode == 0 else [printed.stdout], text.count(">>> ")

@@ -181,7 +181,7 @@ def listening(folder):
             stream.sendall(bytes(3))
             yield "silence is ended", stream.recv(1), b""
         yield "after its second", 0.9 < time.monotonic() - begin, True
-        yield "and told", run.stderr.readline(), "a connection ended: the source failed\n"
+        yield "and told", run.stderr.readline(), "a connection ended: it made no progress\n"
         with contextlib.ExitStack() as crowd:
             streams = [crowd.enter_context(connected(path)) for _ in range(130)]
             streams[-1].sendall(frame(b""))

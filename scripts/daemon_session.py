@@ -1,51 +1,31 @@
-"""The README's sessions, run with bin/macaroond itself.
+"""The sessions of README and of docs/OPERATING.md, run with bin/macaroond itself.
 
-Such a session is a block marked `shell-session`. All run in one shell, in a folder of their own. A
-command that ends in `&` stays up; the next one waits until it has printed.
+Such a session is a block marked `shell-session`. All of a page run in one shell, in a folder of
+their own. Whoever starts the daemon waits for it as the page says.
 """
 import pathlib
-import re
-import shlex
-import subprocess
 import tempfile
 
+import sessions
+
 TOP = pathlib.Path(__file__).resolve().parent.parent
+PAGES = ["README.md", "docs/OPERATING.md"]
 
 
-def steps():
-    """Each command of the sessions, with what it is shown to print."""
-    text = (TOP / "README.md").read_text()
-    blocks = re.findall(r"^```shell-session\n(.*?)^```", text, re.MULTILINE | re.DOTALL)
-    parts = [part for block in blocks for part in re.split(r"^\$ ", block, flags=re.MULTILINE)[1:]]
-    return [(command.strip(), shown) for command, _, shown in (part.partition("\n") for part in parts)]
-
-
-def script(folder, commands):
-    """One shell script of the commands; what each prints goes into a file of its step."""
-    lines = ["set -eu", "trap 'kill $! 2> /dev/null || :' EXIT"]
-    for step, command in enumerate(commands):
-        printed = shlex.quote(str(folder / f"printed.{step:03}"))
-        lines.append(f"{{ {command}\n}} > {printed} 2>&1")
-        if command.endswith("&"):
-            lines.append(f"for _ in $(seq 600); do [ -s {printed} ] && break; sleep 0.1; done")
-    return "\n".join(lines)
-
-
-def faults():
-    """What is printed otherwise than the README shows, and how many commands were run."""
-    found = steps()
+def page_faults(page):
+    """What is printed otherwise than the page shows, and how many commands were run."""
+    found = sessions.steps(TOP / page, "shell-session")
     with tempfile.TemporaryDirectory() as name:
         folder = pathlib.Path(name)
         (folder / "examples").symlink_to(TOP / "examples")
         (folder / "bin").symlink_to(TOP / "bin")
-        text = script(folder, [command for command, _ in found])
-        run = subprocess.run(["sh", "-c", text], cwd=folder, timeout=180)
-        if run.returncode != 0:
-            return [f"the README's session ends with status {run.returncode}"], 0
-        printed = [(folder / f"printed.{step:03}").read_text() for step in range(len(found))]
-    wrong = [
-        f"`{command}` prints\n{got}where the README shows\n{shown}"
-        for (command, shown), got in zip(found, printed)
-        if got != shown
-    ]
-    return wrong, len(found)
+        status, printed = sessions.run([command for command, _ in found], folder)
+    if status != 0:
+        return [f"the session of {page} ends with status {status}"], 0
+    return sessions.differing(page, found, printed), len(found)
+
+
+def faults():
+    """What the pages show otherwise, and how many commands they have."""
+    found = [page_faults(page) for page in PAGES]
+    return [fault for wrong, _ in found for fault in wrong], sum(count for _, count in found)

@@ -47,7 +47,7 @@ def pipe(count, most=None, step=1):
     """The pipe ends with status 4 and a beginning of its output."""
     given = pipe_input(count)
     command = [pipe_runs.PROGRAM, "pipe"]
-    whole, _, _ = watched(command, given, "refuse", 0)
+    whole, _, _ = watched(command, given, "memory", 0)
 
     def judge(ended):
         if ended == whole:
@@ -56,7 +56,7 @@ def pipe(count, most=None, step=1):
             return "status 4 and a beginning of its output" if ended.output else "status 4 and no output"
         return None
 
-    row, found = in_turn(f"pipe, {7 * count} requests", lambda n: watched(command, given, "refuse", n), judge, most, step)
+    row, found = in_turn(f"pipe, {7 * count} requests", lambda n: watched(command, given, "memory", n), judge, most, step)
     if whole.status or TOKEN not in whole.output:
         found.append(f"pipe: it ends with {whole.status} and prints {whole.output[:80]}")
     return row, found
@@ -67,14 +67,14 @@ def lines_of(uses, most=None, step=1):
     for name, case in uses:
         command = [pipe_runs.PROGRAM, *case.words]
         given = case.input.encode()
-        ample, _, _ = watched(command, given, "refuse", 0)
+        ample, _, _ = watched(command, given, "memory", 0)
 
         def judge(ended):
             if ended == ample or (name == "keygen" and ended and ended.status == 0):
                 return "as with ample memory"
             return "status 4" if ended in (NO_MEMORY, NO_MEMORY_FOR_PEOPLE) else None
 
-        yield in_turn(name, lambda n: watched(command, given, "refuse", n), judge, most, step)
+        yield in_turn(name, lambda n: watched(command, given, "memory", n), judge, most, step)
 
 
 def together(what, rows):
@@ -98,7 +98,7 @@ def calls():
             word = ended and ended.output.removesuffix(b"\n")
             return word.decode() if word in BARE and not ended.status and not ended.error else None
 
-        row, found = in_turn(word, lambda n: watched(command, b"", "refuse", n), judge)
+        row, found = in_turn(word, lambda n: watched(command, b"", "memory", n), judge)
         if not row.came["refused, and made once more"] and word not in WITHOUT_MEMORY:
             found.append(f"{word}: no request of the call itself was refused")
         yield row, found
@@ -137,7 +137,7 @@ def serve(word, connections):
             return None
         return "fault 3 and the frames of the first replies" if "memory" in came else "all replies"
 
-    return in_turn(f"serve, {word}", lambda n: watched(command, b"", "refuse", n), judge)
+    return in_turn(f"serve, {word}", lambda n: watched(command, b"", "memory", n), judge)
 
 
 def rows():
@@ -157,13 +157,13 @@ def rows():
             return "out of memory" if ended and ended.status == 1 and not ended.output else None
 
         command = [BIN / "try_cases"]
-        yield in_turn(f"try_cases: {line[:60].decode()}", lambda n: watched(command, line + b"\n", "refuse", n), judge)
+        yield in_turn(f"try_cases: {line[:60].decode()}", lambda n: watched(command, line + b"\n", "memory", n), judge)
 
 
 def devices():
     """The pipe over devices that fail at each of their calls, that are interrupted, and that move a byte at a time."""
     command, given = [pipe_runs.PROGRAM, "pipe"], pipe_input(300)
-    whole, _, _ = watched(command, given, "refuse", 0)
+    whole, _, _ = watched(command, given, "memory", 0)
 
     def judge(ended):
         if ended == whole:
@@ -173,7 +173,7 @@ def devices():
 
     for call, file in (("read", "0"), ("write", "1")):
         for error, name in ((5, "EIO"), (4, "EINTR"), (0, "a byte")):
-            once = lambda n: watched(command, given, "fail", n, CALL=call, FILE=file, ERROR=str(error))
+            once = lambda n: watched(command, given, call, n, FILE=file, ERROR=str(error))
             row, found = in_turn(f"pipe, {call}: {name}", once, judge)
             due = "status 3 and a beginning of its output" if name == "EIO" else "all its output, status 0"
             if set(row.came) != {due}:
@@ -222,14 +222,14 @@ def faults(rows):
 
 def some_faults():
     """What is wrong in the smaller set, beside what it prints, and how many points it has."""
-    with refusing.libraries():
+    with refusing.watching():
         return faults(few())
 
 
 def main():
     if not refusing.has_compiler():
         sys.exit("there is no C compiler `cc`")
-    with refusing.libraries():
+    with refusing.watching():
         found, _ = faults(few() if "--few" in sys.argv else many())
     if found:
         sys.exit("\n".join(found))

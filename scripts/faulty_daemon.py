@@ -87,9 +87,9 @@ class Client(threading.Thread):
         return None if rest else count
 
 
-def once(name, number, times, **variables):
+def once(call, number, times, **variables):
     """A daemon that serves two clients, who talk at the same time: how it ended, and the replies of each."""
-    with tempfile.TemporaryDirectory() as folder, Watch(name, number, **variables) as watch:
+    with tempfile.TemporaryDirectory() as folder, Watch(call, number, **variables) as watch:
         path = folder + "/s"
         words = ["serve", "--socket", path, "--keys", KEYS, "--workers", "2", "--accept", "2"]
         pipes = {"stdout": subprocess.PIPE, "stderr": subprocess.PIPE, "env": watch.environment}
@@ -121,14 +121,14 @@ def served(times):
 
 def starts(most=None, step=1):
     """From the first request for memory of the process on, until a run meets no refusal."""
-    return in_turn("serve over sockets, from the start", lambda n: once("refuse", n, 1), served(1), most, step)
+    return in_turn("serve over sockets, from the start", lambda n: once("memory", n, 1), served(1), most, step)
 
 
 def talks(most):
     """The first so many requests for memory of the process, all of them while two clients talk or before."""
     times = 250
-    _, calls, _ = once("refuse", 0, times)
-    row, found = in_turn("serve over sockets, two clients talk", lambda n: once("refuse", n, times), served(times), most)
+    _, calls, _ = once("memory", 0, times)
+    row, found = in_turn("serve over sockets, two clients talk", lambda n: once("memory", n, times), served(times), most)
     if calls < most:
         found.append(f"the daemon asks for memory {calls} times alone")
     return row, found
@@ -137,7 +137,7 @@ def talks(most):
 def devices():
     """The calls of the sockets fail, one in turn, while two clients talk."""
     for call, number, name, due in SOCKETS:
-        once_failed = lambda n: once("fail", n, 3, CALL=call, FILE="-1", ERROR=str(number))
+        once_failed = lambda n: once(call, n, 3, FILE="-1", ERROR=str(number))
         row, found = in_turn(f"serve over sockets, {call}: {name}", once_failed, served(3))
         if set(row.came) != {due}:
             found.append(f"{row.what}: {dict(row.came)} where {due} is due")
@@ -149,7 +149,7 @@ def devices():
 def stopped():
     """A daemon whose sockets have timeouts is stopped while a client waits, and goes on: so does the client."""
     with tempfile.TemporaryDirectory() as folder:
-        daemon = Listening("fail", folder, "--idle", "30")
+        daemon = Listening("nothing", folder, "--idle", "30")
         with daemon_rows.connected(daemon.path) as stream:
             is_right = is_served(stream)
             daemon.run.send_signal(signal.SIGSTOP)
@@ -172,7 +172,7 @@ def wait_until(holds):
 def accepts_again():
     """An accept for which there is no descriptor is tried again."""
     with tempfile.TemporaryDirectory() as folder:
-        daemon = Listening("fail", folder, CALL="accept4", FILE="-1", ERROR=str(errno.EMFILE))
+        daemon = Listening("accept4", folder, FILE="-1", ERROR=str(errno.EMFILE))
         daemon.refuse_behind(1, every=3)
         replies = [daemon.two() for _ in range(6)]
         failed = daemon.watch.refused
@@ -185,9 +185,9 @@ def accepts_again():
 class Listening:
     """A daemon that stays up, whose calls are watched."""
 
-    def __init__(self, name, folder, *words, **variables):
+    def __init__(self, call, folder, *words, **variables):
         self.path = folder + "/s"
-        self.watch = Watch(name, **variables)
+        self.watch = Watch(call, **variables)
         words = ["listen", "--socket", self.path, "--keys", KEYS, "--workers", "2", *words]
         pipes = {"stdout": subprocess.PIPE, "stderr": subprocess.DEVNULL, "env": self.watch.environment}
         self.run = subprocess.Popen([pipe_runs.PROGRAM, *words], **pipes)
@@ -235,7 +235,7 @@ def rounds_of(numbers):
     """The rounds of these numbers at one daemon: the words for what came, how much was refused, and what was wrong."""
     came, found = collections.Counter(), []
     with tempfile.TemporaryDirectory() as folder:
-        daemon = Listening("refuse", folder)
+        daemon = Listening("memory", folder)
         daemon.two()
         before = daemon.watch.calls
         daemon.two()

@@ -13,7 +13,7 @@ import sys
 TOP = pathlib.Path(__file__).resolve().parent.parent
 # The line in which a step counts.
 COUNTS = re.compile(r"(?:[\w. -]+: )?(\d+) passed, (\d+) failed(?:, (\d+) skipped)?")
-PROOFS, PROGRAMS, OUTSIDE = ["rt", "ci"], ["scripts/take_programs.sh"], ["scripts/outside.py"]
+PROOFS, PROGRAMS, OUTSIDE = ["rt", "ci"], ["make", "--silent", "taken"], ["scripts/outside.py"]
 
 
 def followed(command):

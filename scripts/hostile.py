@@ -9,9 +9,11 @@ other. The one beside them, which was there before, must lose nothing and wait n
 second for a reply; on a machine that is busy with other work it may wait longer, and the run fails.
 
 They come in rounds. After each, the daemon's descriptors and threads are as many as before the first,
-and it is as large as after the first, but for GROWTH_MAX. It runs with one arena of the C library for
-that: by default glibc has up to eight for each processor, threads spread over them, and each keeps
-what it once held, so that a daemon grows to some 20 MiB in the first rounds and then no more.
+and within SETTLING seconds it is as large as after the first, but for GROWTH_MAX: each of its loops
+and of the C library's arenas keeps some of what it once held.
+
+Then 8 and 60 clients send the dearest requests without end, tokens in JSON of 32 KiB, and another's
+small verify is timed beside them: its median, its 99th percentile and its longest wait are told.
 
 Then 63 clients that never read send requests whose replies are the largest beside them, as many as
 the daemon takes, and the daemon, now with all arenas, stays below PEAK_MAX. Asks for bin/macaroond,
@@ -39,10 +41,14 @@ KEYS = TOP / "examples" / "keys"
 FRAME_MAX = 65_536
 LONGEST_WAIT = 1.0
 ROUNDS = 4
-# How many MiB the daemon may be larger after a later round than after the first.
-GROWTH_MAX = 2
+# How many MiB the daemon may have once its clients have left, by how many it may be larger after a later
+# round than after the first, and within how many seconds.
+SIZE_MAX, GROWTH_MAX, SETTLING = 40, 12, 10
 # How many clients never read, and the most MiB of the daemon that answers them.
 SILENT, PEAK_MAX = 63, 450
+# How many clients send dear requests at a time, for how many seconds another is timed beside them, and
+# how many seconds of its waits the 99th percentile may be, on a machine that does other work too.
+CROWDS, DEAR_SECONDS, DEAR_WAIT_MAX = (8, 60), 3, 0.5
 # A caveat that JSON writes with six letters for a byte, and how many of them fill a token.
 CONTROL, CONTROLS = "hex:" + "01" * 1000, 5
 
@@ -101,9 +107,9 @@ def comes_often(path, rng):
 HOSTILE = [vanishes, sends_garbage, lies, never_reads, says_nothing, sends_large_frames, comes_often]
 
 
-def pesters(path, kind, until, seed):
+def pesters(path, kind, is_over, seed):
     rng = random.Random(seed)
-    while time.monotonic() < until:
+    while not is_over.is_set():
         try:
             kind(path, rng)
         except OSError:
@@ -148,11 +154,19 @@ def settled(pid, before):
     return state(pid)
 
 
+def settled_size(pid, most=SIZE_MAX):
+    """How many MiB the daemon has once they are no more than `most`, waited for up to `SETTLING` seconds."""
+    until = time.monotonic() + SETTLING
+    while (size := mebibytes(pid, "VmRSS")) > most and time.monotonic() < until:
+        time.sleep(0.1)
+    return size
+
+
 def crowded(path, seconds):
     """A round: how many replies came as due beside the hostile clients, and the longest wait."""
-    until = time.monotonic() + seconds
+    is_over = multiprocessing.Event()
     crowd = [
-        multiprocessing.Process(target=pesters, args=(path, kind, until, f"{kind.__name__} {number}"), daemon=True)
+        multiprocessing.Process(target=pesters, args=(path, kind, is_over, f"{kind.__name__} {number}"), daemon=True)
         for kind in HOSTILE
         for number in range(3)
     ]
@@ -161,7 +175,10 @@ def crowded(path, seconds):
         asked.ask(b"")
         for one in crowd:
             one.start()
-        count, longest = behaves(asked, until)
+            # A machine under load may take longer to start them all than a connection may be idle.
+            asked.ask(b"")
+        count, longest = behaves(asked, time.monotonic() + seconds)
+    is_over.set()
     for one in crowd:
         one.join(timeout=30)
     return count, longest
@@ -178,15 +195,68 @@ def soak(path, pid, seconds):
         replies, wait = crowded(path, seconds / ROUNDS)
         count, longest = count + replies, max(longest, wait)
         states.append(settled(pid, before))
-        sizes.append(mebibytes(pid, "VmRSS"))
+        sizes.append(settled_size(pid, sizes[0] + GROWTH_MAX if sizes else SIZE_MAX))
     print(f"hostile: {count} replies as due beside hostile clients, the longest wait {longest * 1000:.0f} ms;", end=" ")
     print(f"descriptors and threads {before} and {states[-1]}; MiB after each round", *(f"{size:.1f}" for size in sizes))
     if longest > LONGEST_WAIT:
         yield "a reply came late"
     if any(one != before for one in states):
         yield f"descriptors and threads were {before}, and then {states}"
-    if max(sizes) > sizes[0] + GROWTH_MAX:
+    if max(sizes) > min(sizes[0] + GROWTH_MAX, SIZE_MAX):
         yield "the daemon grew"
+
+
+def dearest_request():
+    """A verify of a token of nearly 32 KiB in JSON, with as many caveats as it may have."""
+    caveats = ",".join('{"i":"' + "x" * 230 + '"}' for _ in range(128))
+    token = '{"v":2,"i":"a","c":[' + caveats + '],"s64":"' + "A" * 43 + '"}'
+    payload = request.verify("bank", token, 0)
+    return len(payload).to_bytes(4, "big") + payload
+
+
+def sends_dear(path, count, until):
+    """So many connections on which dear requests go out without end, and replies are read."""
+    frames = dearest_request() * 8
+    rest = {connected(path): memoryview(frames) for _ in range(count)}
+    for one in rest:
+        one.setblocking(False)
+    while time.monotonic() < until:
+        readable, writable, _ = select.select(rest, rest, [], 0.1)
+        for one in readable:
+            one.recv(65_536)
+        for one in writable:
+            rest[one] = rest[one][one.send(rest[one]) :] or memoryview(frames)
+
+
+def waits_beside(path, count):
+    """The seconds that small verifies waited beside so many clients with dear requests, sorted."""
+    until = time.monotonic() + DEAR_SECONDS
+    crowd = multiprocessing.Process(target=sends_dear, args=(path, count, until), daemon=True)
+    waits = []
+    with client.Client(path) as asked:
+        token = asked.ask(request.mint("v2-binary", "bank", "", "a", "a = 1", "b = 2", "c = 3"))[1:]
+        small = request.verify("bank", "hex:" + token.hex(), 0, "a = 1", "b = 2", "c = 3")
+        crowd.start()
+        time.sleep(0.3)
+        while time.monotonic() < until:
+            begin = time.monotonic()
+            if asked.ask(small) != b"\x00":
+                raise SystemExit("hostile: a small verify was not granted")
+            waits.append(time.monotonic() - begin)
+            time.sleep(0.001)
+    crowd.join(timeout=30)
+    return sorted(waits)
+
+
+def beside_dear(path):
+    """What is wrong with the waits of a client beside others with dear requests, if anything."""
+    for count in CROWDS:
+        waits = waits_beside(path, count)
+        median, late = waits[len(waits) // 2], waits[len(waits) * 99 // 100]
+        told = f"p50 {median * 1000:.2f} ms, p99 {late * 1000:.1f} ms, the longest {waits[-1] * 1000:.0f} ms"
+        print(f"hostile: a small verify beside {count} clients with dear requests, {len(waits)} times: {told}")
+        if late > DEAR_WAIT_MAX:
+            yield f"beside {count} clients with dear requests a small verify waited {late:.2f} s (p99)"
 
 
 def largest_reply(path):
@@ -214,20 +284,22 @@ def fill(path, pid):
                 rest[one] = rest[one][one.send(rest[one]) :]
         with client.Client(path) as asked:
             asked.ask(b"")
-    peak = mebibytes(pid, "VmHWM")
-    print(f"hostile: {peak:.0f} MiB at most beside {SILENT} clients that never read")
+    peak, size = mebibytes(pid, "VmHWM"), settled_size(pid)
+    print(f"hostile: {peak:.0f} MiB at most beside {SILENT} clients that never read, {size:.0f} MiB after them")
     if peak > PEAK_MAX:
         yield f"the daemon took {peak:.0f} MiB"
+    if size > SIZE_MAX:
+        yield f"the daemon had {size:.0f} MiB still after {SETTLING} seconds"
 
 
 @contextlib.contextmanager
-def daemon(*words, **variables):
-    """A daemon that listens, with these variables of its environment: its socket's path and its process."""
+def daemon(*words):
+    """A daemon that listens: its socket's path and its process."""
     with tempfile.TemporaryDirectory() as folder:
         path = folder + "/socket"
         command = [PROGRAM, "listen", "--socket", path, "--keys", KEYS, "--workers", "4", *words]
         pipes = {"stdout": subprocess.PIPE, "stderr": subprocess.DEVNULL}
-        with subprocess.Popen(command, env={**os.environ, **variables}, **pipes) as run:
+        with subprocess.Popen(command, **pipes) as run:
             run.stdout.readline()
             try:
                 yield path, run.pid
@@ -237,8 +309,10 @@ def daemon(*words, **variables):
 
 def faults(seconds):
     """What is wrong with the daemon after so many seconds of hostile use, beside what it prints."""
-    with daemon("--idle", "2", MALLOC_ARENA_MAX="1") as (path, pid):
+    with daemon("--idle", "2") as (path, pid):
         found = [*soak(path, pid, seconds)]
+    with daemon() as (path, _):
+        found += beside_dear(path)
     with daemon() as (path, pid):
         found += fill(path, pid)
     return [f"hostile: {fault}" for fault in found]

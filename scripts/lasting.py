@@ -6,10 +6,12 @@ import re
 import resource
 import subprocess
 import tempfile
+import threading
 import time
 
+import hostile
 import pipe_runs
-from daemon_rows import KEYS, MALFORMED, NO_REQUEST, connected, frame, received, request
+from daemon_rows import KEYS, MALFORMED, MINT, NO_REQUEST, TOKEN, connected, frame, received, request
 
 # How many seconds a client waits at most: a daemon that hangs is told from a machine that is busy.
 LONGEST_WAIT = 30
@@ -21,6 +23,12 @@ TORN_LINE = "a connection ended: the stream ended inside a frame"
 OVERSIZE, TOO_LONG = 200_000, frame(b"\x11")
 # The bytes of a stack that a daemon is started under, and how deep the JSON of a request is nested then.
 LITTLE_STACK, DEPTH = 65_536, 120
+# A verify whose signature isn't the chain's is refused so; how many of them are sent at once.
+BAD_SIGNATURE, OWED = frame(b"\x17"), 400
+# How many clients send bursts of requests, how many requests each, and for how many seconds.
+BURSTERS, BURST, BURSTING = 24, 40, 4
+# What they send, and how many bytes the reply to it has.
+MINTING, MINTED = frame(MINT), len(frame(b"\x01" + TOKEN))
 LEFT_OUT = re.compile(r"(\d+) more lines were left out")
 
 
@@ -73,13 +81,13 @@ def told(lines):
 
 
 def answered(path):
-    """What comes back for one request, within `LONGEST_WAIT`."""
+    """What comes back for one request, within `LONGEST_WAIT`; nothing where the connection is closed before."""
     try:
         with connected(path) as stream:
             stream.settimeout(LONGEST_WAIT)
             stream.sendall(frame(b""))
             return received(stream, len(NO_REQUEST))
-    except TimeoutError:
+    except (TimeoutError, ConnectionError):
         return b""
 
 
@@ -122,6 +130,85 @@ def deep_requests():
         yield "the daemon stays up", run.poll(), None
 
 
+def begun_frames():
+    """A request that comes a byte at a time, under a bound of a second without progress."""
+    with listening(subprocess.DEVNULL, "--idle", "1") as (path, _):
+        with connected(path) as stream:
+            begin, is_open = time.monotonic(), True
+            stream.setblocking(False)
+            for byte in frame(bytes(60)):
+                with contextlib.suppress(BlockingIOError):
+                    try:
+                        stream.send(bytes([byte]))
+                        is_open = stream.recv(1) != b""
+                    except (BrokenPipeError, ConnectionResetError):
+                        is_open = False
+                if not is_open:
+                    break
+                time.sleep(0.2)
+            yield "a request that comes a byte at a time is ended", is_open, False
+            yield "after a second, and within three", 0.9 < time.monotonic() - begin < 4, True
+        yield "the next client", answered(path), NO_REQUEST
+
+
+def owed_replies():
+    """Requests that take longer to answer than a connection may make no progress."""
+    dear = hostile.dearest_request()
+    with listening(subprocess.DEVNULL, "--idle", "1") as (path, _):
+        with connected(path) as stream:
+            stream.settimeout(LONGEST_WAIT)
+            sender = threading.Thread(target=stream.sendall, args=(dear * OWED,))
+            sender.start()
+            replies = received(stream, len(BAD_SIGNATURE) * OWED)
+            sender.join()
+            yield "the replies to what takes long", replies == BAD_SIGNATURE * OWED, True
+
+
+def bursts(path, until, ended):
+    """Sends a burst of requests, takes the replies, rests, and does so again. Adds to `ended` how it was ended."""
+    try:
+        with connected(path) as stream:
+            stream.settimeout(LONGEST_WAIT)
+            while time.monotonic() < until:
+                stream.sendall(MINTING * BURST)
+                if len(received(stream, MINTED * BURST)) < MINTED * BURST:
+                    ended.append("an end")
+                    return
+                # All rest at a time, for 20 ms of every 40.
+                time.sleep(0.04 - time.monotonic() % 0.04)
+    except OSError as fault:
+        ended.append(str(fault))
+
+
+def busy_clients():
+    """Clients that are busy and rest by turns, so that loops hand them to one another again and again, under a bound
+    of a second without progress."""
+    ended = []
+    with listening(subprocess.DEVNULL, "--idle", "1", "--loops", "4") as (path, _):
+        until = time.monotonic() + BURSTING
+        clients = [threading.Thread(target=bursts, args=(path, until, ended)) for _ in range(BURSTERS)]
+        for one in clients:
+            one.start()
+        for one in clients:
+            one.join()
+    yield "how clients that make progress were ended", ended, []
+
+
+def past_the_limit():
+    """More connections than there may be: the last is closed, and one that ends makes room."""
+    with listening(subprocess.DEVNULL, "--connections", "2") as (path, _):
+        with connected(path) as one, connected(path) as other:
+            for stream in (one, other):
+                stream.sendall(frame(b""))
+                yield "a client within the limit", received(stream, len(NO_REQUEST)), NO_REQUEST
+            with connected(path) as third:
+                yield "a client past it", end_of(third), "an end"
+        until = time.monotonic() + LONGEST_WAIT
+        while (reply := answered(path)) != NO_REQUEST and time.monotonic() < until:
+            time.sleep(0.05)
+        yield "a client once they have gone", reply, NO_REQUEST
+
+
 def end_of(stream):
     try:
         return "an end" if stream.recv(1) == b"" else "more"
@@ -131,7 +218,8 @@ def end_of(stream):
 
 def faults():
     """What went otherwise than it must, and how many checks there were."""
-    seen = [*unread_errors(), *oversize_frames(), *deep_requests()]
+    parts = [unread_errors, oversize_frames, deep_requests, begun_frames, owed_replies, busy_clients, past_the_limit]
+    seen = [check for part in parts for check in part()]
     found = [f"lasting: {what}: {got!r} where {due!r} is due" for what, got, due in seen if got != due]
     return found, len(seen)
 

@@ -17,6 +17,7 @@ import clients
 import completions
 import daemon_rows
 import daemon_session
+import draw
 import edges
 import faults
 import hostile
@@ -28,6 +29,7 @@ import package_runs
 import pages
 import peers
 import pipe_runs
+import promises
 import quotes
 import refusing
 import starting
@@ -90,6 +92,8 @@ OF_COMPILER = {
 OF_TEXTS = {
     "quotes": quotes.faults,
     "pages": pages.faults,
+    "promises": promises.faults,
+    "picture": draw.faults,
     "man": man_page.faults,
     "building": building.faults,
     "wrong bodies apply": wrong_bodies.faults,

@@ -1,9 +1,10 @@
 #!/usr/bin/env python3
-"""What README, its neighbours and docs name is there: files, crates, functions and definitions; and tables are whole.
+"""What README, its neighbours and docs name is there, and their tables are whole.
 
-A name stands between two backquotes. A path is looked for by its ending among all files; a function
-or a definition, told as `NAME` (`PATH`), has to stand in a file of this path. Rows that don't begin
-with a heading and its rule were cut off their table.
+A name, of a file, a crate, a function or a definition, stands between two backquotes. A path is
+looked for by its ending among all files; a function or a definition, told as `NAME` (`PATH`), has to
+stand in a file of this path. A link to a file leads to one. Rows that don't begin with a heading and
+its rule were cut off their table.
 """
 import pathlib
 import re
@@ -15,11 +16,15 @@ PAGES = [
     *sorted(TOP.glob("*.md")),
     TOP / "clients" / "README.md",
     *sorted((TOP / "docs").glob("*.md")),
+    *sorted((TOP / "crates").glob("*/PROMISES.md")),
 ]
 NAMED = re.compile(r"`([^`\n]+)`")
 PATH = re.compile(r"[\w./-]+\.(?:rt|antt|py|sh|md|edit|c|go|txt|1)")
+# What stands in the place of a name.
+PLACEHOLDER = re.compile(r"THING|NAME")
 CRATE = re.compile(r"(?:mac|try)_[a-z]+|time_blocks|sha256x8|macaroond")
 PAIRED = re.compile(r"`([a-z_0-9:A-Z]+)` \(`((?:src|specs|crates)/[\w./-]+)`\)")
+LINK = re.compile(r"\]\(([^)#\s:]+)(?:#[^)]*)?\)")
 RULE = re.compile(r"\|[-| :]+\|?$")
 
 
@@ -44,13 +49,20 @@ def has_word(word, path, files):
 def missing(text, files):
     """What a page's text names that isn't there."""
     for name in NAMED.findall(text):
-        if PATH.fullmatch(name) and "THING" not in name and not is_there(name, files):
+        if PATH.fullmatch(name) and not PLACEHOLDER.search(name) and not is_there(name, files):
             yield f"no file {name}"
         if CRATE.fullmatch(name) and not (TOP / "crates" / name).is_dir():
             yield f"no crate {name}"
     for function, path in PAIRED.findall(text):
         if not has_word(function.split("::")[-1], path, files):
             yield f"no {function} in {path}"
+
+
+def dead_links(page, text):
+    """The links of a page that lead to no file."""
+    for target in LINK.findall(text):
+        if not (page.parent / target).exists():
+            yield f"a link to {target}, which isn't there"
 
 
 def cut_rows(text):
@@ -63,13 +75,13 @@ def cut_rows(text):
 
 
 def faults():
-    """What the pages name that isn't there, and rows that a blank line cuts off; and how many pages there are."""
+    """What the pages name that isn't there, and rows that are cut off; and how many pages there are."""
     files = tracked()
     found = []
     for page in PAGES:
         text = page.read_text()
         name = page.relative_to(TOP)
-        found += [f"{name}: {fault}" for fault in missing(text, files)]
+        found += [f"{name}: {it}" for it in (*missing(text, files), *dead_links(page, text))]
         found += [f"{name}, line {number}: a row without its table" for number in cut_rows(text)]
     return found, len(PAGES)
 

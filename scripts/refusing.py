@@ -1,7 +1,7 @@
 """Runs of programs to which one request for memory is refused, or of which one call of a device fails.
 
-A small C library, set by LD_PRELOAD, counts the requests or calls and refuses the one that is asked for (refuse.c,
-fail.c). It shares its counts with this process by a file.
+A small C library, set by LD_PRELOAD, counts the requests or calls and refuses the one that is asked for (watch.c). It
+shares its counts with this process by a file.
 """
 import collections
 import concurrent.futures
@@ -30,17 +30,16 @@ def has_compiler():
     return False
 
 
-def library(folder, name):
-    """The library of that name, built into the folder."""
-    built = pathlib.Path(folder) / f"{name}.so"
-    subprocess.run(["cc", "-O2", "-shared", "-fPIC", "-o", built, SCRIPTS / f"{name}.c", "-ldl"], check=True)
-    return built
-
-
 class Watch:
-    """The counts that a watched program shares: calls, the one that is refused, then each so many, refused."""
+    """The counts that a watched program shares: calls, the one that is refused, then each so many, refused.
 
-    def __init__(self, name, first=0, every=0, **variables):
+    `call` is `memory`, or what watch.c else can watch; `FILE` and `ERROR` tell which device is meant, and the fault.
+    """
+
+    # The library, while `watching` has it built.
+    library = None
+
+    def __init__(self, call, first=0, every=0, **variables):
         with tempfile.NamedTemporaryFile(delete=False) as file:
             file.write(bytes(32))
             file.flush()
@@ -48,7 +47,8 @@ class Watch:
         self.path = file.name
         self.set(1, first)
         self.set(2, every)
-        self.environment = {**os.environ, "LD_PRELOAD": str(LIBRARIES[name]), name.upper(): self.path, **variables}
+        own = {"LD_PRELOAD": str(Watch.library), "WATCH": self.path, "CALL": call}
+        self.environment = {**os.environ, **own, **variables}
 
     def set(self, place, number):
         struct.pack_into("@q", self.numbers, 8 * place, number)
@@ -67,14 +67,13 @@ class Watch:
         os.unlink(self.path)
 
 
-LIBRARIES = {}
-
-
 @contextlib.contextmanager
-def libraries():
-    """Both libraries, as long as the block runs."""
+def watching():
+    """The library is there as long as the block runs."""
     with tempfile.TemporaryDirectory() as folder:
-        LIBRARIES.update({name: library(folder, name) for name in ("refuse", "fail")})
+        Watch.library = pathlib.Path(folder) / "watch.so"
+        command = ["cc", "-O2", "-shared", "-fPIC", "-o", Watch.library, SCRIPTS / "watch.c", "-ldl"]
+        subprocess.run(command, check=True)
         yield
 
 
@@ -87,9 +86,9 @@ def run(command, given, watch):
     return Ended(ended.returncode, ended.stdout, ended.stderr)
 
 
-def watched(command, given, name, number, **variables):
+def watched(command, given, call, number, **variables):
     """A run whose call of that number is refused: how it ended, how many calls there were, and whether one was."""
-    with Watch(name, number, **variables) as watch:
+    with Watch(call, number, **variables) as watch:
         ended = run(command, given, watch)
         return ended, watch.calls, watch.refused > 0
 

@@ -78,6 +78,8 @@ ENDINGS = {
     "listen_mode": (Case("", listen_with("--mode", "777")), bad("the mode of a socket is ")),
     "listen_workers": (Case("", listen_with("--workers", "17")), bad("")),
     "listen_idle": (Case("", listen_with("--idle", "86401")), bad("")),
+    "listen_loops": (Case("", listen_with("--loops", "65")), bad("")),
+    "listen_connections": (Case("", listen_with("--connections", "1000001")), bad("")),
     "listen_accept": (Case("", listen_with("--accept", "1")), bad("")),
     "no_key_file": (Case("", serve_with()), Ending(3, "", "fault 3\n")),
     "no_listen_key_file": (Case("", listen_with("--mode=660")), Ending(3, "", "fault 3\n")),

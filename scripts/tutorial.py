@@ -4,19 +4,16 @@ A session is a block marked `console`: a line that begins with `$ ` is a command
 prints. The commands run in one shell, where a stand-in for bin/macaroond notes what it is asked and answers what
 the page says. So all that the page shows is there before the pipe itself is asked, in one run.
 """
-import os
 import pathlib
-import re
-import shlex
-import subprocess
 import tempfile
 
+import sessions
 from pipe_runs import Case
 
 TOP = pathlib.Path(__file__).resolve().parent.parent
 PAGE = TOP / "docs" / "FORMATS.md"
 
-# It answers as the README says at this step; a step whose output isn't shown asks what an earlier one asked.
+# It answers as the page says at this step; a step whose output isn't shown asks what an earlier one asked.
 STAND_IN = """#!/bin/sh
 cat > "$NOTES/input.$STEP"
 if [ -s "$NOTES/shown.$STEP" ]; then
@@ -32,21 +29,6 @@ done
 """
 
 
-def steps():
-    """Each command of the page's sessions, with what it is shown to print."""
-    blocks = re.findall(r"^```console\n(.*?)^```", PAGE.read_text(), re.MULTILINE | re.DOTALL)
-    parts = [part for block in blocks for part in re.split(r"^\$ ", block, flags=re.MULTILINE)[1:]]
-    return [(command, shown) for command, _, shown in (part.partition("\n") for part in parts)]
-
-
-def script(notes, commands):
-    """One shell script of these commands; what each prints goes into a file of its step."""
-    lines = ["set -eu"]
-    for step, command in enumerate(commands):
-        lines += [f"export STEP={step:03}", "{", command, f"}} > {shlex.quote(str(notes))}/printed.{step:03} 2>&1"]
-    return "\n".join(lines)
-
-
 class Tutorial:
     """The page's sessions, run over the stand-in."""
 
@@ -58,22 +40,22 @@ class Tutorial:
             self.run(pathlib.Path(folder))
 
     def run(self, folder):
-        found = steps()
+        found = sessions.steps(PAGE, "console")
         ask = (TOP / "examples" / "ask.py").read_text()
-        if f"```python\n{ask}```\n" not in PAGE.read_text():
+        if ask not in sessions.blocks(PAGE, "python"):
             self.faults.append("docs/FORMATS.md shows another examples/ask.py than there is")
         notes = folder / "notes"
         notes.mkdir()
         self.lay_out(folder)
         for step, (_, shown) in enumerate(found):
             (notes / f"shown.{step:03}").write_text(shown)
-        text = script(notes, [command for command, _ in found])
-        run = subprocess.run(["sh", "-c", text], cwd=folder, env={**os.environ, "NOTES": str(notes)})
-        if run.returncode != 0:
-            self.faults.append(f"the session of docs/FORMATS.md ends with status {run.returncode}")
+        status, printed = sessions.run([command for command, _ in found], folder, NOTES=str(notes))
+        if status != 0:
+            self.faults.append(f"the session of docs/FORMATS.md ends with status {status}")
             return
-        for step, (command, shown) in enumerate(found):
-            self.note(notes, f"{step:03}", command, shown)
+        self.faults += sessions.differing("docs/FORMATS.md", found, printed)
+        for step, (_, shown) in enumerate(found):
+            self.note(notes, f"{step:03}", shown)
 
     @staticmethod
     def lay_out(folder):
@@ -84,10 +66,7 @@ class Tutorial:
         program.write_text(STAND_IN)
         program.chmod(0o755)
 
-    def note(self, notes, step, command, shown):
-        printed = (notes / f"printed.{step}").read_text()
-        if printed != shown:
-            self.faults.append(f"`{command.strip()}` prints\n{printed}where docs/FORMATS.md shows\n{shown}")
+    def note(self, notes, step, shown):
         asked = notes / f"input.{step}"
         if asked.exists():
             self.cases[f"page_{step}"] = Case(asked.read_text())

@@ -1,4 +1,5 @@
 -- Jobs whose payloads lie in somebody's bytes (this project's own).
+use Rattle.std.specs.Option.{option_copied}
 use Rattle.mac_wire.specs.declared.arrival.Arrival.{Arrival}
 use Rattle.mac_wire.specs.declared.arrival.Arrival.TheVariants as arrival
 use Rattle.mac_decide.specs.declared.job.Job.{Job}
@@ -13,4 +14,4 @@ arrival_of view.Oversize = arrival.Oversize
 
 -- the job whose arrival lies there
 abbrev pub viewed : JobView → Job
-viewed job = record { arrival = arrival_of job.arrival; key = job.key }
+viewed job = record { arrival = arrival_of job.arrival; key = option_copied job.key }

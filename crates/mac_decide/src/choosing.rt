@@ -6,6 +6,7 @@
 ghost use Rattle.std.specs.Prelude.{◌<◌};
 
 use crate::prepared::Prepared;
+use sha256x8::BLOCK;
 
 /// How many texts are folded on side by side.
 pub(crate) const LANES: usize = 8;
@@ -28,9 +29,6 @@ const SIZES: usize = 7;
 /// The most blocks that an HMAC of each size takes, but for the last: half as many again as the
 /// least.
 const MOST_BLOCKS: [usize; SIZES - 1] = [6, 10, 16, 25, 38, 58];
-
-/// The length of a block of SHA-256 in bytes.
-const BLOCK: usize = 64;
 
 /// What is done next.
 #[derive(Drop)]

@@ -1,5 +1,6 @@
 //! What a worker is handed: an arrival, and the keys that it names.
 
+ghost use Rattle.std.specs.Option.{option_copied};
 ghost use Rattle.std.specs.Prelude.{◌≡◌};
 ghost use Rattle.mac_wire.specs.declared.arrival.Arrival.TheVariants as arrival;
 ghost use Rattle.mac_decide.specs.Answer.{keys_for};
@@ -28,17 +29,17 @@ fn named_keys(table: &KeyTable, arrival: &Arrival) -> Option<Keys>
     ensures { result ≡ keys_for table.now arrival.now }
 {
     match arrival {
-        Arrival::Payload(payload) => keys_named(table, payload.as_slice()),
+        Arrival::Payload(payload) => keys_named(table, payload.as_slice()).copied(),
         Arrival::Oversize => None,
     }
 }
 
-/// The table's keys for the name in the payload's front, where it has both.
-pub(crate) fn keys_named(table: &KeyTable, payload: &[u8]) -> Option<Keys>
-    ensures { result ≡ keys_for table.now (arrival.Payload payload.now) }
+/// The table's keys for the name in the payload's front, where it has both, lent.
+pub(crate) fn keys_named<'a>(table: &'a KeyTable, payload: &[u8]) -> Option<&'a Keys>
+    ensures { option_copied result ≡ keys_for table.now (arrival.Payload payload.now) }
 {
     match key_name(payload) {
-        Some(name) => table.find(name).copied(),
+        Some(name) => table.find(name),
         None => None,
     }
 }

@@ -30,11 +30,11 @@ impl<'a> ArrivalView<'a> {
     }
 }
 
-/// An arrival where it lies, with the keys that the table has for the name in its front.
+/// An arrival where it lies, with the keys that the table has for the name in its front, lent.
 #[derive(Clone, Copy)]
 pub struct JobView<'a> {
     pub arrival: ArrivalView<'a>,
-    pub key: Option<Keys>,
+    pub key: Option<&'a Keys>,
 }
 
 impl<'a> JobView<'a> {
@@ -44,7 +44,15 @@ impl<'a> JobView<'a> {
     {
         JobView {
             arrival: ArrivalView::of(&job.arrival),
-            key: job.key,
+            key: job.key.as_ref(),
+        }
+    }
+
+    /// Whether a request may stand in it: it isn't empty.
+    pub(crate) fn has_payload(&self) -> bool {
+        match self.arrival {
+            ArrivalView::Payload(payload) => !payload.is_empty(),
+            ArrivalView::Oversize => false,
         }
     }
 }
@@ -59,8 +67,8 @@ impl Default for JobView<'_> {
     }
 }
 
-/// The job of a payload under a table. It takes no memory, and copies nothing but the keys.
-pub fn job_view_of<'a>(table: &KeyTable, payload: &'a [u8]) -> JobView<'a>
+/// The job of a payload under a table. It takes no memory, and copies nothing.
+pub fn job_view_of<'a>(table: &'a KeyTable, payload: &'a [u8]) -> JobView<'a>
     ensures { viewed result ≡ job_under table.now (arrival.Payload payload.now) }
 {
     JobView {

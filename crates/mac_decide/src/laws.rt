@@ -50,7 +50,8 @@ pub fn minted_is_accepted()
 {}
 
 /// Keys only help: what is accepted stays accepted where keys are added, and where keys are taken
-/// away that don't give its signature.
+/// away that don't give its signature. So a new key beside the old one refuses nothing, and an old
+/// key that is dropped takes no token with it but those that it signed.
 pub fn keys_only_help()
     ensures { (keys more : List (List ℕ)) (t : TokenParts) (x : PlainContext)
         → ((key : List ℕ) → Contains keys key → Signs key t → Contains more key)
@@ -143,7 +144,7 @@ pub fn narrower_bytes_are_granted()
 {}
 
 /// The world of macaroons: where what arrived on a connection are the jobs of arrivals under a
-/// table, what was sent on it is a beginning of these arrivals' answers.
+/// table, what was sent on it is a beginning of these arrivals' answers, for every list of events.
 pub fn world_sends_answers()
     ensures { (table : Table) (connections workers number : ℕ)
         (events : List (event.Event Macaroons PlainJob PlainReply))

@@ -86,14 +86,25 @@ fn replies_to(
     ensures { IfOk result (λ replies.
         replies.items ≡ map reply_to_job (map viewed jobs.now)) }
 {
-    if jobs.len() < FEWEST {
+    if asking(jobs) < FEWEST {
         replies_one_by_one(rooms, alloc, jobs)
     } else {
         replies_side_by_side(rooms, alloc, jobs)
     }
 }
 
-/// The same for few jobs: a run with all its places costs more than they do.
+/// How many of the jobs have a payload: the others ask for no hash.
+fn asking(jobs: &[JobView<'_>]) -> usize {
+    let mut count: usize = 0;
+    for job in jobs {
+        if job.has_payload() {
+            count = count.saturating_add(1);
+        }
+    }
+    count
+}
+
+/// The same where few ask for a hash: a run with all its places costs more than they do.
 fn replies_one_by_one(
     rooms: &mut [Vec<u8>],
     alloc: Global,
@@ -159,7 +170,7 @@ fn prepare_job<'a>(
     ensures { IfOk result (λ prepared. comes_to prepared ≡ reply_to_job (viewed job.now)) }
 {
     match job.arrival {
-        ArrivalView::Payload(payload) => prepare(room, alloc, payload, job.key),
+        ArrivalView::Payload(payload) => prepare(room, alloc, payload, job.key.copied()),
         ArrivalView::Oversize => Ok(Prepared::Told(refused(Refusal::FrameTooLong))),
     }
 }

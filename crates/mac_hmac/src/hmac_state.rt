@@ -5,9 +5,7 @@ ghost use Rattle.mac_hmac.specs.Hmac.{block_key, hmac, xor_pad};
 ghost use Rattle.mac_hmac.specs.HmacState.{Holds};
 
 use sha2::{Digest, Sha256};
-
-/// The length of SHA-256's blocks in bytes (FIPS 180-4, section 1).
-const BLOCK: usize = 64;
+use sha256x8::BLOCK;
 
 /// The byte that the inner pad repeats (RFC 2104, section 2).
 pub(crate) const INNER_PAD: u8 = 0x36;

@@ -15,14 +15,16 @@ ghost use Rattle.mac_keys.specs.Meaning.{fault_in_place};
 ghost use Rattle.mac_keys.specs.Meaning.{IsBadLine, HasBadName, HasEmptySecret, HasBadHex};
 ghost use Rattle.mac_keys.specs.Meaning.{IsTwice, IsTooMany};
 
-/// A line gives a name a secret exactly where it spells them.
+/// A line gives a name a secret exactly where it is `key `, the name, a space and digits that spell
+/// the secret.
 pub fn line_gives_what_it_spells()
     ensures { (line : List ℕ) (given : Given)
         → (line_of line ≡ Ok (Some given)) ↔ Spells line given }
 {}
 
 /// A table has, at each name, the root keys of the secrets that lines give the name, in the order
-/// of the lines, and nothing else.
+/// of the lines, and nothing else: a key is among them exactly where some line gives the name a
+/// secret of which it is the root key.
 pub fn table_has_the_keys_of_its_lines()
     ensures all { (text : List ℕ) (table : Table) → table_of text ≡ Ok table → (name : List ℕ) →
         keys_at table name ≡ keys_given name (lines_of text) }
@@ -31,20 +33,25 @@ pub fn table_has_the_keys_of_its_lines()
         Contains (keys_at table name) key ↔ Any (GivesKey name key) (lines_of text) }
 {}
 
-/// A text makes a table exactly where none of its lines has a fault.
+/// A text makes a table exactly where none of its lines has a fault, and then that of its lines.
 pub fn table_is_made_of_faultless_lines()
     ensures { (text : List ℕ) (table : Table) →
         (table_of text ≡ Ok table)
         ↔ (AreFaultless (lines_of text) × (table ≡ keys_of (lines_of text))) }
 {}
 
-/// The fault that is told is that of the first line that has one.
+/// The fault that is told is that of the first line that has one, with its number counted from 1;
+/// and where a line is the first with a fault, it is told.
 pub fn first_fault_is_told()
     ensures { (text : List ℕ) (number : ℕ) (fault : LineFault) →
         (table_of text ≡ Err (Line number fault)) ↔ IsFirstFault (lines_of text) number fault }
 {}
 
-/// What each fault of a line says, in plain words.
+/// What each fault of a line says, in plain words. BadLine: the line is neither empty nor a
+/// comment, and not `key `, some bytes, a space and whatever follows. BadName: what stands before
+/// that space is no name. EmptySecret: nothing stands behind it. BadHex: what stands there spells
+/// no bytes. Twice: two lines above give the name that this one gives a secret one already.
+/// TooMany: no line above gives the name a secret, and they give 1,000 names theirs.
 pub fn faults_in_plain_words()
     ensures bad_line { (lines : List (List ℕ)) (place : ℕ) (line : List ℕ) →
         (fault_in_place lines place line ≡ Some BadLine) ↔ IsBadLine line }
@@ -60,12 +67,12 @@ pub fn faults_in_plain_words()
         (fault_in_place lines place line ≡ Some TooMany) ↔ IsTooMany (take place lines) line }
 {}
 
-/// No text has want of memory for its fault.
+/// Lack of memory is no text's fault.
 pub fn no_text_lacks_memory()
     ensures { (text : List ℕ) → table_of text ≢ Err Memory }
 {}
 
-/// A table has no more names than it may.
+/// A table has at most `NAMES_MAX` names.
 pub fn table_has_at_most_names_max()
     ensures { (text : List ℕ) (table : Table) →
         table_of text ≡ Ok table → map.len table ≤ NAMES_MAX }

@@ -10,4 +10,6 @@ pub struct Handover {
     pub port: SocketPort,
     /// How it stands.
     pub session: Session,
+    /// When it last made progress, on the clock of [`microseconds`](crate::microseconds).
+    pub since: u64,
 }

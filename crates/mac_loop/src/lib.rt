@@ -20,5 +20,6 @@ pub use fault::LoopFault;
 pub use handover::Handover;
 pub use inbox::Loops;
 pub use looping::{Loop, make_loops};
+pub use meter::microseconds;
 pub use port::SocketPort;
 pub use watch::{PlainFault, Watch};

@@ -7,7 +7,7 @@ use crate::members::{Members, Progress};
 use crate::meter::{Shares, microseconds};
 use crate::port::SocketPort;
 use crate::watch::{PlainFault, Watch};
-use mac_keys::KeyTable;
+use mac_board::Tables;
 use mac_plain::{Client, Course, Round};
 use mio::{Events, Poll, Token, Waker};
 use std::alloc::Global;
@@ -36,6 +36,9 @@ const TURN_SHORT: u64 = 500;
 /// How many microseconds pass between two looks at who makes progress.
 const SWEEP: u64 = 1_000_000;
 
+/// The microseconds of a second.
+const SECOND: u64 = 1_000_000;
+
 /// A loop that worked a greater share of the time, in thousandths, gives clients away.
 const SHARE_HIGH: u64 = 900;
 
@@ -61,6 +64,8 @@ pub struct Loop {
     // The seconds after which a client that makes no progress is ended.
     idle: Option<u64>,
     swept: u64,
+    // When the turn began, in microseconds.
+    now: u64,
 }
 
 /// As many loops as are asked for, which end a client that makes no progress for so many seconds.
@@ -88,26 +93,29 @@ pub fn make_loops<R: Net>(
             shares: Shares::new(alloc, count)?,
             idle,
             swept: 0,
+            now: 0,
         })?;
     }
     Ok((Arc::new(alloc, loops)?, made))
 }
 
 impl Loop {
-    /// Serves clients until the loops are closed and this one has none.
-    pub fn run<R, W>(mut self, rt: &R, loops: &Loops, keys: &KeyTable, watch: &W)
+    /// Serves clients until the loops are closed and this one has none, what they send in each turn
+    /// under the key table that is up once it is read.
+    pub fn run<R, K, W>(mut self, rt: &R, loops: &Loops, keys: &mut K, watch: &W)
     where
         R: Wait + Clock,
+        K: Tables,
         W: Watch,
     {
         for _ in rt.forever() {
             self.wait();
-            let begin = microseconds(rt);
+            self.now = microseconds(rt);
             self.take_events();
             self.welcome(rt, loops, watch);
             self.serve_ready(rt, loops, keys, watch);
-            self.sweep(rt, begin, loops, watch);
-            self.keep_time(rt, begin, loops);
+            self.sweep(rt, loops, watch);
+            self.keep_time(rt, loops);
             if self.members.count() == 0 && loops.is_closed() {
                 return;
             }
@@ -150,7 +158,11 @@ impl Loop {
 
     /// Whether there was memory to take a client in.
     fn take_in(&mut self, client: Handover, loops: &Loops) -> bool {
-        let Handover { port, session } = client;
+        let Handover {
+            port,
+            session,
+            since,
+        } = client;
         let Ok(slot) = self.members.free_slot() else {
             return false;
         };
@@ -162,7 +174,7 @@ impl Loop {
         // Who has to go on wide waits for bytes first.
         let is_ready = client.course() == Course::Open || client.unsent() > 0;
         loops.count_unsent(0, client.unsent());
-        self.members.begin(slot, client);
+        self.members.begin(slot, client, since);
         if is_ready {
             self.members.list(slot);
         }
@@ -170,11 +182,11 @@ impl Loop {
     }
 
     /// Answers what clients that are ready have sent.
-    fn serve_ready<R: Wait, W: Watch>(
+    fn serve_ready<R: Wait, K: Tables, W: Watch>(
         &mut self,
         rt: &R,
         loops: &Loops,
-        keys: &KeyTable,
+        keys: &mut K,
         watch: &W,
     ) {
         self.pick(rt, loops);
@@ -238,19 +250,26 @@ impl Loop {
         }
         if client.course() == Course::Wide {
             loops.count_unsent(client.unsent(), 0);
-            self.members.end(slot);
-            watch.widen(rt, self.part(client));
+            let client = self.part(slot, client);
+            watch.widen(rt, client);
             return;
         }
         self.note_turn(slot, &mut client, unsent_max);
         self.members.put(slot, client);
     }
 
-    /// A client that leaves the loop's poll.
-    fn part(&self, client: Client<SocketPort>) -> Handover {
+    /// A client that leaves its slot and the loop's poll.
+    fn part(&mut self, slot: usize, client: Client<SocketPort>) -> Handover {
+        let progress = Progress::of(&client);
+        let since = self.members.note_progress(slot, progress, self.now);
+        self.members.end(slot);
         let (port, session) = client.into_parts();
         let _ = port.leave(self.poll.registry());
-        Handover { port, session }
+        Handover {
+            port,
+            session,
+            since,
+        }
     }
 
     /// Notes what a client waits for after its turn.
@@ -277,14 +296,14 @@ impl Loop {
     }
 
     /// Ends the clients that have made no progress for as long as they may.
-    fn sweep<R: Wait, W: Watch>(&mut self, rt: &R, now: u64, loops: &Loops, watch: &W) {
+    fn sweep<R: Wait, W: Watch>(&mut self, rt: &R, loops: &Loops, watch: &W) {
         let Some(idle) = self.idle else {
             return;
         };
-        if now.saturating_sub(self.swept) < SWEEP {
+        if self.now.saturating_sub(self.swept) < SWEEP {
             return;
         }
-        self.swept = now;
+        self.swept = self.now;
         for slot in 0..self.members.slots() {
             if self.is_idle(slot, idle) {
                 if let Some(client) = self.members.take(slot) {
@@ -296,32 +315,25 @@ impl Loop {
         }
     }
 
-    /// Notes a client's progress. Whether it has made none so often in a row.
+    /// Notes a client's progress. Whether it has made none for so many seconds, and no turn of the
+    /// loop is owed to it. A request that has begun has to be whole in that time, also of who sends
+    /// a byte for each turn.
     fn is_idle(&mut self, slot: usize, idle: u64) -> bool {
         let Some(client) = self.members.client(slot) else {
             return false;
         };
-        let progress = Progress {
-            answered: client.answered(),
-            has_begun: client.has_begun(),
-            unsent: client.unsent(),
-        };
-        let Some(note) = self.members.note(slot) else {
-            return false;
-        };
-        if note.progress != progress {
-            note.progress = progress;
-            note.quiet = 0;
-            return false;
-        }
-        note.quiet = note.quiet.saturating_add(1);
-        note.quiet > idle
+        let progress = Progress::of(client);
+        let has_begun = progress.has_begun;
+        let since = self.members.note_progress(slot, progress, self.now);
+        let is_listed = self.members.note(slot).map_or(false, |note| note.is_listed);
+        let is_owed = is_listed && !has_begun;
+        !is_owed && self.now.saturating_sub(since) >= idle.saturating_mul(SECOND)
     }
 
     /// Counts what a turn took, fits the next one to it, and shares clients with other loops.
-    fn keep_time<R: Wait + Clock>(&mut self, rt: &R, begin: u64, loops: &Loops) {
+    fn keep_time<R: Wait + Clock>(&mut self, rt: &R, loops: &Loops) {
         let now = microseconds(rt);
-        let spent = now.saturating_sub(begin);
+        let spent = now.saturating_sub(self.now);
         if spent > TURN_LONG {
             self.parts = (self.parts / 2).max(1);
         } else if spent < TURN_SHORT {
@@ -370,8 +382,7 @@ impl Loop {
             return;
         };
         loops.count_unsent(client.unsent(), 0);
-        self.members.end(slot);
-        let client = self.part(client);
+        let client = self.part(slot, client);
         if let Err(client) = loops.hand(rt, number, client) {
             let _ = self.take_in(client, loops);
         }

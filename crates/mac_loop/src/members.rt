@@ -28,24 +28,38 @@ pub struct Note {
     pub is_active: bool,
     /// How it stood when its progress was last looked at.
     pub progress: Progress,
-    /// How often in a row it had made none.
-    pub quiet: u64,
+    /// When it was last seen to have made any, in microseconds.
+    pub since: u64,
+}
+
+impl Progress {
+    /// That of nobody.
+    const NONE: Progress = Progress {
+        answered: 0,
+        has_begun: false,
+        unsent: 0,
+    };
+
+    /// How a client stands.
+    pub fn of(client: &Client<SocketPort>) -> Progress {
+        Progress {
+            answered: client.answered(),
+            has_begun: client.has_begun(),
+            unsent: client.unsent(),
+        }
+    }
 }
 
 impl Note {
-    fn fresh(is_listed: bool) -> Note {
+    fn fresh(is_listed: bool, progress: Progress, since: u64) -> Note {
         Note {
             is_listed,
             is_closing: false,
             awaits_room: false,
             is_deep: false,
             is_active: true,
-            progress: Progress {
-                answered: 0,
-                has_begun: false,
-                unsent: 0,
-            },
-            quiet: 0,
+            progress,
+            since,
         }
     }
 }
@@ -90,7 +104,7 @@ impl Members {
         let slot = self.clients.len();
         self.free.reserve(slot.saturating_add(1))?;
         self.ready.reserve(slot.saturating_add(1))?;
-        self.notes.push(Note::fresh(false))?;
+        self.notes.push(Note::fresh(false, Progress::NONE, 0))?;
         self.clients.push(None)?;
         Ok(slot)
     }
@@ -100,10 +114,11 @@ impl Members {
         let _ = self.free.push(slot);
     }
 
-    /// A new client takes a free slot.
-    pub fn begin(&mut self, slot: usize, client: Client<SocketPort>) {
+    /// A new client, which made its last progress then, takes a free slot.
+    pub fn begin(&mut self, slot: usize, client: Client<SocketPort>, since: u64) {
+        let progress = Progress::of(&client);
         if let Some(note) = self.notes.get_mut(slot) {
-            *note = Note::fresh(note.is_listed);
+            *note = Note::fresh(note.is_listed, progress, since);
         }
         self.count = self.count.saturating_add(1);
         self.put(slot, client);
@@ -141,6 +156,19 @@ impl Members {
     /// What is known of a slot's client.
     pub fn note(&mut self, slot: usize) -> Option<&mut Note> {
         self.notes.get_mut(slot)
+    }
+
+    /// Notes how a slot's client stands now. When it was last seen to make progress, in
+    /// microseconds.
+    pub fn note_progress(&mut self, slot: usize, progress: Progress, now: u64) -> u64 {
+        let Some(note) = self.notes.get_mut(slot) else {
+            return now;
+        };
+        if note.progress != progress {
+            note.progress = progress;
+            note.since = now;
+        }
+        note.since
     }
 
     /// A poll has told of a slot.

@@ -5,7 +5,7 @@ use Rattle.std.proofs.lemmas.Bool.Decides.{eqb_tells}
 use Rattle.std.proofs.lemmas.Option.{same_Some, slice_get_within}
 use Rattle.std.specs.List.{enumerate_from}
 use Rattle.mac_order.specs.declared.reorder.TheConstants.{SLOTS}
-use Rattle.mac_order.specs.declared.event.Task.{Task}
+use Rattle.mac_order.specs.declared.event.Assignment.{Assignment}
 use Rattle.mac_order.specs.declared.event.Event.{Event}
 use Rattle.mac_order.specs.declared.event.Event.TheVariants.{Arrive, Claim, Finish, Send, Close}
 use Rattle.mac_order.specs.declared.event.Outcome.{Outcome}
@@ -70,7 +70,7 @@ module _ {Job Reply : Type 0} where
     by_connection here None act at keeps = same
     by_connection here (Some old) act at keeps = same_put here old (act old).0 at (keeps old)
 
-    by_claim : (worker : ℕ) (held : Option (Option Task)) (task : Task) (found : Option (Connection Job Reply)) → slice_get state.connections task.connection ≡ found → Grows link (found_claim state worker held task found).0.connections number []
+    by_claim : (worker : ℕ) (held : Option (Option Assignment)) (task : Assignment) (found : Option (Connection Job Reply)) → slice_get state.connections task.connection ≡ found → Grows link (found_claim state worker held task found).0.connections number []
     by_claim worker None task found at = same
     by_claim worker (Some held) task None at = same
     by_claim worker (Some (Some held)) task (Some old) at = same
@@ -80,11 +80,11 @@ module _ {Job Reply : Type 0} where
           | false ↦ same
         ]
 
-    by_task : (worker : ℕ) (task : Task) (found : Option (Connection Job Reply)) → slice_get state.connections task.connection ≡ found → Grows link (found_task state worker task found).0.connections number []
+    by_task : (worker : ℕ) (task : Assignment) (found : Option (Connection Job Reply)) → slice_get state.connections task.connection ≡ found → Grows link (found_task state worker task found).0.connections number []
     by_task worker task None at = same
     by_task worker task (Some old) at = same_put task.connection old (after_finish task.place old).0 at (finish-arrived task.place old)
 
-    by_finish : (worker : ℕ) (held : Option (Option Task)) → Grows link (found_finish state worker held).0.connections number []
+    by_finish : (worker : ℕ) (held : Option (Option Assignment)) → Grows link (found_finish state worker held).0.connections number []
     by_finish worker None = same
     by_finish worker (Some None) = same
     by_finish worker (Some (Some task)) = by_task worker task (slice_get state.connections task.connection) refl

@@ -4,7 +4,7 @@ use Rattle.std.proofs.lemmas.Bool.{false≢true, cases_Bool}
 use Rattle.std.proofs.lemmas.Option.{none-some, same_Some, slice_get_within}
 use Rattle.std.specs.FinSet.{FinSet, contains, insert}
 use Rattle.std.specs.Ordering.{nat_cmp}
-use Rattle.mac_order.specs.declared.event.Task.{Task}
+use Rattle.mac_order.specs.declared.event.Assignment.{Assignment}
 use Rattle.mac_order.specs.declared.event.Event.{Event}
 use Rattle.mac_order.specs.declared.event.Event.TheVariants.{Claim}
 use Rattle.mac_order.specs.declared.event.Outcome.TheVariants as outcome
@@ -39,7 +39,7 @@ module _ {Job Reply : Type 0} where
   claimed-moved reply_to place F places link after closes is = is
 
   -- what it says that a claim succeeds
-  claim_by-claimed : (state : State Job Reply) (worker : ℕ) (held : Option (Option Task)) (task : Task) (found : Option (Connection Job Reply)) → (found_claim state worker held task found).1 ≡ outcome.Claimed
+  claim_by-claimed : (state : State Job Reply) (worker : ℕ) (held : Option (Option Assignment)) (task : Assignment) (found : Option (Connection Job Reply)) → (found_claim state worker held task found).1 ≡ outcome.Claimed
       → (link : Connection Job Reply) × (found ≡ Some link) × (is_claimable link task.place ≡ true) × ((found_claim state worker held task found).0.connections ≡ set state.connections task.connection (after_claim task.place link))
   claim_by-claimed state worker None task found is = absurd (let no = is in cc)
   claim_by-claimed state worker (Some held) task None is = absurd (let no = is in cc)
@@ -49,13 +49,13 @@ module _ {Job Reply : Type 0} where
     | inr taken ↦ absurd (grind arith)
   ]
 
-  claim_by-taken : (state : State Job Reply) (worker : ℕ) (held : Option (Option Task)) (task : Task) → IsClaimed state task.connection task.place → (found_claim state worker held task (slice_get state.connections task.connection)).1 ≡ outcome.Claimed → ⊥
+  claim_by-taken : (state : State Job Reply) (worker : ℕ) (held : Option (Option Assignment)) (task : Assignment) → IsClaimed state task.connection task.place → (found_claim state worker held task (slice_get state.connections task.connection)).1 ≡ outcome.Claimed → ⊥
   claim_by-taken state worker held task taken is =
       let (link, found, free, after) = claim_by-claimed state worker held task (slice_get state.connections task.connection) is in
       let same = same_Some _ _ (sym taken.known ∙ found) in
       false≢true (sym (claimable-unclaimed link task.place free) ∙ ap (λ (here : Connection Job Reply). contains here.claimed task.place) (sym same) ∙ taken.claimed)
 
-  claim_by-claims : (state : State Job Reply) (worker : ℕ) (held : Option (Option Task)) (task : Task) → (found_claim state worker held task (slice_get state.connections task.connection)).1 ≡ outcome.Claimed → IsClaimed (found_claim state worker held task (slice_get state.connections task.connection)).0 task.connection task.place
+  claim_by-claims : (state : State Job Reply) (worker : ℕ) (held : Option (Option Assignment)) (task : Assignment) → (found_claim state worker held task (slice_get state.connections task.connection)).1 ≡ outcome.Claimed → IsClaimed (found_claim state worker held task (slice_get state.connections task.connection)).0 task.connection task.place
   claim_by-claims state worker held task is =
       let (link, found, free, after) = claim_by-claimed state worker held task (slice_get state.connections task.connection) is in
       record {

@@ -1,7 +1,7 @@
 -- What each step keeps of a connection, a whole run keeps.
 use Rattle.std.proofs.Common.{◌≡◌, ℕ, zero, suc, ◌<◌, true, List, [], ◌∷◌, length, replicate, false, if◌then◌else◌, set, Option, Some, None, slice_get, sym, ◌∙◌, ap, refl, subst, arith, length-set}
 use Rattle.std.proofs.lemmas.Option.{none-some, same_Some, slice_get_within}
-use Rattle.mac_order.specs.declared.event.Task.{Task}
+use Rattle.mac_order.specs.declared.event.Assignment.{Assignment}
 use Rattle.mac_order.specs.declared.event.Event.{Event}
 use Rattle.mac_order.specs.declared.event.Event.TheVariants.{Arrive, Claim, Finish, Send, Close}
 use Rattle.mac_order.specs.declared.event.Outcome.{Outcome}
@@ -34,7 +34,7 @@ module _ {Job Reply : Type 0} (state : State Job Reply) where
   length-on_connection here None act = refl
   length-on_connection here (Some old) act = length-set state.connections here (act old).0
 
-  length-claim_by : (worker : ℕ) (held : Option (Option Task)) (task : Task) (found : Option (Connection Job Reply)) → length (found_claim state worker held task found).0.connections ≡ length state.connections
+  length-claim_by : (worker : ℕ) (held : Option (Option Assignment)) (task : Assignment) (found : Option (Connection Job Reply)) → length (found_claim state worker held task found).0.connections ≡ length state.connections
   length-claim_by worker None task found = refl
   length-claim_by worker (Some held) task None = refl
   length-claim_by worker (Some (Some held)) task (Some old) = refl
@@ -44,11 +44,11 @@ module _ {Job Reply : Type 0} (state : State Job Reply) where
         | false ↦ refl
       ]
 
-  length-finish_task : (worker : ℕ) (task : Task) (found : Option (Connection Job Reply)) → length (found_task state worker task found).0.connections ≡ length state.connections
+  length-finish_task : (worker : ℕ) (task : Assignment) (found : Option (Connection Job Reply)) → length (found_task state worker task found).0.connections ≡ length state.connections
   length-finish_task worker task None = refl
   length-finish_task worker task (Some old) = length-set state.connections task.connection (after_finish task.place old).0
 
-  length-finish_by : (worker : ℕ) (held : Option (Option Task)) → length (found_finish state worker held).0.connections ≡ length state.connections
+  length-finish_by : (worker : ℕ) (held : Option (Option Assignment)) → length (found_finish state worker held).0.connections ≡ length state.connections
   length-finish_by worker None = refl
   length-finish_by worker (Some None) = refl
   length-finish_by worker (Some (Some task)) = length-finish_task worker task (slice_get state.connections task.connection)

@@ -5,7 +5,7 @@ use Rattle.std.proofs.lemmas.Bool.Decides.{eqb_tells}
 use Rattle.std.proofs.lemmas.Option.{same_Some, slice_get_within}
 use Rattle.std.specs.FinSet.{contains, insert}
 use Rattle.mac_order.specs.declared.reorder.TheConstants.{SLOTS}
-use Rattle.mac_order.specs.declared.event.Task.{Task}
+use Rattle.mac_order.specs.declared.event.Assignment.{Assignment}
 use Rattle.mac_order.specs.declared.event.Event.{Event}
 use Rattle.mac_order.specs.declared.event.Event.TheVariants.{Arrive, Claim, Finish, Send, Close}
 use Rattle.mac_order.specs.declared.event.Outcome.{Outcome}
@@ -83,7 +83,7 @@ module _ {Job Reply : Type 0} (reply_to : Job → Reply) (F : ℕ → Type 0) wh
     by_on_connection here None act at moves = (link, known, stays)
     by_on_connection here (Some old) act at moves = moved_by_put here old (act old).0 at (λ _. moves old)
 
-    by_claim : (worker : ℕ) (held : Option (Option Task)) (task : Task) (found : Option (Connection Job Reply)) → slice_get state.connections task.connection ≡ found
+    by_claim : (worker : ℕ) (held : Option (Option Assignment)) (task : Assignment) (found : Option (Connection Job Reply)) → slice_get state.connections task.connection ≡ found
         → (now : Connection Job Reply) × (slice_get (found_claim state worker held task found).0.connections number ≡ Some now) × Moved reply_to F link [] now
     by_claim worker None task found at = (link, known, stays)
     by_claim worker (Some held) task None at = (link, known, stays)
@@ -94,12 +94,12 @@ module _ {Job Reply : Type 0} (reply_to : Job → Reply) (F : ℕ → Type 0) wh
           | false ↦ (link, known, stays)
         ]
 
-    by_finish_task : (worker : ℕ) (task : Task) (found : Option (Connection Job Reply)) → slice_get state.connections task.connection ≡ found → (task.connection ≡ number → (found_task state worker task found).1 ≡ outcome.Finished → F task.place)
+    by_finish_task : (worker : ℕ) (task : Assignment) (found : Option (Connection Job Reply)) → slice_get state.connections task.connection ≡ found → (task.connection ≡ number → (found_task state worker task found).1 ≡ outcome.Finished → F task.place)
         → (now : Connection Job Reply) × (slice_get (found_task state worker task found).0.connections number ≡ Some now) × Moved reply_to F link [] now
     by_finish_task worker task None at tells = (link, known, stays)
     by_finish_task worker task (Some old) at tells = moved_by_put task.connection old (after_finish task.place old).0 at (λ is. by_finish task.place old (tells is))
 
-    by_finish_by : (worker : ℕ) (held : Option (Option Task)) → ((task : Task) → held ≡ Some (Some task) → task.connection ≡ number → (found_finish state worker held).1 ≡ outcome.Finished → F task.place) → (now : Connection Job Reply) × (slice_get (found_finish state worker held).0.connections number ≡ Some now) × Moved reply_to F link [] now
+    by_finish_by : (worker : ℕ) (held : Option (Option Assignment)) → ((task : Assignment) → held ≡ Some (Some task) → task.connection ≡ number → (found_finish state worker held).1 ≡ outcome.Finished → F task.place) → (now : Connection Job Reply) × (slice_get (found_finish state worker held).0.connections number ≡ Some now) × Moved reply_to F link [] now
     by_finish_by worker None tells = (link, known, stays)
     by_finish_by worker (Some None) tells = (link, known, stays)
     by_finish_by worker (Some (Some task)) tells = by_finish_task worker task (slice_get state.connections task.connection) refl (tells task refl)

@@ -1,7 +1,7 @@
 -- A refusal changes nothing.
 use Rattle.std.proofs.Common.{◌≡◌, ℕ, true, false, length, Option, Some, None, set, slice_get, sym, ◌∙◌, ap, refl, arith}
 use Rattle.std.proofs.lemmas.Bool.{false≢true}
-use Rattle.mac_order.specs.declared.event.Task.{Task}
+use Rattle.mac_order.specs.declared.event.Assignment.{Assignment}
 use Rattle.mac_order.specs.declared.event.Event.{Event}
 use Rattle.mac_order.specs.declared.event.Event.TheVariants.{Arrive, Claim, Finish, Send, Close}
 use Rattle.mac_order.specs.declared.event.Outcome.{Outcome}
@@ -45,17 +45,17 @@ module _ {Job Reply : Type 0} where
     pub on_connection-refused : (number : ℕ) (act : Connection Job Reply → Connection Job Reply × Outcome) → KeepsRefused act → is_change (on_connection state number act).1 ≡ false → (on_connection state number act).0 ≡ state
     on_connection-refused number act keeps refused = connection-refused number (slice_get state.connections number) act refl keeps refused
 
-    claim-refused : (worker : ℕ) (held : Option (Option Task)) (task : Task) (found : Option (Connection Job Reply)) → is_change (found_claim state worker held task found).1 ≡ false → (found_claim state worker held task found).0 ≡ state
+    claim-refused : (worker : ℕ) (held : Option (Option Assignment)) (task : Assignment) (found : Option (Connection Job Reply)) → is_change (found_claim state worker held task found).1 ≡ false → (found_claim state worker held task found).0 ≡ state
     claim-refused worker None task found refused = refl
     claim-refused worker (Some held) task None refused = refl
     claim-refused worker (Some (Some held)) task (Some link) refused = refl
     claim-refused worker (Some None) task (Some link) refused = grind arith
 
-    task-refused : (worker : ℕ) (task : Task) (found : Option (Connection Job Reply)) → is_change (found_task state worker task found).1 ≡ false → (found_task state worker task found).0 ≡ state
+    task-refused : (worker : ℕ) (task : Assignment) (found : Option (Connection Job Reply)) → is_change (found_task state worker task found).1 ≡ false → (found_task state worker task found).0 ≡ state
     task-refused worker task None refused = refl
     task-refused worker task (Some link) refused = absurd (false≢true (sym refused ∙ finish-changes task.place link))
 
-    finish-refused : (worker : ℕ) (held : Option (Option Task)) → is_change (found_finish state worker held).1 ≡ false → (found_finish state worker held).0 ≡ state
+    finish-refused : (worker : ℕ) (held : Option (Option Assignment)) → is_change (found_finish state worker held).1 ≡ false → (found_finish state worker held).0 ≡ state
     finish-refused worker None refused = refl
     finish-refused worker (Some None) refused = refl
     finish-refused worker (Some (Some task)) refused = task-refused worker task (slice_get state.connections task.connection) refused

@@ -4,7 +4,7 @@ use Rattle.std.proofs.lemmas.Bool.{false≢true}
 use Rattle.std.proofs.lemmas.Bool.Decides.{eqb_tells}
 use Rattle.std.proofs.lemmas.Option.{none-some, same_Some, slice_get_within}
 use Rattle.std.specs.FinSet.{contains, insert}
-use Rattle.mac_order.specs.declared.event.Task.{Task}
+use Rattle.mac_order.specs.declared.event.Assignment.{Assignment}
 use Rattle.mac_order.specs.declared.event.Outcome.{Outcome}
 use Rattle.mac_order.specs.declared.event.Outcome.TheVariants.{Finished, Discarded}
 use Rattle.mac_order.specs.State.{Connection}
@@ -61,7 +61,7 @@ module _ {Job Reply : Type 0} where
 
   module _ (connections : List (Connection Job Reply)) (number : ℕ) (link : Connection Job Reply) (known : slice_get connections number ≡ Some link) where
     -- a connection that is put in the place of another, where its sets say no less of the tasks that are held
-    held-set : (after : Connection Job Reply) (task : Task) → IsHeld connections task
+    held-set : (after : Connection Job Reply) (task : Assignment) → IsHeld connections task
         → (task.connection ≡ number → contains link.claimed task.place ≡ true → contains after.claimed task.place ≡ true)
         → (task.connection ≡ number → contains link.finished task.place ≡ false → contains after.finished task.place ≡ false)
         → IsHeld (set connections number after) task
@@ -83,18 +83,18 @@ module _ {Job Reply : Type 0} where
     ]
 
     -- a connection that keeps its sets
-    pub staffed-same : (workers : List (Option Task)) (after : Connection Job Reply) → IsStaffed connections workers → after.claimed ≡ link.claimed → after.finished ≡ link.finished → IsStaffed (set connections number after) workers
+    pub staffed-same : (workers : List (Option Assignment)) (after : Connection Job Reply) → IsStaffed connections workers → after.claimed ≡ link.claimed → after.finished ≡ link.finished → IsStaffed (set connections number after) workers
     staffed-same workers after old claimed finished = record {
       held = λ worker task is. held-set after task (old.held worker task is) (λ _ yes'. ap (λ places. contains places task.place) claimed ∙ yes') (λ _ no'. ap (λ places. contains places task.place) finished ∙ no');
       apart = old.apart;
     }
 
     -- the task that a set worker has, or one that it had
-    same_link : (task : Task) (held : IsHeld connections task) → task.connection ≡ number → held.link ≡ link
+    same_link : (task : Assignment) (held : IsHeld connections task) → task.connection ≡ number → held.link ≡ link
     same_link task held at = same_Some _ _ (sym held.known ∙ ap (slice_get connections) at ∙ known)
 
     -- a worker that is free claims a place of it, which is not finished
-    pub staffed-claim : (workers : List (Option Task)) (worker : ℕ) (task : Task) → IsStaffed connections workers → task.connection ≡ number → worker < length workers → contains link.claimed task.place ≡ false → contains link.finished task.place ≡ false
+    pub staffed-claim : (workers : List (Option Assignment)) (worker : ℕ) (task : Assignment) → IsStaffed connections workers → task.connection ≡ number → worker < length workers → contains link.claimed task.place ≡ false → contains link.finished task.place ≡ false
         → IsStaffed (set connections number (after_claim task.place link)) (set workers worker (Some task))
     staffed-claim workers worker task old at within unclaimed unfinished = record {
       held = λ other owned is. elim (eqb_tells other worker) [
@@ -123,19 +123,19 @@ module _ {Job Reply : Type 0} where
         ]
       ];
     } where
-      own : (other : ℕ) → other ≡ worker → (owned : Task) → slice_get (set workers worker (Some task)) other ≡ Some (Some owned) → task ≡ owned
+      own : (other : ℕ) → other ≡ worker → (owned : Assignment) → slice_get (set workers worker (Some task)) other ≡ Some (Some owned) → task ≡ owned
       own other here owned is = same_Some _ _ (same_Some _ _ (sym (ap (slice_get (set workers worker (Some task))) here ∙ slice_get-set_same workers worker (Some task) within) ∙ is))
 
-      was : (other : ℕ) → other ≢ worker → (owned : Task) → slice_get (set workers worker (Some task)) other ≡ Some (Some owned) → slice_get workers other ≡ Some (Some owned)
+      was : (other : ℕ) → other ≢ worker → (owned : Assignment) → slice_get (set workers worker (Some task)) other ≡ Some (Some owned) → slice_get workers other ≡ Some (Some owned)
       was other there owned is = sym (slice_get-set_other workers worker (Some task) other there) ∙ is
 
-      taken : (other : ℕ) (owned : Task) → task ≡ owned → slice_get workers other ≡ Some (Some owned) → ⊥
+      taken : (other : ℕ) (owned : Assignment) → task ≡ owned → slice_get workers other ≡ Some (Some owned) → ⊥
       taken other owned same is =
           let held = old.held other task (is ∙ ap (λ here. Some (Some here)) (sym same)) in
           false≢true (sym unclaimed ∙ ap (λ (here : Connection Job Reply). contains here.claimed task.place) (sym (same_link task held at)) ∙ held.claimed)
 
     -- a worker finishes a place of it
-    pub staffed-finish : (workers : List (Option Task)) (worker : ℕ) (task : Task) → IsStaffed connections workers → task.connection ≡ number → slice_get workers worker ≡ Some (Some task)
+    pub staffed-finish : (workers : List (Option Assignment)) (worker : ℕ) (task : Assignment) → IsStaffed connections workers → task.connection ≡ number → slice_get workers worker ≡ Some (Some task)
         → IsStaffed (set connections number (after_finish task.place link).0) (set workers worker None)
     staffed-finish workers worker task old at busy = record {
       held = λ other owned is.
@@ -145,8 +145,8 @@ module _ {Job Reply : Type 0} where
           (λ same unfinished. finish-unfinished task.place link owned.place unfinished (λ place. there (old.apart other worker owned (was other there owned is) (busy ∙ ap (λ here. Some (Some here)) (λ i. record { connection = (at ∙ sym same) i; place = sym place i })))));
       apart = λ one other owned is also. old.apart one other owned (was one (elsewhere one owned is) owned is) (was other (elsewhere other owned also) owned also);
     } where
-      elsewhere : (other : ℕ) (owned : Task) → slice_get (set workers worker None) other ≡ Some (Some owned) → other ≢ worker
+      elsewhere : (other : ℕ) (owned : Assignment) → slice_get (set workers worker None) other ≡ Some (Some owned) → other ≢ worker
       elsewhere other owned is here = none-some _ (same_Some _ _ (sym (ap (slice_get (set workers worker None)) here ∙ slice_get-set_same workers worker None (slice_get_within workers worker (Some task) busy)) ∙ is))
 
-      was : (other : ℕ) → other ≢ worker → (owned : Task) → slice_get (set workers worker None) other ≡ Some (Some owned) → slice_get workers other ≡ Some (Some owned)
+      was : (other : ℕ) → other ≢ worker → (owned : Assignment) → slice_get (set workers worker None) other ≡ Some (Some owned) → slice_get workers other ≡ Some (Some owned)
       was other there owned is = sym (slice_get-set_other workers worker None other there) ∙ is

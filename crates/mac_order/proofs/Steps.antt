@@ -2,7 +2,7 @@
 use Rattle.std.proofs.Common.{◌≡◌, ◌≢◌, ℕ, zero, suc, true, false, IsTrue, set, List, [], ◌∷◌, Option, Some, None, is_some, Result, Ok, Err, IsErr, slice_get, sym, ◌∙◌, ap, refl, subst, arith}
 use Rattle.std.proofs.lemmas.Bool.{false≢true}
 use Rattle.std.proofs.lemmas.Option.{none-some, same_Some}
-use Rattle.mac_order.specs.declared.event.Task.{Task}
+use Rattle.mac_order.specs.declared.event.Assignment.{Assignment}
 use Rattle.mac_order.specs.declared.event.Outcome.{Outcome}
 use Rattle.mac_order.specs.declared.event.Outcome.TheVariants.{Claimed}
 use Rattle.mac_order.specs.State.{Connection, State}
@@ -29,13 +29,13 @@ module _ {Job Reply : Type 0} (state : State Job Reply) where
   abbrev pub found_connection : ℕ → Option (Connection Job Reply) → (Connection Job Reply → Connection Job Reply × Outcome) → State Job Reply × Outcome
   found_connection number found act = where_known state found (λ link. put_back state number (act link))
 
-  abbrev pub found_claim : ℕ → Option (Option Task) → Task → Option (Connection Job Reply) → State Job Reply × Outcome
+  abbrev pub found_claim : ℕ → Option (Option Assignment) → Assignment → Option (Connection Job Reply) → State Job Reply × Outcome
   found_claim worker held task found = where_known state held (λ claim. where_known state found (claim_with state worker task claim))
 
-  abbrev pub found_task : ℕ → Task → Option (Connection Job Reply) → State Job Reply × Outcome
+  abbrev pub found_task : ℕ → Assignment → Option (Connection Job Reply) → State Job Reply × Outcome
   found_task worker task found = where_known state found (finish_task state worker task)
 
-  abbrev pub found_finish : ℕ → Option (Option Task) → State Job Reply × Outcome
+  abbrev pub found_finish : ℕ → Option (Option Assignment) → State Job Reply × Outcome
   found_finish worker held = where_known state held (finish_with state worker)
 
 module _ {Job Reply : Type 0} where
@@ -80,18 +80,18 @@ module _ {Job Reply : Type 0} where
       (ap (λ connections. record state { connections = connections }) (ap (set state.connections number) is.0 ∙ set-found state.connections number link known), rw known is.1)
 
   -- a free worker claims a place that is claimable
-  pub claim_by-known : (state : State Job Reply) (worker : ℕ) (task : Task) (link after : Connection Job Reply) → slice_get state.workers worker ≡ Some None → slice_get state.connections task.connection ≡ Some link → is_claimable link task.place ≡ true → after ≡ after_claim task.place link
+  pub claim_by-known : (state : State Job Reply) (worker : ℕ) (task : Assignment) (link after : Connection Job Reply) → slice_get state.workers worker ≡ Some None → slice_get state.connections task.connection ≡ Some link → is_claimable link task.place ≡ true → after ≡ after_claim task.place link
       → ◌≡◌ {A = State Job Reply × Outcome} (record { connections = set state.connections task.connection after; workers = set state.workers worker (Some task) }, Claimed) (claim_by state worker task)
   claim_by-known state worker task link after free known claimable is = rw (free, known, claimable, is) refl
 
   -- a worker finishes what it has claimed
-  pub finish_by-known : (state : State Job Reply) (worker : ℕ) (task : Task) (link after : Connection Job Reply) (outcome : Outcome) → slice_get state.workers worker ≡ Some (Some task) → slice_get state.connections task.connection ≡ Some link → ◌≡◌ {A = Connection Job Reply × Outcome} (after, outcome) (after_finish task.place link)
+  pub finish_by-known : (state : State Job Reply) (worker : ℕ) (task : Assignment) (link after : Connection Job Reply) (outcome : Outcome) → slice_get state.workers worker ≡ Some (Some task) → slice_get state.connections task.connection ≡ Some link → ◌≡◌ {A = Connection Job Reply × Outcome} (after, outcome) (after_finish task.place link)
       → ◌≡◌ {A = State Job Reply × Outcome} (record { connections = set state.connections task.connection after; workers = set state.workers worker None }, outcome) (finish_by state worker)
   finish_by-known state worker task link after outcome busy known is =
       rw (busy, known) (ap (λ (pair : Connection Job Reply × Outcome). (record { connections = set state.connections task.connection pair.0; workers = set state.workers worker None }, pair.1)) is)
 
   -- a worker meets want of memory as it finishes
-  pub finish_by-refused : (state : State Job Reply) (worker : ℕ) (task : Task) (link after : Connection Job Reply) → slice_get state.workers worker ≡ Some (Some task) → slice_get state.connections task.connection ≡ Some link → after ≡ link → IsTrue (is_growth (after_finish task.place link).1)
+  pub finish_by-refused : (state : State Job Reply) (worker : ℕ) (task : Assignment) (link after : Connection Job Reply) → slice_get state.workers worker ≡ Some (Some task) → slice_get state.connections task.connection ≡ Some link → after ≡ link → IsTrue (is_growth (after_finish task.place link).1)
       → (record state { connections = set state.connections task.connection after } ≡ state) × IsTrue (is_growth (finish_by state worker).1)
   finish_by-refused state worker task link after busy known same grows =
       (ap (λ connections. record state { connections = connections }) (ap (set state.connections task.connection) same ∙ set-found state.connections task.connection link known), rw (busy, known) grows)

@@ -2,7 +2,7 @@
 use Rattle.std.specs.Prelude.{◌≡◌, ℕ, ◌-◌, Bool, false, List, [], length, replicate, Option, None, Some, slice_get}
 use Rattle.std.specs.FinSet.{FinSet, empty}
 use Rattle.std.specs.Ordering.{nat_cmp}
-use Rattle.mac_order.specs.declared.event.Task.{Task}
+use Rattle.mac_order.specs.declared.event.Assignment.{Assignment}
 
 -- a connection: the jobs that arrived and the replies that were sent, whether it is closed, the
 -- places that were claimed and those that were finished
@@ -16,7 +16,7 @@ pub record Connection (Job Reply : Type 0) : Type 0 where
 -- the state: the connections by their numbers, and for each worker what it has claimed, if anything
 pub record State (Job Reply : Type 0) : Type 0 where
   pub connections : List (Connection Job Reply)
-  pub workers : List (Option Task)
+  pub workers : List (Option Assignment)
 
 -- how many places of a connection have arrived and are not sent
 abbrev pub unsent : {Job Reply : Type 0} → Connection Job Reply → ℕ

@@ -4,7 +4,7 @@ use Rattle.std.specs.Prelude.{◌≡◌, ℕ, Bool, true, false, IsTrue, not, �
 use Rattle.std.specs.FinSet.{contains, insert}
 use Rattle.mac_order.specs.State.{Connection, State, unsent}
 use Rattle.mac_order.specs.declared.reorder.TheConstants.{SLOTS}
-use Rattle.mac_order.specs.declared.event.Task.{Task}
+use Rattle.mac_order.specs.declared.event.Assignment.{Assignment}
 use Rattle.mac_order.specs.declared.event.Event.{Event}
 use Rattle.mac_order.specs.declared.event.Event.TheVariants.{Arrive, Claim, Finish, Send, Close}
 use Rattle.mac_order.specs.declared.event.Outcome.{Outcome}
@@ -71,7 +71,7 @@ module _ {Job Reply : Type 0} where
       (λ link. put_back state number (act link))
 
   -- a worker that has this claim, if any, claims a place of this connection
-  abbrev pub claim_with : State Job Reply → ℕ → Task → Option Task → Connection Job Reply
+  abbrev pub claim_with : State Job Reply → ℕ → Assignment → Option Assignment → Connection Job Reply
       → State Job Reply × Outcome
   claim_with state worker task (Some held) link = (state, Busy)
   claim_with state worker task None link =
@@ -86,14 +86,14 @@ module _ {Job Reply : Type 0} where
       else (state, Taken)
 
   -- a worker claims a place of a connection
-  abbrev pub claim_by : State Job Reply → ℕ → Task → State Job Reply × Outcome
+  abbrev pub claim_by : State Job Reply → ℕ → Assignment → State Job Reply × Outcome
   claim_by state worker task =
       where_known state (slice_get state.workers worker) (λ held.
       where_known state (slice_get state.connections task.connection)
       (claim_with state worker task held))
 
   -- a worker finishes this task, on this connection, and is free again
-  abbrev pub finish_task : State Job Reply → ℕ → Task → Connection Job Reply
+  abbrev pub finish_task : State Job Reply → ℕ → Assignment → Connection Job Reply
       → State Job Reply × Outcome
   finish_task state worker task link =
       let after = after_finish task.place link in (
@@ -105,7 +105,7 @@ module _ {Job Reply : Type 0} where
       )
 
   -- a worker that has this claim, if any, finishes it
-  abbrev pub finish_with : State Job Reply → ℕ → Option Task → State Job Reply × Outcome
+  abbrev pub finish_with : State Job Reply → ℕ → Option Assignment → State Job Reply × Outcome
   finish_with state worker None = (state, Idle)
   finish_with state worker (Some task) =
       where_known state (slice_get state.connections task.connection)

@@ -6,7 +6,7 @@ use Rattle.std.specs.FinSet as set
 use Rattle.std.specs.Ordering.{nat_cmp}
 use Rattle.mac_order.specs.Buffer.{Buffer}
 use Rattle.mac_order.specs.State.{Connection, State}
-use Rattle.mac_order.specs.declared.event.Task.{Task}
+use Rattle.mac_order.specs.declared.event.Assignment.{Assignment}
 
 abbrev pub buffer_code : {Job : Type 0} → Coded Job → Coded (Buffer Job)
 buffer_code {Job} job =
@@ -32,7 +32,7 @@ connection_code {Job} {Reply} job reply =
     })
     (λ _. refl)
 
-abbrev pub task_code : Coded Task
+abbrev pub task_code : Coded Assignment
 task_code =
     code_by (ℕ × ℕ)
     (coded× coded_ℕ coded_ℕ)
@@ -42,7 +42,7 @@ task_code =
 
 abbrev pub state_code : {Job Reply : Type 0} → Coded Job → Coded Reply → Coded (State Job Reply)
 state_code {Job} {Reply} job reply =
-    code_by (List (Connection Job Reply) × List (Option Task))
+    code_by (List (Connection Job Reply) × List (Option Assignment))
     (coded× (coded_list (connection_code job reply)) (coded_list (coded_option task_code)))
     (λ s. (s.connections, s.workers))
     (λ p. record { connections = p.0; workers = p.1 })

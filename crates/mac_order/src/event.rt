@@ -53,7 +53,7 @@ pub enum Outcome {
 
 /// What a worker has claimed: a place of a connection.
 #[derive(Clone, Copy)]
-pub struct Task {
+pub struct Assignment {
     /// The connection's number.
     pub connection: u32,
     /// The place on it.

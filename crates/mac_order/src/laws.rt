@@ -20,7 +20,7 @@ pub fn slots_are_128()
     ensures { SLOTS ≡ 128 }
 {}
 
-/// Jobs compare as equal exactly where they are equal.
+/// Jobs compare as equal exactly where they hold the same.
 pub fn equal_jobs_hold_the_same<S: Service>()
     ensures { (a b : S.Job) → (S.Job.eq a b ≡ true) ↔ (a ≡ b) }
 {}
@@ -61,14 +61,15 @@ pub fn arrived_is_what_was_admitted<S: Service>()
         ≡ enumerate_from 0 link.arrived }
 {}
 
-/// An event that comes to a refusal leaves the whole state as it was.
+/// An event that comes to a refusal leaves the whole state as it was, from any state on.
 pub fn a_refusal_changes_nothing<S: Service>()
     ensures { (state : State S.Job S.Reply) (refused : event.Event S S.Job S.Reply) →
         is_change (step S.reply_to state refused).1 ≡ false →
         (step S.reply_to state refused).0 ≡ state }
 {}
 
-/// After a close, and on a connection that is closed, neither list changes, whatever comes.
+/// After a close, and on a connection that is closed, neither list changes, whatever comes, from
+/// any state on.
 pub fn nothing_after_a_close<S: Service>()
     ensures close { (state : State S.Job S.Reply) (number : ℕ) (events : Events S S.Job S.Reply)
         (link : Connection S.Job S.Reply) →
@@ -124,7 +125,7 @@ pub fn connections_are_apart<S: Service>()
 {}
 
 /// Any jobs, with the replies to a beginning of them that leaves at most 128 unsent, are the lists
-/// of a state that some events reach.
+/// of a state that some events reach, with one connection and one worker.
 pub fn lists_within_the_window_are_reached<S: Service>()
     ensures { (jobs : List S.Job) (sent : ℕ) →
         sent ≤ length jobs → length jobs ≤ sent + SLOTS →

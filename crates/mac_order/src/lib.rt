@@ -13,7 +13,7 @@ mod service;
 mod world;
 
 pub use answer::Answer;
-pub use event::{Event, Outcome, Task};
+pub use event::{Assignment, Event, Outcome};
 pub use fault::{OpenFault, SettleFault};
 pub use next::Next;
 pub use reorder::{Reorder, SLOTS};

@@ -8,7 +8,7 @@ ghost use Rattle.mac_order.specs.Ran.{ran};
 ghost use Rattle.mac_order.specs.State.{opening};
 ghost use Rattle.mac_order.specs.Step.{step, on_connection, after_arrive, claim_by, finish_by, after_send, after_close, is_change, TakesMemory, ComesTo};
 
-use crate::event::{Event, Outcome, Task};
+use crate::event::{Assignment, Event, Outcome};
 use crate::service::{NoMemory, Service};
 use connection::Connection;
 use std::alloc::Global;
@@ -18,7 +18,7 @@ use std::marker::Model;
 #[derive(Drop)]
 pub struct World<S: Service> {
     connections: Vec<Connection<S>>,
-    workers: Vec<Option<Task>>,
+    workers: Vec<Option<Assignment>>,
 }
 
 impl<S: Service> Model for World<S> {
@@ -68,7 +68,7 @@ impl<S: Service> World<S> {
             },
             Event::Claim(worker, connection, place) => self.claim(
                 worker,
-                Task { connection, place },
+                Assignment { connection, place },
             ),
             Event::Finish(worker) => match self.finish(alloc, worker) {
                 Ok(outcome) => outcome,
@@ -135,7 +135,7 @@ impl<S: Service> World<S> {
         self.connections[at].close()
     }
 
-    fn claim(&mut self, worker: u32, task: Task) -> Outcome
+    fn claim(&mut self, worker: u32, task: Assignment) -> Outcome
         ensures { (self.new, result) ≡ claim_by self.old worker task }
     {
         let by = worker as usize;
@@ -192,7 +192,7 @@ impl<S: Service> World<S> {
 }
 
 /// What these workers have claimed, when none has claimed anything.
-fn no_claims(alloc: Global, workers: u32) -> Result<Vec<Option<Task>>, NoMemory>
+fn no_claims(alloc: Global, workers: u32) -> Result<Vec<Option<Assignment>>, NoMemory>
     ensures { IfOk result (λ claims. claims.items ≡ replicate workers None) }
 {
     let mut claims = Vec::new(alloc);

@@ -1,7 +1,8 @@
 -- What several rounds come to.
-use Rattle.std.proofs.Common.{◌≡◌, ℕ, List, [], ◌++◌, sym, ap, subst, ◌∙◌, append_assoc}
+use Rattle.std.proofs.Common.{◌≡◌, ℕ, List, [], ◌∷◌, ◌++◌, refl, sym, ap, subst, ◌∙◌, append_assoc}
 use Rattle.std.specs.Prelude.{Bool, Option}
 use Rattle.std.proofs.lemmas.List.{append-nil}
+use Rattle.mac_keys.specs.Table.{Table}
 use Rattle.mac_wire.specs.declared.arrival.Arrival.{Arrival}
 use Rattle.mac_wire.specs.declared.session.Session.{Session}
 use Rattle.mac_wire.specs.declared.version.Version.{Version}
@@ -11,7 +12,8 @@ use Rattle.mac_wire.specs.Stream.{arrivals_of, version_or_one, version_told}
 use Rattle.mac_wire.proofs.Opening.{told_is}
 use Rattle.mac_wire.proofs.Sessions.{come_fronts}
 use Rattle.mac_decide.specs.declared.job.Job.{Job}
-use Rattle.mac_plain.specs.Client.{Answers, HasAnswered, HasFallen, IsPromised, StandsSo, arrivals, replies}
+use Rattle.mac_plain.specs.Client.{Answers, HasAnswered, HasFallen, IsPromised, StandsSo, arrivals, jobs_of, replies}
+use Rattle.mac_plain.specs.Rounds.{AnswersUnder, ServesUnder, jobs_under}
 use Rattle.mac_plain.specs.declared.client.Client.{Client}
 use Rattle.mac_plain.specs.declared.course.Course.{Course}
 use Rattle.mac_plain.specs.declared.course.Course.TheVariants as course
@@ -31,6 +33,34 @@ composes {P} tells taken written a b c jobs more x y = record {
       subst (λ (l : List ℕ). HasAnswered c l (sent ++ (x.gone ++ y.gone)) (done ++ (jobs ++ more))) (append_assoc read x.came y.came)
       (subst (λ (l : List ℕ). HasAnswered c ((read ++ x.came) ++ y.came) l (done ++ (jobs ++ more))) (append_assoc sent x.gone y.gone)
       (subst (λ (l : List Job). HasAnswered c ((read ++ x.came) ++ y.came) ((sent ++ x.gone) ++ y.gone) l) (append_assoc done jobs more) h))
+
+-- nothing was answered
+answers-none : {P : Type 0} (tells : Bool) (taken written : P → List ℕ) (a : Client P) → Answers tells taken written a a []
+answers-none {P} tells taken written a = record {
+  came = [];
+  gone = [];
+  took = λ told. sym (append-nil (taken a.port));
+  wrote = λ told. sym (append-nil (written a.port));
+  goes_on = λ read sent done h.
+      subst (λ (l : List ℕ). HasAnswered a l (sent ++ []) (done ++ [])) (sym (append-nil read))
+      (subst (λ (l : List ℕ). HasAnswered a read l (done ++ [])) (sym (append-nil sent))
+      (subst (λ (l : List Job). HasAnswered a read sent l) (sym (append-nil done)) h));
+}
+
+pub keeps-tables : {P : Type 0} (tells : Bool) (taken written : P → List ℕ) (tables : List Table) (a b : Client P) → ServesUnder tells taken written tables a b
+    → AnswersUnder tells taken written tables a b
+keeps-tables {P} tells taken written [] a b is = record {
+  rounds = [];
+  tables_are = refl;
+  answers = subst (λ (c : Client P). Answers tells taken written a c []) (sym is) (answers-none tells taken written a);
+}
+keeps-tables {P} tells taken written (t ∷ tables) a b (now, served, rest) =
+    let h = keeps-tables tells taken written tables now b rest in
+    record {
+      rounds = (t, served.payloads) ∷ h.rounds;
+      tables_are = ap (λ (l : List Table). t ∷ l) h.tables_are;
+      answers = composes tells taken written a now b (jobs_of t served.payloads) (jobs_under h.rounds) served.answers h.answers;
+    }
 
 told_version : (v : Option Version) (read : List ℕ) → v ≡ version_told read → version_or_one v ≡ (arrivals_of read).version
 told_version v read told = ap version_or_one told ∙ told_is read

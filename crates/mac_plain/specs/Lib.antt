@@ -5,3 +5,4 @@ pub mod Pairs
 pub mod Goes
 pub mod Requests
 pub mod Receiving
+pub mod Rounds

@@ -79,7 +79,11 @@ fn replies_to(
 }
 
 /// The requests of a run, with the keys that they name, where they lie.
-fn jobs_of_run<'a>(keys: &KeyTable, arena: &'a [u8], run: &[Request]) -> ArrayVec<JobView<'a>, RUN>
+fn jobs_of_run<'a>(
+    keys: &'a KeyTable,
+    arena: &'a [u8],
+    run: &[Request],
+) -> ArrayVec<JobView<'a>, RUN>
     requires count { length run.now ≤ RUN }
     requires within { AreWithin (length arena.now) run.now }
     ensures { map viewed result.items ≡ jobs_at keys.now arena.now run.now }

@@ -6,7 +6,9 @@ ghost use Rattle.mac_order.specs.History.{IsReached};
 ghost use Rattle.mac_decide.specs.Prepared.{reply_to_job};
 ghost use Rattle.mac_decide.specs.declared.job.Job.{Job};
 ghost use Rattle.mac_decide.specs.declared.macaroons.Macaroons.{Macaroons};
+ghost use Rattle.mac_keys.specs.Table.{Table};
 ghost use Rattle.mac_plain.specs.Client.{Answers, HasAnswered, IsPromised, replies};
+ghost use Rattle.mac_plain.specs.Rounds.{AnswersUnder, ServesUnder};
 ghost use Rattle.mac_plain.specs.declared.client.Client.{Client};
 
 use crate::port::Port;
@@ -18,6 +20,14 @@ pub fn rounds_compose<P: Port>()
         → Answers P.tells P.taken P.written first second jobs
         → Answers P.tells P.taken P.written second third more
         → Answers P.tells P.taken P.written first third (jobs ++ more) }
+{}
+
+/// Rounds, each under its own table, answer in their order, each request under the table of its
+/// round.
+pub fn rounds_keep_their_tables<P: Port>()
+    ensures { (tables : List Table) (before after : Client P)
+        → ServesUnder P.tells P.taken P.written tables before after
+        → AnswersUnder P.tells P.taken P.written tables before after }
 {}
 
 /// What was written on a client begins the framed answers to what was read, in order, each once.

@@ -1,11 +1,11 @@
 //! A round of a loop: what has come on many connections is answered together.
 
 ghost use Rattle.std.specs.Prelude.{◌≡◌, ◌≤◌, [], length, vec_len};
+ghost use Rattle.mac_board.specs.Follows.{Looks};
 ghost use Rattle.mac_keys.specs.Table.{Table};
-ghost use Rattle.mac_plain.specs.Client.{Serves};
+ghost use Rattle.mac_plain.specs.Rounds.{ServesEach};
 ghost use Rattle.mac_plain.specs.Goes.{AreAnswered, AreRead};
 ghost use Rattle.mac_plain.specs.Receiving.{Receives};
-ghost use Rattle.mac_plain.specs.Pairs.{EachPair};
 ghost use Rattle.mac_plain.specs.Requests.{AreWithin, asked_of};
 
 use crate::NoMemory;
@@ -14,8 +14,8 @@ use crate::client::Client;
 use crate::port::Port;
 use crate::receiving::receive;
 use crate::request::Request;
+use mac_board::Tables;
 use mac_decide::Rooms;
-use mac_keys::KeyTable;
 use std::alloc::Global;
 
 /// How many bytes a read asks for.
@@ -48,11 +48,18 @@ impl Round {
         })
     }
 
-    /// Serves each of the clients once: reads it, answers all requests of all of them together, and
-    /// writes. A client with `unsent_max` bytes unsent isn't read.
-    pub fn serve<P: Port>(&mut self, keys: &KeyTable, clients: &mut [Client<P>], unsent_max: usize)
-        ensures { EachPair (λ _ before after.
-            Serves P.tells P.taken P.written keys.now before after) clients.old clients.new }
+    /// Serves each of the clients once: reads it, looks at the tables, answers all requests of all
+    /// clients together under the one that is up, and writes. A client with `unsent_max` bytes
+    /// unsent isn't read.
+    pub fn serve<P: Port, K: Tables>(
+        &mut self,
+        keys: &mut K,
+        clients: &mut [Client<P>],
+        unsent_max: usize,
+    )
+        ensures looks { Looks K.tells (K.known keys.old) (K.known keys.new) }
+        ensures serves { ServesEach P.tells P.taken P.written (K.known keys.new)
+            clients.old clients.new }
     {
         self.arena.clear();
         self.requests.clear();
@@ -63,10 +70,11 @@ impl Round {
             clients,
             unsent_max,
         );
+        keys.look();
         answer_requests(
             &mut self.rooms,
             self.alloc,
-            keys,
+            keys.table(),
             self.arena.as_slice(),
             self.requests.as_slice(),
             clients,

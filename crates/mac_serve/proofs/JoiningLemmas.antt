@@ -21,6 +21,7 @@ use Rattle.mac_decide.specs.declared.job.Job.{Job}
 use Rattle.mac_serve.specs.declared.connection.Served.{Served}
 use Rattle.mac_serve.specs.declared.fault.ServeFault.{ServeFault}
 use Rattle.mac_serve.specs.declared.fault.ServeFault.TheVariants as fault
+use Rattle.mac_serve.specs.Receiving.{Readings, read_of}
 use Rattle.mac_serve.specs.Serving.{answers, text_from, Sent, SentAll, SentSome, IsLeft}
 use Rattle.mac_serve.specs.Joining.{ServingJoins}
 
@@ -49,45 +50,45 @@ from-split v place replies more =
     ap framed (payloads-append v place replies more) ∙ flat_map-append frame (payloads_from v place replies) (payloads_from v (place + length replies) more)
 
 -- what went out is a beginning of the frames of the replies
-some-begins : (table : Table) (v : Version) (place : ℕ) (arrivals : List Arrival) (output : List ℕ) (served : Served) → SentSome table v place arrivals output served
-    → (rest : List ℕ) × (text_from v place (answers table arrivals) ≡ output ++ rest)
-some-begins table v place arrivals output served s =
-    let all : List Reply = answers table arrivals in
+some-begins : (v : Version) (place : ℕ) (readings : Readings) (output : List ℕ) (served : Served) → SentSome v place readings output served
+    → (rest : List ℕ) × (text_from v place (answers readings) ≡ output ++ rest)
+some-begins v place readings output served s =
+    let all : List Reply = answers readings in
     let front : List Reply = take served.sent all in
     let back : List Reply = drop served.sent all in (
       text_from v (place + length front) back,
       ap (text_from v place) (sym (take-append-drop served.sent all)) ∙ from-split v place front back ∙ ap (λ (l : List ℕ). l ++ text_from v (place + length front) back) (sym s.output_is),
     )
 
-all-begins : (table : Table) (v : Version) (place : ℕ) (arrivals : List Arrival) (pass : Pass Job) (output left : List ℕ) (served : Served) → SentAll table v place arrivals pass output left served
-    → (rest : List ℕ) × (text_from v place (answers table arrivals) ≡ output ++ rest)
-all-begins table v place arrivals pass output left served s = ([], sym s.output_is ∙ sym (append-nil output))
+all-begins : (v : Version) (place : ℕ) (readings : Readings) (unread : List Arrival) (pass : Pass Job) (output left : List ℕ) (served : Served) → SentAll v place readings unread pass output left served
+    → (rest : List ℕ) × (text_from v place (answers readings) ≡ output ++ rest)
+all-begins v place readings unread pass output left served s = ([], sym s.output_is ∙ sym (append-nil output))
 
-row-begins : (table : Table) (a : Arrivals) (place : ℕ) (arrivals : List Arrival) (pass : Pass Job) (output left : List ℕ) (why : Option ServeFault) (served : Served)
-    → Sent table a place arrivals pass output left why served → (rest : List ℕ) × (text_from a.version place (answers table arrivals) ≡ output ++ rest)
-row-begins table a place arrivals pass output left None served row = all-begins table a.version place arrivals pass output left served row.0
-row-begins table a place arrivals pass output left (Some fault.Torn) served row = all-begins table a.version place arrivals pass output left served row.0
-row-begins table a place arrivals pass output left (Some fault.Read) served row = all-begins table a.version place arrivals pass output left served row.0
-row-begins table a place arrivals pass output left (Some fault.Write) served row =
-    let text : List ℕ = text_from a.version place (answers table arrivals) in
+row-begins : (a : Arrivals) (place : ℕ) (readings : Readings) (unread : List Arrival) (pass : Pass Job) (output left : List ℕ) (why : Option ServeFault) (served : Served)
+    → Sent a place readings unread pass output left why served → (rest : List ℕ) × (text_from a.version place (answers readings) ≡ output ++ rest)
+row-begins a place readings unread pass output left None served row = all-begins a.version place readings unread pass output left served row.0
+row-begins a place readings unread pass output left (Some fault.Torn) served row = all-begins a.version place readings unread pass output left served row.0
+row-begins a place readings unread pass output left (Some fault.Read) served row = all-begins a.version place readings unread pass output left served row.0
+row-begins a place readings unread pass output left (Some fault.Write) served row =
+    let text : List ℕ = text_from a.version place (answers readings) in
     (drop served.written text, sym (take-append-drop served.written text) ∙ ap (λ (l : List ℕ). l ++ drop served.written text) (sym row.output_is))
-row-begins table a place arrivals pass output left (Some fault.NoMemory) served row = some-begins table a.version place arrivals output served row
-row-begins table a place arrivals pass output left (Some fault.Stranger) served row = some-begins table a.version place arrivals output served row
-row-begins table a place arrivals pass output left (Some fault.Exhausted) served row = some-begins table a.version place arrivals output served row
+row-begins a place readings unread pass output left (Some fault.NoMemory) served row = some-begins a.version place readings output served row
+row-begins a place readings unread pass output left (Some fault.Stranger) served row = some-begins a.version place readings output served row
+row-begins a place readings unread pass output left (Some fault.Exhausted) served row = some-begins a.version place readings output served row
 
 abbrev Whole : Option ServeFault → Type 0
 Whole why = (why ≡ None) ⊎ ((why ≡ Some fault.Torn) ⊎ (why ≡ Some fault.Read))
 
-row-all : (table : Table) (a : Arrivals) (place : ℕ) (arrivals : List Arrival) (pass : Pass Job) (output left : List ℕ) (why : Option ServeFault) (served : Served)
-    → Sent table a place arrivals pass output left why served → Whole why → SentAll table a.version place arrivals pass output left served
-row-all table a place arrivals pass output left why served row (inl is) =
-    let at_none : Sent table a place arrivals pass output left None served = subst (λ (w : Option ServeFault). Sent table a place arrivals pass output left w served) is row in
+row-all : (a : Arrivals) (place : ℕ) (readings : Readings) (unread : List Arrival) (pass : Pass Job) (output left : List ℕ) (why : Option ServeFault) (served : Served)
+    → Sent a place readings unread pass output left why served → Whole why → SentAll a.version place readings unread pass output left served
+row-all a place readings unread pass output left why served row (inl is) =
+    let at_none : Sent a place readings unread pass output left None served = subst (λ (w : Option ServeFault). Sent a place readings unread pass output left w served) is row in
     at_none.0
-row-all table a place arrivals pass output left why served row (inr (inl is)) =
-    let at_torn : Sent table a place arrivals pass output left (Some fault.Torn) served = subst (λ (w : Option ServeFault). Sent table a place arrivals pass output left w served) is row in
+row-all a place readings unread pass output left why served row (inr (inl is)) =
+    let at_torn : Sent a place readings unread pass output left (Some fault.Torn) served = subst (λ (w : Option ServeFault). Sent a place readings unread pass output left w served) is row in
     at_torn.0
-row-all table a place arrivals pass output left why served row (inr (inr is)) =
-    let at_read : Sent table a place arrivals pass output left (Some fault.Read) served = subst (λ (w : Option ServeFault). Sent table a place arrivals pass output left w served) is row in
+row-all a place readings unread pass output left why served row (inr (inr is)) =
+    let at_read : Sent a place readings unread pass output left (Some fault.Read) served = subst (λ (w : Option ServeFault). Sent a place readings unread pass output left w served) is row in
     at_read.0
 
 -- lists that are put together otherwise
@@ -118,26 +119,32 @@ onward-stands (Some next) stream written arrived replies answered why all each c
   counted = left.answered_is ∙ counted;
 }
 
+-- the reply to one arrival under its table
+abbrev answer_to_reading : Table × Arrival → Reply
+answer_to_reading r = answer_of r.0 r.1
+
 pub serving-joins : ServingJoins
-serving-joins tells_in tells_out table session read written arrived replies given given' wrote wrote' pass taken why served s h =
+serving-joins tells_in tells_out tells known known' session read written arrived replies given given' wrote wrote' pass taken why served s h =
     let stream : List ℕ = read ++ h.stream in
     let v : Version = (arrivals_of stream).version in
-    let more : List Reply = answers table h.arrivals in
+    let more : List Reply = answers h.readings in
     let text : List ℕ = text_from v session.answered more in
     let whole : reply_text v (replies ++ more) ≡ (written ++ (h.ahead ++ h.left)) ++ text =
     text-split v replies more session.answered s.counted
     ∙ ap (λ (l : List ℕ). l ++ text) (text-before session.version read session.carried.items written session.unsent h.stream arrived replies s.came s.went s.each
     ∙ ap (λ (l : List ℕ). written ++ l) h.parts) in
+    let sent : Whole why → SentAll v session.answered h.readings h.unread pass h.output h.left served = λ told.
+    row-all (arrivals_of stream) session.answered h.readings h.unread pass h.output h.left why served h.sent told in
     let all : Whole why → written ++ (h.ahead ++ h.output) ≡ reply_text v (replies ++ more) = λ told.
-    let row = row-all table (arrivals_of stream) session.answered h.arrivals pass h.output h.left why served h.sent told in
+    let row = sent told in
     sym (whole ∙ ap (λ (l : List ℕ). (written ++ (h.ahead ++ l)) ++ text) row.none_left ∙ ap (λ (l : List ℕ). (written ++ l) ++ text) (append-nil h.ahead)
     ∙ append_assoc written h.ahead text ∙ ap (λ (l : List ℕ). written ++ (h.ahead ++ l)) (sym row.output_is)) in
     record {
-      begins = begins_by h.ahead h.left h.output text (reply_text v (replies ++ more)) h.behind whole (row-begins table (arrivals_of stream) session.answered h.arrivals pass h.output h.left why served h.sent);
-      all = all;
-      onward = onward-stands served.session stream (written ++ (h.ahead ++ h.output)) (arrived ++ h.arrivals) (replies ++ more) (session.answered + length h.arrivals) why
-          (λ is. all (inr (inr is))) (omega (arith, s.each, length-append replies more, length-append arrived h.arrivals, length-map h.arrivals (answer_of table)))
-          (omega (arith, s.counted, length-append replies more, length-map h.arrivals (answer_of table))) h.back;
+      begins = begins_by h.ahead h.left h.output text (reply_text v (replies ++ more)) h.behind whole (row-begins (arrivals_of stream) session.answered h.readings h.unread pass h.output h.left why served h.sent);
+      all = λ told. ((sent told).none_unread, all told);
+      onward = onward-stands served.session stream (written ++ (h.ahead ++ h.output)) (arrived ++ read_of h.readings) (replies ++ more) (session.answered + length h.readings) why
+          (λ is. all (inr (inr is))) (omega (arith, s.each, length-append replies more, length-append arrived (read_of h.readings), length-map h.readings answer_to_reading, length-map h.readings (λ (r : Table × Arrival). r.1)))
+          (omega (arith, s.counted, length-append replies more, length-map h.readings answer_to_reading)) h.back;
     }
   where
     begins_by : (ahead left output text total : List ℕ) → (left ≡ []) ⊎ (output ≡ []) → total ≡ (written ++ (ahead ++ left)) ++ text

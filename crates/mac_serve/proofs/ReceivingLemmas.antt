@@ -8,6 +8,8 @@ use Rattle.std.proofs.lemmas.List.{take-append-le}
 use Rattle.std.proofs.lemmas.List.{map-append}
 use Rattle.mac_ring.specs.Ring.{admitted, IsSameIntake}
 use Rattle.mac_queue.specs.Pass.{Pass, IsSamePass, with_put}
+use Rattle.mac_board.specs.Follows.{Known, IsUp, Looks, Takes}
+use Rattle.mac_board.proofs.Taking.{takes-more, takes-next}
 use Rattle.mac_keys.specs.Table.{Table}
 use Rattle.mac_wire.specs.declared.arrival.Arrival.{Arrival}
 use Rattle.mac_wire.specs.declared.arrival.Ending.{Ending}
@@ -22,7 +24,7 @@ use Rattle.mac_decide.specs.declared.job.Job.{Job}
 use Rattle.mac_serve.specs.declared.incoming.InboundFault.{InboundFault}
 use Rattle.mac_serve.specs.declared.incoming.InboundFault.TheVariants as fault
 use Rattle.mac_serve.specs.declared.inbound.Inbound.{Inbound}
-use Rattle.mac_serve.specs.Receiving.{Gave, IsSameHalf, HasTold, IsTold, Past, IsPast, Reads, jobs_of, placed, IsBehind, TakesIn, TakesSome, Receives, HasRun, GoesOn, Continues, Ran}
+use Rattle.mac_serve.specs.Receiving.{Gave, IsSameHalf, HasTold, IsTold, Past, IsPast, Reads, Readings, tables_of, read_of, jobs_of, placed, IsBehind, TakesIn, TakesSome, Receives, ReceivesUnder, HasRun, GoesOn, Continues, Ran}
 
 placed-append : (place : ℕ) (jobs more : List Job) → placed place (jobs ++ more) ≡ placed place jobs ++ placed (place + length jobs) more
 unfolding placed
@@ -170,19 +172,84 @@ receives-put (Err why) job place before mid after same no_read is_admitted is_pu
   },
 )
 
+err-not-ok : {T : Type 0} (r : Result T InboundFault) (why : InboundFault) (P : Type 0) → IsErrAnd r (λ e. e ≡ why) → OnOk r P
+err-not-ok (Ok x) why P is = absurd is
+err-not-ok (Err e) why P is = tt
+
+pub receives-residual : {T : Type 0} (jobs : List Job) (r : Result T InboundFault) (why : InboundFault) (a b : Inbound)
+    → IsErrAnd r (λ e. e ≡ why) → why ≢ fault.Read → TakesSome jobs a b → Receives jobs r a b
+receives-residual jobs (Ok x) why a b is other some = absurd is
+receives-residual jobs (Err e) why a b is other some = (λ read. other (sym is ∙ read), some)
+
+-- the jobs of arrivals and of more
+jobs-append : (readings more : Readings) → jobs_of (readings ++ more) ≡ jobs_of readings ++ jobs_of more
+jobs-append readings more = map-append (λ (r : Table × Arrival). job_under r.0 r.1) readings more
+
+pub read-append : (readings more : Readings) → read_of (readings ++ more) ≡ read_of readings ++ read_of more
+read-append readings more = map-append (λ (r : Table × Arrival). r.1) readings more
+
+tables-append : (readings more : Readings) → tables_of (readings ++ more) ≡ tables_of readings ++ tables_of more
+tables-append readings more = map-append (λ (r : Table × Arrival). r.0) readings more
+
+-- arrivals that were taken in, each under the table that a look came to
+pub record HasTaken (AreTaken : List Table → Type 0) (arrivals : List Arrival) (before after : Inbound) : Type 0 where
+  pub readings : Readings
+  pub are : read_of readings ≡ arrivals
+  pub taken : AreTaken (tables_of readings)
+  pub took : TakesIn (jobs_of readings) before after
+
+pub has-taken-none : (tells : Bool) (known : Known) (a : Inbound) → HasTaken (Takes tells known known) [] a a
+has-taken-none tells known a = record { readings = []; are = refl; taken = refl; took = took-nothing a }
+
+-- a look at the tables, and the arrival that was read then
+looked-next : (tells : Bool) (begun known now : Known) (readings : Readings) (table : Table) (arrival : Arrival) → Takes tells begun known (tables_of readings) → Looks tells known now → IsUp now table
+    → Takes tells begun now (tables_of (readings ++ (table, arrival) ∷ []))
+looked-next tells begun known now readings table arrival taken looks up =
+    subst (Takes tells begun now) (sym (tables-append readings ((table, arrival) ∷ []))) (takes-next tells begun known now (tables_of readings) table taken looks up)
+
 -- one more arrival
-pub takes-in-next : (table : Table) (front : List Arrival) (arrival : Arrival) (a b c : Inbound)
-    → TakesIn (jobs_of table front) a b → TakesIn (job_under table arrival ∷ []) b c → TakesIn (jobs_of table (front ++ arrival ∷ [])) a c
-takes-in-next table front arrival a b c first then =
-    subst (λ (jobs : List Job). TakesIn jobs a c) (sym (map-append (job_under table) front (arrival ∷ []))) (takes-in-more (jobs_of table front) (job_under table arrival ∷ []) a b c first then)
+pub takes-in-next : (tells : Bool) (begun known now : Known) (table : Table) (front : List Arrival) (arrival : Arrival) (a b c : Inbound)
+    → HasTaken (Takes tells begun known) front a b → Looks tells known now → IsUp now table → TakesIn (job_under table arrival ∷ []) b c → HasTaken (Takes tells begun now) (front ++ arrival ∷ []) a c
+takes-in-next tells begun known now table front arrival a b c first looks up then = record {
+  readings = first.readings ++ (table, arrival) ∷ [];
+  are = read-append first.readings ((table, arrival) ∷ []) ∙ ap (λ (l : List Arrival). l ++ arrival ∷ []) first.are;
+  taken = looked-next tells begun known now first.readings table arrival first.taken looks up;
+  took = subst (λ (jobs : List Job). TakesIn jobs a c) (sym (jobs-append first.readings ((table, arrival) ∷ [])))
+      (takes-in-more (jobs_of first.readings) (job_under table arrival ∷ []) a b c first.took then);
+}
 
 -- one more arrival, that was not taken in whole
-pub takes-some-next : (table : Table) (front : List Arrival) (arrival : Arrival) (rest all : List Arrival) (a b c : Inbound)
-    → front ++ arrival ∷ rest ≡ all
-    → TakesIn (jobs_of table front) a b → TakesSome (job_under table arrival ∷ []) b c → TakesSome (jobs_of table all) a c
-takes-some-next table front arrival rest all a b c is first then =
-    let some = takes-some-more (jobs_of table front) (jobs_of table (arrival ∷ rest)) a b c first (takes-some-longer (job_under table arrival ∷ []) (jobs_of table rest) b c then) in
-    subst (λ (jobs : List Job). TakesSome jobs a c) (sym (map-append (job_under table) front (arrival ∷ rest)) ∙ ap (jobs_of table) is) some
+pub takes-some-next : {T : Type 0} (tells : Bool) (begun known now : Known) (table : Table) (front : List Arrival) (arrival : Arrival) (rest all : List Arrival) (r : Result T InboundFault) (why : InboundFault) (a b c : Inbound)
+    → front ++ arrival ∷ rest ≡ all → IsErrAnd r (λ e. e ≡ why)
+    → HasTaken (Takes tells begun known) front a b → Looks tells known now → IsUp now table → why ≢ fault.Read → TakesSome (job_under table arrival ∷ []) b c
+    → ReceivesUnder (Takes tells begun now) all r a c
+takes-some-next {T} tells begun known now table front arrival rest all r why a b c is err first looks up no_read then =
+    let next : Readings = (table, arrival) ∷ [] in
+    let some = takes-some-more (jobs_of first.readings) (job_under table arrival ∷ []) a b c first.took then in
+    record {
+      readings = first.readings ++ next;
+      unread = rest;
+      are = sym is ∙ sym (append_assoc front (arrival ∷ []) rest)
+          ∙ ap (λ (l : List Arrival). l ++ rest) (ap (λ (l : List Arrival). l ++ arrival ∷ []) (sym first.are) ∙ sym (read-append first.readings next));
+      taken = looked-next tells begun known now first.readings table arrival first.taken looks up;
+      all = err-not-ok r why (rest ≡ []) err;
+      receives = receives-residual (jobs_of (first.readings ++ next)) r why a c err no_read (subst (λ (jobs : List Job). TakesSome jobs a c) (sym (jobs-append first.readings next)) some);
+    }
+
+abbrev pub done : {T : Type 0} → T → Result T InboundFault
+done x = Ok x
+
+-- all arrivals were taken in
+pub takes-all : {T : Type 0} (AreTaken : List Table → Type 0) (arrivals : List Arrival) (x : T) (a b : Inbound) → HasTaken AreTaken arrivals a b
+    → ReceivesUnder AreTaken arrivals (done x) a b
+takes-all {T} AreTaken arrivals x a b h = record {
+  readings = h.readings;
+  unread = [];
+  are = sym h.are ∙ sym (append-nil (read_of h.readings));
+  taken = h.taken;
+  all = refl;
+  receives = h.took;
+}
 
 gave-more : (tells : Bool) (a b c first then : List ℕ) → Gave tells a b first → Gave tells b c then → Gave tells a c (first ++ then)
 gave-more tells a b c first then one two told = two told ∙ ap (λ (l : List ℕ). l ++ then) (one told) ∙ append_assoc a first then
@@ -191,28 +258,29 @@ gave-nothing : (tells : Bool) (a b c bytes : List ℕ) → Gave tells a b bytes 
 gave-nothing tells a b c bytes one two told = two told ∙ ap (λ (l : List ℕ). l ++ []) (one told) ∙ search rules
 
 -- what a reader handed out of which all was taken in
-all-read : (tells : Bool) (table : Table) (version : Version) (past : Past) (given given' : List ℕ) (reader : FrameReader) (a b : Inbound)
-    → (on : GoesOn tells table version past given given' reader [] a b) → HasRead reader (past.read ++ on.stream) (past.arrived ++ on.handed)
-all-read tells table version past given given' reader a b on =
-    subst (λ (l : List Arrival). HasRead reader (past.read ++ on.stream) (past.arrived ++ l)) (append-nil on.handed) on.read
+all-read : (tells : Bool) (AreTaken : List Table → Type 0) (version : Version) (past : Past) (given given' : List ℕ) (reader : FrameReader) (a b : Inbound)
+    → (on : GoesOn tells AreTaken version past given given' reader [] a b) → HasRead reader (past.read ++ on.stream) (past.arrived ++ read_of on.readings)
+all-read tells AreTaken version past given given' reader a b on =
+    subst (λ (l : List Arrival). HasRead reader (past.read ++ on.stream) (past.arrived ++ l)) (append-nil (read_of on.readings)) on.read
 
 -- the arrivals so far are those that were handed out
 all-arrived : (reader : FrameReader) (stream : List ℕ) (handed : List Arrival) → HasRead reader stream handed → (arrivals_of stream).arrived ≡ handed
 all-arrived reader stream handed read = has_arrived_in reader.version reader.stage stream handed read
 
 -- where all jobs were taken in, a run may end by any fault
-gave-up : (table : Table) (arrivals : List Arrival) (end : Ending) (a b : Inbound) (why : InboundFault) → TakesIn (jobs_of table arrivals) a b → Ran table arrivals end (Err why) a b
-gave-up table arrivals end a b fault.Read all = all
-gave-up table arrivals end a b fault.NoMemory all = takes-some-all (jobs_of table arrivals) a b all
-gave-up table arrivals end a b fault.Exhausted all = takes-some-all (jobs_of table arrivals) a b all
-gave-up table arrivals end a b fault.Stopped all = takes-some-all (jobs_of table arrivals) a b all
+gave-up : (readings : Readings) (end : Ending) (a b : Inbound) (why : InboundFault) → TakesIn (jobs_of readings) a b → Ran readings [] end (Err why) a b
+gave-up readings end a b fault.Read all = (all, refl)
+gave-up readings end a b fault.NoMemory all = takes-some-all (jobs_of readings) a b all
+gave-up readings end a b fault.Exhausted all = takes-some-all (jobs_of readings) a b all
+gave-up readings end a b fault.Stopped all = takes-some-all (jobs_of readings) a b all
 
 -- and where some were, by any but that of the source
-gave-up-some : (table : Table) (arrivals : List Arrival) (end : Ending) (a b : Inbound) (why : InboundFault) → why ≢ fault.Read → TakesSome (jobs_of table arrivals) a b → Ran table arrivals end (Err why) a b
-gave-up-some table arrivals end a b fault.Read no_read some = absurd (no_read refl)
-gave-up-some table arrivals end a b fault.NoMemory no_read some = some
-gave-up-some table arrivals end a b fault.Exhausted no_read some = some
-gave-up-some table arrivals end a b fault.Stopped no_read some = some
+gave-up-some : (readings : Readings) (unread : List Arrival) (end : Ending) (a b : Inbound) (why : InboundFault) → why ≢ fault.Read → TakesSome (jobs_of readings) a b
+    → Ran readings unread end (Err why) a b
+gave-up-some readings unread end a b fault.Read no_read some = absurd (no_read refl)
+gave-up-some readings unread end a b fault.NoMemory no_read some = some
+gave-up-some readings unread end a b fault.Exhausted no_read some = some
+gave-up-some readings unread end a b fault.Stopped no_read some = some
 
 abbrev failed : InboundFault → Result Ending InboundFault
 failed why = Err why
@@ -221,44 +289,47 @@ same-fault : (why other : InboundFault) → failed why ≡ failed other → why 
 same-fault why other is = cc
 
 -- a run that is given up where nothing more came
-gives-up-there : (tells : Bool) (table : Table) (version : Version) (past : Past) (given mid given' : List ℕ) (reader reader' : FrameReader) (a b : Inbound) (why : InboundFault)
-    → (on : GoesOn tells table version past given mid reader [] a b) → Gave tells mid given' []
-    → (why ≡ fault.Read → HasRead reader' (past.read ++ on.stream) (past.arrived ++ on.handed) × (HasEnded reader' → ⊥)) → HasRun tells table version past given given' reader' (Err why) a b
-gives-up-there tells table version past given mid given' reader reader' a b why on nothing left =
+gives-up-there : (tells : Bool) (AreTaken : List Table → Type 0) (version : Version) (past : Past) (given mid given' : List ℕ) (reader reader' : FrameReader) (a b : Inbound) (why : InboundFault)
+    → (on : GoesOn tells AreTaken version past given mid reader [] a b) → Gave tells mid given' []
+    → (why ≡ fault.Read → HasRead reader' (past.read ++ on.stream) (past.arrived ++ read_of on.readings) × (HasEnded reader' → ⊥)) → HasRun tells AreTaken version past given given' reader' (Err why) a b
+gives-up-there tells AreTaken version past given mid given' reader reader' a b why on nothing left =
     record {
       stream = on.stream;
       gave = gave-nothing tells given mid given' on.stream on.gave nothing;
       version_is = told_some (past.read ++ on.stream) version on.told;
-      arrivals = on.handed;
-      came = all-arrived reader (past.read ++ on.stream) (past.arrived ++ on.handed) (all-read tells table version past given mid reader a b on);
-      ran = gave-up table on.handed (arrivals_of (past.read ++ on.stream)).ending a b why on.took;
+      readings = on.readings;
+      taken = on.taken;
+      unread = [];
+      came = all-arrived reader (past.read ++ on.stream) (past.arrived ++ (read_of on.readings ++ [])) on.read;
+      ran = gave-up on.readings (arrivals_of (past.read ++ on.stream)).ending a b why on.took;
       left = λ is. left (same-fault why fault.Read is);
     }
 
 -- the outbound half had ended
-pub gives-up : (tells : Bool) (table : Table) (version : Version) (past : Past) (given given' : List ℕ) (reader : FrameReader) (a b : Inbound) (why : InboundFault)
-    → GoesOn tells table version past given given' reader [] a b → (why ≢ fault.Read) → HasRun tells table version past given given' reader (Err why) a b
-gives-up tells table version past given given' reader a b why on no_read =
-    gives-up-there tells table version past given given' given' reader reader a b why on (λ told. sym (append-nil given')) (λ is. absurd (no_read is))
+pub gives-up : (tells : Bool) (AreTaken : List Table → Type 0) (version : Version) (past : Past) (given given' : List ℕ) (reader : FrameReader) (a b : Inbound) (why : InboundFault)
+    → GoesOn tells AreTaken version past given given' reader [] a b → (why ≢ fault.Read) → HasRun tells AreTaken version past given given' reader (Err why) a b
+gives-up tells AreTaken version past given given' reader a b why on no_read =
+    gives-up-there tells AreTaken version past given given' given' reader reader a b why on (λ told. sym (append-nil given')) (λ is. absurd (no_read is))
 
 -- how a read of a run ended
-pub goes-further : (tells : Bool) (table : Table) (version : Version) (past : Past) (given mid given' : List ℕ) (reader reader' : FrameReader) (a b : Inbound)
-    (result : Result (Option (Vec Arrival Global)) InboundFault) → GoesOn tells table version past given mid reader [] a b
+pub goes-further : (tells : Bool) (AreTaken : List Table → Type 0) (version : Version) (past : Past) (given mid given' : List ℕ) (reader reader' : FrameReader) (a b : Inbound)
+    (result : Result (Option (Vec Arrival Global)) InboundFault) → GoesOn tells AreTaken version past given mid reader [] a b
     → ((stream : List ℕ) (handed : List Arrival) → HasRead reader stream handed → Reads tells mid given' stream handed result reader')
-    → Continues tells table version past given given' result reader' a b
-goes-further tells table version past given mid given' reader reader' a b result on reads =
-    by_result result (reads (past.read ++ on.stream) (past.arrived ++ on.handed) (all-read tells table version past given mid reader a b on))
+    → Continues tells AreTaken version past given given' result reader' a b
+goes-further tells AreTaken version past given mid given' reader reader' a b result on reads =
+    by_result result (reads (past.read ++ on.stream) (past.arrived ++ read_of on.readings) (all-read tells AreTaken version past given mid reader a b on))
   where
-    by_result : (result : Result (Option (Vec Arrival Global)) InboundFault) → Reads tells mid given' (past.read ++ on.stream) (past.arrived ++ on.handed) result reader'
-        → Continues tells table version past given given' result reader' a b
+    by_result : (result : Result (Option (Vec Arrival Global)) InboundFault) → Reads tells mid given' (past.read ++ on.stream) (past.arrived ++ read_of on.readings) result reader'
+        → Continues tells AreTaken version past given given' result reader' a b
     by_result (Ok (Some more)) (bytes, gave, told, read) =
         record {
           stream = on.stream ++ bytes;
           gave = gave-more tells given mid given' on.stream bytes on.gave gave;
           told = subst (λ (l : List ℕ). version_told l ≡ Some version) (append_assoc past.read on.stream bytes) (told_more (past.read ++ on.stream) bytes version on.told);
-          handed = on.handed;
-          read = subst (λ (l : List Arrival). HasRead reader' (past.read ++ (on.stream ++ bytes)) l) (append_assoc past.arrived on.handed more.items)
-              (subst (λ (l : List ℕ). HasRead reader' l ((past.arrived ++ on.handed) ++ more.items)) (append_assoc past.read on.stream bytes) read);
+          readings = on.readings;
+          taken = on.taken;
+          read = subst (λ (l : List Arrival). HasRead reader' (past.read ++ (on.stream ++ bytes)) l) (append_assoc past.arrived (read_of on.readings) more.items)
+              (subst (λ (l : List ℕ). HasRead reader' l ((past.arrived ++ read_of on.readings) ++ more.items)) (append_assoc past.read on.stream bytes) read);
           took = on.took;
         }
     by_result (Ok None) (nothing, read) =
@@ -266,71 +337,99 @@ goes-further tells table version past given mid given' reader reader' a b result
           stream = on.stream;
           gave = gave-nothing tells given mid given' on.stream on.gave nothing;
           told = on.told;
-          handed = on.handed;
-          read = subst (λ (l : List Arrival). HasRead reader' (past.read ++ on.stream) (past.arrived ++ l)) (sym (append-nil on.handed)) read;
+          readings = on.readings;
+          taken = on.taken;
+          read = subst (λ (l : List Arrival). HasRead reader' (past.read ++ on.stream) (past.arrived ++ l)) (sym (append-nil (read_of on.readings))) read;
           took = on.took;
         }
-    by_result (Err fault.Read) (nothing, read, goes_on) = gives-up-there tells table version past given mid given' reader reader' a b fault.Read on nothing (λ _. (read, goes_on))
+    by_result (Err fault.Read) (nothing, read, goes_on) = gives-up-there tells AreTaken version past given mid given' reader reader' a b fault.Read on nothing (λ _. (read, goes_on))
     by_result (Err fault.NoMemory) (bytes, gave, told) =
-        let (rest, is) = arrived_longer reader.version reader.stage (past.read ++ on.stream) bytes (past.arrived ++ on.handed) (all-read tells table version past given mid reader a b on) in
+        let (rest, is) = arrived_longer reader.version reader.stage (past.read ++ on.stream) bytes (past.arrived ++ read_of on.readings) (all-read tells AreTaken version past given mid reader a b on) in
         let assoc = append_assoc past.read on.stream bytes in
-        let some = takes-some-longer (jobs_of table on.handed) (jobs_of table rest) a b (takes-some-all (jobs_of table on.handed) a b on.took) in
         record {
           stream = on.stream ++ bytes;
           gave = gave-more tells given mid given' on.stream bytes on.gave gave;
           version_is = ap (λ (l : List ℕ). (arrivals_of l).version) (sym assoc) ∙ told_some ((past.read ++ on.stream) ++ bytes) version (told_more (past.read ++ on.stream) bytes version on.told);
-          arrivals = on.handed ++ rest;
-          came = ap (λ (l : List ℕ). (arrivals_of l).arrived) (sym assoc) ∙ is ∙ append_assoc past.arrived on.handed rest;
-          ran = subst (λ (jobs : List Job). TakesSome jobs a b) (sym (map-append (job_under table) on.handed rest)) some;
+          readings = on.readings;
+          taken = on.taken;
+          unread = rest;
+          came = ap (λ (l : List ℕ). (arrivals_of l).arrived) (sym assoc) ∙ is ∙ append_assoc past.arrived (read_of on.readings) rest;
+          ran = takes-some-all (jobs_of on.readings) a b on.took;
           left = λ no. absurd cc;
         }
-    by_result (Err fault.Exhausted) (nothing, told) = gives-up-there tells table version past given mid given' reader reader' a b fault.Exhausted on nothing (λ is. absurd cc)
+    by_result (Err fault.Exhausted) (nothing, told) = gives-up-there tells AreTaken version past given mid given' reader reader' a b fault.Exhausted on nothing (λ is. absurd cc)
     by_result (Err fault.Stopped) reads = absurd reads
 
--- the arrivals that were pending are taken in, all or some
-pub goes-received : {T : Type 0} (tells : Bool) (table : Table) (version : Version) (past : Past) (given given' : List ℕ) (reader : FrameReader) (pending : List Arrival) (a b c : Inbound) (r : Result T InboundFault)
-    → GoesOn tells table version past given given' reader pending a b → Receives (jobs_of table pending) r b c
-    → MatchResult r (λ _. GoesOn tells table version past given given' reader [] a c) (λ why. HasRun tells table version past given given' reader (Err why) a c)
-goes-received {T} tells table version past given given' reader pending a b c (Ok x) on took =
+-- the jobs of these readings were taken in, and then those of more
+receives-more : {T : Type 0} (readings more : Readings) (r : Result T InboundFault) (a b c : Inbound) → TakesIn (jobs_of readings) a b → Receives (jobs_of more) r b c
+    → Receives (jobs_of (readings ++ more)) r a c
+receives-more readings more (Ok x) a b c first then =
+    subst (λ (jobs : List Job). TakesIn jobs a c) (sym (jobs-append readings more)) (takes-in-more (jobs_of readings) (jobs_of more) a b c first then)
+receives-more readings more (Err why) a b c first (no_read, some) =
+    (no_read, subst (λ (jobs : List Job). TakesSome jobs a c) (sym (jobs-append readings more)) (takes-some-more (jobs_of readings) (jobs_of more) a b c first some))
+
+-- what was handed out was read, all of it or some, and its jobs were taken in
+goes-by : {T : Type 0} (tells : Bool) (AreTaken : List Table → Type 0) (version : Version) (past : Past) (given given' : List ℕ) (reader : FrameReader) (a c : Inbound) (stream : List ℕ)
+    (readings : Readings) (unread : List Arrival) (r : Result T InboundFault)
+    → Gave tells given given' stream → version_told (past.read ++ stream) ≡ Some version → AreTaken (tables_of readings)
+    → HasRead reader (past.read ++ stream) (past.arrived ++ (read_of readings ++ unread)) → OnOk r (unread ≡ []) → Receives (jobs_of readings) r a c
+    → MatchResult r (λ _. GoesOn tells AreTaken version past given given' reader [] a c) (λ why. HasRun tells AreTaken version past given given' reader (Err why) a c)
+goes-by {T} tells AreTaken version past given given' reader a c stream readings unread (Ok x) gave told taken read all took =
     record {
-      stream = on.stream;
-      gave = on.gave;
-      told = on.told;
-      handed = on.handed ++ pending;
-      read = subst (λ (l : List Arrival). HasRead reader (past.read ++ on.stream) (past.arrived ++ l)) (sym (append-nil (on.handed ++ pending))) on.read;
-      took = subst (λ (jobs : List Job). TakesIn jobs a c) (sym (map-append (job_under table) on.handed pending))
-          (takes-in-more (jobs_of table on.handed) (jobs_of table pending) a b c on.took took);
+      stream = stream;
+      gave = gave;
+      told = told;
+      readings = readings;
+      taken = taken;
+      read = subst (λ (l : List Arrival). HasRead reader (past.read ++ stream) (past.arrived ++ (read_of readings ++ l))) all read;
+      took = took;
     }
-goes-received {T} tells table version past given given' reader pending a b c (Err why) on (no_read, took) =
-    let some = takes-some-more (jobs_of table on.handed) (jobs_of table pending) a b c on.took took in
-    let all = subst (λ (jobs : List Job). TakesSome jobs a c) (sym (map-append (job_under table) on.handed pending)) some in
+goes-by {T} tells AreTaken version past given given' reader a c stream readings unread (Err why) gave told taken read all (no_read, took) =
     record {
-      stream = on.stream;
-      gave = on.gave;
-      version_is = told_some (past.read ++ on.stream) version on.told;
-      arrivals = on.handed ++ pending;
-      came = all-arrived reader (past.read ++ on.stream) (past.arrived ++ (on.handed ++ pending)) on.read;
-      ran = gave-up-some table (on.handed ++ pending) (arrivals_of (past.read ++ on.stream)).ending a c why no_read all;
+      stream = stream;
+      gave = gave;
+      version_is = told_some (past.read ++ stream) version told;
+      readings = readings;
+      taken = taken;
+      unread = unread;
+      came = all-arrived reader (past.read ++ stream) (past.arrived ++ (read_of readings ++ unread)) read;
+      ran = gave-up-some readings unread (arrivals_of (past.read ++ stream)).ending a c why no_read took;
       left = λ is. absurd (no_read (same-fault why fault.Read is));
     }
 
+-- the arrivals that were pending are taken in, all or some, by more looks
+pub goes-received : {T : Type 0} (tells told : Bool) (begun known now : Known) (version : Version) (past : Past) (given given' : List ℕ) (reader : FrameReader) (pending : List Arrival) (a b c : Inbound) (r : Result T InboundFault)
+    → GoesOn tells (Takes told begun known) version past given given' reader pending a b → ReceivesUnder (Takes told known now) pending r b c
+    → MatchResult r (λ _. GoesOn tells (Takes told begun now) version past given given' reader [] a c) (λ why. HasRun tells (Takes told begun now) version past given given' reader (Err why) a c)
+goes-received {T} tells told begun known now version past given given' reader pending a b c r on got =
+    let taken : Takes told begun now (tables_of (on.readings ++ got.readings)) =
+    subst (Takes told begun now) (sym (tables-append on.readings got.readings)) (takes-more told begun known now (tables_of on.readings) (tables_of got.readings) on.taken got.taken) in
+    let parts : (read_of on.readings ++ pending) ≡ read_of (on.readings ++ got.readings) ++ got.unread =
+    ap (λ (l : List Arrival). read_of on.readings ++ l) got.are ∙ sym (append_assoc (read_of on.readings) (read_of got.readings) got.unread)
+    ∙ ap (λ (l : List Arrival). l ++ got.unread) (sym (read-append on.readings got.readings)) in
+    goes-by tells (Takes told begun now) version past given given' reader a c on.stream (on.readings ++ got.readings) got.unread r on.gave on.told taken
+    (subst (λ (l : List Arrival). HasRead reader (past.read ++ on.stream) (past.arrived ++ l)) parts on.read) got.all
+    (receives-more on.readings got.readings r a b c on.took got.receives)
+
 -- a run whose stream has ended
-pub has-finished : (tells : Bool) (table : Table) (version : Version) (past : Past) (given given' : List ℕ) (reader reader' : FrameReader) (a b : Inbound) (end : Ending)
-    → GoesOn tells table version past given given' reader [] a b
+pub has-finished : (tells : Bool) (AreTaken : List Table → Type 0) (version : Version) (past : Past) (given given' : List ℕ) (reader reader' : FrameReader) (a b : Inbound) (end : Ending)
+    → GoesOn tells AreTaken version past given given' reader [] a b
     → ((stream : List ℕ) (handed : List Arrival) → HasRead reader stream handed
     → arrivals_of stream ≡ record { version = version_or_one reader.version; arrived = handed; ending = end })
     → ((stream : List ℕ) (handed : List Arrival) → HasRead reader stream handed → end ≢ ending.Broken)
-    → HasRun tells table version past given given' reader' (Ok end) a b
-has-finished tells table version past given given' reader reader' a b end on ends whole =
-    let read = all-read tells table version past given given' reader a b on in
-    let is = ends (past.read ++ on.stream) (past.arrived ++ on.handed) read in
+    → HasRun tells AreTaken version past given given' reader' (Ok end) a b
+has-finished tells AreTaken version past given given' reader reader' a b end on ends whole =
+    let read = all-read tells AreTaken version past given given' reader a b on in
+    let is = ends (past.read ++ on.stream) (past.arrived ++ read_of on.readings) read in
     record {
       stream = on.stream;
       gave = on.gave;
       version_is = told_some (past.read ++ on.stream) version on.told;
-      arrivals = on.handed;
-      came = ap (λ (x : Arrivals). x.arrived) is;
-      ran = (on.took, ap (λ (x : Arrivals). x.ending) is, whole (past.read ++ on.stream) (past.arrived ++ on.handed) read);
+      readings = on.readings;
+      taken = on.taken;
+      unread = [];
+      came = ap (λ (x : Arrivals). x.arrived) is ∙ ap (λ (l : List Arrival). past.arrived ++ l) (sym (append-nil (read_of on.readings)));
+      ran = (on.took, refl, ap (λ (x : Arrivals). x.ending) is, whole (past.read ++ on.stream) (past.arrived ++ read_of on.readings) read);
       left = λ no. absurd cc;
     }
 
@@ -347,31 +446,34 @@ is-told [] (b ∷ bytes) some = ((arrivals_of (b ∷ bytes)).version, refl)
 is-told (first ∷ rest) bytes some = ((arrivals_of (first ∷ (rest ++ bytes))).version, refl)
 
 -- a first piece came
-pub begins : (tells : Bool) (table : Table) (past : Past) (given given' : List ℕ) (reader : FrameReader) (a : Inbound) (more : Vec Arrival Global)
-    → Reads tells given given' past.read past.arrived (Ok (Some more)) reader → GoesOn tells table (version_or_one (version_of reader)) past given given' reader more.items a a
-begins tells table past given given' reader a more (bytes, gave, (version, told), read) =
+pub begins : (tells told_keys : Bool) (known : Known) (past : Past) (given given' : List ℕ) (reader : FrameReader) (a : Inbound) (more : Vec Arrival Global)
+    → Reads tells given given' past.read past.arrived (Ok (Some more)) reader → GoesOn tells (Takes told_keys known known) (version_or_one (version_of reader)) past given given' reader more.items a a
+begins tells told_keys known past given given' reader a more (bytes, gave, (version, told), read) =
     let is : reader.version ≡ Some version = version_tells reader.version reader.stage (past.read ++ bytes) (past.arrived ++ more.items) read ∙ told in
     record {
       stream = bytes;
       gave = gave;
       told = told ∙ ap Some (sym (ap version_or_one is));
-      handed = [];
+      readings = [];
+      taken = refl;
       read = read;
       took = took-nothing a;
     }
 
 -- a run that took nothing in of what came
-took-none-of : (tells : Bool) (table : Table) (past : Past) (given given' : List ℕ) (reader reader' : FrameReader) (a : Inbound) (why : InboundFault) (bytes : List ℕ) → IsPast past
-    → Gave tells given given' bytes → HasTold reader (past.read ++ bytes) → why ≢ fault.Read → HasRun tells table (version_or_one (version_of reader)) past given given' reader' (Err why) a a
-took-none-of tells table past given given' reader reader' a why bytes is_past gave told no_read =
+took-none-of : (tells told_keys : Bool) (known : Known) (past : Past) (given given' : List ℕ) (reader reader' : FrameReader) (a : Inbound) (why : InboundFault) (bytes : List ℕ) → IsPast past
+    → Gave tells given given' bytes → HasTold reader (past.read ++ bytes) → why ≢ fault.Read → HasRun tells (Takes told_keys known known) (version_or_one (version_of reader)) past given given' reader' (Err why) a a
+took-none-of tells told_keys known past given given' reader reader' a why bytes is_past gave told no_read =
     let more = is_past bytes in
     record {
       stream = bytes;
       gave = gave;
       version_is = known-version reader (past.read ++ bytes) told;
-      arrivals = more.0;
+      readings = [];
+      taken = refl;
+      unread = more.0;
       came = more.1;
-      ran = gave-up-some table more.0 (arrivals_of (past.read ++ bytes)).ending a a why no_read (takes-none (jobs_of table more.0) a a ((refl, refl, refl, refl), refl) refl refl);
+      ran = gave-up-some [] more.0 (arrivals_of (past.read ++ bytes)).ending a a why no_read (takes-none [] a a ((refl, refl, refl, refl), refl) refl refl);
       left = λ is. absurd (no_read (same-fault why fault.Read is));
     }
 
@@ -379,69 +481,68 @@ told-nil : (reader : FrameReader) (stream : List ℕ) → HasTold reader stream 
 told-nil reader stream told = subst (λ (l : List ℕ). HasTold reader l) (sym (append-nil stream)) told
 
 -- the first read failed
-pub began-badly : (tells : Bool) (table : Table) (past : Past) (given given' : List ℕ) (reader : FrameReader) (a : Inbound) (why : InboundFault) → IsPast past
-    → Reads tells given given' past.read past.arrived (Err why) reader → HasRun tells table (version_or_one (version_of reader)) past given given' reader (Err why) a a
-began-badly tells table past given given' reader a fault.Read is_past (nothing, read, goes_on) =
+pub began-badly : (tells told_keys : Bool) (known : Known) (past : Past) (given given' : List ℕ) (reader : FrameReader) (a : Inbound) (why : InboundFault) → IsPast past
+    → Reads tells given given' past.read past.arrived (Err why) reader → HasRun tells (Takes told_keys known known) (version_or_one (version_of reader)) past given given' reader (Err why) a a
+began-badly tells told_keys known past given given' reader a fault.Read is_past (nothing, read, goes_on) =
     let here : HasRead reader (past.read ++ []) (past.arrived ++ []) =
     subst (λ (l : List Arrival). HasRead reader (past.read ++ []) l) (sym (append-nil past.arrived)) (subst (λ (l : List ℕ). HasRead reader l past.arrived) (sym (append-nil past.read)) read) in
     record {
       stream = [];
       gave = nothing;
       version_is = known-version reader (past.read ++ []) (version_tells reader.version reader.stage (past.read ++ []) (past.arrived ++ []) here);
-      arrivals = [];
+      readings = [];
+      taken = refl;
+      unread = [];
       came = all-arrived reader (past.read ++ []) (past.arrived ++ []) here;
-      ran = took-nothing a;
+      ran = (took-nothing a, refl);
       left = λ is. (here, goes_on);
     }
-began-badly tells table past given given' reader a fault.NoMemory is_past (bytes, gave, told) =
-    took-none-of tells table past given given' reader reader a fault.NoMemory bytes is_past gave told (λ is. absurd cc)
-began-badly tells table past given given' reader a fault.Exhausted is_past (nothing, told) =
-    took-none-of tells table past given given' reader reader a fault.Exhausted [] is_past nothing (told-nil reader past.read told) (λ is. absurd cc)
-began-badly tells table past given given' reader a fault.Stopped is_past reads = absurd reads
+began-badly tells told_keys known past given given' reader a fault.NoMemory is_past (bytes, gave, told) =
+    took-none-of tells told_keys known past given given' reader reader a fault.NoMemory bytes is_past gave told (λ is. absurd cc)
+began-badly tells told_keys known past given given' reader a fault.Exhausted is_past (nothing, told) =
+    took-none-of tells told_keys known past given given' reader reader a fault.Exhausted [] is_past nothing (told-nil reader past.read told) (λ is. absurd cc)
+began-badly tells told_keys known past given given' reader a fault.Stopped is_past reads = absurd reads
 
 -- a run that did not begin, whatever the first read gave
-pub not-begun : (tells : Bool) (table : Table) (past : Past) (given given' : List ℕ) (reader : FrameReader) (a : Inbound) (first : Option (Vec Arrival Global)) → IsPast past
-    → Reads tells given given' past.read past.arrived (Ok first) reader → HasRun tells table (version_or_one (version_of reader)) past given given' reader (Err fault.NoMemory) a a
-not-begun tells table past given given' reader a (Some more) is_past (bytes, gave, some, read) =
-    took-none-of tells table past given given' reader reader a fault.NoMemory bytes is_past gave (version_tells reader.version reader.stage (past.read ++ bytes) (past.arrived ++ more.items) read) (λ is. absurd cc)
-not-begun tells table past given given' reader a None is_past (nothing, read) =
-    took-none-of tells table past given given' reader reader a fault.NoMemory [] is_past nothing (told-nil reader past.read (version_tells reader.version reader.stage past.read past.arrived read)) (λ is. absurd cc)
+pub not-begun : (tells told_keys : Bool) (known : Known) (past : Past) (given given' : List ℕ) (reader : FrameReader) (a : Inbound) (first : Option (Vec Arrival Global)) → IsPast past
+    → Reads tells given given' past.read past.arrived (Ok first) reader → HasRun tells (Takes told_keys known known) (version_or_one (version_of reader)) past given given' reader (Err fault.NoMemory) a a
+not-begun tells told_keys known past given given' reader a (Some more) is_past (bytes, gave, some, read) =
+    took-none-of tells told_keys known past given given' reader reader a fault.NoMemory bytes is_past gave (version_tells reader.version reader.stage (past.read ++ bytes) (past.arrived ++ more.items) read) (λ is. absurd cc)
+not-begun tells told_keys known past given given' reader a None is_past (nothing, read) =
+    took-none-of tells told_keys known past given given' reader reader a fault.NoMemory [] is_past nothing (told-nil reader past.read (version_tells reader.version reader.stage past.read past.arrived read)) (λ is. absurd cc)
 
 -- a stream of nothing more
-pub ended-at-once : (tells : Bool) (table : Table) (past : Past) (given given' : List ℕ) (reader reader' : FrameReader) (a : Inbound) (end : Ending)
+pub ended-at-once : (tells told_keys : Bool) (known : Known) (past : Past) (given given' : List ℕ) (reader reader' : FrameReader) (a : Inbound) (end : Ending)
     → Reads tells given given' past.read past.arrived (Ok None) reader
     → ((stream : List ℕ) (handed : List Arrival) → HasRead reader stream handed
     → arrivals_of stream ≡ record { version = version_or_one reader.version; arrived = handed; ending = end })
     → ((stream : List ℕ) (handed : List Arrival) → HasRead reader stream handed → end ≢ ending.Broken)
-    → HasRun tells table (version_or_one (version_of reader)) past given given' reader' (Ok end) a a
-ended-at-once tells table past given given' reader reader' a end (nothing, read) ends whole =
+    → HasRun tells (Takes told_keys known known) (version_or_one (version_of reader)) past given given' reader' (Ok end) a a
+ended-at-once tells told_keys known past given given' reader reader' a end (nothing, read) ends whole =
     let is : arrivals_of (past.read ++ []) ≡ record { version = version_or_one reader.version; arrived = past.arrived; ending = end } =
     ap arrivals_of (append-nil past.read) ∙ ends past.read past.arrived read in
     record {
       stream = [];
       gave = nothing;
       version_is = ap (λ (x : Arrivals). x.version) is;
-      arrivals = [];
+      readings = [];
+      taken = refl;
+      unread = [];
       came = ap (λ (x : Arrivals). x.arrived) is ∙ sym (append-nil past.arrived);
-      ran = (took-nothing a, ap (λ (x : Arrivals). x.ending) is, whole past.read past.arrived read);
+      ran = (took-nothing a, refl, ap (λ (x : Arrivals). x.ending) is, whole past.read past.arrived read);
       left = λ no. absurd cc;
     }
 
 -- a fault that is passed on
-pub run-residual : (tells : Bool) (table : Table) (version : Version) (past : Past) (given given' : List ℕ) (reader : FrameReader) (r : Result Ending InboundFault) (why : InboundFault) (a b : Inbound)
-    → IsErrAnd r (λ e. e ≡ why) → HasRun tells table version past given given' reader (Err why) a b → HasRun tells table version past given given' reader r a b
-run-residual tells table version past given given' reader (Ok x) why a b is run = absurd is
-run-residual tells table version past given given' reader (Err e) why a b is run = subst (λ (f : InboundFault). HasRun tells table version past given given' reader (Err f) a b) (sym is) run
+pub run-residual : (tells : Bool) (AreTaken : List Table → Type 0) (version : Version) (past : Past) (given given' : List ℕ) (reader : FrameReader) (r : Result Ending InboundFault) (why : InboundFault) (a b : Inbound)
+    → IsErrAnd r (λ e. e ≡ why) → HasRun tells AreTaken version past given given' reader (Err why) a b → HasRun tells AreTaken version past given given' reader r a b
+run-residual tells AreTaken version past given given' reader (Ok x) why a b is run = absurd is
+run-residual tells AreTaken version past given given' reader (Err e) why a b is run = subst (λ (f : InboundFault). HasRun tells AreTaken version past given given' reader (Err f) a b) (sym is) run
 
 pub match-residual : {T : Type 0} (P : T → Type 0) (Q : InboundFault → Type 0) (r : Result T InboundFault) (why : InboundFault)
     → IsErrAnd r (λ e. e ≡ why) → Q why → MatchResult r P Q
 match-residual P Q (Ok x) why is q = absurd is
 match-residual P Q (Err e) why is q = subst Q (sym is) q
-
-pub receives-residual : {T : Type 0} (jobs : List Job) (r : Result T InboundFault) (why : InboundFault) (a b : Inbound)
-    → IsErrAnd r (λ e. e ≡ why) → why ≢ fault.Read → TakesSome jobs a b → Receives jobs r a b
-receives-residual jobs (Ok x) why a b is other some = absurd is
-receives-residual jobs (Err e) why a b is other some = (λ read. other (sym is ∙ read), some)
 
 -- an ending that is told where reading stopped
 pub told-ended : (end : Ending) (has_ended : Type 0) (at_end : Type 0) → at_end ⊎ has_ended → (has_ended → end ≢ ending.Broken → end ≡ ending.Oversize) → end ≢ ending.Broken

@@ -1,10 +1,11 @@
 -- What serving a connection tells, from what its two halves did.
 use Rattle.std.proofs.Common.{◌≡◌, ◌≢◌, inl, inr, ℕ, ◌+◌, ◌≤◌, Bool, true, false, IsTrue, List, [], ◌∷◌, ◌++◌, length, take, drop, map, refl, sym, ap, subst, ◌∙◌, append_assoc, append-nil, arith}
-use Rattle.std.specs.Prelude.{Option, Some, None, Result, Ok, Err, OnOk, IfSome, IsSome, ◌⊎◌}
+use Rattle.std.specs.Prelude.{Option, Some, None, Result, Ok, Err, OnOk, IfOk, IfSome, IsSome, ◌⊎◌}
 use Rattle.std.proofs.lemmas.List.{map-append, take_all, take-append-le, take-append-drop, length-append, length-map, length-take-le}
 use Rattle.std.proofs.lemmas.List.Concat.{flat_map-append}
 use Rattle.mac_ring.specs.Ring.{admitted, received}
 use Rattle.mac_queue.specs.Pass.{Pass, IsSamePass}
+use Rattle.mac_board.specs.Follows.{Known, Takes}
 use Rattle.mac_keys.specs.Table.{Table}
 use Rattle.mac_wire.specs.declared.arrival.Arrival.{Arrival}
 use Rattle.mac_wire.specs.declared.arrival.Ending.{Ending}
@@ -33,7 +34,7 @@ use Rattle.mac_serve.specs.declared.outbound.Outbound.{Outbound}
 use Rattle.mac_serve.specs.declared.outbound.OutboundFault.{OutboundFault}
 use Rattle.mac_serve.specs.declared.outbound.OutboundFault.TheVariants as sending
 use Rattle.mac_serve.specs.Posts.{AreAnswered, TookForeign}
-use Rattle.mac_serve.specs.Receiving.{Gave, CountsRead, Past, IsPast, Ran, TakesIn, TakesSome, IsBehind, jobs_of, placed}
+use Rattle.mac_serve.specs.Receiving.{Gave, CountsRead, Past, IsPast, Ran, TakesIn, TakesSome, IsBehind, Readings, tables_of, read_of, jobs_of, placed}
 use Rattle.mac_serve.specs.Sending.{answer_to, replies, payloads, next, out_text, CountsWrite, Stands, Fell, Sends}
 use Rattle.mac_serve.specs.Serving.{answers, text_from, SentAll, SentSome, SentBeginning, Sent, IsLeft, HasServed, MayCount, CountsServed, GoesOnWith, GivesBack, outcome_of}
 use Rattle.mac_serve.proofs.Answered.{none-answered, answered-longer, took-longer}
@@ -45,23 +46,23 @@ abbrev Entry : Type 0
 Entry = ℕ × Option Job
 
 -- the answers to arrivals are the replies to their jobs
-answers-are : (table : Table) (arrivals : List Arrival) → map answer_to (jobs_of table arrivals) ≡ answers table arrivals
+answers-are : (readings : Readings) → map answer_to (jobs_of readings) ≡ answers readings
 unfolding answer_of
-answers-are table [] = refl
-answers-are table (a ∷ more) = ap (λ (rs : List Reply). answer_of table a ∷ rs) (answers-are table more)
+answers-are [] = refl
+answers-are (r ∷ more) = ap (λ (rs : List Reply). answer_of r.0 r.1 ∷ rs) (answers-are more)
 
 -- so many were released
 pub released-count : {Job Answered : Type 0} (reply_to : Job → Answered) (jobs : List Job) (n : ℕ) → n ≤ length jobs → length (map reply_to (take n jobs)) ≡ n
 released-count reply_to jobs n within = length-map (take n jobs) reply_to ∙ length-take-le n jobs within
 
 -- a run took in some jobs of the arrivals, the first ones
-ran-some : (table : Table) (arrivals : List Arrival) (last : Ending) (result : Result Ending InboundFault) (start i : Inbound) → Ran table arrivals last result start i
-    → TakesSome (jobs_of table arrivals) start i
-ran-some table arrivals last (Ok end) start i ran = takes-some-all (jobs_of table arrivals) start i ran.0
-ran-some table arrivals last (Err reading.Read) start i ran = takes-some-all (jobs_of table arrivals) start i ran
-ran-some table arrivals last (Err reading.NoMemory) start i ran = ran
-ran-some table arrivals last (Err reading.Exhausted) start i ran = ran
-ran-some table arrivals last (Err reading.Stopped) start i ran = ran
+ran-some : (readings : Readings) (unread : List Arrival) (last : Ending) (result : Result Ending InboundFault) (start i : Inbound) → Ran readings unread last result start i
+    → TakesSome (jobs_of readings) start i
+ran-some readings unread last (Ok end) start i ran = takes-some-all (jobs_of readings) start i ran.0
+ran-some readings unread last (Err reading.Read) start i ran = takes-some-all (jobs_of readings) start i ran.0
+ran-some readings unread last (Err reading.NoMemory) start i ran = ran
+ran-some readings unread last (Err reading.Exhausted) start i ran = ran
+ran-some readings unread last (Err reading.Stopped) start i ran = ran
 
 -- what a connection tells
 abbrev pub told : Outbound → Inbound → ℕ → Ending → Option Session → Served
@@ -75,34 +76,34 @@ told o i count end onward = record {
 }
 
 -- where the jobs that an outbound half received are the first of those of these arrivals
-module _ (table : Table) (version : Version) (base : ℕ) (arrivals : List Arrival) (o : Outbound) (more : List Job) (is : received o.ring ++ more ≡ jobs_of table arrivals)
+module _ (version : Version) (base : ℕ) (readings : Readings) (o : Outbound) (more : List Job) (is : received o.ring ++ more ≡ jobs_of readings)
     (same : o.version ≡ version) (at : o.base ≡ base) where
   -- the frames behind those of the replies to them
   abbrev behind : List (List ℕ)
   behind = payloads_from o.version (o.base + length (replies o)) (map answer_to more)
 
-  longer : payloads_from version base (answers table arrivals) ≡ payloads o ++ behind
+  longer : payloads_from version base (answers readings) ≡ payloads o ++ behind
   longer =
-      ap (λ (v : Version). payloads_from v base (answers table arrivals)) (sym same)
-      ∙ ap (λ (n : ℕ). payloads_from o.version n (answers table arrivals)) (sym at)
-      ∙ ap (payloads_from o.version o.base) (sym (answers-are table arrivals) ∙ ap (map answer_to) (sym is) ∙ map-append answer_to (received o.ring) more)
+      ap (λ (v : Version). payloads_from v base (answers readings)) (sym same)
+      ∙ ap (λ (n : ℕ). payloads_from o.version n (answers readings)) (sym at)
+      ∙ ap (payloads_from o.version o.base) (sym (answers-are readings) ∙ ap (map answer_to) (sym is) ∙ map-append answer_to (received o.ring) more)
       ∙ payloads-append o.version o.base (replies o) (map answer_to more)
 
   -- a beginning of the answers' frames went out
-  beginning : o.written ≤ length (framed (payloads o)) → out_text o ≡ take o.written (text_from version base (answers table arrivals))
+  beginning : o.written ≤ length (framed (payloads o)) → out_text o ≡ take o.written (text_from version base (answers readings))
   beginning within =
       sym (take-append-le o.written (framed (payloads o)) (framed behind) within)
       ∙ ap (take o.written) (sym (flat_map-append frame (payloads o) behind))
       ∙ ap (λ (ps : List (List ℕ)). take o.written (framed ps)) (sym longer)
 
   -- the frames of the first answers went out
-  some : o.sent ≤ length (payloads o) → out_text o ≡ framed (take o.sent (payloads o)) → out_text o ≡ text_from version base (take o.sent (answers table arrivals))
+  some : o.sent ≤ length (payloads o) → out_text o ≡ framed (take o.sent (payloads o)) → out_text o ≡ text_from version base (take o.sent (answers readings))
   some there whole =
       whole ∙ ap framed (sym (take-append-le o.sent (payloads o) behind there))
       ∙ ap (λ (ps : List (List ℕ)). framed (take o.sent ps)) (sym longer)
-      ∙ ap framed (payloads-take version base o.sent (answers table arrivals))
+      ∙ ap framed (payloads-take version base o.sent (answers readings))
 
-  whole_of : o.written ≤ length (framed (payloads o)) → HasWhole (payloads o) o.written o.sent → HasWhole (payloads_from version base (answers table arrivals)) o.written o.sent
+  whole_of : o.written ≤ length (framed (payloads o)) → HasWhole (payloads o) o.written o.sent → HasWhole (payloads_from version base (answers readings)) o.written o.sent
   whole_of within frames =
       subst (λ (ps : List (List ℕ)). HasWhole ps o.written o.sent) (sym longer)
       (whole-longer (payloads o) behind o.written o.sent frames within)
@@ -114,10 +115,11 @@ module _ (table : Table) (version : Version) (base : ℕ) (arrivals : List Arriv
 -- What two halves did that ran over one ring, from its beginning: behind what had come before the
 -- source gave more of a stream, the sink took what was unsent before and what went out, and the ends
 -- met.
-module _ (tells_in tells_out : Bool) (table : Table) (session : Session) (past : Past) (given given' wrote wrote' stream : List ℕ) (arrived : List Arrival) (ahead left : List ℕ)
+module _ (tells_in tells_out : Bool) (AreTaken : List Table → Type 0) (session : Session) (past : Past) (given given' wrote wrote' stream : List ℕ) (readings : Readings) (unread : List Arrival) (ahead left : List ℕ)
     (pass : Pass Job) (taken : List Entry) (start i : Inbound) (o : Outbound) (rest : List Job) (count : ℕ) (reader : FrameReader)
     (gave : Gave tells_in given given' stream)
-    (came : (arrivals_of (past.read ++ stream)).arrived ≡ past.arrived ++ arrived)
+    (taken_are : AreTaken (tables_of readings))
+    (came : (arrivals_of (past.read ++ stream)).arrived ≡ past.arrived ++ (read_of readings ++ unread))
     (parts : session.unsent ≡ ahead ++ left)
     (first_out : (left ≡ []) ⊎ (out_text o ≡ []))
     (took : IsTrue tells_out → wrote' ≡ wrote ++ (ahead ++ out_text o))
@@ -134,13 +136,13 @@ module _ (tells_in tells_out : Bool) (table : Table) (session : Session) (past :
   last = (arrivals_of (past.read ++ stream)).ending
 
   abbrev jobs : List Job
-  jobs = jobs_of table arrived
+  jobs = jobs_of readings
 
   abbrev IsOnward : Session → Type 0
   IsOnward = GoesOnWith reader left (session.answered + count)
 
   abbrev Serves : Option ServeFault → Ending → Option Session → Type 0
-  Serves why end onward = HasServed tells_in tells_out table session past given given' wrote wrote' pass taken why (told o i count end onward)
+  Serves why end onward = HasServed tells_in tells_out AreTaken session past given given' wrote wrote' pass taken why (told o i count end onward)
 
   first : (t : TakesSome jobs start i) → admitted i.ring ≡ take t.count jobs
   first t = t.admitted_is ∙ ap (λ (l : List Job). l ++ take t.count jobs) empty
@@ -150,11 +152,11 @@ module _ (tells_in tells_out : Bool) (table : Table) (session : Session) (past :
       sym (append_assoc (received o.ring) rest (drop t.count jobs))
       ∙ ap (λ (l : List Job). l ++ drop t.count jobs) (met ∙ first t) ∙ take-append-drop t.count jobs
 
-  few : (t : TakesSome jobs start i) → count ≤ length arrived
+  few : (t : TakesSome jobs start i) → count ≤ length readings
   few t =
       let size = ap length (first t) in
       let pieces = ap length (take-append-drop t.count jobs) in
-      omega (arith, counted, size, pieces, length-append (take t.count jobs) (drop t.count jobs), length-map arrived (job_under table))
+      omega (arith, counted, size, pieces, length-append (take t.count jobs) (drop t.count jobs), length-map readings (λ (r : Table × Arrival). job_under r.0 r.1))
 
   -- what is put into an empty ring stands at the places from 0 on
   put-first : (js : List Job) → record start.putter { put = start.putter.put ++ placed (length (admitted start.ring)) js }
@@ -165,12 +167,12 @@ module _ (tells_in tells_out : Bool) (table : Table) (session : Session) (past :
 
   abbrev IsBack : Option ServeFault → Option Session → Type 0
   IsBack why onward = IfSome onward (λ next. (why ≡ Some fault.Read)
-      × IsLeft (past.read ++ stream) (past.arrived ++ arrived) (session.answered + length arrived) next)
+      × IsLeft (past.read ++ stream) (past.arrived ++ read_of readings) (session.answered + length readings) next)
 
   -- what is the same for each fault
   serves : (why : Option ServeFault) (end : Ending) (onward : Option Session) (w : OutboundFault) → Fell taken w o → TakesSome jobs start i
       → (why ≡ Some fault.Stranger → w ≡ sending.Stranger)
-      → Sent table (arrivals_of (past.read ++ stream)) session.answered arrived pass (out_text o) left why (told o i count end onward)
+      → Sent (arrivals_of (past.read ++ stream)) session.answered readings unread pass (out_text o) left why (told o i count end onward)
       → (why ≡ Some fault.Read → IsSome onward) → IsBack why onward → Serves why end onward
   serves why end onward w fell t strange row kept back =
       let more : List Job = rest ++ drop t.count jobs in
@@ -178,7 +180,9 @@ module _ (tells_in tells_out : Bool) (table : Table) (session : Session) (past :
       record {
         stream = stream;
         gave = gave;
-        arrivals = arrived;
+        readings = readings;
+        taken_are = taken_are;
+        unread = unread;
         came = came;
         ahead = ahead;
         left = left;
@@ -188,10 +192,10 @@ module _ (tells_in tells_out : Bool) (table : Table) (session : Session) (past :
         took = took;
         written_is = sym (length-take-le o.written (framed (payloads o)) fell.within);
         sent = row;
-        whole = whole_of table version session.answered arrived o more is same at fell.within fell.frames;
+        whole = whole_of version session.answered readings o more is same at fell.within fell.frames;
         admitted = few t;
         answered_few = (let size = ap length met in
-            omega (arith, counted, size, sent-received table version session.answered arrived o more is same at fell.frames.there, length-append (received o.ring) rest));
+            omega (arith, counted, size, sent-received version session.answered readings o more is same at fell.frames.there, length-append (received o.ring) rest));
         same_pool = subst (λ (p : Pass Job). IsSamePass p i.putter) putter (same-after jobs start i t);
         puts = t.puts;
         put_behind = subst (λ (n : ℕ). IsBehind t.puts n) (sym (counted ∙ ap length (first t) ∙ length-take-le t.count jobs t.there)) t.put_behind;
@@ -199,7 +203,7 @@ module _ (tells_in tells_out : Bool) (table : Table) (session : Session) (past :
         posts = fell.posts;
         taken_is = fell.taken;
         answered = subst (λ (js : List Job). AreAnswered js o.sent fell.posts) is
-            (answered-longer (received o.ring) more o.sent fell.posts (sent-received table version session.answered arrived o more is same at fell.frames.there) fell.answered);
+            (answered-longer (received o.ring) more o.sent fell.posts (sent-received version session.answered readings o more is same at fell.frames.there) fell.answered);
         foreign = λ told. subst (λ (js : List Job). TookForeign js o.sent fell.posts) is
             (took-longer (received o.ring) more o.sent fell.posts (fell.foreign (strange told)));
         kept = kept;
@@ -207,33 +211,34 @@ module _ (tells_in tells_out : Bool) (table : Table) (session : Session) (past :
       }
 
   -- the frames of the first replies went out
-  sent-some : (w : OutboundFault) → (w ≢ sending.Write) → Fell taken w o → TakesSome jobs start i → SentSome table version session.answered arrived (out_text o) (told o i count ending.Broken None)
+  sent-some : (w : OutboundFault) → (w ≢ sending.Write) → Fell taken w o → TakesSome jobs start i → SentSome version session.answered readings (out_text o) (told o i count ending.Broken None)
   sent-some w other fell t = record {
-    output_is = some table version session.answered arrived o (rest ++ drop t.count jobs) (goes-on t) same at fell.frames.there (fell.whole other);
+    output_is = some version session.answered readings o (rest ++ drop t.count jobs) (goes-on t) same at fell.frames.there (fell.whole other);
     ending_is = refl;
   }
 
   -- a beginning of the frames went out
-  sent-beginning : (w : OutboundFault) → Fell taken w o → TakesSome jobs start i → SentBeginning table version session.answered arrived (out_text o) (told o i count ending.Broken None)
+  sent-beginning : (w : OutboundFault) → Fell taken w o → TakesSome jobs start i → SentBeginning version session.answered readings (out_text o) (told o i count ending.Broken None)
   sent-beginning w fell t = record {
-    output_is = beginning table version session.answered arrived o (rest ++ drop t.count jobs) (goes-on t) same at fell.within;
+    output_is = beginning version session.answered readings o (rest ++ drop t.count jobs) (goes-on t) same at fell.within;
     ending_is = refl;
   }
 
-  all-counted : TakesIn jobs start i → count ≡ length arrived
+  all-counted : TakesIn jobs start i → count ≡ length readings
   all-counted t =
       let size = ap length (t.admitted_is ∙ ap (λ (l : List Job). l ++ jobs) empty) in
-      omega (arith, counted, size, length-map arrived (job_under table))
+      omega (arith, counted, size, length-map readings (λ (r : Table × Arrival). job_under r.0 r.1))
 
   -- all went out, where all jobs were taken in and each reply was released
-  sent-all : (end : Ending) (onward : Option Session) → Fell taken sending.Exhausted o → left ≡ [] → TakesIn jobs start i → o.sent ≡ count
-      → SentAll table version session.answered arrived pass (out_text o) left (told o i count end onward)
-  sent-all end onward fell none t sent =
+  sent-all : (end : Ending) (onward : Option Session) → Fell taken sending.Exhausted o → unread ≡ [] → left ≡ [] → TakesIn jobs start i → o.sent ≡ count
+      → SentAll version session.answered readings unread pass (out_text o) left (told o i count end onward)
+  sent-all end onward fell read none t sent =
       let s : TakesSome jobs start i = takes-some-all jobs start i t in
-      let has : count ≡ length arrived = all-counted t in
+      let has : count ≡ length readings = all-counted t in
       record {
-        output_is = some table version session.answered arrived o (rest ++ drop s.count jobs) (goes-on s) same at fell.frames.there (fell.whole (λ is. absurd cc))
-            ∙ ap (text_from version session.answered) (take_all o.sent (answers table arrived) (omega (arith, sent, has, length-map arrived (answer_of table))));
+        output_is = some version session.answered readings o (rest ++ drop s.count jobs) (goes-on s) same at fell.frames.there (fell.whole (λ is. absurd cc))
+            ∙ ap (text_from version session.answered) (take_all o.sent (answers readings) (omega (arith, sent, has, length-map readings (λ (r : Table × Arrival). answer_of r.0 r.1))));
+        none_unread = read;
         none_left = none;
         arrived_is = has;
         sent_is = sent ∙ has;
@@ -242,20 +247,20 @@ module _ (tells_in tells_out : Bool) (table : Table) (session : Session) (past :
 
   -- where a half that sends fell by another fault than the sink's, or stands and another fault is told
   serves-some : (why : ServeFault) (w : OutboundFault) → (w ≢ sending.Write) → (why ≡ fault.Stranger → w ≡ sending.Stranger) → (why ≢ fault.Read)
-      → (SentSome table version session.answered arrived (out_text o) (told o i count ending.Broken None)
-      → Sent table (arrivals_of (past.read ++ stream)) session.answered arrived pass (out_text o) left (Some why) (told o i count ending.Broken None))
+      → (SentSome version session.answered readings (out_text o) (told o i count ending.Broken None)
+      → Sent (arrivals_of (past.read ++ stream)) session.answered readings unread pass (out_text o) left (Some why) (told o i count ending.Broken None))
       → Fell taken w o → TakesSome jobs start i → Serves (Some why) ending.Broken None
   serves-some why w other strange no_read row fell t =
       serves (Some why) ending.Broken None w fell t (λ is. strange cc) (row (sent-some w other fell t)) (λ is. absurd (no_read cc)) tt
 
   -- where the half that sends stands, and all is sent
-  serves-all : (why : Option ServeFault) (end : Ending) → Stands taken o → left ≡ [] → TakesIn jobs start i → o.sent ≡ count → (why ≢ Some fault.Read) → (why ≢ Some fault.Stranger)
-      → (SentAll table version session.answered arrived pass (out_text o) left (told o i count end None)
-      → Sent table (arrivals_of (past.read ++ stream)) session.answered arrived pass (out_text o) left why (told o i count end None))
+  serves-all : (why : Option ServeFault) (end : Ending) → Stands taken o → unread ≡ [] → left ≡ [] → TakesIn jobs start i → o.sent ≡ count → (why ≢ Some fault.Read) → (why ≢ Some fault.Stranger)
+      → (SentAll version session.answered readings unread pass (out_text o) left (told o i count end None)
+      → Sent (arrivals_of (past.read ++ stream)) session.answered readings unread pass (out_text o) left why (told o i count end None))
       → Serves why end None
-  serves-all why end s none t sent no_read no_stranger row =
+  serves-all why end s read none t sent no_read no_stranger row =
       let fell = fell-held taken o sending.Exhausted s.holds (λ is. absurd cc) in
-      serves why end None sending.Exhausted fell (takes-some-all jobs start i t) (λ is. absurd (no_stranger is)) (row (sent-all end None fell none t sent)) (λ is. absurd (no_read is)) tt
+      serves why end None sending.Exhausted fell (takes-some-all jobs start i t) (λ is. absurd (no_stranger is)) (row (sent-all end None fell read none t sent)) (λ is. absurd (no_read is)) tt
 
   -- no session is given back
   plainly : (w why : Option ServeFault) (end : Ending) (onward : Option Session) → Serves w end None → (why ≡ w) × (onward ≡ None) → Serves why end onward
@@ -263,27 +268,27 @@ module _ (tells_in tells_out : Bool) (table : Table) (session : Session) (past :
       subst (λ (n : Option Session). Serves why end n) (sym e.1) (subst (λ (v : Option ServeFault). Serves v end None) (sym e.0) plain)
 
   -- the source failed where all is sent
-  serves-onward : (why : Option ServeFault) (onward : Option Session) → Stands taken o → left ≡ [] → TakesIn jobs start i → o.sent ≡ count
-      → HasRead reader (past.read ++ stream) (past.arrived ++ arrived) × (HasEnded reader → ⊥)
+  serves-onward : (why : Option ServeFault) (onward : Option Session) → Stands taken o → unread ≡ [] → left ≡ [] → TakesIn jobs start i → o.sent ≡ count
+      → HasRead reader (past.read ++ stream) (past.arrived ++ read_of readings) × (HasEnded reader → ⊥)
       → GivesBack IsOnward (Some fault.Read) why onward → Serves why ending.Broken onward
-  serves-onward why (Some onward) s none t sent reads (is, goes) =
+  serves-onward why (Some onward) s read none t sent reads (is, goes) =
       let fell = fell-held taken o sending.Exhausted s.holds (λ is. absurd cc) in
       let row : Serves (Some fault.Read) ending.Broken (Some onward) =
       serves (Some fault.Read) ending.Broken (Some onward) sending.Exhausted fell (takes-some-all jobs start i t) (λ is. absurd cc)
-      (sent-all ending.Broken (Some onward) fell none t sent, refl) (λ _. refl) (
+      (sent-all ending.Broken (Some onward) fell read none t sent, refl) (λ _. refl) (
         refl,
         record {
-          came = goes.carries (past.read ++ stream) (past.arrived ++ arrived) reads.0 reads.1;
+          came = goes.carries (past.read ++ stream) (past.arrived ++ read_of readings) reads.0 reads.1;
           none_unsent = goes.unsent_is ∙ none;
           answered_is = goes.answered_is ∙ ap (λ (n : ℕ). session.answered + n) (all-counted t);
         },
       ) in
       subst (λ (v : Option ServeFault). Serves v ending.Broken (Some onward)) (sym is) row
-  serves-onward why None s none t sent reads (inl is) =
+  serves-onward why None s read none t sent reads (inl is) =
       plainly (Some fault.NoMemory) why ending.Broken None
       (serves-some fault.NoMemory sending.Exhausted (λ is. absurd cc) (λ is. absurd cc) (λ is. absurd cc) (λ row. row) (fell-held taken o sending.Exhausted s.holds (λ is. absurd cc)) (takes-some-all jobs start i t))
       (is, refl)
-  serves-onward why None s none t sent reads (inr is) =
+  serves-onward why None s read none t sent reads (inr is) =
       plainly (Some fault.Exhausted) why ending.Broken None
       (serves-some fault.Exhausted sending.Exhausted (λ is. absurd cc) (λ is. absurd cc) (λ is. absurd cc) (λ row. row) (fell-held taken o sending.Exhausted s.holds (λ is. absurd cc)) (takes-some-all jobs start i t))
       (is, refl)
@@ -294,22 +299,22 @@ module _ (tells_in tells_out : Bool) (table : Table) (session : Session) (past :
   -- what is told, case by case of how the halves ended
   rows : {T : Type 0} (sent : Result T OutboundFault) (read : Result Ending InboundFault) (all : Bool) (why : Option ServeFault) (onward : Option Session)
       → Sends taken sent o → OnOk sent (o.sent ≡ next o) → OnOk sent (left ≡ [])
-      → Ran table arrived last read start i → (read ≡ Err reading.Read → HasRead reader (past.read ++ stream) (past.arrived ++ arrived) × (HasEnded reader → ⊥))
+      → Ran readings unread last read start i → (read ≡ Err reading.Read → HasRead reader (past.read ++ stream) (past.arrived ++ read_of readings) × (HasEnded reader → ⊥))
       → (all ≡ true → count ≡ next o)
       → GivesBack IsOnward (outcome_of sent read all).0 why onward → Serves why (outcome_of sent read all).1 onward
   rows (Err sending.Write) read all why onward fell all_sent none ran reads due gives =
-      let t = ran-some table arrived last read start i ran in
+      let t = ran-some readings unread last read start i ran in
       plainly (Some fault.Write) why ending.Broken onward
       (serves (Some fault.Write) ending.Broken None sending.Write fell t (λ is. absurd cc) (sent-beginning sending.Write fell t) (λ is. absurd cc) tt) gives
   rows (Err sending.NoMemory) read all why onward fell all_sent none ran reads due gives =
       plainly (Some fault.NoMemory) why ending.Broken onward
-      (serves-some fault.NoMemory sending.NoMemory (λ is. absurd cc) (λ is. absurd cc) (λ is. absurd cc) (λ row. row) fell (ran-some table arrived last read start i ran)) gives
+      (serves-some fault.NoMemory sending.NoMemory (λ is. absurd cc) (λ is. absurd cc) (λ is. absurd cc) (λ row. row) fell (ran-some readings unread last read start i ran)) gives
   rows (Err sending.Stranger) read all why onward fell all_sent none ran reads due gives =
       plainly (Some fault.Stranger) why ending.Broken onward
-      (serves-some fault.Stranger sending.Stranger (λ is. absurd cc) (λ is. refl) (λ is. absurd cc) (λ row. row) fell (ran-some table arrived last read start i ran)) gives
+      (serves-some fault.Stranger sending.Stranger (λ is. absurd cc) (λ is. refl) (λ is. absurd cc) (λ row. row) fell (ran-some readings unread last read start i ran)) gives
   rows (Err sending.Exhausted) read all why onward fell all_sent none ran reads due gives =
       plainly (Some fault.Exhausted) why ending.Broken onward
-      (serves-some fault.Exhausted sending.Exhausted (λ is. absurd cc) (λ is. absurd cc) (λ is. absurd cc) (λ row. row) fell (ran-some table arrived last read start i ran)) gives
+      (serves-some fault.Exhausted sending.Exhausted (λ is. absurd cc) (λ is. absurd cc) (λ is. absurd cc) (λ row. row) fell (ran-some readings unread last read start i ran)) gives
   rows (Ok x) (Err reading.NoMemory) all why onward s all_sent none ran reads due gives =
       plainly (Some fault.NoMemory) why ending.Broken onward
       (serves-some fault.NoMemory sending.Exhausted (λ is. absurd cc) (λ is. absurd cc) (λ is. absurd cc) (λ row. row) (held s) ran) gives
@@ -321,27 +326,27 @@ module _ (tells_in tells_out : Bool) (table : Table) (session : Session) (past :
       (serves-some fault.Exhausted sending.Exhausted (λ is. absurd cc) (λ is. absurd cc) (λ is. absurd cc) (λ row. row) (held s) ran) gives
   rows (Ok x) (Err reading.Read) false why onward s all_sent none ran reads due gives =
       plainly (Some fault.Exhausted) why ending.Broken onward
-      (serves-some fault.Exhausted sending.Exhausted (λ is. absurd cc) (λ is. absurd cc) (λ is. absurd cc) (λ row. row) (held s) (takes-some-all jobs start i ran)) gives
+      (serves-some fault.Exhausted sending.Exhausted (λ is. absurd cc) (λ is. absurd cc) (λ is. absurd cc) (λ row. row) (held s) (takes-some-all jobs start i ran.0)) gives
   rows (Ok x) (Err reading.Read) true why onward s all_sent none ran reads due gives =
-      serves-onward why onward s none ran (all_sent ∙ sym (due refl)) (reads refl) gives
+      serves-onward why onward s ran.1 none ran.0 (all_sent ∙ sym (due refl)) (reads refl) gives
   rows (Ok x) (Ok end) false why onward s all_sent none ran reads due gives =
       plainly (Some fault.Exhausted) why ending.Broken onward
       (serves-some fault.Exhausted sending.Exhausted (λ is. absurd cc) (λ is. absurd cc) (λ is. absurd cc) (λ row. row) (held s) (takes-some-all jobs start i ran.0)) gives
   rows (Ok x) (Ok ending.Clean) true why onward s all_sent none ran reads due gives =
       plainly None why ending.Clean onward
-      (serves-all None ending.Clean s none ran.0 (all_sent ∙ sym (due refl)) (λ is. absurd cc) (λ is. absurd cc) (λ row. (row, sym ran.1, inl ran.1))) gives
+      (serves-all None ending.Clean s ran.1 none ran.0 (all_sent ∙ sym (due refl)) (λ is. absurd cc) (λ is. absurd cc) (λ row. (row, sym ran.2, inl ran.2))) gives
   rows (Ok x) (Ok ending.Oversize) true why onward s all_sent none ran reads due gives =
       plainly None why ending.Oversize onward
-      (serves-all None ending.Oversize s none ran.0 (all_sent ∙ sym (due refl)) (λ is. absurd cc) (λ is. absurd cc) (λ row. (row, sym ran.1, inr ran.1))) gives
+      (serves-all None ending.Oversize s ran.1 none ran.0 (all_sent ∙ sym (due refl)) (λ is. absurd cc) (λ is. absurd cc) (λ row. (row, sym ran.2, inr ran.2))) gives
   rows (Ok x) (Ok ending.Torn) true why onward s all_sent none ran reads due gives =
       plainly (Some fault.Torn) why ending.Torn onward
-      (serves-all (Some fault.Torn) ending.Torn s none ran.0 (all_sent ∙ sym (due refl)) (λ is. absurd cc) (λ is. absurd cc) (λ row. (row, sym ran.1, ran.1))) gives
-  rows (Ok x) (Ok ending.Broken) true why onward s all_sent none ran reads due gives = absurd (ran.2 refl)
+      (serves-all (Some fault.Torn) ending.Torn s ran.1 none ran.0 (all_sent ∙ sym (due refl)) (λ is. absurd cc) (λ is. absurd cc) (λ row. (row, sym ran.2, ran.2))) gives
+  rows (Ok x) (Ok ending.Broken) true why onward s all_sent none ran reads due gives = absurd (ran.3 refl)
 
   -- the same by the names of what is told
   pub has-served : {T : Type 0} (sent : Result T OutboundFault) (read : Result Ending InboundFault) (all : Bool) (out : Option ServeFault × Ending) (why : Option ServeFault) (onward : Option Session)
-      → Sends taken sent o → OnOk sent (o.sent ≡ next o) → OnOk sent (left ≡ []) → Ran table arrived last read start i
-      → (read ≡ Err reading.Read → HasRead reader (past.read ++ stream) (past.arrived ++ arrived) × (HasEnded reader → ⊥)) → (all ≡ true → count ≡ next o)
+      → Sends taken sent o → OnOk sent (o.sent ≡ next o) → OnOk sent (left ≡ []) → Ran readings unread last read start i
+      → (read ≡ Err reading.Read → HasRead reader (past.read ++ stream) (past.arrived ++ read_of readings) × (HasEnded reader → ⊥)) → (all ≡ true → count ≡ next o)
       → out ≡ outcome_of sent read all → GivesBack IsOnward out.0 why onward → Serves why out.1 onward
   has-served sent read all out why onward sends all_sent none ran reads due is gives =
       subst (λ (p : Option ServeFault × Ending). Serves why p.1 onward) (sym is)
@@ -366,19 +371,21 @@ nothing-out before after left none (inl is) = inl is
 nothing-out before after left none (inr is) = inr (ap (λ (n : ℕ). take n (framed (payloads after))) (is.0 ∙ none))
 
 -- a connection that was not served
-pub nothing-served : (tells_in tells_out : Bool) (table : Table) (session : Session) (past : Past) (given wrote : List ℕ) (pass : Pass Job) (taken : List Entry) (served : Served) → IsPast past
+pub nothing-served : (tells_in tells_out : Bool) (told_keys : Bool) (known : Known) (session : Session) (past : Past) (given wrote : List ℕ) (pass : Pass Job) (taken : List Entry) (served : Served) → IsPast past
     → served ≡ record { arrived = 0; sent = 0; written = 0; ending = ending.Broken; desk = record { putter = pass; taker = taken }; session = None }
-    → HasServed tells_in tells_out table session past given given wrote wrote pass taken (Some fault.NoMemory) served
+    → HasServed tells_in tells_out (Takes told_keys known known) session past given given wrote wrote pass taken (Some fault.NoMemory) served
 unfolding placed
-nothing-served tells_in tells_out table session past given wrote pass taken served is_past is =
+nothing-served tells_in tells_out told_keys known session past given wrote pass taken served is_past is =
     let none : Served = record { arrived = 0; sent = 0; written = 0; ending = ending.Broken; desk = record { putter = pass; taker = taken }; session = None } in
     let more = is_past [] in
     let version : Version = (arrivals_of (past.read ++ [])).version in
-    let ps : List (List ℕ) = payloads_from version session.answered (answers table more.0) in
-    let has : HasServed tells_in tells_out table session past given given wrote wrote pass taken (Some fault.NoMemory) none = record {
+    let ps : List (List ℕ) = payloads_from version session.answered (answers []) in
+    let has : HasServed tells_in tells_out (Takes told_keys known known) session past given given wrote wrote pass taken (Some fault.NoMemory) none = record {
       stream = [];
       gave = λ _. sym (append-nil given);
-      arrivals = more.0;
+      readings = [];
+      taken_are = refl;
+      unread = more.0;
       came = more.1;
       ahead = [];
       left = session.unsent;
@@ -387,7 +394,7 @@ nothing-served tells_in tells_out table session past given wrote pass taken serv
       behind = inr refl;
       took = λ _. sym (append-nil wrote);
       written_is = refl;
-      sent = record { output_is = sent-nothing version session.answered (answers table more.0); ending_is = refl };
+      sent = record { output_is = sent-nothing version session.answered (answers []); ending_is = refl };
       whole = (gathered-whole ps 0 0 0 [] (gathered-none ps)).0;
       admitted = omega arith;
       answered_few = omega arith;
@@ -397,12 +404,12 @@ nothing-served tells_in tells_out table session past given wrote pass taken serv
       put_is = ap (λ (l : List (ℕ × Job)). record pass { put = l }) (sym (append-nil pass.put));
       posts = [];
       taken_is = sym (append-nil taken);
-      answered = none-answered (jobs_of table more.0);
+      answered = none-answered [];
       foreign = λ no. absurd cc;
       kept = λ no. absurd cc;
       back = tt;
     } in
-    subst (λ (s : Served). HasServed tells_in tells_out table session past given given wrote wrote pass taken (Some fault.NoMemory) s) (sym is) has
+    subst (λ (s : Served). HasServed tells_in tells_out (Takes told_keys known known) session past given given wrote wrote pass taken (Some fault.NoMemory) s) (sym is) has
 
 -- what the devices counted, where a session is given back or not
 pub counts-back : (IsNext : Session → Type 0) (told why : Option ServeFault) (onward : Option Session) (r r' w w' : ℕ) → GivesBack IsNext told why onward → CountsServed told r r' w w' → CountsServed why r r' w w'
@@ -440,3 +447,20 @@ counts-served (Ok x) (Ok ending.Clean) true r r' w w' cw cr = (cr, cw)
 counts-served (Ok x) (Ok ending.Oversize) true r r' w w' cw cr = (cr, cw)
 counts-served (Ok x) (Ok ending.Torn) true r r' w w' cw cr = (cr, cw)
 counts-served (Ok x) (Ok ending.Broken) true r r' w w' cw cr = (cr, cw)
+
+-- an ending that is told, and isn't broken, is that of the half that reads
+pub ended-told : {T : Type 0} (sent : Result T OutboundFault) (read : Result Ending InboundFault) (all : Bool) (P : Type 0) → IfOk read (λ told. told ≢ ending.Oversize → P)
+    → (outcome_of sent read all).1 ≢ ending.Broken → (outcome_of sent read all).1 ≢ ending.Oversize → P
+ended-told (Err sending.Write) read all P h whole within = absurd (whole refl)
+ended-told (Err sending.NoMemory) read all P h whole within = absurd (whole refl)
+ended-told (Err sending.Stranger) read all P h whole within = absurd (whole refl)
+ended-told (Err sending.Exhausted) read all P h whole within = absurd (whole refl)
+ended-told (Ok x) (Err reading.NoMemory) all P h whole within = absurd (whole refl)
+ended-told (Ok x) (Err reading.Exhausted) all P h whole within = absurd (whole refl)
+ended-told (Ok x) (Err reading.Stopped) all P h whole within = absurd (whole refl)
+ended-told (Ok x) (Err reading.Read) all P h whole within = absurd (whole refl)
+ended-told (Ok x) (Ok end) false P h whole within = absurd (whole refl)
+ended-told (Ok x) (Ok ending.Clean) true P h whole within = h (λ is. absurd cc)
+ended-told (Ok x) (Ok ending.Torn) true P h whole within = h (λ is. absurd cc)
+ended-told (Ok x) (Ok ending.Oversize) true P h whole within = absurd (within refl)
+ended-told (Ok x) (Ok ending.Broken) true P h whole within = absurd (whole refl)

@@ -1,7 +1,7 @@
 -- A connection that was answered elsewhere before, and then served.
-use Rattle.std.specs.Prelude.{◌≡◌, ◌⊎◌, ℕ, Bool, List, ◌++◌, Option, Some, None, IfSome}
+use Rattle.std.specs.Prelude.{◌≡◌, ◌⊎◌, ℕ, Bool, List, [], ◌++◌, Option, Some, None, IfSome}
 use Rattle.mac_queue.specs.Pass.{Pass}
-use Rattle.mac_keys.specs.Table.{Table}
+use Rattle.mac_board.specs.Follows.{Known, Takes}
 use Rattle.mac_wire.specs.declared.arrival.Arrival.{Arrival}
 use Rattle.mac_wire.specs.declared.reply.Reply.{Reply}
 use Rattle.mac_wire.specs.declared.session.Session.{Session}
@@ -12,29 +12,33 @@ use Rattle.mac_decide.specs.declared.job.Job.{Job}
 use Rattle.mac_serve.specs.declared.connection.Served.{Served}
 use Rattle.mac_serve.specs.declared.fault.ServeFault.{ServeFault}
 use Rattle.mac_serve.specs.declared.fault.ServeFault.TheVariants as fault
+use Rattle.mac_serve.specs.Receiving.{Readings, read_of}
 use Rattle.mac_serve.specs.Serving.{answers, HasServed}
 
 -- What was written of a stream, before and then, is a beginning of the framed replies to all that
--- has arrived of it, in order, each once; it is all of them where that was told; and a session that
--- is given back stands there.
-pub record Joins (table : Table) (stream written : List ℕ) (arrived arrivals : List Arrival)
-    (replies : List Reply) (why : Option ServeFault) (served : Served) : Type 0 where
+-- was read of it, in order, each once; where that was told it is all of them, and all that has
+-- arrived was read; and a session that is given back stands there.
+pub record Joins (stream written : List ℕ) (arrived : List Arrival) (readings : Readings)
+    (unread : List Arrival) (replies : List Reply) (why : Option ServeFault)
+    (served : Served) : Type 0 where
   pub begins : (rest : List ℕ)
-      × (reply_text (arrivals_of stream).version (replies ++ answers table arrivals)
+      × (reply_text (arrivals_of stream).version (replies ++ answers readings)
       ≡ written ++ rest)
   pub all : ((why ≡ None) ⊎ ((why ≡ Some fault.Torn) ⊎ (why ≡ Some fault.Read)))
-      → written ≡ reply_text (arrivals_of stream).version (replies ++ answers table arrivals)
+      → (unread ≡ []) × (written ≡ reply_text (arrivals_of stream).version
+      (replies ++ answers readings))
   pub onward : IfSome served.session (λ next.
-      Stands next stream written (arrived ++ arrivals) (replies ++ answers table arrivals))
+      Stands next stream written (arrived ++ read_of readings) (replies ++ answers readings))
 
 -- whatever `serve` does with a session that stands
 abbrev pub ServingJoins : Type 0
 ServingJoins =
-    (tells_in tells_out : Bool) (table : Table) (session : Session) (read written : List ℕ)
-    (arrived : List Arrival) (replies : List Reply) (given given' wrote wrote' : List ℕ)
-    (pass : Pass Job) (taken : List (ℕ × Option Job)) (why : Option ServeFault) (served : Served)
+    (tells_in tells_out tells : Bool) (known known' : Known) (session : Session)
+    (read written : List ℕ) (arrived : List Arrival) (replies : List Reply)
+    (given given' wrote wrote' : List ℕ) (pass : Pass Job) (taken : List (ℕ × Option Job))
+    (why : Option ServeFault) (served : Served)
     → Stands session read written arrived replies
-    → (h : HasServed tells_in tells_out table session (record { read = read; arrived = arrived })
-    given given' wrote wrote' pass taken why served)
-    → Joins table (read ++ h.stream) (written ++ (h.ahead ++ h.output)) arrived h.arrivals replies
-    why served
+    → (h : HasServed tells_in tells_out (Takes tells known known') session
+    (record { read = read; arrived = arrived }) given given' wrote wrote' pass taken why served)
+    → Joins (read ++ h.stream) (written ++ (h.ahead ++ h.output)) arrived h.readings h.unread
+    replies why served

@@ -1,5 +1,5 @@
 -- What the inbound half of a connection takes in.
-use Rattle.std.specs.Prelude.{◌≡◌, ◌≢◌, ◌⊎◌, ℕ, ◌+◌, ◌≤◌, Bool, IsTrue, List, [], ◌∷◌, ◌++◌, length, map, take, Option, Some, None, Result, Ok, Err, IfOk}
+use Rattle.std.specs.Prelude.{◌≡◌, ◌≢◌, ◌⊎◌, ℕ, ◌+◌, ◌≤◌, Bool, IsTrue, List, [], ◌∷◌, ◌++◌, length, map, take, Option, Some, None, Result, Ok, Err, IfOk, OnOk}
 use Rattle.std.specs.declared.alloc.Global.{Global}
 use Rattle.std.specs.declared.vec.Vec.{Vec}
 use Rattle.mac_ring.specs.Ring.{admitted, IsSameIntake}
@@ -56,9 +56,19 @@ CountsRead (Err fault.NoMemory) old new = new ≡ old
 CountsRead (Err fault.Exhausted) old new = new ≡ old
 CountsRead (Err fault.Stopped) old new = new ≡ old
 
--- the jobs of arrivals under a table
-abbrev pub jobs_of : Table → List Arrival → List Job
-jobs_of table arrivals = map (job_under table) arrivals
+-- arrivals in order, each with the table that its job was made under
+abbrev pub Readings : Type 0
+Readings = List (Table × Arrival)
+
+abbrev pub tables_of : Readings → List Table
+tables_of readings = map (λ reading. reading.0) readings
+
+abbrev pub read_of : Readings → List Arrival
+read_of readings = map (λ reading. reading.1) readings
+
+-- the jobs of arrivals, each under its table
+abbrev pub jobs_of : Readings → List Job
+jobs_of readings = map (λ reading. job_under reading.0 reading.1) readings
 
 -- jobs at their places, from a first place on
 unfoldable pub placed : ℕ → List Job → List (ℕ × Job)
@@ -99,20 +109,32 @@ abbrev pub Receives : {T : Type 0} → List Job → Result T InboundFault → In
 Receives jobs (Ok x) before after = TakesIn jobs before after
 Receives jobs (Err why) before after = (why ≢ fault.Read) × TakesSome jobs before after
 
+-- What a step did with arrivals: it read all of them, or the first ones where it failed, each under
+-- one of the tables that were taken, and received their jobs.
+pub record ReceivesUnder {T : Type 0} (AreTaken : List Table → Type 0) (arrivals : List Arrival)
+    (result : Result T InboundFault) (before after : Inbound) : Type 0 where
+  pub readings : Readings
+  pub unread : List Arrival
+  pub are : arrivals ≡ read_of readings ++ unread
+  pub taken : AreTaken (tables_of readings)
+  pub all : OnOk result (unread ≡ [])
+  pub receives : Receives (jobs_of readings) result before after
+
 -- What a run did with arrivals, where the stream ends so: to its end, or to where the source
 -- failed, it took in the jobs of all of them, and else of some.
-abbrev pub Ran : Table → List Arrival → Ending → Result Ending InboundFault
+abbrev pub Ran : Readings → (unread : List Arrival) → Ending → Result Ending InboundFault
     → Inbound → Inbound → Type 0
-Ran table arrivals end (Ok told) before after =
-    TakesIn (jobs_of table arrivals) before after × (end ≡ told) × (told ≢ ending.Broken)
-Ran table arrivals end (Err fault.Read) before after =
-    TakesIn (jobs_of table arrivals) before after
-Ran table arrivals end (Err fault.NoMemory) before after =
-    TakesSome (jobs_of table arrivals) before after
-Ran table arrivals end (Err fault.Exhausted) before after =
-    TakesSome (jobs_of table arrivals) before after
-Ran table arrivals end (Err fault.Stopped) before after =
-    TakesSome (jobs_of table arrivals) before after
+Ran readings unread end (Ok told) before after =
+    TakesIn (jobs_of readings) before after × (unread ≡ []) × (end ≡ told)
+    × (told ≢ ending.Broken)
+Ran readings unread end (Err fault.Read) before after =
+    TakesIn (jobs_of readings) before after × (unread ≡ [])
+Ran readings unread end (Err fault.NoMemory) before after =
+    TakesSome (jobs_of readings) before after
+Ran readings unread end (Err fault.Exhausted) before after =
+    TakesSome (jobs_of readings) before after
+Ran readings unread end (Err fault.Stopped) before after =
+    TakesSome (jobs_of readings) before after
 
 -- What came before a run: bytes of the stream, and of their arrivals those that were answered.
 pub record Past : Type 0 where
@@ -125,54 +147,59 @@ IsPast past =
     (bytes : List ℕ)
     → (more : List Arrival) × ((arrivals_of (past.read ++ bytes)).arrived ≡ past.arrived ++ more)
 
--- A run over the bytes that the source gave, behind what came before it, a stream of this version.
--- Where the source failed the reader can go on.
-pub record HasRun (tells : Bool) (table : Table) (version : Version) (past : Past)
+-- A run over the bytes that the source gave, behind what came before it, a stream of this version,
+-- under tables that were taken. Where the source failed the reader can go on.
+pub record HasRun (tells : Bool) (AreTaken : List Table → Type 0) (version : Version) (past : Past)
     (given given' : List ℕ) (reader : FrameReader) (result : Result Ending InboundFault)
     (before after : Inbound) : Type 0 where
   pub stream : List ℕ
   pub gave : Gave tells given given' stream
   pub version_is : (arrivals_of (past.read ++ stream)).version ≡ version
-  pub arrivals : List Arrival
-  pub came : (arrivals_of (past.read ++ stream)).arrived ≡ past.arrived ++ arrivals
-  pub ran : Ran table arrivals (arrivals_of (past.read ++ stream)).ending result before after
+  pub readings : Readings
+  pub taken : AreTaken (tables_of readings)
+  pub unread : List Arrival
+  pub came : (arrivals_of (past.read ++ stream)).arrived
+      ≡ past.arrived ++ (read_of readings ++ unread)
+  pub ran : Ran readings unread (arrivals_of (past.read ++ stream)).ending result before after
   pub left : result ≡ Err fault.Read
-      → HasRead reader (past.read ++ stream) (past.arrived ++ arrivals) × (¬ HasEnded reader)
+      → HasRead reader (past.read ++ stream) (past.arrived ++ read_of readings)
+      × (¬ HasEnded reader)
 
 -- A run that goes on: the reader was fed a stream of this version, and of what it handed out behind
--- what came before, the jobs of all but these arrivals were taken in.
-pub record GoesOn (tells : Bool) (table : Table) (version : Version) (past : Past)
+-- what came before, the jobs of all but these arrivals were taken in, under tables that were taken.
+pub record GoesOn (tells : Bool) (AreTaken : List Table → Type 0) (version : Version) (past : Past)
     (given given' : List ℕ) (reader : FrameReader) (pending : List Arrival)
     (before after : Inbound) : Type 0 where
   pub stream : List ℕ
   pub gave : Gave tells given given' stream
   pub told : version_told (past.read ++ stream) ≡ Some version
-  pub handed : List Arrival
-  pub read : HasRead reader (past.read ++ stream) (past.arrived ++ (handed ++ pending))
-  pub took : TakesIn (jobs_of table handed) before after
+  pub readings : Readings
+  pub taken : AreTaken (tables_of readings)
+  pub read : HasRead reader (past.read ++ stream) (past.arrived ++ (read_of readings ++ pending))
+  pub took : TakesIn (jobs_of readings) before after
 
 -- how a read of a run that goes on ended: more arrivals came or none, or the run ends by a fault
-abbrev pub Continues : Bool → Table → Version → Past → List ℕ → List ℕ
+abbrev pub Continues : Bool → (AreTaken : List Table → Type 0) → Version → Past → List ℕ → List ℕ
     → Result (Option (Vec Arrival Global)) InboundFault → FrameReader → Inbound → Inbound → Type 0
-Continues tells table version past given given' (Ok (Some more)) reader before after =
-    GoesOn tells table version past given given' reader more.items before after
-Continues tells table version past given given' (Ok None) reader before after =
-    GoesOn tells table version past given given' reader [] before after
-Continues tells table version past given given' (Err why) reader before after =
-    HasRun tells table version past given given' reader (Err why) before after
+Continues tells AreTaken version past given given' (Ok (Some more)) reader before after =
+    GoesOn tells AreTaken version past given given' reader more.items before after
+Continues tells AreTaken version past given given' (Ok None) reader before after =
+    GoesOn tells AreTaken version past given given' reader [] before after
+Continues tells AreTaken version past given given' (Err why) reader before after =
+    HasRun tells AreTaken version past given given' reader (Err why) before after
 
 -- What a run did that went on from what the first read gave, from the one state of the half and of
 -- the reader to the other, while its source went from these bytes, this end and this count of
 -- failures to those: it ran over the bytes, told an end where the source had one, and the source's
 -- failure is counted.
-pub record Runs (tells : Bool) (table : Table) (given given' : List ℕ) (ended ended' : Bool)
+pub record Runs (tells : Bool) (AreTaken : List Table → Type 0) (given given' : List ℕ) (ended ended' : Bool)
     (faults faults' : ℕ) (first : Result (Option (Vec Arrival Global)) InboundFault)
     (reader reader' : FrameReader) (result : Result Ending InboundFault)
     (before after : Inbound) : Type 0 where
   pub same : IsSameHalf before after
   pub run : (past : Past) (from : List ℕ) → IsPast past
       → Reads tells from given past.read past.arrived first reader
-      → HasRun tells table (version_or_one (version_of reader)) past from given' reader' result
+      → HasRun tells AreTaken (version_or_one (version_of reader)) past from given' reader' result
       before after
   pub at_end : IfOk first (λ more. more ≡ None → IsTrue ended ⊎ HasEnded reader)
       → (past : Past) (from : List ℕ) → Reads tells from given past.read past.arrived first reader

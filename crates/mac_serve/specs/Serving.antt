@@ -17,7 +17,7 @@ use Rattle.mac_wire.specs.declared.session.Session.{Session}
 use Rattle.mac_wire.specs.Whole.{HasWhole}
 use Rattle.mac_decide.specs.Answer.{answer_of}
 use Rattle.mac_decide.specs.declared.job.Job.{Job}
-use Rattle.mac_serve.specs.Receiving.{Gave, Past, jobs_of, placed, IsBehind}
+use Rattle.mac_serve.specs.Receiving.{Gave, Past, Readings, tables_of, read_of, jobs_of, placed, IsBehind}
 use Rattle.mac_serve.specs.Posts.{AreAnswered, TookForeign}
 use Rattle.mac_serve.specs.declared.fault.ServeFault.{ServeFault}
 use Rattle.mac_serve.specs.declared.fault.ServeFault.TheVariants as fault
@@ -27,58 +27,59 @@ use Rattle.mac_serve.specs.declared.outbound.OutboundFault.TheVariants as sendin
 use Rattle.mac_serve.specs.declared.incoming.InboundFault.{InboundFault}
 use Rattle.mac_serve.specs.declared.incoming.InboundFault.TheVariants as reading
 
--- the replies to arrivals under a table
-abbrev pub answers : Table → List Arrival → List Reply
-answers table arrivals = map (answer_of table) arrivals
+-- the replies to arrivals, each under its table
+abbrev pub answers : Readings → List Reply
+answers readings = map (λ reading. answer_of reading.0 reading.1) readings
 
 -- the frames of replies, the first of which is at this place
 abbrev pub text_from : Version → ℕ → List Reply → List ℕ
 text_from version place replies = framed (payloads_from version place replies)
 
--- every arrival was admitted, put into the queue at its place, and its reply was sent in the
--- stream's version, and nothing else was written; nothing is left of what was unsent before
-pub record SentAll (table : Table) (version : Version) (place : ℕ) (arrivals : List Arrival)
+-- every arrival was read and admitted, put into the queue at its place, and its reply was sent in
+-- the stream's version, and nothing else was written; nothing is left of what was unsent before
+pub record SentAll (version : Version) (place : ℕ) (readings : Readings) (unread : List Arrival)
     (pass : Pass Job) (output left : List ℕ) (served : Served) : Type 0 where
-  pub output_is : output ≡ text_from version place (answers table arrivals)
+  pub output_is : output ≡ text_from version place (answers readings)
+  pub none_unread : unread ≡ []
   pub none_left : left ≡ []
-  pub arrived_is : served.arrived ≡ length arrivals
-  pub sent_is : served.sent ≡ length arrivals
+  pub arrived_is : served.arrived ≡ length readings
+  pub sent_is : served.sent ≡ length readings
   pub put_is : served.desk.putter
-      ≡ record pass { put = pass.put ++ placed 0 (jobs_of table arrivals) }
+      ≡ record pass { put = pass.put ++ placed 0 (jobs_of readings) }
 
 -- the frames of the replies that were sent were written, and nothing else; the stream was not read
 -- to its end, or not all was sent
-pub record SentSome (table : Table) (version : Version) (place : ℕ) (arrivals : List Arrival)
+pub record SentSome (version : Version) (place : ℕ) (readings : Readings)
     (output : List ℕ) (served : Served) : Type 0 where
-  pub output_is : output ≡ text_from version place (take served.sent (answers table arrivals))
+  pub output_is : output ≡ text_from version place (take served.sent (answers readings))
   pub ending_is : served.ending ≡ ending.Broken
 
 -- the sink failed: a beginning of the replies' frames was written
-pub record SentBeginning (table : Table) (version : Version) (place : ℕ) (arrivals : List Arrival)
+pub record SentBeginning (version : Version) (place : ℕ) (readings : Readings)
     (output : List ℕ) (served : Served) : Type 0 where
-  pub output_is : output ≡ take served.written (text_from version place (answers table arrivals))
+  pub output_is : output ≡ take served.written (text_from version place (answers readings))
   pub ending_is : served.ending ≡ ending.Broken
 
 -- What was written, and which ending is told, row by row: by the fault that is told, if any.
-abbrev pub Sent : Table → Arrivals → ℕ → List Arrival → Pass Job → List ℕ → List ℕ
-    → Option ServeFault → Served → Type 0
-Sent table a place arrivals pass output left None served =
-    SentAll table a.version place arrivals pass output left served × (served.ending ≡ a.ending)
+abbrev pub Sent : Arrivals → ℕ → Readings → (unread : List Arrival) → Pass Job
+    → (output left : List ℕ) → Option ServeFault → Served → Type 0
+Sent a place readings unread pass output left None served =
+    SentAll a.version place readings unread pass output left served × (served.ending ≡ a.ending)
     × ((a.ending ≡ ending.Clean) ⊎ (a.ending ≡ ending.Oversize))
-Sent table a place arrivals pass output left (Some fault.Torn) served =
-    SentAll table a.version place arrivals pass output left served × (served.ending ≡ a.ending)
+Sent a place readings unread pass output left (Some fault.Torn) served =
+    SentAll a.version place readings unread pass output left served × (served.ending ≡ a.ending)
     × (a.ending ≡ ending.Torn)
-Sent table a place arrivals pass output left (Some fault.Read) served =
-    SentAll table a.version place arrivals pass output left served
+Sent a place readings unread pass output left (Some fault.Read) served =
+    SentAll a.version place readings unread pass output left served
     × (served.ending ≡ ending.Broken)
-Sent table a place arrivals pass output left (Some fault.Write) served =
-    SentBeginning table a.version place arrivals output served
-Sent table a place arrivals pass output left (Some fault.NoMemory) served =
-    SentSome table a.version place arrivals output served
-Sent table a place arrivals pass output left (Some fault.Stranger) served =
-    SentSome table a.version place arrivals output served
-Sent table a place arrivals pass output left (Some fault.Exhausted) served =
-    SentSome table a.version place arrivals output served
+Sent a place readings unread pass output left (Some fault.Write) served =
+    SentBeginning a.version place readings output served
+Sent a place readings unread pass output left (Some fault.NoMemory) served =
+    SentSome a.version place readings output served
+Sent a place readings unread pass output left (Some fault.Stranger) served =
+    SentSome a.version place readings output served
+Sent a place readings unread pass output left (Some fault.Exhausted) served =
+    SentSome a.version place readings output served
 
 -- The connection can go on as this session: all that was read is whole frames and what is carried,
 -- all of it is answered, and nothing is unsent.
@@ -89,18 +90,22 @@ pub record IsLeft (stream : List ℕ) (arrived : List Arrival) (answered : ℕ)
   pub answered_is : session.answered ≡ answered
 
 -- What a run did: it read more of a stream, behind what had come of it before, and wrote bytes,
--- those that were unsent before first of all. So many jobs of its arrivals were admitted, so many
+-- those that were unsent before first of all. Its arrivals were read in order, each under a table of
+-- its own among those that were taken. So many jobs of these were admitted, so many
 -- bytes of their replies written, and so many replies went out whole. The admitted jobs were put
 -- into the queue at their places, or all but the last. For each reply that went out the desk took a
 -- post with that place's job. A stranger is told only where a post was foreign. Where the source
 -- failed, and only there, the connection can go on.
-pub record HasServed (tells_in tells_out : Bool) (table : Table) (session : Session) (past : Past)
-    (given given' wrote wrote' : List ℕ) (pass : Pass Job) (taken : List (ℕ × Option Job))
+pub record HasServed (tells_in tells_out : Bool) (AreTaken : List Table → Type 0)
+    (session : Session) (past : Past) (given given' wrote wrote' : List ℕ) (pass : Pass Job) (taken : List (ℕ × Option Job))
     (why : Option ServeFault) (served : Served) : Type 0 where
   pub stream : List ℕ
   pub gave : Gave tells_in given given' stream
-  pub arrivals : List Arrival
-  pub came : (arrivals_of (past.read ++ stream)).arrived ≡ past.arrived ++ arrivals
+  pub readings : Readings
+  pub taken_are : AreTaken (tables_of readings)
+  pub unread : List Arrival
+  pub came : (arrivals_of (past.read ++ stream)).arrived
+      ≡ past.arrived ++ (read_of readings ++ unread)
   pub ahead : List ℕ
   pub left : List ℕ
   pub parts : session.unsent ≡ ahead ++ left
@@ -108,28 +113,28 @@ pub record HasServed (tells_in tells_out : Bool) (table : Table) (session : Sess
   pub behind : (left ≡ []) ⊎ (output ≡ [])
   pub took : Gave tells_out wrote wrote' (ahead ++ output)
   pub written_is : served.written ≡ length output
-  pub sent : Sent table (arrivals_of (past.read ++ stream)) session.answered arrivals pass output
+  pub sent : Sent (arrivals_of (past.read ++ stream)) session.answered readings unread pass output
       left why served
   pub whole : HasWhole
       (payloads_from (arrivals_of (past.read ++ stream)).version session.answered
-      (answers table arrivals)) served.written served.sent
-  pub admitted : served.arrived ≤ length arrivals
+      (answers readings)) served.written served.sent
+  pub admitted : served.arrived ≤ length readings
   pub answered_few : served.sent ≤ served.arrived
   pub same_pool : IsSamePass pass served.desk.putter
   pub puts : ℕ
   pub put_behind : IsBehind puts served.arrived
   pub put_is : served.desk.putter ≡ record pass {
-    put = pass.put ++ placed 0 (take puts (jobs_of table arrivals));
+    put = pass.put ++ placed 0 (take puts (jobs_of readings));
   }
   pub posts : List (ℕ × Option Job)
   pub taken_is : served.desk.taker ≡ taken ++ posts
-  pub answered : AreAnswered (jobs_of table arrivals) served.sent posts
+  pub answered : AreAnswered (jobs_of readings) served.sent posts
   pub foreign : why ≡ Some fault.Stranger
-      → TookForeign (jobs_of table arrivals) served.sent posts
+      → TookForeign (jobs_of readings) served.sent posts
   pub kept : why ≡ Some fault.Read → IsSome served.session
   pub back : IfSome served.session (λ next. (why ≡ Some fault.Read)
-      × IsLeft (past.read ++ stream) (past.arrived ++ arrivals)
-      (session.answered + length arrivals) next)
+      × IsLeft (past.read ++ stream) (past.arrived ++ read_of readings)
+      (session.answered + length readings) next)
 
 -- the fault that a result tells, if any, and what else it tells
 abbrev pub fault_of : Result Served (ServeFault × Served) → Option ServeFault

@@ -1,6 +1,7 @@
 //! A connection, from a session on to its last byte, or to the next session.
 
 ghost use Rattle.std.specs.Prelude.{◌≡◌, ◌≢◌, ◌⊎◌, ◌+◌, ℕ, Bool, List, [], IsTrue, IsSome, IfOk, OnErr};
+ghost use Rattle.mac_board.specs.Follows.{Takes};
 ghost use Rattle.mac_queue.specs.Pass.{IsSamePass};
 ghost use Rattle.mac_wire.specs.FrameReader.{HasEnded};
 ghost use Rattle.mac_wire.specs.Session.{HasCome};
@@ -13,8 +14,8 @@ use crate::inbound::Inbound;
 use crate::incoming::{InboundFault, Incoming};
 use crate::outbound::{Outbound, OutboundFault};
 use crate::signals::Signals;
+use mac_board::Tables;
 use mac_decide::Macaroons;
-use mac_keys::KeyTable;
 use mac_queue::Desk;
 use mac_ring::{Totals, make_ring, meet};
 use mac_wire::{Ending, FrameReader, NoMemory, Session, Sink, Source, Unsent, Version};
@@ -41,24 +42,26 @@ pub struct Served {
 }
 
 /// Serves a connection that is between two requests: writes what is unsent, reads requests from the
-/// source to its end, those that are carried first, lets the workers of the desk's pool answer them
-/// under the keys, and writes the replies into the sink, in order, as the stream's version has
-/// them, at the places that follow. Requests are read in this thread, and replies sent from a thread of
-/// their own, which begins once the stream's version is known.
-pub fn serve<R: Threads + Wait + Sync, In: Source, Out: Sink>(
+/// source to its end, those that are carried first, lets the workers of the desk's pool answer them,
+/// each under the key table that is up once it is read, and writes the replies into the sink, in
+/// order, as the stream's version has them, at the places that follow. Requests are read in this
+/// thread, and replies sent from a thread of their own, which begins once the stream's version is
+/// known.
+pub fn serve<R: Threads + Wait + Sync, In: Source, Out: Sink, K: Tables>(
     rt: &R,
     alloc: Global,
     source: &mut In,
     sink: &mut Out,
-    keys: &KeyTable,
+    keys: &mut K,
     desk: Desk<Macaroons>,
     session: Session,
 ) -> Result<Served, (ServeFault, Served)>
     ensures serves { (past : Past)
         → HasCome session.version past.read past.arrived session.carried.items
-        → HasServed In.tells Out.tells keys.now session past
-        (In.taken source.old) (In.taken source.new) (Out.written sink.old) (Out.written sink.new)
-        desk.putter desk.taker (fault_of result) (served_of result) }
+        → HasServed In.tells Out.tells (Takes K.tells (K.known keys.old) (K.known keys.new))
+        session past (In.taken source.old) (In.taken source.new)
+        (Out.written sink.old) (Out.written sink.new) desk.putter desk.taker (fault_of result)
+        (served_of result) }
     ensures same_pool { IsSamePass desk.putter (served_of result).desk.putter }
     ensures end { (past : Past)
         → HasCome session.version past.read past.arrived session.carried.items
@@ -143,12 +146,12 @@ fn begun<In: Source>(
 }
 
 /// Runs both halves at once.
-fn run_both<R: Threads + Wait + Sync, In: Source, Out: Sink>(
+fn run_both<R: Threads + Wait + Sync, In: Source, Out: Sink, K: Tables>(
     rt: &R,
     alloc: Global,
     source: &mut In,
     sink: &mut Out,
-    keys: &KeyTable,
+    keys: &mut K,
     incoming: &mut Incoming,
     inbound: &mut Inbound,
     outbound: &mut Outbound,
@@ -157,10 +160,10 @@ fn run_both<R: Threads + Wait + Sync, In: Source, Out: Sink>(
     ensures sends { SendsBoth Out.tells unsent.old unsent.new (Out.written sink.old)
         (Out.written sink.new) (Out.faults sink.old) (Out.faults sink.new) result.0 outbound.old
         outbound.new }
-    ensures runs { Runs In.tells keys.now (In.taken source.old) (In.taken source.new)
-        (In.ended source.old) (In.ended source.new) (In.faults source.old) (In.faults source.new)
-        incoming.old.first incoming.old.reader incoming.new.reader result.1 inbound.old
-        inbound.new }
+    ensures runs { Runs In.tells (Takes K.tells (K.known keys.old) (K.known keys.new))
+        (In.taken source.old) (In.taken source.new) (In.ended source.old) (In.ended source.new)
+        (In.faults source.old) (In.faults source.new) incoming.old.first incoming.old.reader
+        incoming.new.reader result.1 inbound.old inbound.new }
 {
     let signals = Signals::new();
     join_mut(

@@ -1,11 +1,12 @@
 //! The half of a connection that reads requests.
 
-ghost use Rattle.std.specs.Prelude.{◌≡◌, ◌≢◌, ◌<◌, ◌++◌, ◌∷◌, ℕ, List, [], length, map, IsTrue, None, IfOk, OnOk, OnErr, MatchResult, Ok, Err, false, ◌⊎◌, IfErr};
+ghost use Rattle.std.specs.Prelude.{◌≡◌, ◌≢◌, ◌<◌, ◌++◌, ◌∷◌, ℕ, Bool, List, [], length, map, IsTrue, None, IfOk, OnOk, OnErr, MatchResult, Ok, Err, false, ◌⊎◌, IfErr};
 ghost use Rattle.mac_decide.specs.World.{job_under};
 
 use crate::incoming::{InboundFault, Incoming};
 use crate::outstanding::Outstanding;
 use crate::signals::Signals;
+use mac_board::Tables;
 use mac_decide::{Job, Macaroons, job_of};
 use mac_keys::KeyTable;
 use mac_mail::PutFault;
@@ -39,9 +40,9 @@ pub struct Inbound {
 impl Inbound {
     ghost use Rattle.mac_ring.specs.Ring.{admitted, IsSameIntake, Knows};
     ghost use Rattle.mac_queue.specs.Pass.{with_put, IsSamePass};
-    ghost use Rattle.mac_serve.specs.Receiving.{CountsRead, IsSameHalf, jobs_of, Receives, HasRun, Past, GoesOn, Continues, Runs};
+    ghost use Rattle.mac_serve.specs.Receiving.{CountsRead, IsSameHalf, Receives, ReceivesUnder, HasRun, Past, GoesOn, Continues, Runs};
     ghost use Rattle.mac_wire.specs.FrameReader.{HasEnded};
-    ghost use Rattle.mac_keys.specs.Table.{Table};
+    ghost use Rattle.mac_board.specs.Follows.{Known, Takes};
     ghost use Rattle.mac_wire.specs.declared.version.Version.{Version};
 
     /// A half that has read nothing.
@@ -189,19 +190,22 @@ impl Inbound {
         self.put(rt, place, job, signals)
     }
 
-    /// Admits the jobs of arrivals, and puts them into the queue.
-    fn take_arrivals<R: Wait>(
+    /// Admits the jobs of arrivals, and puts them into the queue. It looks at the tables before each:
+    /// one that waited for those before it is answered under the table that is up then.
+    fn take_arrivals<R: Wait, K: Tables>(
         &mut self,
         rt: &R,
         alloc: Global,
         arrivals: Vec<Arrival>,
-        keys: &KeyTable,
+        keys: &mut K,
         signals: &Signals,
     ) -> Result<(), InboundFault>
-        ensures { Receives (jobs_of keys.now arrivals.items) result self.old self.new }
+        ensures { ReceivesUnder (Takes K.tells (K.known keys.old) (K.known keys.new))
+            arrivals.items result self.old self.new }
     {
         for arrival in arrivals {
-            self.take_arrival(rt, alloc, arrival, keys, signals)?;
+            keys.look();
+            self.take_arrival(rt, alloc, arrival, keys.table(), signals)?;
         }
         Ok(())
     }
@@ -213,12 +217,12 @@ impl Inbound {
         incoming: &mut Incoming,
         signals: &Signals,
     ) -> Result<Option<Vec<Arrival>>, InboundFault>
-        ensures goes_on { (table : Table) (version : Version) (past : Past) (given : List ℕ)
-            (start now : Inbound)
-            → GoesOn In.tells table version past given (In.taken source.old) incoming.old.reader
-            [] start now
-            → Continues In.tells table version past given (In.taken source.new) result
-            incoming.new.reader start now }
+        ensures goes_on { (tells : Bool) (begun known : Known) (version : Version) (past : Past)
+            (given : List ℕ) (start now : Inbound)
+            → GoesOn In.tells (Takes tells begun known) version past given (In.taken source.old)
+            incoming.old.reader [] start now
+            → Continues In.tells (Takes tells begun known) version past given
+            (In.taken source.new) result incoming.new.reader start now }
         ensures end { result ≡ Ok None
             → IsTrue (In.ended source.new) ⊎ HasEnded incoming.new.reader }
         ensures faults { CountsRead result (In.faults source.old) (In.faults source.new) }
@@ -231,25 +235,26 @@ impl Inbound {
 
     /// Puts the job of each of these arrivals and of those that follow them, to the end of the
     /// source, or as many as it can.
-    fn take_all<R: Wait, In: Source>(
+    fn take_all<R: Wait, In: Source, K: Tables>(
         &mut self,
         rt: &R,
         alloc: Global,
         source: &mut In,
         incoming: &mut Incoming,
         first: Vec<Arrival>,
-        keys: &KeyTable,
+        keys: &mut K,
         signals: &Signals,
     ) -> Result<(), InboundFault>
         ensures same { IsSameHalf self.old self.new }
-        ensures goes_on { (version : Version) (past : Past) (given : List ℕ) (start : Inbound)
-            → GoesOn In.tells keys.now version past given (In.taken source.old)
-            incoming.old.reader first.items start self.old
+        ensures goes_on { (begun : Known) (version : Version) (past : Past) (given : List ℕ)
+            (start : Inbound)
+            → GoesOn In.tells (Takes K.tells begun (K.known keys.old)) version past given
+            (In.taken source.old) incoming.old.reader first.items start self.old
             → MatchResult result
-            (λ _. GoesOn In.tells keys.now version past given (In.taken source.new)
-            incoming.new.reader [] start self.new)
-            (λ why. HasRun In.tells keys.now version past given (In.taken source.new)
-            incoming.new.reader (Err why) start self.new) }
+            (λ _. GoesOn In.tells (Takes K.tells begun (K.known keys.new)) version past given
+            (In.taken source.new) incoming.new.reader [] start self.new)
+            (λ why. HasRun In.tells (Takes K.tells begun (K.known keys.new)) version past given
+            (In.taken source.new) incoming.new.reader (Err why) start self.new) }
         ensures end { OnOk result
             (IsTrue (In.ended source.new) ⊎ HasEnded incoming.new.reader) }
         ensures faults { CountsRead result (In.faults source.old) (In.faults source.new) }
@@ -266,19 +271,19 @@ impl Inbound {
     }
 
     /// Reads the source to its end, once replies are being sent.
-    fn read_to_end<R: Wait, In: Source>(
+    fn read_to_end<R: Wait, In: Source, K: Tables>(
         &mut self,
         rt: &R,
         alloc: Global,
         source: &mut In,
         incoming: &mut Incoming,
-        keys: &KeyTable,
+        keys: &mut K,
         signals: &Signals,
     ) -> Result<Ending, InboundFault>
-        ensures { Runs In.tells keys.now (In.taken source.old) (In.taken source.new)
-            (In.ended source.old) (In.ended source.new) (In.faults source.old)
-            (In.faults source.new) incoming.old.first incoming.old.reader incoming.new.reader result
-            self.old self.new }
+        ensures { Runs In.tells (Takes K.tells (K.known keys.old) (K.known keys.new))
+            (In.taken source.old) (In.taken source.new) (In.ended source.old) (In.ended source.new)
+            (In.faults source.old) (In.faults source.new) incoming.old.first incoming.old.reader
+            incoming.new.reader result self.old self.new }
     {
         let first = mem::replace(&mut incoming.first, Ok(None))?;
         if !signals.await_outbound(rt) {
@@ -293,19 +298,19 @@ impl Inbound {
 
     /// Reads requests until the source has ended, or until a fault. The outbound half hears of its
     /// end.
-    pub fn run<R: Wait, In: Source>(
+    pub fn run<R: Wait, In: Source, K: Tables>(
         &mut self,
         rt: &R,
         alloc: Global,
         source: &mut In,
         incoming: &mut Incoming,
-        keys: &KeyTable,
+        keys: &mut K,
         signals: &Signals,
     ) -> Result<Ending, InboundFault>
-        ensures { Runs In.tells keys.now (In.taken source.old) (In.taken source.new)
-            (In.ended source.old) (In.ended source.new) (In.faults source.old)
-            (In.faults source.new) incoming.old.first incoming.old.reader incoming.new.reader result
-            self.old self.new }
+        ensures { Runs In.tells (Takes K.tells (K.known keys.old) (K.known keys.new))
+            (In.taken source.old) (In.taken source.new) (In.ended source.old) (In.ended source.new)
+            (In.faults source.old) (In.faults source.new) incoming.old.first incoming.old.reader
+            incoming.new.reader result self.old self.new }
     {
         let ended = self.read_to_end(rt, alloc, source, incoming, keys, signals);
         signals.end_inbound(has_lost_jobs(&ended));

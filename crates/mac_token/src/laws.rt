@@ -108,7 +108,7 @@ pub fn read_through_bare()
         → read_of input ≡ Err refusal }
 {}
 
-/// The same up to the grammar.
+/// What the function of `read_raw` gives is the one way in which reading up to the grammar may end.
 pub fn raw_read_is_meant()
     ensures { (bytes : List ℕ) (end : Result RawParts TokenRefusal) → IsBytes bytes
         → ReadRaw bytes end ↔ (raw_read_of bytes ≡ end) }
@@ -135,7 +135,8 @@ pub fn base64_is_meant()
     ensures { (text bytes : List ℕ) → IsBase64Of text bytes ↔ (base64_bytes text ≡ Some bytes) }
 {}
 
-/// The limits, as numbers.
+/// The limits are 1,024 bytes of location, 4,096 of identifier and of caveat, 128 caveats, and
+/// 32,768 bytes of a token.
 pub fn limits_are_these()
     ensures location { LOCATION_MAX ≡ 1024 }
     ensures identifier { IDENTIFIER_MAX ≡ 4096 }

@@ -24,7 +24,8 @@ use crate::reply::REPLY_TOKEN_MAX;
 use crate::request::FACTS_MAX;
 use crate::version::{HELLO, Version};
 
-/// The limits as numbers.
+/// The limits are 65,536 bytes of a frame, 32,768 of a reply's token and 128 facts, and the hello
+/// is the byte 2.
 pub fn limits_are_these()
     ensures frame { FRAME_MAX ≡ 65536 }
     ensures reply_token { REPLY_TOKEN_MAX ≡ 32768 }
@@ -55,7 +56,8 @@ pub fn key_name_is_the_key()
         → Asks payload request → key_name_of payload ≡ key_of request }
 {}
 
-/// The name in the front of any payload, whether it asks a request or not.
+/// The name in the front of any payload, whether it asks a request or not, is what stands behind a
+/// mint's number and one byte, or behind a verify's number.
 pub fn key_name_stands_in_front()
     ensures { (payload name : List ℕ) → (key_name_of payload ≡ Some name) ↔ HasName payload name }
 {}
@@ -98,7 +100,7 @@ pub fn others_are_version_one()
         → arrivals_of (first ∷ rest) ≡ in_version Version.One (frames_of (first ∷ rest)) }
 {}
 
-/// What follows doesn't change the version.
+/// What follows a stream's first byte doesn't change the version.
 pub fn first_byte_tells_the_version()
     ensures { (first : ℕ) (rest more : List ℕ) → (arrivals_of (first ∷ rest)).version
         ≡ (arrivals_of (first ∷ more)).version }
@@ -131,7 +133,7 @@ pub fn cut_frame_is_torn()
         → frames_of (take n (frame payload)) ≡ record { arrived = []; ending = Ending.Torn } }
 {}
 
-/// A length that is cut is Torn, whatever its bytes.
+/// A length that is cut, after any one to three bytes, is Torn, whatever its bytes.
 pub fn cut_length_is_torn()
     ensures { (bytes : List ℕ) → 0 < length bytes → length bytes < 4
         → frames_of bytes ≡ record { arrived = []; ending = Ending.Torn } }

@@ -56,23 +56,23 @@ pub fn parse_request(payload: &[u8]) -> Option<Request<'_>>
     request(payload)
 }
 
-/// the number of the kind, and its fields
+/// The number of the kind, and its fields.
 #[tactic(auto, unfolding(crate::specs::Reading::request_of))]
 fn request(payload: &[u8]) -> Option<Request<'_>>
     ensures { option_map asked result ≡ request_of payload.now }
 {
     let (kind, rest) = byte(payload)?;
     match kind {
-        MINT => mint(rest),
-        ATTENUATE => attenuate(rest),
-        VERIFY => verify(rest),
+        MINT => parse_mint(rest),
+        ATTENUATE => parse_attenuate(rest),
+        VERIFY => parse_verify(rest),
         _ => None,
     }
 }
 
-/// form, key name, location, identifier, caveats
+/// Form, key name, location, identifier, caveats.
 #[tactic(auto, unfolding(crate::specs::Reading::mint_of))]
-fn mint(bytes: &[u8]) -> Option<Request<'_>>
+fn parse_mint(bytes: &[u8]) -> Option<Request<'_>>
     ensures { option_map asked result ≡ mint_of bytes.now }
 {
     let (form, rest) = form(bytes)?;
@@ -89,9 +89,9 @@ fn mint(bytes: &[u8]) -> Option<Request<'_>>
     })
 }
 
-/// form, token, caveats
+/// Form, token, caveats.
 #[tactic(auto, unfolding(crate::specs::Reading::attenuate_of))]
-fn attenuate(bytes: &[u8]) -> Option<Request<'_>>
+fn parse_attenuate(bytes: &[u8]) -> Option<Request<'_>>
     ensures { option_map asked result ≡ attenuate_of bytes.now }
 {
     let (form, rest) = form(bytes)?;
@@ -104,9 +104,9 @@ fn attenuate(bytes: &[u8]) -> Option<Request<'_>>
     })
 }
 
-/// key name, token, moment, facts
+/// Key name, token, moment, facts.
 #[tactic(auto, unfolding(crate::specs::Reading::verify_of))]
-fn verify(bytes: &[u8]) -> Option<Request<'_>>
+fn parse_verify(bytes: &[u8]) -> Option<Request<'_>>
     ensures { option_map asked result ≡ verify_of bytes.now }
 {
     let (key, rest) = short_field(bytes)?;

@@ -1,6 +1,4 @@
 pub mod CommandLineLemmas
-pub mod CrewLemmas
-pub mod DeskLemmas
 pub mod DoingLemmas
 pub mod KeyText
 pub mod LineLemmas

@@ -1,14 +1,20 @@
 -- What `clap` finds in the words of a command line that it takes: a subcommand, with the options that it asks for.
-use Rattle.std.proofs.Common.{◌≡◌, ◌∙◌, ◌⊎◌, ◌||◌, inl, inr, ℕ, Bool, cond, codes, true, false, refl, sym, ap, subst, List, [], ◌∷◌, not, Option, Some, None, is_some, Result, Ok, Err, IfOk}
+use Rattle.std.proofs.Common.{◌≡◌, ◌∙◌, ◌⊎◌, ◌||◌, ◌==◌, inl, inr, ℕ, Bool, cond, codes, true, false, refl, sym, ap, ap₂, subst, List, [], ◌∷◌, map, not, Option, Some, None, is_some, Result, Ok, Err, IfOk}
 use Rattle.std.specs.Prelude.{find, option_map}
+use Rattle.std.specs.List.{list_any}
 use Rattle.std.specs.Option.{option_map_or}
 use Rattle.clap.specs.Facts.{parser_of_value}
 use Rattle.clap.specs.Kinds.{FailsBy, Kinds, or_else}
 use Rattle.clap.specs.ValueTests.{accepts}
-use Rattle.clap.specs.Walk.{Row, Rule, Text, answers_to, arg_by_id, first_of, finished, nothing_held, one_of, rows_after, settled, walk}
+use Rattle.clap.specs.Walk.{Row, Rule, Text, action_of, answers_to, arg_by_id, first_of, finished, has_short, nothing_held, one_of, reading_by, rows_after, settled, walk}
 use Rattle.clap.specs.Takes.{is_given}
 use Rattle.clap.specs.Simple.{App, HasMatchesOf, Shape, argument_words, built, built_leaf, entered, inherited, label_of, marked_built, names_of, rows_at, subcommand_of, subcommand_rows_of, with_leaf_noted}
 use Rattle.clap.specs.Faults.{check_fault, defaults_fault, entered_fault, fault_of, level_fault, settle_fault, walk_fault}
+use Rattle.clap.specs.declared.builder.action.ArgAction.{ArgAction}
+use Rattle.clap.specs.declared.builder.action.ArgAction.TheVariants.{Set, Help}
+use Rattle.clap.specs.declared.builder.range.ValueRange.{ValueRange}
+use Rattle.clap.specs.declared.builder.value_parser.Reading.{Reading}
+use Rattle.clap.specs.declared.builder.value_parser.Reading.TheVariants.{AsWritten}
 use Rattle.clap.specs.declared.builder.value_parser.ValueParser.{ValueParser}
 use Rattle.clap.specs.declared.error.Error.{Error}
 use Rattle.clap.specs.declared.parser.matches.ArgMatches.{ArgMatches}
@@ -17,7 +23,7 @@ use Rattle.clap.proofs.ValueTestLemmas.{accepts-Accepts}
 use Rattle.macaroond.specs.CommandLine.{command_line, listen_command, pipe_command, serve_command}
 use Rattle.macaroond.specs.People.{IsTaskName, attenuate_command, inspect_command, keygen_command, mint_command, verify_command}
 use Rattle.macaroond.specs.Options.{HasCommand, HasListenOptions, HasServeOptions, IsGiven, IsGivenNumber, MayBeNumber}
-use Rattle.macaroond.proofs.OptionWalk.{Each, HasValue, IsKnown, first_none, leaf_rows, second_none, value_given, value_or_none}
+use Rattle.macaroond.proofs.OptionWalk.{Each, HasValue, IsKnown, first_none, leaf_rows, no_value, one_value, second_none, value_given, value_or_none}
 
 -- ---- the subcommands, built
 
@@ -30,44 +36,51 @@ serve = built_leaf (inherited (with_leaf_noted (marked_built command_line.top)) 
 abbrev pub listen : Shape
 listen = built_leaf (inherited (with_leaf_noted (marked_built command_line.top)) listen_command.top)
 
-known_serve : Each (IsKnown serve.rules) serve.rules
-known_serve = (
-  inl (record { action = refl; range = refl; index = refl; defaults = refl; short = λ x. refl; reading = refl; own = refl }),
-  (
-    inl (record { action = refl; range = refl; index = refl; defaults = refl; short = λ x. refl; reading = refl; own = refl }),
-    (
-      inl (record { action = refl; range = refl; index = refl; defaults = refl; short = λ x. refl; reading = refl; own = refl }),
-      (
-        inl (record { action = refl; range = refl; index = refl; defaults = refl; short = λ x. refl; reading = refl; own = refl }),
-        (
-          inr (record { action = refl; range = refl; index = refl; defaults = refl }),
-          tt,
-        ),
-      ),
-    ),
-  ),
-)
+-- what is looked at of an argument
+abbrev Looks : Type 0
+Looks = ArgAction × Option ValueRange × Option ℕ × List Text × Option ℕ × List ℕ × Reading × Option Rule
 
-known_listen : Each (IsKnown listen.rules) listen.rules
-known_listen = (
-  inl (record { action = refl; range = refl; index = refl; defaults = refl; short = λ x. refl; reading = refl; own = refl }),
-  (
-    inl (record { action = refl; range = refl; index = refl; defaults = refl; short = λ x. refl; reading = refl; own = refl }),
-    (
-      inl (record { action = refl; range = refl; index = refl; defaults = refl; short = λ x. refl; reading = refl; own = refl }),
-      (
-        inl (record { action = refl; range = refl; index = refl; defaults = refl; short = λ x. refl; reading = refl; own = refl }),
-        (
-          inl (record { action = refl; range = refl; index = refl; defaults = refl; short = λ x. refl; reading = refl; own = refl }),
-          (
-            inr (record { action = refl; range = refl; index = refl; defaults = refl }),
-            tt,
-          ),
-        ),
-      ),
-    ),
-  ),
-)
+abbrev looks : List Rule → Rule → Looks
+looks c a = (action_of a, a.range, a.index, a.defaults, a.short, a.short_aliases, reading_by a, arg_by_id c a.id)
+
+-- and how it should look: `--help` apart, it takes one value, has no letter, and has the id to itself
+abbrev due : ArgAction → List Rule → Rule → Looks
+due Help c a = (Help, Some no_value, None, [], a.short, a.short_aliases, reading_by a, arg_by_id c a.id)
+due _ c a = (Set, Some one_value, None, [], None, [], AsWritten, Some a)
+
+looks_known : (c : List Rule) (a : Rule) → looks c a ≡ due (action_of a) c a → IsKnown c a
+looks_known c a same = go (action_of a) same
+  where
+    option : looks c a ≡ due Set c a → IsKnown c a
+    option e =
+        let letters : (x : ℕ) → has_short a x ≡ false = λ x. ap₂ (λ (s : Option ℕ) (more : List ℕ). option_map_or (λ k. k == x) s false || list_any (λ k. k == x) more) (ap (λ (l : Looks). l.4) e) (ap (λ (l : Looks). l.5) e) in
+        inl (record {
+          action = ap (λ (l : Looks). l.0) e;
+          range = ap (λ (l : Looks). l.1) e;
+          index = ap (λ (l : Looks). l.2) e;
+          defaults = ap (λ (l : Looks). l.3) e;
+          short = letters;
+          reading = ap (λ (l : Looks). l.6) e;
+          own = ap (λ (l : Looks). l.7) e;
+        })
+
+    go : (x : ArgAction) → looks c a ≡ due x c a → IsKnown c a
+    go Help e =
+        inr (record {
+          action = ap (λ (l : Looks). l.0) e;
+          range = ap (λ (l : Looks). l.1) e;
+          index = ap (λ (l : Looks). l.2) e;
+          defaults = ap (λ (l : Looks). l.3) e;
+        })
+    go _ e = option e
+
+-- arguments that look so are known
+all_known : (c xs : List Rule) → map (looks c) xs ≡ map (λ a. due (action_of a) c a) xs → Each (IsKnown c) xs
+all_known c [] same = tt
+all_known c (a ∷ rest) same =
+    let first : looks c a ≡ due (action_of a) c a = cc in
+    let others : map (looks c) rest ≡ map (λ b. due (action_of b) c b) rest = cc in
+    (looks_known c a first, all_known c rest others)
 
 -- ---- one option
 
@@ -99,7 +112,7 @@ pub serve_options : (words : List Text) → level_fault serve [] nothing_held wo
 serve_options words e =
     let c = serve.rules in
     let rows = rows_after c [] words in
-    let found = leaf_rows c serve words known_serve e in
+    let found = leaf_rows c serve words (all_known c c refl) e in
     let socket = neither (not (is_given (codes "socket") rows)) _ found.1 in
     let keys = neither (not (is_given (codes "keys") rows)) _ socket.1 in
     let workers = neither (not (is_given (codes "workers") rows)) _ keys.1 in
@@ -114,14 +127,17 @@ pub listen_options : (words : List Text) → level_fault listen [] nothing_held 
 listen_options words e =
     let c = listen.rules in
     let rows = rows_after c [] words in
-    let found = leaf_rows c listen words known_listen e in
+    let found = leaf_rows c listen words (all_known c c refl) e in
     let socket = neither (not (is_given (codes "socket") rows)) _ found.1 in
-    let keys = neither (not (is_given (codes "keys") rows)) _ socket.1 in (
-      text_of c (codes "socket") rows (value_given c (codes "socket") rows found.0 (wanted _ socket.0)),
-      text_of c (codes "keys") rows (value_given c (codes "keys") rows found.0 (wanted _ keys.0)),
-      maybe_number c (codes "workers") rows 16 _ refl refl (value_or_none c (codes "workers") rows found.0),
-      maybe_number c (codes "idle") rows 86400 _ refl refl (value_or_none c (codes "idle") rows found.0),
-    )
+    let keys = neither (not (is_given (codes "keys") rows)) _ socket.1 in
+    record {
+      socket = text_of c (codes "socket") rows (value_given c (codes "socket") rows found.0 (wanted _ socket.0));
+      keys = text_of c (codes "keys") rows (value_given c (codes "keys") rows found.0 (wanted _ keys.0));
+      workers = maybe_number c (codes "workers") rows 16 _ refl refl (value_or_none c (codes "workers") rows found.0);
+      idle = maybe_number c (codes "idle") rows 86400 _ refl refl (value_or_none c (codes "idle") rows found.0);
+      loops = maybe_number c (codes "loops") rows 64 _ refl refl (value_or_none c (codes "loops") rows found.0);
+      connections = maybe_number c (codes "connections") rows 1000000 _ refl refl (value_or_none c (codes "connections") rows found.0);
+    }
 
 -- ---- the whole line
 

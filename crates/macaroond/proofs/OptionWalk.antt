@@ -40,10 +40,10 @@ second_none (k ∷ ks) b e = cc
 
 -- ---- the arguments
 
-abbrev one_value : ValueRange
+abbrev pub one_value : ValueRange
 one_value = record { start_inclusive = 1; end_inclusive = 1 }
 
-abbrev no_value : ValueRange
+abbrev pub no_value : ValueRange
 no_value = record { start_inclusive = 0; end_inclusive = 0 }
 
 -- an option that takes one value, and has the id to itself

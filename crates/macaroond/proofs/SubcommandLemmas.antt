@@ -1,7 +1,7 @@
 -- The names of subcommands, told apart by their first letters.
-use Rattle.std.proofs.Common.{◌≡◌, ◌==◌, ◌||◌, ◌⊎◌, inl, inr, ℕ, Bool, codes, true, false, refl, sym, subst, List, slice_index}
+use Rattle.std.proofs.Common.{◌≡◌, ◌∙◌, ◌==◌, ◌||◌, ◌⊎◌, inl, inr, ℕ, Bool, codes, true, false, refl, sym, ap, subst, List, Option, Some, None, option_map, slice_index}
 use Rattle.clap.specs.Walk.{Row, Text}
-use Rattle.macaroond.specs.Options.{HasOptions}
+use Rattle.macaroond.specs.Options.{HasCommand, HasOptions}
 use Rattle.macaroond.specs.People.{IsTaskName}
 
 abbrev is_task_letter : ℕ → Bool
@@ -26,3 +26,15 @@ machine_begins name (inr (inr e)) = subst (λ n. begins_task n ≡ false) (sym e
 pub machine_options : (name : Text) (rows : List Row) → HasOptions name rows ⊎ IsTaskName name → (name ≡ codes "pipe") ⊎ ((name ≡ codes "serve") ⊎ (name ≡ codes "listen")) → HasOptions name rows
 machine_options name rows (inl has) machine = has
 machine_options name rows (inr task) machine = let bad : true ≡ false = subst (λ b. b ≡ false) (task_begins name task) (machine_begins name machine) in cc
+
+-- the subcommand that was met has its options, or is for people
+pub met_options : {X : Type 0} (f : X → Text) (g : X → List Row) (met : Option X) (name : Text) (rows : List Row) → Some name ≡ option_map f met
+    → Some rows ≡ option_map (λ p. p.1) (option_map {U = Text × List Row} (λ x. (f x, g x)) met) → HasCommand (option_map (λ x. (f x, g x)) met) → HasOptions name rows ⊎ IsTaskName name
+met_options f g None name rows named options has = cc
+met_options f g (Some x) name rows named options (other, others, same, has) =
+    let pair : ◌≡◌ {A = Text × List Row} (f x, g x) (other, others) = cc in
+    let own : name ≡ f x = cc in
+    let given : rows ≡ g x = cc in
+    let first : other ≡ name = sym (ap (λ (p : Text × List Row). p.0) pair) ∙ sym own in
+    let second : others ≡ rows = sym (ap (λ (p : Text × List Row). p.1) pair) ∙ sym given in
+    subst (λ (n : Text). HasOptions n rows ⊎ IsTaskName n) first (subst (λ (r : List Row). HasOptions other r ⊎ IsTaskName other) second has)

@@ -1,6 +1,7 @@
 -- Arguments of subcommands, as `clap` is told them.
-use Rattle.std.specs.Prelude.{ℕ, Some, true}
-use Rattle.clap.specs.Words.{Rule, Text, new_rule}
+use Rattle.std.specs.Prelude.{ℕ, List, Some, true}
+use Rattle.std.specs.List.{fold}
+use Rattle.clap.specs.Words.{App, Rule, Text, new_rule, with_rule}
 use Rattle.clap.specs.declared.builder.value_parser.ValueParser.TheVariants.{Unsigned}
 
 -- `--NAME VALUE`
@@ -14,3 +15,7 @@ required rule = record rule { required = true }
 -- the same, where the value is a number from 1 to `most`
 abbrev pub number : ℕ → Rule → Rule
 number most rule = record rule { parser = Some (Unsigned 1 most) }
+
+-- a subcommand with the arguments, in order
+abbrev pub with_rules : App → List Rule → App
+with_rules app rules = fold with_rule app rules

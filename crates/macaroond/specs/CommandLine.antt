@@ -9,7 +9,7 @@ use Rattle.std.specs.declared.string.String.{String}
 use Rattle.std.specs.declared.alloc.Global.{Global}
 use Rattle.clap.specs.Kinds.{IsAmong, Kinds}
 use Rattle.clap.specs.Words.{App, Row, Text, fault_of, first_of, new_app, subcommand_of}
-use Rattle.clap.specs.Words.{with_rule, with_subcommand}
+use Rattle.clap.specs.Words.{with_subcommand}
 use Rattle.clap.specs.declared.error.kind.ErrorKind.{ErrorKind}
 use Rattle.clap.specs.declared.error.kind.ErrorKind.TheVariants.{DisplayHelp, DisplayVersion}
 use Rattle.clap.specs.declared.error.kind.ErrorKind.TheVariants.{OutOfMemory}
@@ -17,11 +17,13 @@ use Rattle.macaroond.specs.declared.choices.Choice.{Choice}
 use Rattle.macaroond.specs.declared.choices.Choice.TheVariants.{Pipe, Serve, Listen}
 use Rattle.macaroond.specs.declared.choices.Chosen.{Chosen}
 use Rattle.macaroond.specs.declared.choices.Chosen.TheVariants.{Machine, Person}
+use Rattle.macaroond.specs.declared.choices.ListenOptions.{ListenOptions}
 use Rattle.macaroond.specs.declared.choices.Mode.{Mode}
 use Rattle.macaroond.specs.declared.choices.Mode.TheVariants.{Owner, Group, Everyone}
+use Rattle.macaroond.specs.declared.choices.ServeOptions.{ServeOptions}
 use Rattle.macaroond.specs.declared.status.Status.{Status}
 use Rattle.macaroond.specs.declared.status.Status.TheVariants.{Done, BadLine, NoMemory}
-use Rattle.macaroond.specs.Arguments.{number, option, required}
+use Rattle.macaroond.specs.Arguments.{number, option, required, with_rules}
 use Rattle.macaroond.specs.People.{IsTask, with_people}
 
 -- ---- what `clap` is told
@@ -41,22 +43,26 @@ program = record (new_app (codes "macaroond")) {
   };
 }
 
--- a subcommand with the options `--socket` and `--keys`
-abbrev pub socket_command : Text → App
-socket_command name = with_rule (with_rule (new_app name) (required (option (codes "socket"))))
-    (required (option (codes "keys")))
-
--- the subcommand `serve`, which takes four options
+-- the subcommand `serve`, all of whose options have to be given
 abbrev pub serve_command : App
-serve_command = with_rule (with_rule (socket_command (codes "serve"))
-    (required (number 16 (option (codes "workers")))))
-    (required (number 1000 (option (codes "accept"))))
+serve_command = with_rules (new_app (codes "serve"))
+    (required (option (codes "socket"))
+    ∷ required (option (codes "keys"))
+    ∷ required (number 16 (option (codes "workers")))
+    ∷ required (number 1000 (option (codes "accept")))
+    ∷ [])
 
--- the subcommand `listen`, which takes two options and may take three more
+-- the subcommand `listen`, whose socket and key file have to be given
 abbrev pub listen_command : App
-listen_command = with_rule (with_rule (with_rule (socket_command (codes "listen"))
-    (number 16 (option (codes "workers")))) (option (codes "mode")))
-    (number 86400 (option (codes "idle")))
+listen_command = with_rules (new_app (codes "listen"))
+    (required (option (codes "socket"))
+    ∷ required (option (codes "keys"))
+    ∷ number 16 (option (codes "workers"))
+    ∷ option (codes "mode")
+    ∷ number 86400 (option (codes "idle"))
+    ∷ number 64 (option (codes "loops"))
+    ∷ number 1000000 (option (codes "connections"))
+    ∷ [])
 
 -- the whole command line
 abbrev pub command_line : App
@@ -124,24 +130,34 @@ mode_given (Some digits) = mode_of digits
 abbrev pub IsText : String Global → Option Text → Type 0
 IsText text given = given ≡ Some (string_bytes text)
 
+-- the values of the options of `serve`
+abbrev pub HasServe : ServeOptions → List Row → Type 0
+HasServe options rows = IsText options.socket (first_of (codes "socket") rows)
+    × IsText options.keys (first_of (codes "keys") rows)
+    × IsNumber 16 options.workers (first_of (codes "workers") rows)
+    × IsNumber 1000 options.accept (first_of (codes "accept") rows)
+
+-- the values of the options of `listen`
+abbrev pub HasListen : ListenOptions → List Row → Type 0
+HasListen options rows = IsText options.socket (first_of (codes "socket") rows)
+    × IsText options.keys (first_of (codes "keys") rows)
+    × IsNumberOrNone 16 options.workers (first_of (codes "workers") rows)
+    × (mode_given (first_of (codes "mode") rows) ≡ Some options.mode)
+    × IsNumberOrNone 86400 options.idle (first_of (codes "idle") rows)
+    × IsNumberOrNone 64 options.loops (first_of (codes "loops") rows)
+    × IsNumberOrNone 1000000 options.connections (first_of (codes "connections") rows)
+
 -- the choice has the values of a subcommand's options
 abbrev pub HasValues : Choice → List Row → Type 0
 HasValues Pipe rows = Unit {0}
-HasValues (Serve socket keys workers accept) rows =
-    IsText socket (first_of (codes "socket") rows) × IsText keys (first_of (codes "keys") rows)
-    × IsNumber 16 workers (first_of (codes "workers") rows)
-    × IsNumber 1000 accept (first_of (codes "accept") rows)
-HasValues (Listen socket keys workers mode idle) rows =
-    IsText socket (first_of (codes "socket") rows) × IsText keys (first_of (codes "keys") rows)
-    × IsNumberOrNone 16 workers (first_of (codes "workers") rows)
-    × (mode_given (first_of (codes "mode") rows) ≡ Some mode)
-    × IsNumberOrNone 86400 idle (first_of (codes "idle") rows)
+HasValues (Serve options) rows = HasServe options rows
+HasValues (Listen options) rows = HasListen options rows
 
 -- the subcommand that the choice stands for
 abbrev pub choice_name : Choice → Text
 choice_name Pipe = codes "pipe"
-choice_name (Serve socket keys workers accept) = codes "serve"
-choice_name (Listen socket keys workers mode idle) = codes "listen"
+choice_name (Serve options) = codes "serve"
+choice_name (Listen options) = codes "listen"
 
 -- the choice is the one that a subcommand of this name, with these options, stands for
 abbrev pub IsChoice : Choice → Option (Text × List Row) → Type 0

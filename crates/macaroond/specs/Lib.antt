@@ -1,7 +1,6 @@
 pub mod Arguments
 pub mod Arrived
 pub mod CommandLine
-pub mod Crew
 pub mod Doing
 pub mod Inner
 pub mod Lines
@@ -11,4 +10,5 @@ pub mod People
 pub mod Pipe
 pub mod PipeText
 pub mod ReplyLine
+pub mod Shape
 pub mod Status

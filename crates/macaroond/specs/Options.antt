@@ -45,9 +45,13 @@ abbrev pub HasServeOptions : List Row → Type 0
 HasServeOptions rows = IsGiven (codes "socket") rows × IsGiven (codes "keys") rows
     × IsGivenNumber 16 (codes "workers") rows × IsGivenNumber 1000 (codes "accept") rows
 
-abbrev pub HasListenOptions : List Row → Type 0
-HasListenOptions rows = IsGiven (codes "socket") rows × IsGiven (codes "keys") rows
-    × MayBeNumber 16 (codes "workers") rows × MayBeNumber 86400 (codes "idle") rows
+pub record HasListenOptions (rows : List Row) : Type 0 where
+  pub socket : IsGiven (codes "socket") rows
+  pub keys : IsGiven (codes "keys") rows
+  pub workers : MayBeNumber 16 (codes "workers") rows
+  pub idle : MayBeNumber 86400 (codes "idle") rows
+  pub loops : MayBeNumber 64 (codes "loops") rows
+  pub connections : MayBeNumber 1000000 (codes "connections") rows
 
 -- the rows are those of one of the three subcommands
 abbrev pub HasOptions : Text → List Row → Type 0

@@ -2,6 +2,8 @@
 use Rattle.std.specs.Prelude.{◌≡◌, ◌⊎◌, ℕ, Result, Ok, Err}
 use Rattle.macaroond.specs.declared.fault.PipeFault.{PipeFault}
 use Rattle.macaroond.specs.declared.fault.PipeFault.TheVariants as fault
+use Rattle.mac_daemon.specs.declared.fault.DaemonFault.{DaemonFault}
+use Rattle.mac_daemon.specs.declared.fault.DaemonFault.TheVariants as daemon
 use Rattle.macaroond.specs.declared.status.Status.{Status}
 use Rattle.macaroond.specs.declared.status.Status.TheVariants as status
 
@@ -25,6 +27,14 @@ pipe_status fault.Memory = status.NoMemory
 abbrev pub run_status : Result (Unit {0}) PipeFault → Status
 run_status (Ok x) = status.Done
 run_status (Err fault) = pipe_status fault
+
+-- want of memory or of a thread; else the system's refusal
+abbrev pub daemon_status : DaemonFault → Status
+daemon_status (daemon.Place fault) = status.DeviceFault
+daemon_status (daemon.System fault) = status.DeviceFault
+daemon_status daemon.Output = status.DeviceFault
+daemon_status daemon.NoThread = status.NoMemory
+daemon_status daemon.NoMemory = status.NoMemory
 
 -- a line that asks for no work ends with its own status; where help can't be printed, with that of
 -- a device

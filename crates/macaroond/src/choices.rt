@@ -19,29 +19,41 @@ pub enum Choice {
     /// Answer the requests on standard input, each by a line on standard output.
     Pipe,
     /// Answer the requests of so many connections over a socket, and end.
-    Serve {
-        /// The path of the socket.
-        socket: String,
-        /// The path of the key file.
-        keys: String,
-        /// How many threads answer requests, from 1 to 16.
-        workers: u64,
-        /// How many connections are served, from 1 to 1,000.
-        accept: u64,
-    },
+    Serve(ServeOptions),
     /// Answer requests over a socket, without end.
-    Listen {
-        /// The path of the socket.
-        socket: String,
-        /// The path of the key file.
-        keys: String,
-        /// How many threads answer requests, from 1 to 16; else as many as there are processors.
-        workers: Option<u64>,
-        /// Who may connect.
-        mode: Mode,
-        /// The seconds after which a connection that makes no progress is ended, up to a day.
-        idle: Option<u64>,
-    },
+    Listen(ListenOptions),
+}
+
+/// What `serve` is told.
+#[derive(Drop)]
+pub struct ServeOptions {
+    /// The path of the socket.
+    pub socket: String,
+    /// The path of the key file.
+    pub keys: String,
+    /// How many threads answer requests, from 1 to 16.
+    pub workers: u64,
+    /// How many connections are served, from 1 to 1,000.
+    pub accept: u64,
+}
+
+/// What `listen` is told.
+#[derive(Drop)]
+pub struct ListenOptions {
+    /// The path of the socket.
+    pub socket: String,
+    /// The path of the key file.
+    pub keys: String,
+    /// How many threads answer requests, from 1 to 16; else as many as there are processors.
+    pub workers: Option<u64>,
+    /// Who may connect.
+    pub mode: Mode,
+    /// The seconds after which a connection that makes no progress is ended, up to a day.
+    pub idle: Option<u64>,
+    /// How many threads wait for connections and answer them, from 1 to 64.
+    pub loops: Option<u64>,
+    /// How many connections are live at a time, from 1 to 1,000,000.
+    pub connections: Option<u64>,
 }
 
 /// Who may connect to a socket, as the permissions of its file say.

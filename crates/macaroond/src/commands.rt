@@ -5,7 +5,7 @@ ghost use Rattle.macaroond.specs.Arguments.{number, option, required};
 ghost use Rattle.macaroond.specs.CommandLine.{command_line, listen_command, pipe_command};
 ghost use Rattle.macaroond.specs.CommandLine.{serve_command};
 
-use crate::parts::{KEYS_HELP, add_subcommand, build_option};
+use crate::parts::{KEYS_HELP, add_arg, add_subcommand, build_option, build_subcommand};
 use crate::people::add_people;
 use clap::builder::ValueParser;
 use clap::{Arg, Command};
@@ -17,6 +17,12 @@ pub const ACCEPT_MAX: u64 = 1000;
 
 /// The most seconds that `--idle` takes: a day.
 pub const IDLE_MAX: u64 = 86400;
+
+/// The most threads that `--loops` takes.
+pub const LOOPS_MAX: u64 = 64;
+
+/// The most connections that `--connections` takes.
+pub const CONNECTIONS_MAX: u64 = 1_000_000;
 
 /// The version, as `--version` prints it. A build of a commit writes its first digits over the last
 /// word.
@@ -83,6 +89,25 @@ Exit status:
 /// What help says of the options that `serve` and `listen` share.
 const SOCKET_HELP: &str = "Where the socket is made";
 
+const SERVE_WORKERS_HELP: &str = "How many threads answer requests, from 1 to 16";
+
+const ACCEPT_HELP: &str = "How many connections are served, from 1 to 1000";
+
+const LISTEN_WORKERS_HELP: &str =
+    "How many threads answer requests, from 1 to 16 [default: one a processor]";
+
+const MODE_HELP: &str =
+    "Who may connect: 600 the owner, 660 the group too, 666 everyone [default: 600]";
+
+const IDLE_HELP: &str =
+    "Ends a connection that makes no progress for so many seconds [default: never]";
+
+const LOOPS_HELP: &str =
+    "How many threads wait for connections and answer them, from 1 to 64 [default: one a processor]";
+
+const CONNECTIONS_HELP: &str =
+    "How many connections are live at a time, from 1 to 1000000 [default: 10000]";
+
 /// The whole command line.
 pub fn build_command<'a>(alloc: Global) -> Result<Command<'a>, AllocError>
     ensures { IfOk result (λ command. app_of command ≡ command_line) }
@@ -102,41 +127,39 @@ pub fn build_command<'a>(alloc: Global) -> Result<Command<'a>, AllocError>
 fn build_pipe<'a>(alloc: Global) -> Command<'a>
     ensures { app_of result ≡ pipe_command }
 {
-    Command::new(alloc, "pipe")
-        .about("Answers the requests on standard input, one line each")
-        .after_help(PIPE_HELP)
+    let about = "Answers the requests on standard input, one line each";
+    build_subcommand(alloc, "pipe", about, PIPE_HELP)
 }
 
 /// The subcommand `serve`, all of whose options have to be given.
 fn build_serve<'a>(alloc: Global) -> Result<Command<'a>, AllocError>
     ensures { IfOk result (λ serve. app_of serve ≡ serve_command) }
 {
-    let workers = "How many threads answer requests, from 1 to 16";
-    let accept = "How many connections are served, from 1 to 1000";
-    Command::new(alloc, "serve")
-        .about("Answers the requests of so many connections over a Unix socket")
-        .after_help(SERVE_HELP)
-        .arg(build_path(alloc, "socket", SOCKET_HELP))?
-        .arg(build_path(alloc, "keys", KEYS_HELP))?
-        .arg(build_count(alloc, "workers", WORKERS_MAX as u64, workers).required(true))?
-        .arg(build_count(alloc, "accept", ACCEPT_MAX, accept).required(true))
+    let about = "Answers the requests of so many connections over a Unix socket";
+    let serve = build_subcommand(alloc, "serve", about, SERVE_HELP);
+    let serve = add_arg(serve, build_path(alloc, "socket", SOCKET_HELP))?;
+    let serve = add_arg(serve, build_path(alloc, "keys", KEYS_HELP))?;
+    let workers = build_count(alloc, "workers", WORKERS_MAX as u64, SERVE_WORKERS_HELP);
+    let serve = add_arg(serve, workers.required(true))?;
+    let accept = build_count(alloc, "accept", ACCEPT_MAX, ACCEPT_HELP);
+    add_arg(serve, accept.required(true))
 }
 
 /// The subcommand `listen`, whose socket and key file have to be given.
 fn build_listen<'a>(alloc: Global) -> Result<Command<'a>, AllocError>
     ensures { IfOk result (λ listen. app_of listen ≡ listen_command) }
 {
-    let workers = "How many threads answer requests, from 1 to 16 [default: one a processor]";
-    let mode = "Who may connect: 600 the owner, 660 the group too, 666 everyone [default: 600]";
-    let idle = "Ends a connection that makes no progress for so many seconds [default: never]";
-    Command::new(alloc, "listen")
-        .about("Answers requests over a Unix socket until it is stopped")
-        .after_help(LISTEN_HELP)
-        .arg(build_path(alloc, "socket", SOCKET_HELP))?
-        .arg(build_path(alloc, "keys", KEYS_HELP))?
-        .arg(build_count(alloc, "workers", WORKERS_MAX as u64, workers))?
-        .arg(build_option(alloc, "mode", "DIGITS", mode))?
-        .arg(build_count(alloc, "idle", IDLE_MAX, idle))
+    let about = "Answers requests over a Unix socket until it is stopped";
+    let workers = build_count(alloc, "workers", WORKERS_MAX as u64, LISTEN_WORKERS_HELP);
+    let connections = build_count(alloc, "connections", CONNECTIONS_MAX, CONNECTIONS_HELP);
+    let listen = build_subcommand(alloc, "listen", about, LISTEN_HELP);
+    let listen = add_arg(listen, build_path(alloc, "socket", SOCKET_HELP))?;
+    let listen = add_arg(listen, build_path(alloc, "keys", KEYS_HELP))?;
+    let listen = add_arg(listen, workers)?;
+    let listen = add_arg(listen, build_option(alloc, "mode", "DIGITS", MODE_HELP))?;
+    let listen = add_arg(listen, build_count(alloc, "idle", IDLE_MAX, IDLE_HELP))?;
+    let listen = add_arg(listen, build_count(alloc, "loops", LOOPS_MAX, LOOPS_HELP))?;
+    add_arg(listen, connections)
 }
 
 /// A required option that takes a path.

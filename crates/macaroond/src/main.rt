@@ -5,15 +5,20 @@
 #![tactic(auto)]
 
 ghost use Rattle.std.specs.Prelude.{◌≡◌, ◌≤◌, IfErr};
-ghost use Rattle.macaroond.specs.Status.{IsShown, run_status};
+ghost use Rattle.mac_pool.specs.declared.pool.TheConstants.{WORKERS_MAX};
+ghost use Rattle.macaroond.specs.CommandLine.{permissions};
+ghost use Rattle.macaroond.specs.Shape.{HasCount, connections_of};
+ghost use Rattle.macaroond.specs.Status.{IsShown, daemon_status, run_status};
+ghost use Rattle.macaroond.specs.declared.commands.TheConstants.{LOOPS_MAX};
 
 mod arrived;
 mod choices;
 mod command_line;
 mod commands;
-mod daemon;
+mod descriptors;
 mod fault;
 mod input;
+mod key_file;
 pub mod laws;
 mod lines;
 mod options;
@@ -23,13 +28,15 @@ mod piping;
 mod reply_line;
 mod status;
 
-pub use choices::{Choice, Chosen, Mode};
+pub use choices::{Choice, Chosen, ListenOptions, Mode, ServeOptions};
 pub use command_line::{choose, read_words};
-pub use commands::{ACCEPT_MAX, IDLE_MAX};
-use daemon::{NOWHERE, open_standard, read_keys};
-pub use daemon::{Day, LIVE_MAX, Terms, accept_all, listen};
+pub use commands::{ACCEPT_MAX, CONNECTIONS_MAX, IDLE_MAX, LOOPS_MAX};
+use descriptors::{NOWHERE, open_standard};
 pub use fault::PipeFault;
 pub use input::INPUT_MAX;
+use key_file::read_keys;
+use mac_board::Publisher;
+use mac_daemon::{DaemonFault, FOLLOWERS_MAX, Shape, Terms, accept_all, listen};
 use mac_pool::WORKERS_MAX;
 use mac_wire::{ReaderSource, WriterSink};
 use people::run_task;
@@ -42,10 +49,13 @@ use std::fs::{File, Files};
 use std::net::Net;
 use std::process::{ExitCode, Process};
 use std::random::RandomSource;
-use std::sync::{Arc, Wait};
+use std::sync::Wait;
 use std::thread::Threads;
-use std::time::{Clock, Duration};
+use std::time::Clock;
 use std::{io, thread};
+
+/// How many connections there are at a time, where nothing else is asked for.
+const CONNECTIONS: u64 = 10_000;
 
 fn main(rt: HostRuntime) -> ExitCode {
     ExitCode::from(run(&rt, rt.process()).code())
@@ -94,44 +104,40 @@ where
 {
     match choice {
         Choice::Pipe => run_pipe(rt),
-        Choice::Serve {
-            socket,
-            keys,
-            workers,
-            accept,
-        } => run_serve(rt, socket.as_str(), keys.as_str(), workers, accept),
-        Choice::Listen {
-            socket,
-            keys,
-            workers,
-            mode,
-            idle,
-        } => {
-            let terms = Terms {
-                path: socket.as_str(),
-                mode,
-                idle: idle.map(Duration::from_secs),
-                workers: count_workers(rt, workers),
-            };
-            run_listen(rt, keys.as_str(), terms, process)
-        }
+        Choice::Serve(options) => run_serve(rt, &options),
+        Choice::Listen(options) => run_listen(rt, &options, process),
     }
 }
 
 /// The workers that were asked for, or one for each processor.
 fn count_workers<R: Threads>(rt: &R, asked: Option<u64>) -> usize
-    ensures some { 1 ≤ result }
-    ensures most { result ≤ WORKERS_MAX }
+    ensures { HasCount WORKERS_MAX asked result }
+{
+    count_threads(rt, asked, WORKERS_MAX)
+}
+
+/// The loops that were asked for, or one for each processor.
+fn count_loops<R: Threads>(rt: &R, asked: Option<u64>) -> usize
+    ensures { HasCount LOOPS_MAX asked result }
+{
+    count_threads(rt, asked, LOOPS_MAX as usize)
+}
+
+/// The threads that were asked for, or one for each processor, but for 1 at least and `most` at
+/// most.
+fn count_threads<R: Threads>(rt: &R, asked: Option<u64>, most: usize) -> usize
+    requires { 1 ≤ most }
+    ensures { HasCount most asked result }
 {
     let count = match asked {
         Some(count) => count as usize,
         None => thread::available_parallelism(rt).map_or(1, |count| count.get()),
     };
-    count.max(1).min(WORKERS_MAX)
+    count.max(1).min(most)
 }
 
 /// Serves so many connections, and says how the run ended.
-fn run_serve<R>(rt: &R, path: &str, keys: &str, workers: u64, accept: u64) -> Status
+fn run_serve<R>(rt: &R, options: &ServeOptions) -> Status
 where
     R: Alloc<A = Global> + Print + Eprint + Files<File = File> + Net + Clock,
     R: Threads + Wait + Sync + Copy + Send + 'static,
@@ -140,24 +146,33 @@ where
         let _ = eprintln!(rt; "{NOWHERE}: {refused}");
         return tell_fault(rt, Status::DeviceFault);
     }
-    let keys = match read_keys(rt, keys) {
+    let keys = match read_keys(rt, options.keys.as_str()) {
         Ok(keys) => keys,
         Err(fault) => return tell_ending(rt, Err(fault)),
     };
-    let Ok(keys) = Arc::new(rt.alloc(), keys) else {
+    let Ok(publisher) = Publisher::new(rt.alloc(), *rt, keys, FOLLOWERS_MAX) else {
         return tell_fault(rt, Status::NoMemory);
     };
-    let workers = count_workers(rt, Some(workers));
-    let accept = accept.max(1).min(ACCEPT_MAX);
+    let Ok(followers) = publisher.followers() else {
+        return tell_fault(rt, Status::NoMemory);
+    };
+    let path = options.socket.as_str();
+    let accept = options.accept;
+    let shape = Shape {
+        loops: count_loops(rt, None),
+        workers: count_workers(rt, Some(options.workers)),
+        connections: ACCEPT_MAX,
+        idle: None,
+    };
     let mut out = WriterSink::new(io::writer(rt));
-    match accept_all(rt, rt.alloc(), path, &keys, workers, accept, &mut out) {
+    match accept_all(rt, rt.alloc(), path, &followers, shape, accept, &mut out) {
         Ok(_) => Status::Done,
-        Err(status) => tell_fault(rt, status),
+        Err(fault) => tell_fault(rt, status_of_daemon(&fault)),
     }
 }
 
 /// Listens without end, or says how the run ended where that can't begin.
-fn run_listen<R>(rt: &R, keys: &str, terms: Terms<'_>, process: Process) -> Status
+fn run_listen<R>(rt: &R, options: &ListenOptions, process: Process) -> Status
 where
     R: Alloc<A = Global> + Print + Eprint + Files<File = File> + Net + Clock,
     R: Threads + Wait + Sync + Copy + Send + 'static,
@@ -166,14 +181,56 @@ where
         let _ = eprintln!(rt; "{NOWHERE}: {refused}");
         return tell_fault(rt, Status::DeviceFault);
     }
-    let keys = match read_keys(rt, keys) {
+    let keys = match read_keys(rt, options.keys.as_str()) {
         Ok(keys) => keys,
         Err(fault) => return tell_ending(rt, Err(fault)),
     };
-    let Ok(keys) = Arc::new(rt.alloc(), keys) else {
+    let terms = name_terms(rt, options, keys.len());
+    let Ok(publisher) = Publisher::new(rt.alloc(), *rt, keys, FOLLOWERS_MAX) else {
         return tell_fault(rt, Status::NoMemory);
     };
-    tell_fault(rt, listen(rt, rt.alloc(), terms, &keys, process))
+    let Ok(followers) = publisher.followers() else {
+        return tell_fault(rt, Status::NoMemory);
+    };
+    let path = terms.path;
+    match listen(rt, rt.alloc(), terms, &followers, process) {
+        Ok(never) => match never {},
+        Err(fault) => {
+            let _ = eprintln!(rt; "{path}: {fault}");
+            tell_fault(rt, status_of_daemon(&fault))
+        }
+    }
+}
+
+/// How a run ends that a daemon ended with this fault.
+fn status_of_daemon(fault: &DaemonFault) -> Status
+    ensures { result ≡ daemon_status fault.now }
+{
+    match fault {
+        DaemonFault::NoThread | DaemonFault::NoMemory => Status::NoMemory,
+        DaemonFault::Place(_) | DaemonFault::System(_) | DaemonFault::Output => Status::DeviceFault,
+    }
+}
+
+/// The terms that the options of `listen` name.
+fn name_terms<'a, R: Threads>(rt: &R, options: &'a ListenOptions, names: usize) -> Terms<'a>
+    ensures mode { result.permissions ≡ permissions options.now.mode }
+    ensures idle { result.shape.idle ≡ options.now.idle }
+    ensures connections { result.shape.connections ≡ connections_of options.now.connections }
+    ensures loops { HasCount LOOPS_MAX options.now.loops result.shape.loops }
+    ensures workers { HasCount WORKERS_MAX options.now.workers result.shape.workers }
+{
+    Terms {
+        path: options.socket.as_str(),
+        permissions: options.mode.permissions(),
+        names,
+        shape: Shape {
+            loops: count_loops(rt, options.loops),
+            workers: count_workers(rt, options.workers),
+            connections: options.connections.unwrap_or(CONNECTIONS),
+            idle: options.idle,
+        },
+    }
 }
 
 /// Pipes standard input to standard output, and says how the run ended.

@@ -6,7 +6,7 @@ ghost use Rattle.macaroond.specs.Options.{Chooses, HasListenOptions, HasNumber, 
 ghost use Rattle.macaroond.specs.Options.{HasServeOptions, IsGiven, MayRead, Reads};
 ghost use Rattle.macaroond.specs.declared.options.OptionFault.TheVariants.{NoMemory};
 
-use crate::choices::{Choice, Mode};
+use crate::choices::{Choice, ListenOptions, Mode, ServeOptions};
 use clap::ArgMatches;
 use std::alloc::{AllocError, Global};
 
@@ -49,12 +49,12 @@ fn read_serve(alloc: Global, options: &ArgMatches<'_>) -> Result<Choice, OptionF
     requires { HasServeOptions (rows_of (found_of options.now)) }
     ensures { Chooses (codes "serve") (rows_of (found_of options.now)) result }
 {
-    Ok(Choice::Serve {
+    Ok(Choice::Serve(ServeOptions {
         socket: read_text(alloc, options, "socket")?,
         keys: read_text(alloc, options, "keys")?,
         workers: read_number(options, "workers"),
         accept: read_number(options, "accept"),
-    })
+    }))
 }
 
 /// The choice of the options of `listen`; the mode is looked at first.
@@ -65,13 +65,15 @@ fn read_listen(alloc: Global, options: &ArgMatches<'_>) -> Result<Choice, Option
     let Some(mode) = read_mode(options) else {
         return Err(OptionFault::UnknownMode);
     };
-    Ok(Choice::Listen {
+    Ok(Choice::Listen(ListenOptions {
         socket: read_text(alloc, options, "socket")?,
         keys: read_text(alloc, options, "keys")?,
         workers: read_optional_number(options, "workers"),
         mode,
         idle: read_optional_number(options, "idle"),
-    })
+        loops: read_optional_number(options, "loops"),
+        connections: read_optional_number(options, "connections"),
+    }))
 }
 
 /// The value of an option that has to be given.

@@ -1,6 +1,6 @@
 //! What the command line is built of, as `clap` is told it.
 ghost use Rattle.std.specs.Prelude.{◌≡◌, false, true, IfOk};
-ghost use Rattle.clap.specs.Words.{app_of, rule_of, with_subcommand};
+ghost use Rattle.clap.specs.Words.{app_of, new_app, rule_of, with_rule, with_subcommand};
 ghost use Rattle.macaroond.specs.Arguments.{option};
 
 use clap::{Arg, Command};
@@ -19,6 +19,27 @@ pub(crate) fn add_subcommand<'a>(
         app_of whole ≡ with_subcommand (app_of program.entry) (app_of command.entry).top) }
 {
     program.subcommand(command)
+}
+
+/// A subcommand without its arguments.
+pub(crate) fn build_subcommand<'a>(
+    alloc: Global,
+    name: &'a str,
+    about: &'a str,
+    help: &'a str,
+) -> Command<'a>
+    ensures { app_of result ≡ new_app name.entry.now }
+{
+    Command::new(alloc, name).about(about).after_help(help)
+}
+
+/// The subcommand with one more argument.
+pub(crate) fn add_arg<'a>(command: Command<'a>, arg: Arg<'a>) -> Result<Command<'a>, AllocError>
+    requires { arg.global ≡ false }
+    ensures { IfOk result (λ whole.
+        app_of whole ≡ with_rule (app_of command.entry) (rule_of arg.entry)) }
+{
+    command.arg(arg)
 }
 
 /// An option that takes a value.

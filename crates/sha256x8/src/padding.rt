@@ -6,8 +6,8 @@ ghost use Rattle.sha256x8.specs.Padded.{IsBlock, padded_text};
 
 use std::simd::u32x8;
 
-/// The length of a block in bytes.
-const BLOCK: usize = 64;
+/// The length of a block in bytes (FIPS 180-4, section 1).
+pub const BLOCK: usize = 64;
 
 /// Where the message's length in bits stands in its last block.
 const BIT_COUNT: usize = 56;

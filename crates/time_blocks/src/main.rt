@@ -6,10 +6,8 @@ ghost use Rattle.std.specs.Prelude.{◌≡◌, ◌*◌, replicate};
 ghost use Rattle.sha2.specs.Sha256.{sha256};
 
 use sha2::{Digest, Sha256};
+use sha256x8::BLOCK;
 use std::{env, io};
-
-/// A block of SHA-256 (FIPS 180-4, section 1).
-const BLOCK: usize = 64;
 
 /// The digest of so many blocks of zeros.
 fn digest_of_zeros(blocks: u64) -> [u8; 32]

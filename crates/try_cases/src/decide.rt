@@ -130,10 +130,10 @@ fn replies(case: &mut Case<'_>) {
 }
 
 /// The replies to payloads where they lie.
-fn replies_in_runs(
+fn replies_in_runs<'a>(
     alloc: Global,
-    table: &KeyTable,
-    payloads: &[Vec<u8>],
+    table: &'a KeyTable,
+    payloads: &'a [Vec<u8>],
 ) -> Result<Vec<Reply>, NoMemory> {
     let mut rooms = Rooms::new(alloc);
     let mut replies = Vec::with_capacity(alloc, payloads.len())?;

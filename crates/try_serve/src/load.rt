@@ -1,7 +1,7 @@
 //! Many requests of one kind, to be timed.
 
 use crate::fault::RunFault;
-use crate::payload::{Form, Texts, append_frame, mint, verify};
+use crate::payload::{Form, Texts, append_frame, mint_request, verify_request};
 use crate::serving::by_a_pool;
 use crate::streams::key_table;
 use mac_decide::{answer, job_of};
@@ -33,14 +33,20 @@ fn payload_of(alloc: Global, kind: &str) -> Result<Vec<u8>, RunFault> {
 }
 
 fn minting(alloc: Global) -> Result<Vec<u8>, AllocError> {
-    mint(alloc, Form::V2Binary, b"bank", b"user:1001", CAVEATS)
+    mint_request(alloc, Form::V2Binary, b"bank", b"user:1001", CAVEATS)
 }
 
 fn verifying(alloc: Global) -> Result<Vec<u8>, RunFault> {
     let keys = key_table(alloc)?;
     let arrival = Arrival::Payload(Bytes::new(minting(alloc)?));
     match answer(alloc, &job_of(&keys, arrival))? {
-        Reply::Token(token) => Ok(verify(alloc, b"bank", token.as_slice(), MOMENT, CAVEATS)?),
+        Reply::Token(token) => Ok(verify_request(
+            alloc,
+            b"bank",
+            token.as_slice(),
+            MOMENT,
+            CAVEATS,
+        )?),
         _ => Err(RunFault::Wrong),
     }
 }

@@ -44,7 +44,7 @@ fn text_of(number: u64) -> &'static [u8] {
 }
 
 /// Asks for a token of this identifier.
-pub(crate) fn mint(
+pub(crate) fn mint_request(
     alloc: Global,
     form: Form,
     name: &[u8],
@@ -60,7 +60,7 @@ pub(crate) fn mint(
 }
 
 /// Asks for a token with further caveats.
-pub(crate) fn attenuate(
+pub(crate) fn attenuate_request(
     alloc: Global,
     form: Form,
     token: &[u8],
@@ -73,7 +73,7 @@ pub(crate) fn attenuate(
 }
 
 /// Asks whether a token is granted.
-pub(crate) fn verify(
+pub(crate) fn verify_request(
     alloc: Global,
     name: &[u8],
     token: &[u8],

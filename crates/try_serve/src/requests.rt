@@ -1,7 +1,7 @@
 //! Requests that look random, and their answers made one after the other.
 
 use crate::fault::RunFault;
-use crate::payload::{Form, Texts, append_frame, attenuate, mint, verify};
+use crate::payload::{Form, Texts, append_frame, attenuate_request, mint_request, verify_request};
 use mac_decide::{answer, job_of};
 use mac_keys::KeyTable;
 use mac_wire::{Arrival, Bytes, HELLO, Reply, Version, append_reply};
@@ -171,7 +171,7 @@ fn tokens_of(alloc: Global, keys: &KeyTable, dice: &mut Dice) -> Result<Vec<Vec<
     for _ in 0..TOKENS {
         let form = dice.form();
         let caveats = dice.texts(7);
-        let payload = mint(alloc, form, b"bank", b"user:1001", caveats)?;
+        let payload = mint_request(alloc, form, b"bank", b"user:1001", caveats)?;
         let arrival = Arrival::Payload(Bytes::new(payload));
         match answer(alloc, &job_of(keys, arrival))? {
             Reply::Token(token) => tokens.push(token.into_vec())?,
@@ -189,11 +189,11 @@ fn payload_of(
 ) -> Result<Vec<u8>, AllocError> {
     let token = token_of(dice, tokens);
     match dice.throw() % 8 {
-        0 => mint(alloc, dice.form(), dice.name(), b"user:1002", dice.texts(4)),
-        1 | 2 => attenuate(alloc, dice.form(), token, dice.texts(3)),
+        0 => mint_request(alloc, dice.form(), dice.name(), b"user:1002", dice.texts(4)),
+        1 | 2 => attenuate_request(alloc, dice.form(), token, dice.texts(3)),
         3 => damaged_verify(alloc, dice, token),
         4 => dice.bytes(alloc),
-        _ => verify(alloc, dice.name(), token, 1_580_000_000, dice.texts(8)),
+        _ => verify_request(alloc, dice.name(), token, 1_580_000_000, dice.texts(8)),
     }
 }
 
@@ -206,7 +206,7 @@ fn token_of<'a>(dice: &mut Dice, tokens: &'a Vec<Vec<u8>>) -> &'a [u8] {
 
 /// A verify of which one byte is another.
 fn damaged_verify(alloc: Global, dice: &mut Dice, token: &[u8]) -> Result<Vec<u8>, AllocError> {
-    let mut payload = verify(alloc, b"bank", token, 1_580_000_000, dice.texts(8))?;
+    let mut payload = verify_request(alloc, b"bank", token, 1_580_000_000, dice.texts(8))?;
     let at = (dice.throw() % 200) as usize;
     if at < payload.len() {
         payload[at] ^= 1;

@@ -5,6 +5,7 @@ ghost use Rattle.std.specs.Prelude.{◌≡◌, ◌≤◌, IfOk};
 use crate::fault::RunFault;
 use crate::report::{Report, outcome_text};
 use crate::streams::{key_table, stream_of};
+use mac_board::FixedTables;
 use mac_decide::Macaroons;
 use mac_keys::KeyTable;
 use mac_pool::{Desk, Gate, NoGate, Pool, Tally};
@@ -107,7 +108,16 @@ fn served<R: Threads + Wait + Sync, In: Source, Out: Sink>(
 ) -> Told
     ensures { result.desk.putter.queue ≡ desk.putter.queue }
 {
-    match serve(rt, alloc, source, sink, keys, desk, Session::new(alloc)) {
+    let mut keys = FixedTables(keys);
+    match serve(
+        rt,
+        alloc,
+        source,
+        sink,
+        &mut keys,
+        desk,
+        Session::new(alloc),
+    ) {
         Ok(served) => told_by(None, served),
         Err((fault, served)) => told_by(Some(fault), served),
     }

@@ -7,9 +7,9 @@ ghost use Rattle.macaroond.specs.Lines.{lines};
 ghost use Rattle.macaroond.specs.People.{GivesForm, GivesMoment};
 
 use super::PersonFault;
-use crate::daemon::read_keys;
 use crate::fault::PipeFault;
 use crate::input::read_input;
+use crate::key_file::read_keys;
 use crate::lines::next_line;
 use mac_keys::KeyTable;
 use mac_wire::{ReaderSource, TokenForm};

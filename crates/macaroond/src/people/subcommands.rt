@@ -1,12 +1,12 @@
 //! The subcommands for people, as `clap` is told them.
 ghost use Rattle.std.specs.Prelude.{◌≡◌, false, true, IfOk};
-ghost use Rattle.clap.specs.Words.{app_of, new_app, rule_of, with_rule};
+ghost use Rattle.clap.specs.Words.{app_of, rule_of};
 ghost use Rattle.macaroond.specs.Arguments.{option, required};
 ghost use Rattle.macaroond.specs.People.{attenuate_command, inspect_command, keygen_command};
 ghost use Rattle.macaroond.specs.People.{mint_command, repeated, verify_command, with_key};
 ghost use Rattle.macaroond.specs.People.{with_people, word};
 
-use crate::parts::{KEYS_HELP, add_subcommand, build_option};
+use crate::parts::{KEYS_HELP, add_arg, add_subcommand, build_option, build_subcommand};
 use clap::builder::ValueParser;
 use clap::{Arg, ArgAction, Command};
 use std::alloc::{AllocError, Global};
@@ -198,28 +198,12 @@ fn build_inspect<'a>(alloc: Global) -> Result<Command<'a>, AllocError>
     add_arg(command, build_word(alloc, "token", "TOKEN", TOKEN_HELP))
 }
 
-/// A subcommand without its arguments.
-fn build_subcommand<'a>(alloc: Global, name: &'a str, about: &'a str, help: &'a str) -> Command<'a>
-    ensures { app_of result ≡ new_app name.entry.now }
-{
-    Command::new(alloc, name).about(about).after_help(help)
-}
-
 /// The subcommand with the options `--keys` and `--key`.
 fn add_key_options<'a>(alloc: Global, command: Command<'a>) -> Result<Command<'a>, AllocError>
     ensures { IfOk result (λ whole. app_of whole ≡ with_key (app_of command.entry)) }
 {
     let command = add_arg(command, build_required(alloc, "keys", "FILE", KEYS_HELP))?;
     add_arg(command, build_required(alloc, "key", "NAME", KEY_HELP))
-}
-
-/// The subcommand with one more argument.
-fn add_arg<'a>(command: Command<'a>, arg: Arg<'a>) -> Result<Command<'a>, AllocError>
-    requires { arg.global ≡ false }
-    ensures { IfOk result (λ whole.
-        app_of whole ≡ with_rule (app_of command.entry) (rule_of arg.entry)) }
-{
-    command.arg(arg)
 }
 
 /// An option that may be given often, and not as the empty text.

@@ -5,15 +5,16 @@ use Rattle.mac_plain.specs.declared.request.Request.{Request}
 use Rattle.mac_plain.proofs.Pairs.{all_served}
 use Rattle.mac_plain.proofs.round.Round.serve.Goals as goal
 
-pub returns : goal.returns
-returns g c =
+pub returns-clause-serves : goal.returns-clause-serves
+returns-clause-serves g c =
     let arena = c.receive_all.new.arena.items in
     let requests = c.receive_all.new.requests.items in
-    let table = c.args.keys.now in
-    all_served g.P.Port.tells g.P.Port.taken g.P.Port.written table (λ k. asked_of k arena requests) c.args.clients.now c.receive_all.new.clients
+    let table = c.table.result.now in
+    let each = all_served g.P.Port.tells g.P.Port.taken g.P.Port.written table (λ k. asked_of k arena requests) c.args.clients.now c.receive_all.new.clients
     c.answer_requests.new.clients c.flush_all.new.clients (search rules) (search rules) (c.receive_all.ensures.read table)
     (subst (λ (l : List Request). AreAnswered g.P.Port.tells g.P.Port.taken g.P.Port.written table (λ k. asked_of k arena l) c.receive_all.new.clients c.answer_requests.new.clients)
     c.as_slice-2.ensures.value
     (subst (λ (l : List ℕ). AreAnswered g.P.Port.tells g.P.Port.taken g.P.Port.written table (λ k. asked_of k l c.as_slice-2.result.now) c.receive_all.new.clients c.answer_requests.new.clients)
     c.as_slice.ensures.value c.answer_requests.ensures))
-    (c.flush_all.ensures table)
+    (c.flush_all.ensures table) in
+    record { table = table; is_up = c.table.ensures; each = each }

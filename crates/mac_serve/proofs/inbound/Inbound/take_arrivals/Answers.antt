@@ -2,15 +2,16 @@ use Rattle.std.proofs.Common.{rules, ◌≡◌, ◌++◌, ◌∙◌, ◌∷◌, 
 use Rattle.std.specs.Vec.Iter.{into_iter_items}
 use Rattle.std.proofs.lemmas.List.{nil_from_length}
 use Rattle.mac_wire.specs.declared.arrival.Arrival.{Arrival}
-use Rattle.mac_serve.specs.Receiving.{jobs_of, TakesIn}
-use Rattle.mac_serve.proofs.ReceivingLemmas.{took-nothing, takes-in-next, takes-some-next, receives-residual}
+use Rattle.mac_board.specs.Follows.{Takes}
+use Rattle.mac_serve.specs.Receiving.{ReceivesUnder}
+use Rattle.mac_serve.proofs.ReceivingLemmas.{done, has-taken-none, takes-in-next, takes-some-next, takes-all}
 use Rattle.mac_serve.proofs.inbound.Inbound.take_arrivals.Goals as goal
 
 pub loop-arrival-init : goal.loop-arrival-init
 loop-arrival-init g c = record {
   all = search rules;
   left = search rules;
-  took = took-nothing c.args.self.now;
+  took = has-taken-none g.K.Tables.tells (g.K.Tables.known c.args.keys.now) c.args.self.now;
 }
 
 pub loop-arrival-preserved : goal.loop-arrival-preserved
@@ -19,7 +20,8 @@ loop-arrival-preserved g c =
     record {
       all = append_assoc c.loop-arrival.yielded (c.in-Some.arrival ∷ []) (into_iter_items c.next.new.self) ∙ ap (λ left. c.loop-arrival.yielded ++ left) (sym steps.0) ∙ c.loop-arrival.invariant.all;
       left = omega (arith, ap length steps.0);
-      took = takes-in-next c.args.keys.now c.loop-arrival.yielded c.in-Some.arrival c.args.self.now c.loop-arrival.self c.take_arrival.new.self c.loop-arrival.invariant.took
+      took = takes-in-next g.K.Tables.tells (g.K.Tables.known c.args.keys.now) (g.K.Tables.known c.loop-arrival.keys) (g.K.Tables.known c.look.new.self) c.table.result.now
+          c.loop-arrival.yielded c.in-Some.arrival c.args.self.now c.loop-arrival.self c.take_arrival.new.self c.loop-arrival.invariant.took c.look.ensures c.table.ensures
           (rw c.in_ok-take_arrival.was at c.take_arrival.ensures);
     }
 
@@ -27,12 +29,14 @@ pub returns-in_err-take_arrival : goal.returns-in_err-take_arrival
 returns-in_err-take_arrival g c =
     let all = ap (λ left. c.loop-arrival.yielded ++ left) (sym c.in-Some.ensures.steps.0) ∙ c.loop-arrival.invariant.all ∙ c.into_iter-arrival-iterator.ensures.into_iter_gives.0 in
     let failed = rw c.in_err-take_arrival.was at c.take_arrival.ensures in
-    receives-residual (jobs_of c.args.keys.now c.args.arrivals.items) c.from_residual.result c.in_err-take_arrival.field-0.0 c.args.self.now c.take_arrival.new.self c.from_residual.ensures.1 failed.0
-    (takes-some-next c.args.keys.now c.loop-arrival.yielded c.in-Some.arrival (into_iter_items c.next.new.self) c.args.arrivals.items
-    c.args.self.now c.loop-arrival.self c.take_arrival.new.self all c.loop-arrival.invariant.took failed.1)
+    takes-some-next g.K.Tables.tells (g.K.Tables.known c.args.keys.now) (g.K.Tables.known c.loop-arrival.keys) (g.K.Tables.known c.look.new.self) c.table.result.now
+    c.loop-arrival.yielded c.in-Some.arrival (into_iter_items c.next.new.self) c.args.arrivals.items c.from_residual.result c.in_err-take_arrival.field-0.0
+    c.args.self.now c.loop-arrival.self c.take_arrival.new.self all c.from_residual.ensures.1 c.loop-arrival.invariant.took c.look.ensures c.table.ensures failed.0 failed.1
 
 pub returns : goal.returns
 returns g c =
     let none : into_iter_items c.loop-arrival.arrival-iterator ≡ [] = nil_from_length _ (sym c.loop-arrival.invariant.left ∙ c.in-None.ensures.steps.0) in
     let all : c.loop-arrival.yielded ≡ c.args.arrivals.items = sym (ap (λ left. c.loop-arrival.yielded ++ left) none ∙ search rules) ∙ c.loop-arrival.invariant.all ∙ c.into_iter-arrival-iterator.ensures.into_iter_gives.0 in
-    subst (λ (arrivals : List Arrival). TakesIn (jobs_of c.args.keys.now arrivals) c.args.self.now c.loop-arrival.self) all c.loop-arrival.invariant.took
+    let AreTaken = Takes g.K.Tables.tells (g.K.Tables.known c.args.keys.now) (g.K.Tables.known c.loop-arrival.keys) in
+    subst (λ (arrivals : List Arrival). ReceivesUnder AreTaken arrivals (done (tt {0})) c.args.self.now c.loop-arrival.self) all
+    (takes-all AreTaken c.loop-arrival.yielded (tt {0}) c.args.self.now c.loop-arrival.self c.loop-arrival.invariant.took)

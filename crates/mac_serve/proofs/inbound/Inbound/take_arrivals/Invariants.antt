@@ -1,12 +1,14 @@
 use Rattle.std.proofs.Common.{◌≡◌, ◌++◌, length}
 use Rattle.std.specs.Vec.Iter.{into_iter_items, into_iter_len}
-use Rattle.mac_serve.specs.Receiving.{TakesIn, jobs_of}
+use Rattle.mac_board.specs.Follows.{Takes}
+use Rattle.mac_serve.proofs.ReceivingLemmas.{HasTaken}
 use Rattle.mac_serve.proofs.inbound.Inbound.take_arrivals.Given as goal
 
--- the arrivals so far were taken in, and with those that are left they are all
+-- the arrivals so far were taken in, each under the table that its look came to, and with those that
+-- are left they are all
 abbrev pub invariant-loop-arrival : goal.invariant-loop-arrival
 invariant-loop-arrival g l = record {
   all : l.yielded ++ into_iter_items l.arrival-iterator ≡ into_iter_items l.initial.arrival-iterator;
   left : into_iter_len l.arrival-iterator ≡ length (into_iter_items l.arrival-iterator);
-  took : TakesIn (jobs_of l.keys l.yielded) l.initial.self l.self;
+  took : HasTaken (Takes g.K.Tables.tells (g.K.Tables.known l.initial.keys) (g.K.Tables.known l.keys)) l.yielded l.initial.self l.self;
 }

@@ -1,0 +1,2 @@
+mod Board
+pub mod Taking

@@ -1,0 +1,44 @@
+-- Each number and each kind of request stands once in its table.
+use Rattle.std.proofs.Common.{◌≡◌, ◌==◌, refl}
+use Rattle.std.specs.Prelude.{count_by}
+use Rattle.mac_count.specs.declared.number.Number.{Number}
+use Rattle.mac_count.specs.declared.number.Number.TheVariants as number
+use Rattle.mac_count.specs.declared.number.Asked.{Asked}
+use Rattle.mac_count.specs.declared.number.Asked.TheVariants as asked
+use Rattle.mac_count.specs.declared.number.Told.{Told}
+use Rattle.mac_count.specs.declared.number.Told.TheVariants as told
+use Rattle.mac_count.specs.declared.number.Request.{Request}
+use Rattle.mac_count.specs.Number.{all_numbers, all_requests, number_place, request_place}
+
+pub number_once : (n : Number) → count_by (λ (other : Number). number_place other == number_place n) all_numbers ≡ 1
+number_once number.SecondsUp = refl
+number_once number.Connections = refl
+number_once number.ConnectionsTotal = refl
+number_once number.ConnectionsAtLimit = refl
+number_once number.ConnectionsFaulty = refl
+number_once number.BytesIn = refl
+number_once number.BytesOut = refl
+number_once number.KeyNames = refl
+number_once number.KeysReadAt = refl
+number_once number.KeysRefused = refl
+
+request_once_of : (a : Asked) (t : Told) → count_by (λ (other : Request). request_place other == request_place (record { asked = a; told = t })) all_requests ≡ 1
+request_once_of asked.Mint told.Granted = refl
+request_once_of asked.Mint told.Token = refl
+request_once_of asked.Mint told.Unsatisfied = refl
+request_once_of asked.Mint told.Refused = refl
+request_once_of asked.Attenuate told.Granted = refl
+request_once_of asked.Attenuate told.Token = refl
+request_once_of asked.Attenuate told.Unsatisfied = refl
+request_once_of asked.Attenuate told.Refused = refl
+request_once_of asked.Verify told.Granted = refl
+request_once_of asked.Verify told.Token = refl
+request_once_of asked.Verify told.Unsatisfied = refl
+request_once_of asked.Verify told.Refused = refl
+request_once_of asked.Nothing told.Granted = refl
+request_once_of asked.Nothing told.Token = refl
+request_once_of asked.Nothing told.Unsatisfied = refl
+request_once_of asked.Nothing told.Refused = refl
+
+pub request_once : (r : Request) → count_by (λ (other : Request). request_place other == request_place r) all_requests ≡ 1
+request_once r = request_once_of r.asked r.told

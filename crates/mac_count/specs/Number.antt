@@ -1,0 +1,103 @@
+-- What is counted, and how it is named.
+use Rattle.std.specs.Prelude.{ℕ, ◌+◌, ◌*◌, List, [], ◌∷◌, codes}
+use Rattle.mac_count.specs.declared.number.Number.{Number}
+use Rattle.mac_count.specs.declared.number.Number.TheVariants as number
+use Rattle.mac_count.specs.declared.number.Asked.{Asked}
+use Rattle.mac_count.specs.declared.number.Asked.TheVariants as asked
+use Rattle.mac_count.specs.declared.number.Request.{Request}
+use Rattle.mac_count.specs.declared.number.Told.{Told}
+use Rattle.mac_count.specs.declared.number.Told.TheVariants as told
+
+-- the name of a number
+abbrev pub number_word : Number → List ℕ
+number_word number.SecondsUp = codes "seconds_up"
+number_word number.Connections = codes "connections"
+number_word number.ConnectionsTotal = codes "connections_total"
+number_word number.ConnectionsAtLimit = codes "connections_closed_at_limit_total"
+number_word number.ConnectionsFaulty = codes "connections_faulty_total"
+number_word number.BytesIn = codes "bytes_in_total"
+number_word number.BytesOut = codes "bytes_out_total"
+number_word number.KeyNames = codes "key_names"
+number_word number.KeysReadAt = codes "keys_read_seconds"
+number_word number.KeysRefused = codes "keys_refused"
+
+-- a counter only grows, a gauge goes both ways
+abbrev pub number_kind : Number → List ℕ
+number_kind number.SecondsUp = codes "gauge"
+number_kind number.Connections = codes "gauge"
+number_kind number.ConnectionsTotal = codes "counter"
+number_kind number.ConnectionsAtLimit = codes "counter"
+number_kind number.ConnectionsFaulty = codes "counter"
+number_kind number.BytesIn = codes "counter"
+number_kind number.BytesOut = codes "counter"
+number_kind number.KeyNames = codes "gauge"
+number_kind number.KeysReadAt = codes "gauge"
+number_kind number.KeysRefused = codes "gauge"
+
+-- the place of a number in a snapshot
+abbrev pub number_place : Number → ℕ
+number_place number.SecondsUp = 0
+number_place number.Connections = 1
+number_place number.ConnectionsTotal = 2
+number_place number.ConnectionsAtLimit = 3
+number_place number.ConnectionsFaulty = 4
+number_place number.BytesIn = 5
+number_place number.BytesOut = 6
+number_place number.KeyNames = 7
+number_place number.KeysReadAt = 8
+number_place number.KeysRefused = 9
+
+-- all numbers, in the order in which they are written
+abbrev pub all_numbers : List Number
+all_numbers = number.SecondsUp ∷ number.Connections ∷ number.ConnectionsTotal ∷ number.ConnectionsAtLimit ∷ number.ConnectionsFaulty ∷ number.BytesIn ∷ number.BytesOut ∷ number.KeyNames ∷ number.KeysReadAt ∷ number.KeysRefused ∷ []
+
+-- the word for what a request asks for
+abbrev pub asked_word : Asked → List ℕ
+asked_word asked.Mint = codes "mint"
+asked_word asked.Attenuate = codes "attenuate"
+asked_word asked.Verify = codes "verify"
+asked_word asked.Nothing = codes "nothing"
+
+-- the word for what it was answered
+abbrev pub told_word : Told → List ℕ
+told_word told.Granted = codes "granted"
+told_word told.Token = codes "token"
+told_word told.Unsatisfied = codes "unsatisfied"
+told_word told.Refused = codes "refused"
+
+abbrev asked_place : Asked → ℕ
+asked_place asked.Mint = 0
+asked_place asked.Attenuate = 1
+asked_place asked.Verify = 2
+asked_place asked.Nothing = 3
+
+abbrev told_place : Told → ℕ
+told_place told.Granted = 0
+told_place told.Token = 1
+told_place told.Unsatisfied = 2
+told_place told.Refused = 3
+
+-- the place of a request in a snapshot
+abbrev pub request_place : Request → ℕ
+request_place r = 4 * asked_place r.asked + told_place r.told
+
+-- all requests, in the order in which they are written
+abbrev pub all_requests : List Request
+all_requests =
+    record { asked = asked.Mint; told = told.Granted } ∷
+    record { asked = asked.Mint; told = told.Token } ∷
+    record { asked = asked.Mint; told = told.Unsatisfied } ∷
+    record { asked = asked.Mint; told = told.Refused } ∷
+    record { asked = asked.Attenuate; told = told.Granted } ∷
+    record { asked = asked.Attenuate; told = told.Token } ∷
+    record { asked = asked.Attenuate; told = told.Unsatisfied } ∷
+    record { asked = asked.Attenuate; told = told.Refused } ∷
+    record { asked = asked.Verify; told = told.Granted } ∷
+    record { asked = asked.Verify; told = told.Token } ∷
+    record { asked = asked.Verify; told = told.Unsatisfied } ∷
+    record { asked = asked.Verify; told = told.Refused } ∷
+    record { asked = asked.Nothing; told = told.Granted } ∷
+    record { asked = asked.Nothing; told = told.Token } ∷
+    record { asked = asked.Nothing; told = told.Unsatisfied } ∷
+    record { asked = asked.Nothing; told = told.Refused } ∷
+    []

@@ -1,0 +1,61 @@
+//! Counters that all threads share.
+
+use crate::number::{NUMBERS, Number, REQUESTS, Request};
+use crate::snapshot::Snapshot;
+use std::array;
+use std::sync::atomic::AtomicU64;
+use std::sync::atomic::Ordering::SeqCst;
+
+/// Counters, each of them one word that no lock guards. What they show together need not have been
+/// so at one moment.
+#[derive(Drop)]
+pub struct Counters {
+    numbers: [AtomicU64; NUMBERS],
+    requests: [AtomicU64; REQUESTS],
+}
+
+impl Counters {
+    /// All of them 0.
+    pub fn new() -> Counters {
+        Counters {
+            numbers: array::from_fn(|_| AtomicU64::new(0)),
+            requests: array::from_fn(|_| AtomicU64::new(0)),
+        }
+    }
+
+    /// Adds to a number.
+    pub fn add(&self, number: Number, count: u64) {
+        self.numbers[number.place()].fetch_add(count, SeqCst);
+    }
+
+    /// Takes from a number that was added to before.
+    pub fn take(&self, number: Number, count: u64) {
+        self.numbers[number.place()].fetch_sub(count, SeqCst);
+    }
+
+    /// Sets a number.
+    pub fn set(&self, number: Number, value: u64) {
+        self.numbers[number.place()].store(value, SeqCst);
+    }
+
+    /// Counts a request that was answered.
+    pub fn answered(&self, request: Request) {
+        self.requests[request.place()].fetch_add(1, SeqCst);
+    }
+
+    /// What the counters show.
+    pub fn snapshot(&self) -> Snapshot {
+        Snapshot {
+            numbers: array::from_fn(|place| load(&self.numbers, place)),
+            requests: array::from_fn(|place| load(&self.requests, place)),
+        }
+    }
+}
+
+/// What a counter shows.
+fn load(counters: &[AtomicU64], place: usize) -> u64 {
+    match counters.get(place) {
+        Some(counter) => counter.load(SeqCst),
+        None => 0,
+    }
+}

@@ -1,0 +1,266 @@
+//! One wide connection, in threads of its own.
+ghost use Rattle.std.specs.Prelude.{◌≡◌, IfErr, IfOk};
+ghost use Rattle.mac_queue.specs.Pass.{IsSamePass};
+
+use crate::quay::Mooring;
+use crate::stay::{StayReader, limit_waits};
+use mac_board::Follower;
+use mac_decide::Macaroons;
+use mac_loop::{Handover, SocketPort, microseconds};
+use mac_pool::Desk;
+use mac_serve::{ServeFault, Served, serve};
+use mac_wire::{DeviceFault, Ending, NoMemory, ReaderSource, Session, Sink, WriterSink};
+use std::alloc::Global;
+use std::io;
+use std::io::Read;
+use std::net::Shutdown;
+use std::os::unix::net::UnixStream;
+use std::snapshot::Snapshot;
+use std::sync::atomic::AtomicBool;
+use std::sync::atomic::Ordering::SeqCst;
+use std::sync::{Arc, Wait};
+use std::thread::{Builder, Promise, PromisedHandle, Threads};
+use std::time::{Clock, Duration};
+
+/// The stack of a connection's thread, in bytes, whatever limit the process was started under.
+const STACK: usize = 1_048_576;
+
+/// How many bytes one read behind an oversize frame drops at most.
+const DROPPED_PIECE: usize = 16_384;
+
+/// How many such reads there are at most.
+const DROPPED_READS: usize = 64;
+
+/// How many milliseconds each of them waits at most.
+const DROPPED_MILLIS: u64 = 100;
+
+/// How a connection's time in its berth ended.
+#[derive(Drop)]
+pub enum Parting {
+    /// It is over, with the fault that it ended in.
+    Over(Option<ServeFault>),
+    /// It goes on in a loop.
+    Back(Handover),
+    /// It can't go on in a loop, since the system failed.
+    Stuck,
+}
+
+/// What a connection leaves in its berth.
+#[derive(Drop)]
+pub struct Left {
+    /// How its time there ended.
+    pub parting: Parting,
+    /// Its desk, which goes home.
+    pub desk: Desk<Macaroons>,
+}
+
+/// The desk comes back with the pass that it was made with.
+#[derive(Drop)]
+pub struct SamePass(Snapshot<Desk<Macaroons>>);
+
+impl Promise<Left> for SamePass {
+    ghost use Rattle.mac_queue.specs.Pass.{IsSamePass};
+
+    ghost kept_by = { λ p left. IsSamePass p.0.value.putter left.desk.putter };
+}
+
+/// A connection that is served in a thread.
+pub type Connection = PromisedHandle<Left, SamePass>;
+
+/// Whether a connection's thread was refused.
+type Flag = Arc<AtomicBool, Global>;
+
+/// Serves a connection in a thread. Without memory or a thread for it, the desk comes back.
+pub fn start_connection<R>(
+    rt: R,
+    alloc: Global,
+    client: Handover,
+    keys: Follower,
+    desk: Desk<Macaroons>,
+    mooring: Mooring,
+) -> Result<Connection, Desk<Macaroons>>
+where
+    R: Threads + Wait + Clock + Sync + Copy + Send + 'static,
+    ensures connection { IfOk result (λ connection.
+        connection.promise.0.value.putter ≡ desk.putter) }
+    ensures back { IfErr result (λ back. IsSamePass desk.putter back.putter) }
+{
+    let Ok((refusal, heard)) = refusal(alloc) else {
+        return Err(desk);
+    };
+    let promise = SamePass(Snapshot::of(&desk));
+    let work = move || -> Left
+        ensures { IsSamePass desk.putter result.desk.putter }
+    {
+        let (own, client, mooring, mut keys) = (desk, client, mooring, keys);
+        if heard.load(SeqCst) {
+            return Left {
+                parting: Parting::Over(Some(ServeFault::NoMemory)),
+                desk: own,
+            };
+        }
+        let left = serve_client(&rt, alloc, client, &mut keys, own, &mooring);
+        mooring.quay.leave(mooring.mark);
+        left
+    };
+    match Builder::new()
+        .stack_size(STACK)
+        .spawn_with(&rt, promise, work)
+    {
+        Ok(connection) => Ok(connection),
+        Err(back) => {
+            // The work holds the desk, and gives it back at once here.
+            refusal.store(true, SeqCst);
+            let work = back.value;
+            Err(work().desk)
+        }
+    }
+}
+
+/// A flag that tells a thread's work that no thread was given, with two handles on it.
+fn refusal(alloc: Global) -> Result<(Flag, Flag), NoMemory> {
+    let flag = Arc::new(alloc, AtomicBool::new(false))?;
+    let other = Arc::try_clone(&flag)?;
+    Ok((flag, other))
+}
+
+/// Serves a connection for a stay, or to its end.
+fn serve_client<R: Threads + Wait + Clock + Sync>(
+    rt: &R,
+    alloc: Global,
+    client: Handover,
+    keys: &mut Follower,
+    desk: Desk<Macaroons>,
+    mooring: &Mooring,
+) -> Left
+    ensures { IsSamePass desk.putter result.desk.putter }
+{
+    let Handover {
+        port,
+        session,
+        since,
+    } = client;
+    let Ok(stream) = open_stay(port) else {
+        return Left {
+            parting: Parting::Stuck,
+            desk,
+        };
+    };
+    let (fault, served) = serve_stream(rt, alloc, &stream, keys, desk, session, mooring);
+    let Served {
+        arrived,
+        ending,
+        desk,
+        session,
+        ..
+    } = served;
+    let parting = match session {
+        Some(session) => {
+            let since = if arrived > 0 { microseconds(rt) } else { since };
+            go_back(stream, session, since)
+        }
+        None => {
+            if ending == Ending::Oversize {
+                drop_rest(&stream);
+            }
+            Parting::Over(fault)
+        }
+    };
+    Left { parting, desk }
+}
+
+/// The stream of a port, whose reads and writes wait, for so long.
+fn open_stay(port: SocketPort) -> io::Result<UnixStream> {
+    let stream = port.into_stream()?;
+    limit_waits(&stream)?;
+    Ok(stream)
+}
+
+/// A connection that goes on in a loop, if the system lets it.
+fn go_back(stream: UnixStream, session: Session, since: u64) -> Parting {
+    match SocketPort::new(stream) {
+        Ok(port) => Parting::Back(Handover {
+            port,
+            session,
+            since,
+        }),
+        Err(_) => Parting::Stuck,
+    }
+}
+
+/// Serves a stream for a stay, or to its end.
+fn serve_stream<R: Threads + Wait + Clock + Sync>(
+    rt: &R,
+    alloc: Global,
+    stream: &UnixStream,
+    keys: &mut Follower,
+    desk: Desk<Macaroons>,
+    session: Session,
+    mooring: &Mooring,
+) -> (Option<ServeFault>, Served)
+    ensures { IsSamePass desk.putter result.1.desk.putter }
+{
+    let mut source = ReaderSource::new(StayReader::begin(rt, stream, mooring));
+    let mut sink = Outgoing::new(stream);
+    match serve(rt, alloc, &mut source, &mut sink, keys, desk, session) {
+        Ok(served) => (None, served),
+        Err((fault, served)) => (Some(fault), served),
+    }
+}
+
+/// Ends what is written, then reads what still comes and drops it, so that the peer reads an end
+/// and no reset. It ends after `DROPPED_READS` reads, each of which waits for a moment at most.
+fn drop_rest(stream: &UnixStream) {
+    let _ = stream.shutdown(Shutdown::Write);
+    let moment = Duration::from_millis(DROPPED_MILLIS);
+    if stream.set_read_timeout(Some(moment)).is_err() {
+        return;
+    }
+    let mut reader = stream;
+    let mut piece = [0u8; DROPPED_PIECE];
+    for _ in 0..DROPPED_READS {
+        match reader.read(&mut piece) {
+            Ok(count) if count > 0 => {}
+            Ok(_) | Err(_) => return,
+        }
+    }
+}
+
+/// The writing half of a stream. Once nothing more is written, though more was to come, both halves
+/// are shut down, so that a read that waits for the peer returns.
+#[derive(Drop)]
+struct Outgoing<'a> {
+    stream: &'a UnixStream,
+    writer: WriterSink<&'a UnixStream>,
+}
+
+impl<'a> Outgoing<'a> {
+    fn new(stream: &'a UnixStream) -> Outgoing<'a> {
+        Outgoing {
+            stream,
+            writer: WriterSink::new(stream),
+        }
+    }
+}
+
+impl<'a> Sink for Outgoing<'a> {
+    ghost use Rattle.std.specs.Prelude.{[], false};
+
+    ghost tells = { false };
+
+    ghost written = { λ _. [] };
+
+    ghost faults = { λ s. s.writer.faults };
+
+    fn write(&mut self, buf: &[u8]) -> Result<usize, DeviceFault> {
+        self.writer.write(buf)
+    }
+
+    fn faults(&self) -> u64 {
+        self.writer.faults()
+    }
+
+    fn give_up(&self) {
+        let _ = self.stream.shutdown(Shutdown::Both);
+    }
+}

@@ -1,0 +1,131 @@
+//! The pool of a daemon, and the wide connections that have its desks.
+ghost use Rattle.std.specs.Prelude.{◌≡◌, ◌<◌, IfOk, IfSome, false, length};
+ghost use Rattle.mac_daemon.specs.Crew.{AreFree, EachBerth, KeepsHome};
+ghost use Rattle.mac_daemon.specs.declared.crew.TheConstants.{WIDE_MAX};
+
+use crate::connection::{Connection, Parting, start_connection};
+use crate::quay::{Mooring, Quay};
+use mac_board::Followers;
+use mac_decide::Macaroons;
+use mac_loop::Handover;
+use mac_pool::{NoGate, Pool, PoolFault};
+use std::alloc::{AllocError, Global};
+use std::sync::{Arc, Wait};
+use std::thread::Threads;
+use std::time::Clock;
+
+/// The most connections that are wide at a time.
+pub const WIDE_MAX: usize = 64;
+
+/// A pool with the connections that it serves, each in a berth.
+#[derive(Drop)]
+pub struct Crew {
+    pool: Pool<Macaroons, NoGate>,
+    berths: Vec<Option<Connection>>,
+    ghost size: { length berths.items ≡ WIDE_MAX },
+    ghost home: { EachBerth berths.items (λ connection.
+        connection.promise.0.value.putter.queue ≡ pool.queue) },
+}
+
+impl Crew {
+    /// A pool of so many workers, and no connections.
+    pub fn new<R>(rt: &R, alloc: Global, workers: usize) -> Result<Crew, PoolFault>
+    where
+        R: Threads + Wait + Copy + Send + 'static,
+    {
+        let Ok(berths) = empty_berths(alloc) else {
+            return Err(PoolFault::NoMemory);
+        };
+        let Ok(gate) = Arc::new(alloc, NoGate) else {
+            return Err(PoolFault::NoMemory);
+        };
+        let pool = Pool::start(rt, alloc, workers, gate)?;
+        Ok(Crew { pool, berths })
+    }
+
+    /// The first berth that is free.
+    pub fn first_free(&self) -> Option<usize>
+        ensures { IfSome result (λ berth. berth < WIDE_MAX) }
+    {
+        for berth in 0..WIDE_MAX {
+            if self.berths[berth].is_none() {
+                return Some(berth);
+            }
+        }
+        None
+    }
+
+    /// Whether nobody is in a berth.
+    pub fn is_idle(&self) -> bool {
+        self.berths.iter().all(|berth| berth.is_none())
+    }
+
+    /// Serves a connection from a free berth. Without a desk, a thread or memory it is dropped, and
+    /// no desk is lost.
+    pub fn take_on<R>(
+        &mut self,
+        rt: R,
+        alloc: Global,
+        berth: usize,
+        client: Handover,
+        followers: &Followers,
+        quay: &Arc<Quay, Global>,
+    ) -> bool
+    where
+        R: Threads + Wait + Clock + Sync + Copy + Send + 'static,
+        requires { berth < WIDE_MAX }
+        ensures { result ≡ false → KeepsHome self.old.pool.passes self.new.pool.passes }
+    {
+        let Ok(keys) = followers.follower() else {
+            return false;
+        };
+        let Ok(quay) = Arc::try_clone(quay) else {
+            return false;
+        };
+        let Ok(desk) = self.pool.desk(alloc) else {
+            return false;
+        };
+        let mooring = Mooring {
+            quay,
+            mark: 1 << berth,
+        };
+        match start_connection(rt, alloc, client, keys, desk, mooring) {
+            Ok(connection) => {
+                self.berths[berth] = Some(connection);
+                true
+            }
+            Err(desk) => {
+                self.pool.home(desk);
+                false
+            }
+        }
+    }
+
+    /// Waits for the connection of a berth, if there is one, frees the berth, and says how the
+    /// connection parted.
+    pub fn leave<R: Threads>(&mut self, rt: &R, berth: usize) -> Option<Parting>
+        requires { berth < WIDE_MAX }
+    {
+        let connection = self.berths[berth].take()?;
+        let left = connection.join(rt);
+        self.pool.home(left.desk);
+        Some(left.parting)
+    }
+
+    /// Ends the workers once all berths are free. While a desk is lost the pool is dropped instead.
+    pub fn stop<R: Threads + Wait>(self, rt: &R) {
+        let Crew { pool, berths: _ } = self;
+        let _ = pool.stop(rt);
+    }
+}
+
+/// As many free berths as there are.
+fn empty_berths(alloc: Global) -> Result<Vec<Option<Connection>>, AllocError>
+    ensures { IfOk result (λ berths. AreFree WIDE_MAX berths.items) }
+{
+    let mut berths = Vec::with_capacity(alloc, WIDE_MAX)?;
+    for _berth in 0..WIDE_MAX {
+        berths.push(None)?;
+    }
+    Ok(berths)
+}

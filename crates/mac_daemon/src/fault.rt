@@ -1,0 +1,67 @@
+//! Why a daemon can't begin, or can't go on.
+
+use crate::place::PlaceFault;
+use mac_loop::LoopFault;
+use mac_pool::PoolFault;
+use std::alloc::AllocError;
+use std::io;
+use thiserror::Error;
+
+/// Why a daemon can't begin, or can't go on.
+#[derive(Debug, Drop, Error)]
+pub enum DaemonFault {
+    /// There is no socket at its path.
+    #[error("{0}")]
+    Place(PlaceFault),
+    /// A call of the system failed.
+    #[error("{0}")]
+    System(io::Error),
+    /// What it says can't be printed.
+    #[error("standard output failed")]
+    Output,
+    /// The system gives no further thread.
+    #[error("the system gives no further thread")]
+    NoThread,
+    /// Memory ran out.
+    #[error("memory ran out")]
+    NoMemory,
+}
+
+impl From<AllocError> for DaemonFault {
+    fn from(_refused: AllocError) -> DaemonFault {
+        DaemonFault::NoMemory
+    }
+}
+
+impl From<io::Error> for DaemonFault {
+    fn from(refused: io::Error) -> DaemonFault {
+        DaemonFault::System(refused)
+    }
+}
+
+impl From<PlaceFault> for DaemonFault {
+    fn from(refused: PlaceFault) -> DaemonFault {
+        match refused {
+            PlaceFault::NoMemory => DaemonFault::NoMemory,
+            refused => DaemonFault::Place(refused),
+        }
+    }
+}
+
+impl From<LoopFault> for DaemonFault {
+    fn from(refused: LoopFault) -> DaemonFault {
+        match refused {
+            LoopFault::NoMemory => DaemonFault::NoMemory,
+            LoopFault::System(refused) => DaemonFault::System(refused),
+        }
+    }
+}
+
+impl From<PoolFault> for DaemonFault {
+    fn from(refused: PoolFault) -> DaemonFault {
+        match refused {
+            PoolFault::NoMemory => DaemonFault::NoMemory,
+            PoolFault::Count | PoolFault::NoThread => DaemonFault::NoThread,
+        }
+    }
+}

@@ -1,0 +1,28 @@
+//! The daemon: the connections of a Unix socket, from the first byte of each to its last.
+//!
+//! One thread accepts them ([`listen`], [`accept_all`]) and hands each to a loop of `mac_loop`, which
+//! answers what is small where it reads it. A connection that asks for more goes on wide: the
+//! keeper gives it a desk of the pool and two threads, and it comes back to a loop once it pauses.
+#![tactic(auto)]
+
+mod accepting;
+mod connection;
+mod crew;
+mod descriptors;
+mod fault;
+mod fleet;
+mod keeping;
+mod listening;
+mod lock;
+mod notices;
+mod place;
+mod quay;
+mod serving;
+mod stay;
+
+pub use crew::WIDE_MAX;
+pub use fault::DaemonFault;
+pub use fleet::{Day, FOLLOWERS_MAX, Shape};
+pub use listening::{Terms, listen};
+pub use place::PlaceFault;
+pub use serving::accept_all;

@@ -1,0 +1,56 @@
+//! The daemon that serves so many connections, and ends.
+ghost use Rattle.std.specs.Prelude.{◌≡◌, ◌<◌, IfOk, OnOk};
+
+use crate::accepting::Limits;
+use crate::fault::DaemonFault;
+use crate::fleet::{Day, Fleet, Shape};
+use mac_board::Followers;
+use mac_wire::{Sink, send_all};
+use std::alloc::Global;
+use std::fs::Files;
+use std::net::Net;
+use std::os::unix::net::UnixListener;
+use std::sync::Wait;
+use std::thread::Threads;
+use std::time::Clock;
+
+/// Serves so many connections of a socket that it makes at `path`, and prints a line once clients
+/// can connect and one once all connections have ended.
+pub fn accept_all<R, W>(
+    rt: &R,
+    alloc: Global,
+    path: &str,
+    followers: &Followers,
+    shape: Shape,
+    accept: u64,
+    out: &mut W,
+) -> Result<Day, DaemonFault>
+where
+    R: Files + Net + Threads + Wait + Clock + Sync + Copy + Send + 'static,
+    W: Sink,
+    requires writable { W.faults out.old < u64.MAX }
+    ensures served { IfOk result (λ day. day.served ≡ accept) }
+{
+    let listener = UnixListener::bind(rt, path)?;
+    let fleet = Fleet::start(rt, alloc, shape, followers, None)?;
+    say(out, b"listening\n")?;
+    let limits = Limits {
+        count: Some(accept),
+        connections: shape.connections,
+    };
+    let day = fleet.run(rt, alloc, &listener, followers, limits)?;
+    let text = format!(in alloc; "served {} faults {}\n", day.served, day.faults)?;
+    say(out, text.as_bytes())?;
+    Ok(day)
+}
+
+/// Writes a line.
+fn say<W: Sink>(out: &mut W, line: &[u8]) -> Result<(), DaemonFault>
+    requires { W.faults out.old < u64.MAX }
+    ensures { OnOk result (W.faults out.new ≡ W.faults out.old) }
+{
+    match send_all(out, line) {
+        Ok(()) => Ok(()),
+        Err(_) => Err(DaemonFault::Output),
+    }
+}

@@ -1,0 +1,6 @@
+pub mod CallLemmas
+pub mod FieldLemmas
+pub mod FoundLemmas
+pub mod LawLemmas
+pub mod ListLemmas
+pub mod PathLemmas

@@ -1,0 +1,169 @@
+//! What is found of a request.
+
+ghost use Rattle.std.specs.Prelude.{◌≡◌, IfOk, List, ℕ, true};
+ghost use Rattle.http.specs.Request.{head_of};
+ghost use Rattle.mac_token.specs.RawToken.{byte_lists};
+ghost use Rattle.mac_token.specs.Read.{read_of};
+ghost use Rattle.mac_wire.specs.Request.{counted_fields};
+ghost use Rattle.mac_http.specs.Authorization.{credentials_in};
+ghost use Rattle.mac_http.specs.Facts.{are_few};
+ghost use Rattle.mac_http.specs.Found.{found_at, found_by, found_few, found_of, found_read, found_under, found_with};
+
+use crate::authorization::{Credentials, Scheme, credentials_in};
+use crate::counted::counted_facts;
+use crate::facts::{facts_of, tells_unsafe};
+use crate::rules::Sources;
+use crate::target::{Target, target_in};
+use bytes::Bytes;
+use http::Request;
+use mac_decide::{Context, Verdict, verify};
+use mac_keys::{KeyTable, Keys};
+use mac_token::{Token, TokenFault, read};
+use mac_wire::FieldList;
+use std::alloc::{AllocError, Global};
+
+/// What is found of a request. The first that applies is told.
+#[derive(Drop)]
+pub enum Finding {
+    /// The path asks for nothing that is served, or names a key that the table hasn't.
+    Unknown,
+    /// There is no token, or more than one.
+    NoToken,
+    /// A path is told that servers may read as another.
+    UnsafePath,
+    /// The facts are more or longer than a request may have.
+    ManyFacts,
+    /// The clock told no moment.
+    NoMoment,
+    /// The token is none under the name's keys. It came by this scheme.
+    Invalid(Scheme),
+    /// The index of the first caveat that isn't satisfied, from 0.
+    Unsatisfied(u16),
+    /// The token is granted.
+    Granted(Token),
+}
+
+/// What is found of a request under a table of keys at a moment, in seconds since 1970.
+pub fn find(
+    alloc: Global,
+    keys: &KeyTable,
+    sources: Sources,
+    moment: Option<u64>,
+    request: &Request<Bytes>,
+) -> Result<Finding, AllocError>
+    ensures { IfOk result (λ f. f ≡ found_of keys.now sources moment (head_of request.now)) }
+{
+    let Some(target) = target_in(request.uri().path().as_bytes()) else {
+        return Ok(Finding::Unknown);
+    };
+    match keys.find(target.name) {
+        Some(keys) => find_under(alloc, keys, sources, moment, request, target.behind),
+        None => Ok(Finding::Unknown),
+    }
+}
+
+/// What is found of a request that names these keys.
+fn find_under(
+    alloc: Global,
+    keys: &Keys,
+    sources: Sources,
+    moment: Option<u64>,
+    request: &Request<Bytes>,
+    behind: &[u8],
+) -> Result<Finding, AllocError>
+    ensures { IfOk result (λ f. f ≡ found_under sources moment (head_of request.now) behind.now
+        keys.now (credentials_in (head_of request.now).headers)) }
+{
+    match credentials_in(request.headers()) {
+        Some(credentials) => {
+            find_with(alloc, keys, sources, moment, request, behind, credentials)
+        }
+        None => Ok(Finding::NoToken),
+    }
+}
+
+/// What is found of a request that brings a token.
+fn find_with(
+    alloc: Global,
+    keys: &Keys,
+    sources: Sources,
+    moment: Option<u64>,
+    request: &Request<Bytes>,
+    behind: &[u8],
+    credentials: Credentials<'_>,
+) -> Result<Finding, AllocError>
+    ensures { IfOk result (λ f. f ≡ found_with sources moment (head_of request.now) behind.now
+        keys.now (credentials.entry.scheme, credentials.entry.token.now)) }
+{
+    if tells_unsafe(sources, request, behind) {
+        return Ok(Finding::UnsafePath);
+    }
+    let facts = facts_of(alloc, sources, request, behind)?;
+    find_few(alloc, keys, credentials, &facts, moment)
+}
+
+/// What is found of a token with these facts, if they are few.
+fn find_few(
+    alloc: Global,
+    keys: &Keys,
+    credentials: Credentials<'_>,
+    facts: &[Vec<u8>],
+    moment: Option<u64>,
+) -> Result<Finding, AllocError>
+    ensures { IfOk result (λ f. f ≡ found_few keys.now
+        (credentials.entry.scheme, credentials.entry.token.now) (byte_lists facts.now) moment) }
+{
+    match counted_facts(alloc, facts)? {
+        Some(counted) => find_at(alloc, keys, credentials, &counted, moment),
+        None => Ok(Finding::ManyFacts),
+    }
+}
+
+/// What is found of a token with counted facts.
+fn find_at(
+    alloc: Global,
+    keys: &Keys,
+    credentials: Credentials<'_>,
+    counted: &[u8],
+    moment: Option<u64>,
+) -> Result<Finding, AllocError>
+    ensures { (facts : List (List ℕ)) → counted.now ≡ counted_fields facts → are_few facts ≡ true
+        → IfOk result (λ f. f ≡ found_at keys.now
+        (credentials.entry.scheme, credentials.entry.token.now) facts moment) }
+{
+    let Some(facts) = FieldList::read(counted) else {
+        return Ok(Finding::ManyFacts);
+    };
+    match moment {
+        Some(moment) => find_in(alloc, keys, credentials, &Context { moment, facts }),
+        None => Ok(Finding::NoMoment),
+    }
+}
+
+/// What is found of a token in a context.
+fn find_in(
+    alloc: Global,
+    keys: &Keys,
+    credentials: Credentials<'_>,
+    context: &Context<'_>,
+) -> Result<Finding, AllocError>
+    ensures { IfOk result (λ f. f ≡ found_read credentials.entry.scheme keys.now context.now
+        (read_of credentials.entry.token.now)) }
+{
+    match read(alloc, credentials.token) {
+        Ok(token) => Ok(found_by(credentials.scheme, verify(keys, &token, context), token)),
+        Err(TokenFault::Refused(_)) => Ok(Finding::Invalid(credentials.scheme)),
+        Err(TokenFault::Memory) => Err(AllocError),
+    }
+}
+
+/// What a verdict on a token finds.
+fn found_by(scheme: Scheme, verdict: Verdict, token: Token) -> Finding
+    ensures { result ≡ found_by scheme token verdict }
+{
+    match verdict {
+        Verdict::Granted => Finding::Granted(token),
+        Verdict::BadSignature => Finding::Invalid(scheme),
+        Verdict::Unsatisfied(index) => Finding::Unsatisfied(index),
+    }
+}

@@ -1,0 +1,64 @@
+//! Laws of the definitions, as functions whose contracts state them.
+
+ghost use Rattle.std.specs.Prelude.{◌≡◌, ◌↔◌, ◌<◌, ℕ, List, Option, Contains, All, Some, true, false};
+ghost use Rattle.http.specs.declared.request.Parts.{Parts};
+ghost use Rattle.http_server.specs.declared.response.Response.{Response};
+ghost use Rattle.http_server.specs.Response.{fields_of};
+ghost use Rattle.mac_decide.specs.Reading.{verdict_of};
+ghost use Rattle.mac_keys.specs.Table.{Table, listed};
+ghost use Rattle.mac_keys.specs.declared.keys.Keys.{Keys};
+ghost use Rattle.mac_token.specs.RawToken.{TokenParts};
+ghost use Rattle.percent_encoding.specs.Percent.{percent_decode};
+ghost use Rattle.mac_http.specs.declared.authorization.Scheme.{Scheme as PlainScheme};
+ghost use Rattle.mac_http.specs.declared.finding.Finding.{Finding as PlainFinding};
+ghost use Rattle.mac_http.specs.declared.rules.Granted.{Granted as PlainGranted};
+ghost use Rattle.mac_http.specs.declared.rules.Sources.{Sources as PlainSources};
+ghost use Rattle.mac_http.specs.Escaped.{escaped};
+ghost use Rattle.mac_http.specs.Facts.{are_few, facts_of, tells_unsafe};
+ghost use Rattle.mac_http.specs.Found.{found_of, found_with, context_of, IsGrantedBy};
+ghost use Rattle.mac_http.specs.Path.{steps, IsStep};
+ghost use Rattle.mac_http.specs.Saying.{Tells};
+
+use crate::finding::Finding;
+
+/// A request is granted exactly where its path names keys, it brings one token, no unsafe path is
+/// told, the facts are few, the clock tells a moment, and the keys grant the token at that moment
+/// with those facts.
+pub fn granted_exactly()
+    ensures { (table : Table) (sources : PlainSources) (moment : Option ℕ) (head : Parts)
+        → ((t : TokenParts) × (found_of table sources moment head ≡ Finding.Granted t))
+        ↔ IsGrantedBy table sources moment head }
+{}
+
+/// A response tells nothing but what was found.
+pub fn response_tells_the_finding()
+    ensures { (granted : PlainGranted) (f : PlainFinding) (r s : Response)
+        → Tells granted f r → Tells granted f s
+        → (r.status ≡ s.status) × (fields_of r ≡ fields_of s) × (r.body.items ≡ s.body.items) }
+{}
+
+/// Facts are told by the verdict alone: where two requests with one token under one name's keys
+/// tell no unsafe path and few facts, and the verdict on what the token reads as is the same with
+/// the facts of either, the same is found of both.
+pub fn facts_tell_by_the_verdict()
+    ensures { (sources : PlainSources) (moment : ℕ) (one other : Parts) (here there : List ℕ)
+        (keys : Keys) (scheme : PlainScheme) (token : List ℕ)
+        → tells_unsafe sources one here ≡ false → tells_unsafe sources other there ≡ false
+        → are_few (facts_of sources one here) ≡ true
+        → are_few (facts_of sources other there) ≡ true
+        → ((t : TokenParts) → verdict_of (listed keys) t (context_of sources moment one here)
+        ≡ verdict_of (listed keys) t (context_of sources moment other there))
+        → found_with sources (Some moment) one here keys (scheme, token)
+        ≡ found_with sources (Some moment) other there keys (scheme, token) }
+{}
+
+/// The steps of a path are its fronts that are one byte, or that end in no slash and have a slash
+/// or nothing behind them.
+pub fn steps_are_fronts()
+    ensures { (path step : List ℕ) → Contains (steps path) step ↔ IsStep path step }
+{}
+
+/// What is escaped is read back.
+pub fn escaped_is_read()
+    ensures { (bytes : List ℕ) → All (λ b. b < 256) bytes → percent_decode (escaped bytes) ≡ bytes }
+{}

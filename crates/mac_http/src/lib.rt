@@ -1,0 +1,31 @@
+//! The face that gateways ask over HTTP: a request's head to what is found of it, and that to a
+//! response.
+//!
+//! [`Face`] is a [`Service`](http_server::Service): the path names a key, `Authorization` brings
+//! the token, the [`Sources`] that are named bring facts, and [`Moments`] the moment. [`attend`]
+//! serves it over a reader and a writer. No sockets are opened here.
+#![tactic(auto)]
+
+mod attending;
+mod authorization;
+mod counted;
+mod escaped;
+mod face;
+mod facts;
+mod finding;
+pub mod laws;
+mod moments;
+mod path;
+mod rules;
+mod saying;
+mod target;
+
+pub use attending::{CONFIG, Watch, attend};
+pub use authorization::Scheme;
+pub use counted::FACT_MAX;
+pub use face::Face;
+pub use finding::{Finding, find};
+pub use moments::{Moments, SystemMoments};
+pub use path::{PATH_MAX, SEGMENTS_MAX};
+pub use rules::{Granted, Rules, Sources};
+pub use saying::respond;

@@ -1,0 +1,4 @@
+pub mod TextLemmas
+pub mod QuotaLemmas
+pub mod Appends
+pub mod LineLemmas

@@ -1,0 +1,41 @@
+-- What lines tell of: the word of each kind, and how grave it is.
+use Rattle.std.specs.Prelude.{ℕ, List, codes}
+use Rattle.mac_log.specs.declared.kind.Kind.{Kind}
+use Rattle.mac_log.specs.declared.kind.Kind.TheVariants as kind
+use Rattle.mac_log.specs.declared.level.Level.{Level}
+use Rattle.mac_log.specs.declared.level.Level.TheVariants.{Error, Warning, Info}
+
+-- the word of a kind
+abbrev pub kind_word : Kind → List ℕ
+kind_word kind.Start = codes "start"
+kind_word kind.KeysRead = codes "keys_read"
+kind_word kind.KeysRefused = codes "keys_refused"
+kind_word kind.KeysEmpty = codes "keys_empty"
+kind_word kind.ConnectionFault = codes "connection_fault"
+kind_word kind.ConnectionIdle = codes "connection_idle"
+kind_word kind.ConnectionDropped = codes "connection_dropped"
+kind_word kind.LimitReached = codes "limit_reached"
+kind_word kind.LimitLow = codes "limit_low"
+kind_word kind.AcceptFault = codes "accept_fault"
+kind_word kind.Request = codes "request"
+kind_word kind.Drain = codes "drain"
+kind_word kind.End = codes "end"
+kind_word kind.LeftOut = codes "left_out"
+
+-- What the daemon can't do is an error, what somebody should look at a warning. A connection that
+-- ends in a fault is its peer's doing, and no error of the daemon's.
+abbrev pub kind_level : Kind → Level
+kind_level kind.Start = Info
+kind_level kind.KeysRead = Info
+kind_level kind.KeysRefused = Error
+kind_level kind.KeysEmpty = Warning
+kind_level kind.ConnectionFault = Warning
+kind_level kind.ConnectionIdle = Info
+kind_level kind.ConnectionDropped = Warning
+kind_level kind.LimitReached = Warning
+kind_level kind.LimitLow = Warning
+kind_level kind.AcceptFault = Error
+kind_level kind.Request = Info
+kind_level kind.Drain = Info
+kind_level kind.End = Info
+kind_level kind.LeftOut = Warning

@@ -1,0 +1,9 @@
+pub mod Level
+pub mod Kind
+pub mod Key
+pub mod Value
+pub mod Fields
+pub mod Moment
+pub mod Line
+pub mod Quota
+pub mod Printed

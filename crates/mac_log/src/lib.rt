@@ -1,0 +1,31 @@
+//! What a daemon says on standard error: lines of plain words, a line for each thing that
+//! happened.
+//!
+//! Who posts a line never waits for who reads it: one thread prints what waits in a bounded queue.
+//! Of each kind at most ten lines a second are printed, and then one that says how many were left
+//! out. No value can end a line or pass for a key of it ([`laws`]).
+#![tactic(auto)]
+
+mod clock;
+mod fields;
+mod key;
+mod kind;
+pub mod laws;
+mod level;
+mod line;
+mod log;
+mod moment;
+mod printer;
+mod quota;
+mod value;
+
+pub use fields::Fields;
+pub use key::Key;
+pub use kind::{KINDS, Kind};
+pub use level::Level;
+pub use line::Line;
+pub use log::{Log, WAITING_MAX};
+pub use moment::MOMENT_MAX;
+pub use printer::start_log;
+pub use quota::{LINES_MAX, Quota, SECOND};
+pub use std::alloc::AllocError as NoMemory;

@@ -1,0 +1,142 @@
+//! Lines that wait to be printed.
+
+use crate::NoMemory;
+use crate::clock::millis_now;
+use crate::fields::Fields;
+use crate::kind::{KINDS, Kind};
+use crate::line::Line;
+use crossbeam_queue::ArrayQueue;
+use mac_mail::Bell;
+use std::alloc::Global;
+use std::sync::Wait;
+use std::sync::atomic::AtomicU64;
+use std::sync::atomic::Ordering::SeqCst;
+use std::time::{Clock, Duration};
+use std::{array, thread};
+
+/// The most lines that wait to be printed.
+pub const WAITING_MAX: usize = 256;
+
+/// How many milliseconds a look at what waits is behind the one before, while lines are left out
+/// of which nobody was told yet, and while somebody waits for the last line.
+const LOOK_MILLIS: u64 = 10;
+
+/// Lines that wait for the thread that prints them. One for which there is no room or no memory is
+/// counted and left out.
+#[derive(Drop)]
+pub struct Log {
+    waiting: ArrayQueue<Line>,
+    left_out: LeftOut,
+    posted: AtomicU64,
+    dealt_with: AtomicU64,
+    bell: Bell,
+}
+
+/// How many lines of each kind were left out since that was last taken.
+#[derive(Drop)]
+struct LeftOut {
+    counts: [AtomicU64; KINDS],
+}
+
+impl Log {
+    /// No line yet.
+    pub fn new(alloc: Global) -> Result<Log, NoMemory> {
+        Ok(Log {
+            waiting: ArrayQueue::new(alloc, WAITING_MAX)?,
+            left_out: LeftOut {
+                counts: array::from_fn(|_| AtomicU64::new(0)),
+            },
+            posted: AtomicU64::new(0),
+            dealt_with: AtomicU64::new(0),
+            bell: Bell::new(),
+        })
+    }
+
+    /// Hands a line over to be printed, with the moment of this call, and waits for nobody. The
+    /// fields may be those for which memory ran out: then the line is left out.
+    pub fn post<R: Wait + Clock>(&self, rt: &R, kind: Kind, fields: Result<Fields, NoMemory>) {
+        let millis = millis_now(rt);
+        let is_waiting = match fields {
+            Ok(fields) => self.push(
+                rt,
+                Line {
+                    kind,
+                    millis,
+                    fields,
+                },
+            ),
+            Err(_) => false,
+        };
+        if !is_waiting {
+            self.left_out.counts[kind.place()].fetch_add(1, SeqCst);
+        }
+        self.bell.ring();
+    }
+
+    /// Puts a line into the queue, if there is room.
+    fn push<R: Wait>(&self, rt: &R, line: Line) -> bool {
+        self.posted.fetch_add(1, SeqCst);
+        let is_waiting = self.waiting.push(rt, line).is_ok();
+        if !is_waiting {
+            self.dealt_with.fetch_add(1, SeqCst);
+        }
+        is_waiting
+    }
+
+    /// The next line that waits.
+    pub(crate) fn next<R: Wait>(&self, rt: &R) -> Option<Line> {
+        self.waiting.pop(rt)
+    }
+
+    /// Says that the last line that was taken is printed or left out.
+    pub(crate) fn settle_one(&self) {
+        self.dealt_with.fetch_add(1, SeqCst);
+    }
+
+    /// How many lines of a kind were left out since the last call.
+    pub(crate) fn take_left_out(&self, kind: Kind) -> u64 {
+        self.left_out.counts[kind.place()].swap(0, SeqCst)
+    }
+
+    /// Sleeps until a line is posted, or for a moment where the caller has something to look at
+    /// again.
+    pub(crate) fn await_line<R: Wait + Clock>(&self, rt: &R, looks_again: bool) {
+        if looks_again {
+            pause(rt);
+            return;
+        }
+        let notice = self.bell.announce();
+        if self.is_idle() {
+            self.bell.sleep(rt, notice);
+        } else {
+            self.bell.withdraw(notice);
+        }
+    }
+
+    /// Waits until what was posted is printed, and at most so many milliseconds: nobody may read
+    /// what is printed.
+    pub fn flush<R: Wait + Clock>(&self, rt: &R, patience: u64) {
+        for _ in 0..patience / LOOK_MILLIS {
+            if self.is_idle() {
+                return;
+            }
+            pause(rt);
+        }
+    }
+
+    /// Whether each line that was posted is printed or left out, and none that was left out is to
+    /// be told.
+    fn is_idle(&self) -> bool {
+        self.dealt_with.load(SeqCst) == self.posted.load(SeqCst)
+            && self
+                .left_out
+                .counts
+                .iter()
+                .all(|count| count.load(SeqCst) == 0)
+    }
+}
+
+/// Sleeps for a moment.
+fn pause<R: Clock>(rt: &R) {
+    thread::sleep(rt, Duration::from_millis(LOOK_MILLIS));
+}

@@ -1,0 +1,4 @@
+pub mod Signals
+pub mod Handed
+pub mod Notify
+pub mod Journal

@@ -1,0 +1,13 @@
+-- How a daemon serves, as its options say.
+use Rattle.std.specs.Prelude.{◌≡◌, ℕ, ◌≤◌, Option, Some, None}
+
+-- so many threads: at least one and no more than may be, and those that were asked for
+abbrev pub HasCount : ℕ → Option ℕ → ℕ → Type 0
+HasCount most None count = (1 ≤ count) × (count ≤ most)
+HasCount most (Some asked) count =
+    (1 ≤ count) × (count ≤ most) × (1 ≤ asked → asked ≤ most → count ≡ asked)
+
+-- the connections that may be live at a time: ten thousand, where no other number is asked for
+abbrev pub connections_of : Option ℕ → ℕ
+connections_of None = 10000
+connections_of (Some asked) = asked

@@ -1,0 +1,103 @@
+//! Connections one after another, and what each is answered.
+
+use crate::fixed::{FixedMoment, NoWatch};
+use mac_http::{Face, Granted, Rules, Sources, attend};
+use mac_keys::KeyTable;
+use std::alloc::Global;
+use std::hash::RandomState;
+use std::io;
+use std::random::RandomSource;
+
+/// What begins the line of a connection.
+const BEGIN: &[u8] = b"== ";
+
+/// The key file, and the lines from the first connection on.
+pub fn split_front(input: &[u8]) -> (&[u8], &[u8]) {
+    let mut start = 0;
+    for line in input.split(|byte| *byte == b'\n') {
+        if line.starts_with(BEGIN) {
+            return (
+                &input[..start.min(input.len())],
+                &input[start.min(input.len())..],
+            );
+        }
+        start = start.saturating_add(line.len()).saturating_add(1);
+    }
+    (input, b"")
+}
+
+/// Answers each connection, and prints its line and what it is answered.
+pub fn answer_all<R>(rt: &R, alloc: Global, keys: &KeyTable, input: &[u8]) -> io::Result<()>
+where
+    R: Print + RandomSource,
+{
+    let lines = input.strip_suffix(b"\n").unwrap_or(input);
+    let mut words: &[u8] = b"";
+    let mut requests = Vec::new(alloc);
+    for line in lines.split(|byte| *byte == b'\n') {
+        if line.starts_with(BEGIN) {
+            answer_one(rt, alloc, keys, words, &requests)?;
+            words = line;
+            requests.clear();
+        } else {
+            requests.extend_from_slice(line)?;
+            requests.extend_from_slice(b"\r\n")?;
+        }
+    }
+    answer_one(rt, alloc, keys, words, &requests)
+}
+
+/// Answers a connection, if its line is there.
+fn answer_one<R>(
+    rt: &R,
+    alloc: Global,
+    keys: &KeyTable,
+    words: &[u8],
+    requests: &[u8],
+) -> io::Result<()>
+where
+    R: Print + RandomSource,
+{
+    if words.is_empty() {
+        return Ok(());
+    }
+    let mut face = Face::new(alloc, keys, rules_of(words), FixedMoment::new());
+    let mut answers = Vec::new(alloc);
+    let mut reader = requests;
+    let secrets = RandomState::new(rt)?;
+    attend(
+        alloc,
+        secrets,
+        &mut face,
+        &mut NoWatch,
+        &mut reader,
+        &mut answers,
+    )?;
+    print_text(rt, words)?;
+    print_text(rt, b"\n")?;
+    print_text(rt, &answers)?;
+    print_text(rt, b"\n")
+}
+
+fn print_text<R: Print>(rt: &R, text: &[u8]) -> io::Result<()> {
+    match str::from_utf8(text) {
+        Ok(text) => rt.print(text),
+        Err(_) => rt.print("(no text)"),
+    }
+}
+
+/// The rules that the words name.
+fn rules_of(words: &[u8]) -> Rules {
+    let has = |word: &[u8]| words.split(|byte| *byte == b' ').any(|found| found == word);
+    let sources = Sources {
+        header: has(b"header"),
+        query: has(b"query"),
+        forwarded: has(b"forwarded"),
+    };
+    let granted = if has(b"204") {
+        Granted::NoContent
+    } else {
+        Granted::Ok
+    };
+    Rules { sources, granted }
+}
