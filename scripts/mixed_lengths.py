@@ -1,11 +1,11 @@
 #!/usr/bin/env python3
 """Counts what a short verify takes in the daemon beside a long one, and among its like: by valgrind,
-over bin/macaroond.
+over the program that `make build` puts into libexec.
 
 A connection sends short verifies alone, or some beside each long one. What a short one takes there is
-what the mix takes without what the long one takes by itself, where its reply is waited for. Only what
-the worker's thread executes is counted, and a count is the difference of two runs, so that starting
-counts for nothing. It ends with 1 where a short one takes too much.
+what the mix takes without what the long one takes by itself, where its reply is waited for. All that
+the daemon executes is counted, and a count is the difference of two runs, so that starting counts for
+nothing. It ends with 1 where a short one takes too much.
 """
 import pathlib
 import re
@@ -21,8 +21,6 @@ from daemon_rows import KEYS, frame, received
 sys.path.append(str(bench.TOP / "examples"))
 import request
 
-PROGRAM = bench.TOP / "bin" / "macaroond"
-WORKER = "--toggle-collect=mac_pool::pool::fn::started::work*"
 # The bytes of a caveat that is long, and how often the same requests are sent.
 LONG, FEW, MANY = 4_000, 40, 240
 # How many short ones are beside each long one.
@@ -42,18 +40,18 @@ def verify(*caveats):
 def minted(payload):
     """The token that the pipe gives for a mint, as the words of a request have it."""
     text = pathlib.Path(KEYS).read_text() + "\n" + payload.hex() + "\n"
-    run = subprocess.run([PROGRAM, "pipe"], input=text, capture_output=True, text=True, check=True)
+    run = subprocess.run([bench.PROGRAM, "pipe"], input=text, capture_output=True, text=True, check=True)
     return run.stdout.split()[1]
 
 
 def counted(requests, times, ask):
-    """The instructions that the worker executes where a client asks these requests so many times."""
+    """The instructions that the daemon executes where a client asks these requests so many times."""
     with tempfile.TemporaryDirectory() as folder:
         path = folder + "/socket"
         words = ["serve", "--socket", path, "--keys", KEYS, "--workers", "1", "--accept", "1"]
-        counting = ["valgrind", "--tool=callgrind", "--callgrind-out-file=/dev/null", WORKER]
+        counting = ["valgrind", "--tool=callgrind", "--callgrind-out-file=/dev/null"]
         pipes = {"stdout": subprocess.PIPE, "stderr": subprocess.PIPE, "text": True}
-        with subprocess.Popen([*counting, PROGRAM, *words], **pipes) as run:
+        with subprocess.Popen([*counting, bench.PROGRAM, *words], **pipes) as run:
             run.stdout.readline()
             with socket.socket(socket.AF_UNIX) as client:
                 client.connect(path)
@@ -88,8 +86,8 @@ def each_time(requests, ask=ask_together):
 
 
 def main():
-    if not PROGRAM.exists() or not shutil.which("valgrind"):
-        sys.exit("bin/macaroond (make build) and valgrind are needed")
+    if not bench.PROGRAM.exists() or not shutil.which("valgrind"):
+        sys.exit("the program (make build) and valgrind are needed")
     short, long = verify(*bench.CAVEATS), verify("a" * LONG)
     alone, by_itself = each_time([short] * 8) / 8, each_time([long], ask_in_turn)
     print(f"a short verify among its like: {alone:,.0f} instructions; a long one by itself: {by_itself:,.0f}")

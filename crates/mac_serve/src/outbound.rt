@@ -8,12 +8,9 @@ use mac_mail::{Post, Taker};
 use mac_order::Next;
 use mac_order::laws::equal_jobs_hold_the_same;
 use mac_ring::Outlet;
-use mac_wire::{Sink, Unsent, Version, append_reply, send_all, whole_frames};
+use mac_wire::{GATHERED, Sink, Unsent, Version, append_reply, send_all, whole_frames};
 use std::alloc::Global;
 use std::sync::Wait;
-
-/// How many bytes of replies are gathered before they are written.
-const GATHERED: usize = 65_536;
 
 /// Why no more replies are sent.
 #[derive(Clone, Copy, Debug, PartialEq, Eq)]

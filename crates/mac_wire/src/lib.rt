@@ -40,7 +40,7 @@ pub use parse::{key_name, parse_request};
 pub use reader_source::ReaderSource;
 pub use reply::{REPLY_TOKEN_MAX, Refusal, Reply, append_reply, reply_bytes};
 pub use request::{FACTS_MAX, Request, TokenForm};
-pub use send::send_all;
+pub use send::{GATHERED, send_all};
 pub use session::Session;
 pub use unsent::Unsent;
 pub use version::{HELLO, Version};

@@ -5,6 +5,9 @@ ghost use Rattle.mac_wire.specs.Device.{CountsFault};
 
 use crate::device::{DeviceFault, Sink};
 
+/// How many bytes are gathered before they are sent, where more may follow at once.
+pub const GATHERED: usize = 65_536;
+
 /// Sends all of the bytes, in as many writes as it takes. A fault tells n: the first n bytes went
 /// out, and no more.
 pub fn send_all<W: Sink>(sink: &mut W, bytes: &[u8]) -> Result<(), (DeviceFault, usize)>

@@ -23,11 +23,8 @@ use crate::lines::{divide, next_line};
 use crate::reply_line::append_reply_line;
 use mac_decide::{answer, job_of};
 use mac_keys::{KeyFault, KeyTable};
-use mac_wire::{Arrival, NoMemory, Reply, Sink, Source, send_all};
+use mac_wire::{Arrival, GATHERED, NoMemory, Reply, Sink, Source, send_all};
 use std::alloc::Global;
-
-/// How many bytes of answers are gathered before they are written.
-const GATHERED: usize = 65_536;
 
 /// Reads the key lines up to the first empty line, then a request a line in hexadecimal, and writes
 /// a line for each answer, in order.
