@@ -10,7 +10,6 @@ second one is built where this machine can run it. A build that breaks off leave
 Where nothing that it stands on has changed since the last build, none is made.
 """
 import hashlib
-import os
 import pathlib
 import re
 import shutil
@@ -18,7 +17,7 @@ import subprocess
 import sys
 import typing
 
-TOP = pathlib.Path(__file__).resolve().parent.parent
+TOP = pathlib.Path(__file__).resolve().parents[2]
 CRATE = TOP / "crates" / "macaroond"
 PROGRAMS = TOP / "libexec" / "macaroond"
 OLDER, NEWER = "x86-64-v2", "x86-64-v3"

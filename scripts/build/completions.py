@@ -5,12 +5,14 @@ import pathlib
 import re
 import shutil
 import subprocess
+import sys
 import tempfile
 import typing
 
-import pipe_runs
+sys.path.insert(0, str(pathlib.Path(__file__).resolve().parents[1]))
+from common import TOP, runs
 
-PACKAGING = pipe_runs.TOP / "packaging"
+PACKAGING = TOP / "packaging"
 BASH, ZSH = PACKAGING / "macaroond.bash", PACKAGING / "_macaroond"
 # What an option takes, by the name that help has for its value. Help says these words too.
 CHOICES = {"FORM": ["v1", "v2", "json", "v2-text"], "DIGITS": ["600", "660", "666"]}
@@ -44,7 +46,7 @@ class Command(typing.NamedTuple):
 
 
 def help_of(*words):
-    command = [pipe_runs.PROGRAM, *words, "--help"]
+    command = [runs.PROGRAM, *words, "--help"]
     return subprocess.run(command, capture_output=True, text=True, check=True).stdout
 
 
@@ -89,7 +91,7 @@ def bash(found):
     free = [option.name for option in options if option.value not in FILES and not option.choices() and option.name != KEY]
     each = [f"                    {it.name}) words='{' '.join(option.name for option in it.options)}' ;;" for it in found]
     first = " ".join([*(it.name for it in found), *(option.name for option in options_of(help_of()))])
-    return f"""# bash completion for macaroond, made by scripts/completions.py
+    return f"""# bash completion for macaroond, made by scripts/build/completions.py
 
 # The names in the key file that the line gives.
 _macaroond_key_names() {{
@@ -153,7 +155,7 @@ def zsh(found):
     described = "\n".join(f"    '{command.name}:{quoted(command.about)}'" for command in found)
     first = "\n".join(f"    '{option.name}:{quoted(option.about)}'" for option in options_of(help_of()))
     return f"""#compdef macaroond
-# zsh completion for macaroond, made by scripts/completions.py
+# zsh completion for macaroond, made by scripts/build/completions.py
 
 local -a commands=(
 {described}
@@ -250,7 +252,7 @@ def zsh_rows(found):
 def faults():
     """What is otherwise than help says, how many lines were completed, and what wasn't tried."""
     found = list(commands())
-    wrong = [f"{file.relative_to(pipe_runs.TOP)} isn't what --help says: make completions, after make build"
+    wrong = [f"{file.relative_to(TOP)} isn't what --help says: make completions, after make build"
              for file, text in made().items() if not file.exists() or file.read_text() != text]
     has_zsh = shutil.which("zsh") is not None
     rows = [*bash_rows(found), *(zsh_rows(found) if has_zsh else [])]

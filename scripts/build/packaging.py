@@ -21,7 +21,9 @@ import sys
 import tarfile
 import tempfile
 
-TOP = pathlib.Path(__file__).resolve().parent.parent
+sys.path.insert(0, str(pathlib.Path(__file__).resolve().parents[1]))
+from common import TOP
+
 DIST = TOP / "dist"
 # What a package is made of, beside debian/.
 PARTS = ["Makefile", "VERSION", "README.md", "CHANGELOG.md", "SECURITY.md"]

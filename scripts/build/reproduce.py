@@ -14,7 +14,9 @@ import subprocess
 import sys
 import tempfile
 
-TOP = pathlib.Path(__file__).resolve().parent.parent
+sys.path.insert(0, str(pathlib.Path(__file__).resolve().parents[1]))
+from common import TOP
+
 # What is compared, of each folder.
 MADE = ["bin/macaroond", "libexec/macaroond/x86-64-*", "dist/*"]
 

@@ -1,4 +1,4 @@
-"""scripts/build.py over a stand-in for the toolchain's `rt`: what it leaves, and that it leaves nothing
+"""scripts/build/build.py over a stand-in for the toolchain's `rt`: what it leaves, and that it leaves nothing
 where a build breaks off."""
 import os
 import pathlib
@@ -7,7 +7,7 @@ import subprocess
 import sys
 import tempfile
 
-import build
+from build import build
 
 # It "builds" a program that tells how it was built, or does what HOW says: it is killed, or ends well
 # and leaves what was there.
@@ -34,7 +34,7 @@ class Checkout:
         self.write("crates/macaroond/out/macaroond", "an earlier program\n")
         self.write("tools/rt", RT)
         (self.top / "tools/rt").chmod(0o755)
-        self.write("scripts/build.py", pathlib.Path(build.__file__).read_text())
+        self.write("scripts/build/build.py", pathlib.Path(build.__file__).read_text())
         self.git("init", "--quiet")
         self.write(".gitignore", "out/\nlibexec/\ncalls\n")
         self.commit()
@@ -60,7 +60,7 @@ class Checkout:
         calls.write_text("")
         path = f"{self.top}/tools:{os.environ['PATH']}"
         environment = {**os.environ, "PATH": path, "HOW": how, "CALLS": str(calls)}
-        command = [sys.executable, self.top / "scripts/build.py", *words]
+        command = [sys.executable, self.top / "scripts/build/build.py", *words]
         run = subprocess.run(command, env=environment, capture_output=True, text=True)
         return run.returncode == 0, len(calls.read_text().splitlines()), self.left()
 

@@ -5,7 +5,7 @@ Their values are not the program's own: tokens and signatures come from libmacar
 """
 import pathlib
 
-from pipe_runs import Case
+from common.runs import Case
 
 CASES = pathlib.Path(__file__).resolve().parent / "cases"
 
@@ -19,11 +19,11 @@ def answers():
     return sum(len(path.read_text().splitlines()) for path in CASES.glob("*.stdout"))
 
 
-def faults(runs):
+def faults(made):
     """Which of them the pipe answers otherwise."""
     found = []
     for path in sorted(CASES.glob("*.stdout")):
-        wanted, printed = path.read_text().splitlines(), runs[f"case_{path.stem}"].output.splitlines()
+        wanted, printed = path.read_text().splitlines(), made[f"case_{path.stem}"].output.splitlines()
         if printed != wanted:
             differing = [line for line, (a, b) in enumerate(zip(wanted, printed), 1) if a != b]
             found.append(f"{path.stem}: {len(printed)} answers for {len(wanted)}, others than wanted in the lines {differing}")

@@ -5,15 +5,12 @@
 import asyncio
 import base64
 import ctypes
-import pathlib
 import random
-import sys
 import threading
 import typing
 
-import peers
+from check import peers
 
-sys.path.insert(0, str(pathlib.Path(__file__).resolve().parent.parent / "clients" / "python"))
 from macaroond import AsyncClient, BadToken, Client, Form, UnknownKey
 
 ASKERS = 64

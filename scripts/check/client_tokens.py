@@ -4,11 +4,10 @@ Tokens of every form are taken as they are, and with bytes changed, left out, pu
 is attenuated by both, into every form.
 """
 import base64
-import pathlib
 import random
-import sys
 
-sys.path.insert(0, str(pathlib.Path(__file__).resolve().parent.parent / "clients" / "python"))
+import common  # puts the Python client on the path
+
 import macaroond
 from macaroond import BadToken, Client, Form
 from macaroond.wire import attenuate_request

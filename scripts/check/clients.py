@@ -8,7 +8,6 @@ Python package says of a token by itself is compared with the daemon's answer, a
 requests (100,000) from 64 threads, tasks and goroutines are compared with what libmacaroons,
 pymacaroons and go-macaroon say. Asks for bin/macaroond, or the program that MACAROOND names.
 """
-import contextlib
 import importlib.util
 import os
 import pathlib
@@ -18,21 +17,16 @@ import socket
 import subprocess
 import sys
 import tempfile
-import textwrap
 import time
 import urllib.error
 import urllib.request
 
-import client_cases
-import client_tokens
-import peers
-import sessions
+sys.path.insert(0, str(pathlib.Path(__file__).resolve().parents[1]))
+from check import client_cases, client_tokens, peers
+from common import TOP
+from common.daemon import listening
 
-TOP = pathlib.Path(__file__).resolve().parent.parent
-PROGRAM = os.environ.get("MACAROOND", str(TOP / "bin" / "macaroond"))
 PYTHON, GO = TOP / "clients" / "python", TOP / "clients" / "go"
-README = TOP / "clients" / "README.md"
-KEYS = TOP / "examples" / "keys"
 GO_LIBRARIES = pathlib.Path("/usr/share/gocode")
 # How many requests each client is compared in, by the gate and else.
 FEW, MANY = 3_000, 100_000
@@ -77,45 +71,12 @@ def go_faults():
     """What fails of the Go client's tests over a scripted server, and of its form; and how many checks there were."""
     if not has_go():
         return [], 0, [NO_GO]
-    unformed = run(["gofmt", "-l", GO, TOP / "scripts" / "go_client", TOP / "examples" / "service_go"])
+    unformed = run(["gofmt", "-l", GO, TOP / "scripts" / "check" / "go_client", TOP / "examples" / "service_go"])
     vetted = run(["go", "vet", "./..."], cwd=GO, env=GO_ALONE)
     tested = run(["go", "test", "-count=1", "-v", "./..."], cwd=GO, env=GO_ALONE)
     found = [f"gofmt would change {name}" for name in unformed.stdout.splitlines()]
     found += [tried.stdout for tried in (vetted, tested) if tried.returncode != 0]
     return found, 2 + len(re.findall(r"^--- (?:PASS|FAIL)", tested.stdout, re.MULTILINE)), []
-
-
-@contextlib.contextmanager
-def daemon():
-    """A folder with a daemon at `socket` in it."""
-    with tempfile.TemporaryDirectory() as folder:
-        command = [PROGRAM, "listen", "--socket", "./socket", "--keys", KEYS, "--workers", "2"]
-        pipes = {"stdout": subprocess.PIPE, "stderr": subprocess.DEVNULL}
-        with subprocess.Popen(command, cwd=folder, **pipes) as process:
-            process.stdout.readline()
-            try:
-                yield folder
-            finally:
-                process.kill()
-
-
-def quote_faults():
-    """Blocks of the README that stand in no file that is run; sessions of Python are run as they are."""
-    service = (TOP / "examples" / "service.py").read_text()
-    sources = [(GO / "readme_test.go").read_text(), (TOP / "examples" / "service_go" / "main.go").read_text()]
-    indented = [textwrap.indent(block, "\t") for block in sessions.blocks(README, "go")]
-    quoted = [(block, service == block) for block in sessions.blocks(README, "python") if not block.startswith(">>>")]
-    for plain, inner in zip(sessions.blocks(README, "go"), indented):
-        quoted.append((plain, any(plain == source or inner in source for source in sources)))
-    return [f"clients/README.md quotes what isn't run:\n{block}" for block, is_run in quoted if not is_run], len(quoted)
-
-
-def session_faults(folder):
-    """What the README's sessions of Python print otherwise, and how many commands they have."""
-    text = "\n".join(block for block in sessions.blocks(README, "python") if block.startswith(">>>"))
-    (pathlib.Path(folder) / "session.txt").write_text(text)
-    printed = run([sys.executable, "-m", "doctest", "session.txt"], cwd=folder, env=PYTHON_PATH)
-    return [] if printed.returncode == 0 else [printed.stdout], text.count(">>> ")
 
 
 def go_example_faults(folder):
@@ -126,13 +87,6 @@ def go_example_faults(folder):
         return [built.stdout], 1
     printed = run([program, "-test.run", "^Example"], cwd=folder)
     return [] if printed.returncode == 0 else [printed.stdout], 1
-
-
-def readme_faults(folder):
-    """What of the README doesn't hold, and how many checks there were."""
-    parts = [quote_faults(), session_faults(folder)]
-    parts += [go_example_faults(folder)] if has_go() else []
-    return [fault for faults, _ in parts for fault in faults], sum(checks for _, checks in parts)
 
 
 def free_port():
@@ -200,14 +154,14 @@ def services_faults(folder):
 
 
 def go_client(folder):
-    """The program in scripts/go_client, or what is wrong with it."""
+    """The program in go_client, or what is wrong with it."""
     # go-macaroon is no module at Debian's, so the client is found beside it in the older way.
     sources = pathlib.Path(folder) / "gopath" / "src"
     sources.mkdir(parents=True)
     (sources / "macaroond").symlink_to(GO)
     env = {**os.environ, "GO111MODULE": "off", "GOFLAGS": "", "GOPATH": f"{sources.parent}:{GO_LIBRARIES}"}
     program = os.path.join(folder, "go_client")
-    built = run(["go", "build", "-o", program, "."], cwd=TOP / "scripts" / "go_client", env=env)
+    built = run(["go", "build", "-o", program, "."], cwd=TOP / "scripts" / "check" / "go_client", env=env)
     return (program, None) if built.returncode == 0 else (None, built.stdout)
 
 
@@ -243,9 +197,10 @@ def mixed_faults(folder, count):
 
 def daemon_faults(count=FEW):
     """What fails with the real daemon, how many checks there were, and what was left out."""
-    with daemon() as folder:
-        parts = [readme_faults(folder), services_faults(folder)]
-        parts.append(client_tokens.faults(os.path.join(folder, "socket"), count))
+    with listening("--workers", "2", stderr=subprocess.DEVNULL) as (path, _):
+        folder = os.path.dirname(path)
+        parts = [services_faults(folder), client_tokens.faults(path, count)]
+        parts += [go_example_faults(folder)] if has_go() else []
         faults, checks, skipped = mixed_faults(folder, count)
     found = [fault for some, _ in parts for fault in some] + faults
     return found, sum(more for _, more in parts) + checks, skipped

@@ -6,18 +6,15 @@ import select
 import socket
 import stat
 import subprocess
-import sys
 import tempfile
 import threading
 import time
 
-import pipe_runs
+from common import KEYS, runs
+from common.daemon import PATIENCE, connected, frame, received
 
-TOP = pathlib.Path(__file__).resolve().parent.parent
-sys.path.insert(0, str(TOP / "examples"))
 import request
 
-KEYS = str(TOP / "examples" / "keys")
 MINT = request.mint("v1-text", "bank", "http://mybank/", "we used our secret key")
 TOKEN = (
     b"MDAxY2xvY2F0aW9uIGh0dHA6Ly9teWJhbmsvCjAwMjZpZGVudGlmaWVyIHdlIHVzZWQgb3VyIHNlY3JldCBrZXkK"
@@ -27,31 +24,17 @@ NO_REQUEST = bytes([0, 0, 0, 1, 16])
 MALFORMED = bytes([0, 0, 0, 1, 20])
 # JSON that takes milliseconds to read, and is no token.
 SLOW_TOKEN = '{"a":[' + 10_900 * "{}," + "{}]}"
-# How many seconds anything may take, on a machine that is busy with other work.
-PATIENCE = 120
 # How often a quick request is sent behind a slow one until it is answered first.
 TRIES = 1000
 # How many requests are sent before the first reply is read.
 LATE = 20_000
 
-
 HELLO = b"\x02"
-
-
-def frame(payload):
-    return len(payload).to_bytes(4, "big") + payload
 
 
 def placed(*replies):
     """The frames of replies in version two."""
     return b"".join(frame(place.to_bytes(8, "big") + reply) for place, reply in enumerate(replies))
-
-
-def connected(path):
-    stream = socket.socket(socket.AF_UNIX)
-    stream.settimeout(PATIENCE)
-    stream.connect(path)
-    return stream
 
 
 def answer(stream, data):
@@ -68,7 +51,7 @@ def answer(stream, data):
 def daemon(*words):
     """A daemon that has printed its first line."""
     pipes = {"stdout": subprocess.PIPE, "stderr": subprocess.PIPE, "text": True}
-    with subprocess.Popen([pipe_runs.PROGRAM, *words], **pipes) as run:
+    with subprocess.Popen([runs.PROGRAM, *words], **pipes) as run:
         try:
             run.first = run.stdout.readline()
             yield run
@@ -87,16 +70,8 @@ def served(path, workers):
     due = [frame(b"\x01" + TOKEN) + NO_REQUEST, NO_REQUEST * 3, b""]
     yield f"{workers} workers answer", answers, due
     yield f"{workers} workers end", (run.returncode, run.first + output, error), (0, "listening\nserved 3 faults 1\n", "")
-    again = subprocess.run([pipe_runs.PROGRAM, *words], capture_output=True, text=True, timeout=PATIENCE)
+    again = subprocess.run([runs.PROGRAM, *words], capture_output=True, text=True, timeout=PATIENCE)
     yield "a path that is there", (again.returncode, again.stdout, again.stderr), (3, "", "fault 3\n")
-
-
-def received(stream, count):
-    """So many bytes, or as many as come."""
-    pieces = b""
-    while len(pieces) < count and (piece := stream.recv(min(65_536, count - len(pieces)))):
-        pieces += piece
-    return pieces
 
 
 def both_ways(path):
@@ -170,7 +145,7 @@ def listening(folder):
         yield "its lock beside the socket, and no more", sorted(os.listdir(folder)), ["listening", "listening.lock"]
         with connected(path) as stream:
             yield "an answer", answer(stream, frame(MINT)), frame(b"\x01" + TOKEN)
-        taken = subprocess.run([pipe_runs.PROGRAM, *words], capture_output=True, text=True, timeout=PATIENCE)
+        taken = subprocess.run([runs.PROGRAM, *words], capture_output=True, text=True, timeout=PATIENCE)
         due = (3, "", f"{path}: process {run.pid} has it\nfault 3\n")
         yield "a path that is listened on", (taken.returncode, taken.stdout, taken.stderr), due
     with daemon(*words, "--idle", "1") as run:
@@ -189,7 +164,7 @@ def listening(folder):
     file = folder + "/file"
     pathlib.Path(file).write_text("")
     words[2] = file
-    refused = subprocess.run([pipe_runs.PROGRAM, *words], capture_output=True, text=True, timeout=PATIENCE)
+    refused = subprocess.run([runs.PROGRAM, *words], capture_output=True, text=True, timeout=PATIENCE)
     due = (3, "", f"{file}: there is something that is no socket\nfault 3\n")
     yield "a path that is no socket", (refused.returncode, refused.stdout, refused.stderr), due
 

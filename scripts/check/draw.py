@@ -11,7 +11,9 @@ import shutil
 import subprocess
 import sys
 
-TOP = pathlib.Path(__file__).resolve().parent.parent
+sys.path.insert(0, str(pathlib.Path(__file__).resolve().parents[1]))
+from common import TOP
+
 TEXT = TOP / "docs" / "architecture.dot"
 PICTURE = TEXT.with_suffix(".svg")
 CRATE = re.compile(r"\b(?:mac_[a-z]+|sha256x8|macaroond)\b")

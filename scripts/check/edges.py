@@ -11,10 +11,10 @@ import resource
 import socket
 import tempfile
 
-import pipe_runs
-import statuses
-from pipe_runs import Case, Run
-from statuses import Ending
+from check import statuses
+from check.statuses import Ending
+from common import runs
+from common.runs import Case, Run
 
 DEVICE = Ending(3, "", "fault 3\n")
 NOT_UTF8 = statuses.bad("a word of the command line is not UTF-8\n")
@@ -28,7 +28,7 @@ LITTLE_MEMORY = 12 * 1024 * 1024
 
 def to_full(words, text=""):
     with open("/dev/full", "w") as full:
-        run = pipe_runs.built_run(Case(text, words), stdout=full)
+        run = runs.built_run(Case(text, words), stdout=full)
     return Run(run.status, "", run.error)
 
 
@@ -39,7 +39,7 @@ def to_file_of(count):
         given.seek(0)
         limit = lambda: resource.setrlimit(resource.RLIMIT_FSIZE, (count, count))
         how = {"stdin": given, "stdout": printed, "preexec_fn": limit, "restore_signals": False}
-        run = pipe_runs.built_run(Case("", ["pipe"]), **how)
+        run = runs.built_run(Case("", ["pipe"]), **how)
         printed.seek(0)
         return Run(run.status, printed.read(), run.error)
 
@@ -51,27 +51,27 @@ def from_broken(text):
         theirs.sendall(b"unread")
         ours.sendall(text.encode())
         ours.close()
-        return pipe_runs.built_run(Case("", ["pipe"]), stdin=theirs)
+        return runs.built_run(Case("", ["pipe"]), stdin=theirs)
 
 
 def from_folder():
     folder = os.open("/", os.O_RDONLY)
     try:
-        return pipe_runs.built_run(Case("", ["pipe"]), stdin=folder)
+        return runs.built_run(Case("", ["pipe"]), stdin=folder)
     finally:
         os.close(folder)
 
 
 def with_little_memory():
     limit = lambda: resource.setrlimit(resource.RLIMIT_AS, (LITTLE_MEMORY, LITTLE_MEMORY))
-    return pipe_runs.built_run(Case("#" * statuses.INPUT_MAX, ["pipe"]), preexec_fn=limit)
+    return runs.built_run(Case("#" * statuses.INPUT_MAX, ["pipe"]), preexec_fn=limit)
 
 
 def faults():
     """Which of these runs end otherwise, and how many there are."""
     answers = ANSWER * 20_000
     ended = [
-        ("not_utf8", pipe_runs.built_run(Case("", ["pipe", b"\xff"])), NOT_UTF8),
+        ("not_utf8", runs.built_run(Case("", ["pipe", b"\xff"])), NOT_UTF8),
         ("help_to_full", to_full(["--help"]), DEVICE),
         ("pipe_help_to_full", to_full(["pipe", "--help"]), DEVICE),
         ("answers_to_full", to_full(["pipe"], "\n\n"), DEVICE),

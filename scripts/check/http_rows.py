@@ -10,7 +10,7 @@ import hmac
 import pathlib
 import sys
 
-CRATE = pathlib.Path(__file__).resolve().parent.parent / "crates" / "try_http"
+CRATE = pathlib.Path(__file__).resolve().parents[2] / "crates" / "try_http"
 SECRET = b"this is our super secret key; only we should know it"
 OLD = b"another one"
 

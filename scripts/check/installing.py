@@ -7,11 +7,9 @@ import subprocess
 import tarfile
 import tempfile
 
-import build
-import packaging
-import pipe_runs
+from build import build, packaging
+from common import TOP
 
-TOP = pipe_runs.TOP
 LAUNCHER = TOP / "packaging" / "launcher.c"
 STRICT = ["cc", "-O2", "-Wall", "-Wextra", "-Wpedantic", "-Werror"]
 # A program that tells what it was started with.

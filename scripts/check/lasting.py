@@ -1,17 +1,23 @@
+#!/usr/bin/env python3
 """Runs of `macaroond listen` that has to stay up: what it does where nobody reads what it prints, and
 how it ends connections."""
 import contextlib
 import os
+import pathlib
 import re
 import resource
 import subprocess
-import tempfile
+import sys
 import threading
 import time
 
-import hostile
-import pipe_runs
-from daemon_rows import KEYS, MALFORMED, MINT, NO_REQUEST, TOKEN, connected, frame, received, request
+sys.path.insert(0, str(pathlib.Path(__file__).resolve().parents[1]))
+from check.daemon_rows import MALFORMED, MINT, NO_REQUEST, TOKEN
+from common import daemon
+from common.daemon import connected, frame, received
+from faults import hostile
+
+import request
 
 # How many seconds a client waits at most: a daemon that hangs is told from a machine that is busy.
 LONGEST_WAIT = 30
@@ -32,18 +38,9 @@ MINTING, MINTED = frame(MINT), len(frame(b"\x01" + TOKEN))
 LEFT_OUT = re.compile(r"(\d+) more lines were left out")
 
 
-@contextlib.contextmanager
 def listening(error, *words, **how):
     """The path of a daemon that listens, and its process. It prints its faults to `error`."""
-    with tempfile.TemporaryDirectory() as folder:
-        path = folder + "/socket"
-        command = [pipe_runs.PROGRAM, "listen", "--socket", path, "--keys", KEYS, "--workers", "2", *words]
-        with subprocess.Popen(command, stdout=subprocess.PIPE, stderr=error, **how) as run:
-            try:
-                run.stdout.readline()
-                yield path, run
-            finally:
-                run.kill()
+    return daemon.listening("--workers", "2", *words, stderr=error, **how)
 
 
 def full_pipe():

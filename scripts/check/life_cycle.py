@@ -16,11 +16,13 @@ import tempfile
 import threading
 import time
 
-import daemon_rows
-import package_runs
-import packaging
-import pipe_runs
-from daemon_rows import request
+sys.path.insert(0, str(pathlib.Path(__file__).resolve().parents[1]))
+from build import packaging
+from check import package_runs
+from common import runs
+from common.daemon import connected, frame, received
+
+import request
 
 COMMANDS = {"mmdebstrap": "mmdebstrap", "systemd-nspawn": "systemd-container", "nsenter": "util-linux"}
 # How long anything may take, in seconds, on a machine that is busy with other work.
@@ -87,7 +89,7 @@ class System:
         """How a command ends in the system, and what it prints."""
         command = ["nsenter", "--target", self.leader[0], "--all", "--wdns=/", "env", "-i", "PATH=/usr/sbin:/usr/bin:/sbin:/bin"]
         told = subprocess.run([*command, *words], stdin=subprocess.DEVNULL, capture_output=True, text=True, timeout=PATIENCE)
-        return pipe_runs.Run(told.returncode, told.stdout, told.stderr)
+        return runs.Run(told.returncode, told.stdout, told.stderr)
 
     def did(self, *words):
         """Whether a command did what it should, and else what it prints."""
@@ -138,7 +140,7 @@ class Client(threading.Thread):
 
     def __init__(self, path, asked):
         super().__init__(daemon=True)
-        self.path, self.asked = path, daemon_rows.frame(asked)
+        self.path, self.asked = path, frame(asked)
         self.is_over, self.wrong, self.ended, self.answered = False, [], 0, 0
         self.start()
 
@@ -153,10 +155,10 @@ class Client(threading.Thread):
 
     def ask(self, stream):
         """Asks until the connection ends, which may not be in the middle of a reply."""
-        due = daemon_rows.frame(GRANTED)
+        due = frame(GRANTED)
         while not self.is_over:
             stream.sendall(self.asked)
-            reply = daemon_rows.received(stream, len(due))
+            reply = received(stream, len(due))
             if reply == b"":
                 return
             self.answered += reply == due
@@ -165,10 +167,10 @@ class Client(threading.Thread):
 
 def answer(system, payload):
     """The daemon's reply to a request."""
-    with daemon_rows.connected(system.path(SOCKET)) as stream:
-        stream.sendall(daemon_rows.frame(payload))
-        length = int.from_bytes(daemon_rows.received(stream, 4), "big")
-        return daemon_rows.received(stream, length)
+    with connected(system.path(SOCKET)) as stream:
+        stream.sendall(frame(payload))
+        length = int.from_bytes(received(stream, 4), "big")
+        return received(stream, length)
 
 
 def installed(system):

@@ -3,7 +3,7 @@ import re
 import shutil
 import subprocess
 
-from pipe_runs import TOP
+from common import TOP
 
 PAGE = TOP / "man" / "macaroond.1"
 SUBCOMMANDS = ["keygen", "mint", "attenuate", "verify", "inspect", "pipe", "serve", "listen"]

@@ -8,7 +8,7 @@ import shutil
 import subprocess
 import tempfile
 
-import packaging
+from build import packaging
 
 UNITS = "lib/systemd/system"
 # The most that `systemd-analyze security` may find, in tenths.

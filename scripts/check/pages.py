@@ -11,7 +11,9 @@ import re
 import subprocess
 import sys
 
-TOP = pathlib.Path(__file__).resolve().parent.parent
+sys.path.insert(0, str(pathlib.Path(__file__).resolve().parents[1]))
+from common import TOP
+
 PAGES = [
     *sorted(TOP.glob("*.md")),
     TOP / "clients" / "README.md",

@@ -9,9 +9,10 @@ import shutil
 import subprocess
 import sys
 
-sys.path.append(str(pathlib.Path(__file__).resolve().parent.parent / "examples"))
+from common import TOP
+from common.runs import Case
+
 import request
-from pipe_runs import TOP, Case
 
 # Where Debian's packages for Python are seen.
 DEBIAN_PYTHON = "/usr/bin/python3"
@@ -114,7 +115,7 @@ class GoMacaroon:
         self.program = TOP / "bin" / "go_peer"
         self.program.parent.mkdir(exist_ok=True)
         offline = {**os.environ, "GO111MODULE": "off", "GOFLAGS": "", "GOPATH": str(self.FOLDER)}
-        subprocess.run(["go", "build", "-o", self.program, "."], cwd=TOP / "scripts" / "go_peer", env=offline, check=True)
+        subprocess.run(["go", "build", "-o", self.program, "."], cwd=TOP / "scripts" / "check" / "go_peer", env=offline, check=True)
         self.forms = ["v1-text", "v2-binary", "v2-text", "v2-json"]
 
     def asked(self, *words):
@@ -169,11 +170,11 @@ def cases(peers):
     return made
 
 
-def outcome(peer, runs):
+def outcome(peer, made):
     """What didn't come out as it should, in words, and how many things were looked at."""
     found = []
     for form in peer.forms:
-        lines = runs[f"{peer.name}_{form}"].output.splitlines()
+        lines = made[f"{peer.name}_{form}"].output.splitlines()
         expect(found, len(lines) == 4, f"{peer.name}, {form}: {len(lines)} answers to 4 requests")
         if len(lines) == 4:
             found += exchange_faults(peer, form, *lines)

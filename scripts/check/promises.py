@@ -7,13 +7,14 @@ script puts the wrong bodies of that function, those that the gate tries in bold
 <!-- PART --> and <!-- end --> stands what it writes by itself: the counts, the laws, and the wrong
 bodies of functions that no table names. docs/PROMISES.md has such a part with the counts of all.
 """
+import pathlib
 import re
 import sys
-from pathlib import Path
 
-from bodies import BadEdit, Source, read_body
+sys.path.insert(0, str(pathlib.Path(__file__).resolve().parents[1]))
+from common import TOP
+from wrong_bodies.bodies import BadEdit, Source, read_body
 
-TOP = Path(__file__).resolve().parent.parent
 WRONG = "Wrong bodies refused"
 # What stands behind a function's name in that column, and what parts one function from the next.
 ENTRY = re.compile(r"`([\w:./]+)`: [^;|]*")

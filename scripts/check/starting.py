@@ -7,15 +7,16 @@ import signal
 import subprocess
 import tempfile
 
-import daemon_rows
-import pipe_runs
+from check.daemon_rows import NO_REQUEST, answer
+from common import KEYS, runs
+from common.daemon import connected, frame
 
 # How often two daemons are started together on one path.
 ROUNDS = 60
 
 
 def words(path):
-    return [pipe_runs.PROGRAM, "listen", "--socket", path, "--keys", daemon_rows.KEYS, "--workers", "1"]
+    return [runs.PROGRAM, "listen", "--socket", path, "--keys", KEYS, "--workers", "1"]
 
 
 def started(path, **how):
@@ -47,9 +48,9 @@ def one_round(path):
             winner, loser = (one, other) if lines[0] else (other, one)
             if loser.wait(20) != 3 or not is_told(path, error := loser.stderr.read()):
                 return f"status {loser.returncode}, {error!r}"
-            with daemon_rows.connected(path) as stream:
-                reply = daemon_rows.answer(stream, daemon_rows.frame(b""))
-            return "" if reply == daemon_rows.NO_REQUEST and winner.poll() is None else f"reply {reply}"
+            with connected(path) as stream:
+                reply = answer(stream, frame(b""))
+            return "" if reply == NO_REQUEST and winner.poll() is None else f"reply {reply}"
         finally:
             one.kill()
             other.kill()
@@ -90,11 +91,11 @@ def closed(folder):
             try:
                 while not os.path.exists(path) and run.poll() is None:
                     signal.sigtimedwait([], 0.01)
-                with daemon_rows.connected(path) as first, daemon_rows.connected(path) as torn:
+                with connected(path) as first, connected(path) as torn:
                     # The torn connection ends in a fault, which the daemon prints.
-                    yield f"{name} closed: a torn stream", daemon_rows.answer(torn, bytes(3)), b""
-                    reply = daemon_rows.answer(first, daemon_rows.frame(b""))
-                    yield f"{name} closed: a reply and no more", reply, daemon_rows.NO_REQUEST
+                    yield f"{name} closed: a torn stream", answer(torn, bytes(3)), b""
+                    reply = answer(first, frame(b""))
+                    yield f"{name} closed: a reply and no more", reply, NO_REQUEST
                 links = [os.readlink(f"/proc/{run.pid}/fd/{one}") for one in gone]
                 yield f"{name} closed: what is there", links, ["/dev/null"] * len(gone)
             finally:

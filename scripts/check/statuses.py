@@ -1,7 +1,7 @@
 """How the program ends: its exit statuses, and how its standard output and standard error begin."""
 import typing
 
-from pipe_runs import Case
+from common.runs import Case
 
 KEY = "key bank 74686973206973206f757220737570657220736563726574206b6579\n\n"
 PROGRAM = "Mints, narrows and verifies macaroons\n"
@@ -120,7 +120,7 @@ def told(name, run, wanted):
     return f"{name}: ends with {ended}, where {wanted} is due"
 
 
-def faults(runs):
+def faults(made):
     """Which of them end otherwise."""
-    ended = [(name, runs[f"ending_{name}"], wanted) for name, (_, wanted) in ENDINGS.items()]
+    ended = [(name, made[f"ending_{name}"], wanted) for name, (_, wanted) in ENDINGS.items()]
     return [told(name, run, wanted) for name, run, wanted in ended if not is_so(run, wanted)]

@@ -2,9 +2,8 @@
 import re
 import subprocess
 
-import pipe_runs
+from common import TOP, runs
 
-TOP = pipe_runs.TOP
 # Each place, and what surrounds the version there.
 PLACES = {
     "crates/macaroond/src/commands.rt": r'^const VERSION: &str = "(.*) \(uncommitted\)";$',
@@ -26,7 +25,7 @@ def faults():
     """Which places tell another version, and how many there are; the program's too, once it is built."""
     due = (TOP / "VERSION").read_text().strip()
     told = {name: said((TOP / name).read_text(), pattern) for name, pattern in PLACES.items()}
-    if pipe_runs.is_built():
-        run = subprocess.run([pipe_runs.PROGRAM, "--version"], capture_output=True, text=True)
+    if runs.is_built():
+        run = subprocess.run([runs.PROGRAM, "--version"], capture_output=True, text=True)
         told["macaroond --version"] = said(run.stdout, TOLD)
     return [f"{name} tells {it} where VERSION has {due}" for name, it in told.items() if it != due], len(told)

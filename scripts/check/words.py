@@ -8,13 +8,13 @@ import os
 import pathlib
 import tempfile
 
-import pipe_runs
-import statuses
-from pipe_runs import Case, Run
-from statuses import Ending, bad
+from check import statuses
+from check.statuses import Ending, bad
+from common import KEYS, runs
+from common.runs import Case, Run
 
 FOLDER = tempfile.TemporaryDirectory()
-KEYS = str(pipe_runs.TOP / "examples" / "keys")
+KEYS = str(KEYS)
 TOKEN = "AgEOaHR0cDovL215YmFuay8CFndlIHVzZWQgb3VyIHNlY3JldCBrZXkAAAYg49ngKQhSbEwAOa4VEUEV2X_daL8ro3mzQqrw9hfQVS8"
 V1_TOKEN = (
     "MDAxY2xvY2F0aW9uIGh0dHA6Ly9teWJhbmsvCjAwMjZpZGVudGlmaWVyIHdlIHVzZWQgb3VyIHNlY3JldCBrZXkK"
@@ -182,9 +182,9 @@ def cases():
     return {f"words_{name}": case for name, (case, _) in USES.items()}
 
 
-def faults(runs):
+def faults(made):
     """Which of them end otherwise."""
-    ended = [(name, runs[f"words_{name}"], wanted) for name, (_, wanted) in USES.items()]
+    ended = [(name, made[f"words_{name}"], wanted) for name, (_, wanted) in USES.items()]
     return [statuses.told(*it) for it in ended if not statuses.is_so(*it[1:])]
 
 
@@ -193,7 +193,7 @@ def to_nobody(words):
     ours, theirs = os.pipe()
     os.close(ours)
     try:
-        run = pipe_runs.built_run(Case("", words), stdout=theirs)
+        run = runs.built_run(Case("", words), stdout=theirs)
     finally:
         os.close(theirs)
     return Run(run.status, "", run.error)
@@ -203,10 +203,10 @@ def edge_faults():
     """Which runs end otherwise that only bin/macaroond can show: with no reader, a full device and a word that isn't UTF-8."""
     lost = failed("standard output can't be written\n")
     with open("/dev/full", "w") as full:
-        filled = pipe_runs.built_run(Case("", ["inspect", TOKEN]), stdout=full)
+        filled = runs.built_run(Case("", ["inspect", TOKEN]), stdout=full)
     ended = [
         ("to_nobody", to_nobody(["inspect", TOKEN]), lost),
         ("to_full", Run(filled.status, "", filled.error), lost),
-        ("not_utf8", pipe_runs.built_run(Case("", ["inspect", b"\xff"])), bad("a word of the command line is not UTF-8\n")),
+        ("not_utf8", runs.built_run(Case("", ["inspect", b"\xff"])), bad("a word of the command line is not UTF-8\n")),
     ]
     return [statuses.told(*it) for it in ended if not statuses.is_so(*it[1:])]

@@ -7,8 +7,9 @@ import subprocess
 import tempfile
 import typing
 
-TOP = pathlib.Path(__file__).resolve().parent.parent
-PROGRAM = TOP / "bin" / "macaroond"
+from common import TOP, programs
+
+PROGRAM = programs.path_of("macaroond")
 # What PROGRAM starts, at least.
 PROVED = TOP / "libexec" / "macaroond" / "x86-64-v2"
 
@@ -35,7 +36,7 @@ def is_built():
     return is_there and PROVED.stat().st_mtime > max(sources)
 
 
-def runs(cases):
+def of_cases(cases):
     """The runs of these cases, both by name."""
     if is_built():
         return {name: built_run(case) for name, case in cases.items()}

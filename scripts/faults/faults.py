@@ -9,18 +9,21 @@ told. Asks for a C compiler `cc` and for the programs that `make build build-run
 for bin/macaroond.
 """
 import collections
+import pathlib
 import re
 import sys
 
-import faulty_daemon
-import pipe_runs
-import refusing
-import statuses
-import words
-from refusing import Ended, Row, in_turn, watched
+sys.path.insert(0, str(pathlib.Path(__file__).resolve().parents[1]))
+from check import statuses, words
+from check.daemon_rows import TOKEN
+from common import TOP, programs, runs
+from common.daemon import frame
+from faults import faulty_daemon, refusing
+from faults.refusing import Ended, Row, in_turn, watched
 
-BIN = pipe_runs.TOP / "bin"
-CRATES = pipe_runs.TOP / "crates"
+import request
+
+CRATES = TOP / "crates"
 NO_MEMORY = Ended(4, b"", b"fault 4\n")
 NO_MEMORY_FOR_PEOPLE = Ended(4, b"", b"error: memory ran out\n")
 DEVICE = b"fault 3\n"
@@ -28,8 +31,7 @@ DEVICE = b"fault 3\n"
 WITHOUT_MEMORY = {"bare:v1", "bare:v2", "bare:json"}
 BARE = b"made", b"refused, and made once more", b"refused elsewhere"
 MINT = bytes.fromhex("01010462616e6b000e687474703a2f2f6d7962616e6b2f001677652075736564206f757220736563726574206b657900")
-TOKEN = faulty_daemon.TOKEN
-REPLIES = [faulty_daemon.frame(b"\x01" + TOKEN), faulty_daemon.frame(b"\x10")]
+REPLIES = [frame(b"\x01" + TOKEN), frame(b"\x10")]
 NO_CASE = b"the line is no case\n"
 KEY = b"key bank 74686973206973206f757220737570657220736563726574206b65793b206f6e6c792077652073686f756c64206b6e6f77206974\n\n"
 
@@ -37,8 +39,8 @@ KEY = b"key bank 74686973206973206f757220737570657220736563726574206b65793b206f6
 def pipe_input(count):
     """The key line, and so many times a mint in each form, a narrowing, a verify and a line that is no request."""
     forms = [MINT[:1] + bytes([form]) + MINT[2:] for form in (1, 2, 3, 4)]
-    narrowing = faulty_daemon.request.attenuate("v2-json", TOKEN.decode(), "test = caveat")
-    verify = faulty_daemon.request.verify("bank", TOKEN.decode(), 0)
+    narrowing = request.attenuate("v2-json", TOKEN.decode(), "test = caveat")
+    verify = request.verify("bank", TOKEN.decode(), 0)
     lines = [payload.hex().encode() for payload in (*forms, narrowing, verify)] + [b"zz"]
     return KEY + b"\n".join(lines * count) + b"\n"
 
@@ -46,7 +48,7 @@ def pipe_input(count):
 def pipe(count, most=None, step=1):
     """The pipe ends with status 4 and a beginning of its output."""
     given = pipe_input(count)
-    command = [pipe_runs.PROGRAM, "pipe"]
+    command = [runs.PROGRAM, "pipe"]
     whole, _, _ = watched(command, given, "memory", 0)
 
     def judge(ended):
@@ -65,7 +67,7 @@ def pipe(count, most=None, step=1):
 def lines_of(uses, most=None, step=1):
     """Each command line: it ends as it does with ample memory, or with status 4 and a line that says so."""
     for name, case in uses:
-        command = [pipe_runs.PROGRAM, *case.words]
+        command = [runs.PROGRAM, *case.words]
         given = case.input.encode()
         ample, _, _ = watched(command, given, "memory", 0)
 
@@ -90,7 +92,7 @@ def together(what, rows):
 def calls():
     """Single calls of the crates, by try_refused."""
     for word in (CRATES / "try_refused" / "args").read_text().split():
-        command = [BIN / "try_refused", word]
+        command = [programs.path_of("try_refused"), word]
 
         def judge(ended):
             if ended and ended.status and not ended.output:
@@ -124,7 +126,7 @@ def served(told):
 
 def serve(word, connections):
     """Connections over memory: the frames of the first replies; the books of the pool are whole."""
-    command = [BIN / "try_serve", word]
+    command = [programs.path_of("try_serve"), word]
 
     def judge(ended):
         if ended and (ended.status, ended.output) == (0, b"refused\n") or ended and ended.status and not ended.output:
@@ -156,13 +158,13 @@ def rows():
                 return "refused to what the row is read by, or to one of two that it compares"
             return "out of memory" if ended and ended.status == 1 and not ended.output else None
 
-        command = [BIN / "try_cases"]
+        command = [programs.path_of("try_cases")]
         yield in_turn(f"try_cases: {line[:60].decode()}", lambda n: watched(command, line + b"\n", "memory", n), judge)
 
 
 def devices():
     """The pipe over devices that fail at each of their calls, that are interrupted, and that move a byte at a time."""
-    command, given = [pipe_runs.PROGRAM, "pipe"], pipe_input(300)
+    command, given = [runs.PROGRAM, "pipe"], pipe_input(300)
     whole, _, _ = watched(command, given, "memory", 0)
 
     def judge(ended):
@@ -229,8 +231,10 @@ def some_faults():
 def main():
     if not refusing.has_compiler():
         sys.exit("there is no C compiler `cc`")
+    asks_few = "--few" in sys.argv
+    programs.stop_unless_built("macaroond", *([] if asks_few else ["try_refused", "try_serve", "try_cases"]))
     with refusing.watching():
-        found, _ = faults(few() if "--few" in sys.argv else many())
+        found, _ = faults(few() if asks_few else many())
     if found:
         sys.exit("\n".join(found))
 

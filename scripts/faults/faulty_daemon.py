@@ -11,10 +11,10 @@ import tempfile
 import threading
 import time
 
-import daemon_rows
-import pipe_runs
-from daemon_rows import KEYS, MINT, TOKEN, frame, request
-from refusing import Ended, PATIENCE, Row, Watch, in_turn
+from check.daemon_rows import MINT, TOKEN
+from common import KEYS, runs
+from common.daemon import connected, frame, received
+from faults.refusing import Ended, PATIENCE, Row, Watch, in_turn
 
 # What a client sends, a mint and an empty payload, and what is due.
 ASKED = frame(MINT) + frame(b"")
@@ -93,7 +93,7 @@ def once(call, number, times, **variables):
         path = folder + "/s"
         words = ["serve", "--socket", path, "--keys", KEYS, "--workers", "2", "--accept", "2"]
         pipes = {"stdout": subprocess.PIPE, "stderr": subprocess.PIPE, "env": watch.environment}
-        with subprocess.Popen([pipe_runs.PROGRAM, *words], **pipes) as run:
+        with subprocess.Popen([runs.PROGRAM, *words], **pipes) as run:
             first = run.stdout.readline()
             clients = [Client(path, times) for _ in range(2)] if first else []
             try:
@@ -150,7 +150,7 @@ def stopped():
     """A daemon whose sockets have timeouts is stopped while a client waits, and goes on: so does the client."""
     with tempfile.TemporaryDirectory() as folder:
         daemon = Listening("nothing", folder, "--idle", "30")
-        with daemon_rows.connected(daemon.path) as stream:
+        with connected(daemon.path) as stream:
             is_right = is_served(stream)
             daemon.run.send_signal(signal.SIGSTOP)
             wait_until(lambda: daemon.states() == {"T"})
@@ -190,7 +190,7 @@ class Listening:
         self.watch = Watch(call, **variables)
         words = ["listen", "--socket", self.path, "--keys", KEYS, "--workers", "2", *words]
         pipes = {"stdout": subprocess.PIPE, "stderr": subprocess.DEVNULL, "env": self.watch.environment}
-        self.run = subprocess.Popen([pipe_runs.PROGRAM, *words], **pipes)
+        self.run = subprocess.Popen([runs.PROGRAM, *words], **pipes)
         self.run.stdout.readline()
 
     def states(self):
@@ -210,7 +210,7 @@ class Listening:
 
     def crowd(self):
         """How many of 64 clients that are there at the same time are served: as many as desks are home."""
-        streams = [daemon_rows.connected(self.path) for _ in range(DESKS)]
+        streams = [connected(self.path) for _ in range(DESKS)]
         with contextlib.ExitStack() as stack:
             for stream in streams:
                 stack.enter_context(stream)
@@ -226,7 +226,7 @@ def is_served(stream):
     """Whether a client of whom a desk is kept gets a reply, and stays."""
     try:
         stream.sendall(frame(b""))
-        return daemon_rows.received(stream, 5) == DUE[1]
+        return received(stream, 5) == DUE[1]
     except ConnectionError:
         return False
 

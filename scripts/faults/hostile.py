@@ -20,6 +20,7 @@ the daemon takes, and the daemon, now with all arenas, stays below PEAK_MAX. Ask
 or the program that MACAROOND names.
 """
 import contextlib
+import functools
 import multiprocessing
 import os
 import pathlib
@@ -28,16 +29,15 @@ import select
 import socket
 import subprocess
 import sys
-import tempfile
 import time
 
-TOP = pathlib.Path(__file__).resolve().parent.parent
-sys.path.insert(0, str(TOP / "examples"))
+sys.path.insert(0, str(pathlib.Path(__file__).resolve().parents[1]))
+from common import daemon
+from common.daemon import frame
+
 import client
 import request
 
-PROGRAM = os.environ.get("MACAROOND", str(TOP / "bin" / "macaroond"))
-KEYS = TOP / "examples" / "keys"
 FRAME_MAX = 65_536
 LONGEST_WAIT = 1.0
 ROUNDS = 4
@@ -53,11 +53,8 @@ CROWDS, DEAR_SECONDS, DEAR_WAIT_MAX = (8, 60), 3, 0.5
 CONTROL, CONTROLS = "hex:" + "01" * 1000, 5
 
 
-def connected(path):
-    stream = socket.socket(socket.AF_UNIX)
-    stream.settimeout(5)
-    stream.connect(path)
-    return stream
+# A client that waits for five seconds at most.
+connected = functools.partial(daemon.connected, patience=5)
 
 
 def vanishes(path, rng):
@@ -211,7 +208,7 @@ def dearest_request():
     caveats = ",".join('{"i":"' + "x" * 230 + '"}' for _ in range(128))
     token = '{"v":2,"i":"a","c":[' + caveats + '],"s64":"' + "A" * 43 + '"}'
     payload = request.verify("bank", token, 0)
-    return len(payload).to_bytes(4, "big") + payload
+    return frame(payload)
 
 
 def sends_dear(path, count, until):
@@ -267,15 +264,15 @@ def largest_reply(path):
         reply = asked.ask(narrowing)
     if reply[0] != 1 or len(reply) < 30_000:
         raise SystemExit("hostile: the largest reply is not what it was thought to be")
-    return len(narrowing).to_bytes(4, "big") + narrowing
+    return frame(narrowing)
 
 
 def fill(path, pid):
     """Clients that send and never read. What is wrong with the daemon then, if anything."""
-    frame = largest_reply(path)
+    asked_for = largest_reply(path)
     with contextlib.ExitStack() as stack:
         crowd = [stack.enter_context(connected(path)) for _ in range(SILENT)]
-        rest = {one: memoryview(frame * 400) for one in crowd}
+        rest = {one: memoryview(asked_for * 400) for one in crowd}
         until = time.monotonic() + 20
         for one in crowd:
             one.setblocking(False)
@@ -292,29 +289,19 @@ def fill(path, pid):
         yield f"the daemon had {size:.0f} MiB still after {SETTLING} seconds"
 
 
-@contextlib.contextmanager
-def daemon(*words):
+def listening(*words):
     """A daemon that listens: its socket's path and its process."""
-    with tempfile.TemporaryDirectory() as folder:
-        path = folder + "/socket"
-        command = [PROGRAM, "listen", "--socket", path, "--keys", KEYS, "--workers", "4", *words]
-        pipes = {"stdout": subprocess.PIPE, "stderr": subprocess.DEVNULL}
-        with subprocess.Popen(command, **pipes) as run:
-            run.stdout.readline()
-            try:
-                yield path, run.pid
-            finally:
-                run.kill()
+    return daemon.listening("--workers", "4", *words, stderr=subprocess.DEVNULL)
 
 
 def faults(seconds):
     """What is wrong with the daemon after so many seconds of hostile use, beside what it prints."""
-    with daemon("--idle", "2") as (path, pid):
-        found = [*soak(path, pid, seconds)]
-    with daemon() as (path, _):
+    with listening("--idle", "2") as (path, run):
+        found = [*soak(path, run.pid, seconds)]
+    with listening() as (path, _):
         found += beside_dear(path)
-    with daemon() as (path, pid):
-        found += fill(path, pid)
+    with listening() as (path, run):
+        found += fill(path, run.pid)
     return [f"hostile: {fault}" for fault in found]
 
 

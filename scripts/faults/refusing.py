@@ -14,7 +14,7 @@ import struct
 import subprocess
 import tempfile
 
-SCRIPTS = pathlib.Path(__file__).resolve().parent
+WATCHER = pathlib.Path(__file__).resolve().parent / "watch.c"
 # How long a run may take, in seconds: a connection whose second thread is refused waits ten for it.
 PATIENCE = 60
 LANES = os.cpu_count() or 1
@@ -72,7 +72,7 @@ def watching():
     """The library is there as long as the block runs."""
     with tempfile.TemporaryDirectory() as folder:
         Watch.library = pathlib.Path(folder) / "watch.so"
-        command = ["cc", "-O2", "-shared", "-fPIC", "-o", Watch.library, SCRIPTS / "watch.c", "-ldl"]
+        command = ["cc", "-O2", "-shared", "-fPIC", "-o", Watch.library, WATCHER, "-ldl"]
         subprocess.run(command, check=True)
         yield
 

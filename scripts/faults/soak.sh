@@ -1,7 +1,7 @@
 #!/usr/bin/env bash
 # Hammers the pool on two processors: a short run within 30 seconds, and one of 1,000,320 posts.
 set -eu
-cd "$(dirname "$0")/.."
+cd "$(dirname "$0")/../.."
 if [ ! -x bin/try_pool ]; then
     echo "no bin/try_pool: run make build-runs first, which proves and builds it" >&2
     exit 1

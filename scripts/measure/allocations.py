@@ -9,13 +9,13 @@ import pathlib
 import subprocess
 import sys
 
-import refusing
+sys.path.insert(0, str(pathlib.Path(__file__).resolve().parents[1]))
+from common import programs
+from faults import refusing
 
-TOP = pathlib.Path(__file__).resolve().parent.parent
-sys.path.append(str(TOP / "examples"))
 import request
 
-PROGRAM = TOP / "bin" / "macaroond"
+PROGRAM = programs.path_of("macaroond")
 KEYS = "key bank 74686973206973206f757220737570657220736563726574206b6579\n\n"
 CAVEATS = ["account = 3735928559", "time < 2030-01-01T00:00", "method = GET"]
 FACTS = ["account = 3735928559", "method = GET"]

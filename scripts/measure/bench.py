@@ -10,11 +10,13 @@ import sys
 import tempfile
 import time
 
-TOP = pathlib.Path(__file__).resolve().parent.parent
+sys.path.insert(0, str(pathlib.Path(__file__).resolve().parents[1]))
+from common import TOP, programs
+
+import request
+
 # The program that is timed: the one for all processors, or for those that LEVEL names.
 PROGRAM = TOP / "libexec" / "macaroond" / os.environ.get("LEVEL", "x86-64-v2")
-sys.path.append(str(TOP / "examples"))
-import request
 
 REQUESTS = 100_000
 INPUT_MAX = 16_777_216
@@ -61,7 +63,7 @@ def seconds(command, text=""):
 
 def block_seconds():
     """What a block of SHA-256 costs."""
-    program = TOP / "bin" / "time_blocks"
+    program = programs.path_of("time_blocks")
     return min(seconds([program, str(BLOCKS_TIMED)])[0] for _ in range(TRIALS)) / BLOCKS_TIMED
 
 
@@ -137,7 +139,7 @@ def serve_seconds(kind):
         trials = []
         for _ in range(TRIALS):
             begin = time.monotonic()
-            taken, printed = seconds([TOP / "bin" / "try_serve", run])
+            taken, printed = seconds([programs.path_of("try_serve"), run])
             trials.append((taken, time.monotonic() - begin))
             if name == "load" and printed != f"arrived {SERVED} sent {SERVED}\n":
                 sys.exit(f"try_serve doesn't answer as it should: {run}")
@@ -158,7 +160,7 @@ def print_serve():
 
 def run_seconds(run, told):
     """The processor time of a run of `try_pool`, which answers as it is told."""
-    trials = [seconds([TOP / "bin" / "try_pool", run]) for _ in range(THREAD_TRIALS)]
+    trials = [seconds([programs.path_of("try_pool"), run]) for _ in range(THREAD_TRIALS)]
     if any(printed != told + "\n" for _, printed in trials):
         sys.exit(f"try_pool doesn't answer as it should: {run}")
     return min(taken for taken, _ in trials)
@@ -186,15 +188,8 @@ def print_ring_and_pool():
         sys.exit("something of the ring or the pool is slower than it may be")
 
 
-def stop_unless_built():
-    programs = [PROGRAM, *(TOP / "bin" / name for name in ("time_blocks", "try_pool", "try_serve"))]
-    lacking = " and ".join(str(path.relative_to(TOP)) for path in programs if not os.access(path, os.X_OK))
-    if lacking:
-        sys.exit(f"no {lacking}: run `make build build-runs` first, which proves and builds the programs")
-
-
 if __name__ == "__main__":
-    stop_unless_built()
+    programs.stop_unless_built("macaroond", "time_blocks", "try_pool", "try_serve")
     print_kinds()
     print()
     print_sizes()

@@ -14,11 +14,17 @@ import pathlib
 import statistics
 import subprocess
 import sys
+import tempfile
+import threading
 import time
 
-import clients
-from client_cases import ASKERS, AsyncClient, Client, threading
-from macaroond import Form, wire
+sys.path.insert(0, str(pathlib.Path(__file__).resolve().parents[1]))
+from check import clients
+from check.client_cases import ASKERS
+from common import TOP
+from common.daemon import listening
+
+from macaroond import AsyncClient, Client, Form, wire
 
 FACTS = ["account = 3735928559", "service = mail", "action = read"]
 # How many are asked for together.
@@ -131,14 +137,13 @@ def go_rates(program, path, seconds):
 
 def go_program(folder):
     program = os.path.join(folder, "go_speed")
-    subprocess.run(["go", "build", "-o", program, "."], cwd=clients.TOP / "bench" / "go_client", env=clients.GO_ALONE, check=True)
+    subprocess.run(["go", "build", "-o", program, "."], cwd=TOP / "bench" / "go_client", env=clients.GO_ALONE, check=True)
     return program
 
 
 def main(words):
     seconds, rounds = float(words[0]) if words else 1.0, int(words[1]) if len(words) > 1 else 5
-    with clients.daemon() as folder:
-        path = str(pathlib.Path(folder) / "socket")
+    with listening("--workers", "2", stderr=subprocess.DEVNULL) as (path, _), tempfile.TemporaryDirectory() as folder:
         program = go_program(folder) if clients.has_go() else None
         runs = [{**(go_rates(program, path, seconds) if program else {}), **python_rates(path, seconds)} for _ in range(rounds)]
     for name in runs[0]:

@@ -10,18 +10,14 @@ program that MACAROOND names, and gives it the last words too. It raises its lim
 far as it may; each connection takes one on either side.
 """
 import contextlib
-import os
 import pathlib
 import resource
-import socket
-import subprocess
 import sys
-import tempfile
 import time
 
-TOP = pathlib.Path(__file__).resolve().parent.parent
-PROGRAM = os.environ.get("MACAROOND", str(TOP / "bin" / "macaroond"))
-KEYS = TOP / "examples" / "keys"
+sys.path.insert(0, str(pathlib.Path(__file__).resolve().parents[1]))
+from common.daemon import connected, listening
+
 ASKED, DUE = bytes(4), bytes([0, 0, 0, 1, 16])
 COUNTS, SILENT = [1000, 9950], 5
 
@@ -37,17 +33,10 @@ def mebibytes(pid):
     return next(int(line.split()[1]) for line in text.splitlines() if line.startswith("VmRSS")) / 1024
 
 
-def connected(path, until):
-    stream = until.enter_context(socket.socket(socket.AF_UNIX))
-    stream.settimeout(30)
-    stream.connect(path)
-    return stream
-
-
 def silence(path, pid, count):
     """The line for so many connections."""
     with contextlib.ExitStack() as until:
-        streams = [connected(path, until) for _ in range(count)]
+        streams = [until.enter_context(connected(path)) for _ in range(count)]
         for stream in streams:
             stream.sendall(ASKED)
         answered = sum(stream.recv(len(DUE)) == DUE for stream in streams)
@@ -63,15 +52,8 @@ def main():
     most = resource.getrlimit(resource.RLIMIT_NOFILE)[1]
     resource.setrlimit(resource.RLIMIT_NOFILE, (most, most))
     for count in counts:
-        with tempfile.TemporaryDirectory() as folder:
-            path = folder + "/socket"
-            command = [PROGRAM, "listen", "--socket", path, "--keys", KEYS, *words]
-            with subprocess.Popen(command, stdout=subprocess.PIPE) as run:
-                run.stdout.readline()
-                try:
-                    print(silence(path, run.pid, count))
-                finally:
-                    run.kill()
+        with listening(*words) as (path, run):
+            print(silence(path, run.pid, count))
 
 
 if __name__ == "__main__":

@@ -6,11 +6,14 @@ A count doesn't depend on what else the machine does. What a request takes is th
 two runs, so that starting the program and reading the keys count for nothing.
 """
 import re
+import pathlib
 import shutil
 import subprocess
 import sys
 
-import bench
+sys.path.insert(0, str(pathlib.Path(__file__).resolve().parents[1]))
+from common import programs
+from measure import bench
 
 FEW, MANY = 20, 120
 FEW_BLOCKS, MANY_BLOCKS = 1_000, 3_000
@@ -28,7 +31,7 @@ def instructions(command, text=""):
 
 def block_instructions():
     """How many a block of SHA-256 takes."""
-    program = bench.TOP / "bin" / "time_blocks"
+    program = programs.path_of("time_blocks")
     few, many = (instructions([program, count]) for count in (FEW_BLOCKS, MANY_BLOCKS))
     return (many - few) / (MANY_BLOCKS - FEW_BLOCKS)
 
@@ -42,7 +45,7 @@ def request_instructions(payload):
 
 
 def main():
-    bench.stop_unless_built()
+    programs.stop_unless_built("macaroond", "time_blocks")
     if not shutil.which("valgrind"):
         sys.exit("valgrind isn't there, which counts the instructions")
     block = block_instructions()

@@ -17,24 +17,17 @@ import os
 import pathlib
 import select
 import socket
-import subprocess
 import sys
-import tempfile
 import time
 
-TOP = pathlib.Path(__file__).resolve().parent.parent
-sys.path.insert(0, str(TOP / "examples"))
+sys.path.insert(0, str(pathlib.Path(__file__).resolve().parents[1]))
+from common.daemon import frame, listening
+
 import client
 import request
 
-PROGRAM = os.environ.get("MACAROOND", str(TOP / "bin" / "macaroond"))
-KEYS = TOP / "examples" / "keys"
 FACTS = ["account = 3735928559", "service = mail", "action = read"]
 CHUNK = 65_536
-
-
-def frame(payload):
-    return len(payload).to_bytes(4, "big") + payload
 
 
 def loads(path):
@@ -134,15 +127,8 @@ def main():
     words.add_argument("--load", action="append", choices=["empty", "mint", "attenuate", "verify"])
     words.add_argument("words", nargs="*")
     given = words.parse_args()
-    with tempfile.TemporaryDirectory() as folder:
-        path = folder + "/socket"
-        command = [PROGRAM, "listen", "--socket", path, "--keys", KEYS, "--workers", given.workers, *given.words]
-        with subprocess.Popen(command, stdout=subprocess.PIPE) as daemon:
-            daemon.stdout.readline()
-            try:
-                measure(path, daemon.pid, given)
-            finally:
-                daemon.kill()
+    with listening("--workers", given.workers, *given.words) as (path, daemon):
+        measure(path, daemon.pid, given)
 
 
 def measure(path, pid, given):

@@ -1,11 +1,12 @@
 #!/usr/bin/env python3
 """Counts what a short verify takes in the daemon beside a long one, and among its like: by valgrind,
-over bin/macaroond.
+over libexec/macaroond/x86-64-v2, or the program that LEVEL names.
 
 A connection sends short verifies alone, or some beside each long one. What a short one takes there is
 what the mix takes without what the long one takes by itself, where its reply is waited for. Only what
-the worker's thread executes is counted, and a count is the difference of two runs, so that starting
-counts for nothing. It ends with 1 where a short one takes too much.
+`replies_to` of mac_plain executes is counted, which answers what came together, and a count is the
+difference of two runs, so that starting counts for nothing. It ends with 1 where a short one takes
+too much.
 """
 import pathlib
 import re
@@ -15,16 +16,18 @@ import subprocess
 import sys
 import tempfile
 
-import bench
-from daemon_rows import KEYS, frame, received
+sys.path.insert(0, str(pathlib.Path(__file__).resolve().parents[1]))
+from common import KEYS, programs
+from common.daemon import frame, received
+from measure import bench
 
-sys.path.append(str(bench.TOP / "examples"))
 import request
 
-PROGRAM = bench.TOP / "bin" / "macaroond"
-WORKER = "--toggle-collect=mac_pool::pool::fn::started::work*"
-# The bytes of a caveat that is long, and how often the same requests are sent.
-LONG, FEW, MANY = 4_000, 40, 240
+PROGRAM = bench.PROGRAM
+ANSWERING = "--toggle-collect=mac_plain::answering::replies_to*"
+# The bytes of a caveat that is long, in a request that its connection's thread still answers itself; and
+# how often the same requests are sent.
+LONG, FEW, MANY = 1_500, 40, 240
 # How many short ones are beside each long one.
 BESIDE = (3, 7, 15)
 # The most that a short verify may take beside any other, of what it takes among its like.
@@ -41,17 +44,17 @@ def verify(*caveats):
 
 def minted(payload):
     """The token that the pipe gives for a mint, as the words of a request have it."""
-    text = pathlib.Path(KEYS).read_text() + "\n" + payload.hex() + "\n"
+    text = KEYS.read_text() + "\n" + payload.hex() + "\n"
     run = subprocess.run([PROGRAM, "pipe"], input=text, capture_output=True, text=True, check=True)
     return run.stdout.split()[1]
 
 
 def counted(requests, times, ask):
-    """The instructions that the worker executes where a client asks these requests so many times."""
+    """The instructions that answering takes where a client asks these requests so many times."""
     with tempfile.TemporaryDirectory() as folder:
         path = folder + "/socket"
         words = ["serve", "--socket", path, "--keys", KEYS, "--workers", "1", "--accept", "1"]
-        counting = ["valgrind", "--tool=callgrind", "--callgrind-out-file=/dev/null", WORKER]
+        counting = ["valgrind", "--tool=callgrind", "--callgrind-out-file=/dev/null", ANSWERING]
         pipes = {"stdout": subprocess.PIPE, "stderr": subprocess.PIPE, "text": True}
         with subprocess.Popen([*counting, PROGRAM, *words], **pipes) as run:
             run.stdout.readline()
@@ -88,8 +91,9 @@ def each_time(requests, ask=ask_together):
 
 
 def main():
-    if not PROGRAM.exists() or not shutil.which("valgrind"):
-        sys.exit("bin/macaroond (make build) and valgrind are needed")
+    programs.stop_unless_built("macaroond")
+    if not shutil.which("valgrind"):
+        sys.exit("valgrind isn't there, which counts the instructions")
     short, long = verify(*bench.CAVEATS), verify("a" * LONG)
     alone, by_itself = each_time([short] * 8) / 8, each_time([long], ask_in_turn)
     print(f"a short verify among its like: {alone:,.0f} instructions; a long one by itself: {by_itself:,.0f}")

@@ -1,7 +1,7 @@
 """Wrong bodies: what each edit changes in a crate, and which of them are tried together."""
 from dataclasses import dataclass
 
-from functions import functions_of
+from wrong_bodies.functions import functions_of
 
 
 class BadEdit(Exception):

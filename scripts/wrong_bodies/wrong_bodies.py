@@ -30,9 +30,10 @@ from concurrent.futures import ThreadPoolExecutor
 from dataclasses import dataclass
 from pathlib import Path
 
-from bodies import BadEdit, Source, batches_of, read_body
+sys.path.insert(0, str(Path(__file__).resolve().parents[1]))
+from common import TOP
+from wrong_bodies.bodies import BadEdit, Source, batches_of, read_body
 
-ROOT = Path(__file__).resolve().parent.parent
 
 
 # A copy of the crate, and what a check says of it.
@@ -52,12 +53,12 @@ class Copy:
         self.folder = self.root / "crates" / crate
         needed = stands_on(crate)
         for name in (it.split()[0] for it in needed):
-            take_over(ROOT / "crates" / name, self.root / "crates" / name, [*TEXTS, "out/rlib"])
+            take_over(TOP / "crates" / name, self.root / "crates" / name, [*TEXTS, "out/rlib"])
         lines = [f"{it}: {' '.join(words)}\n" for it, words in needed.items()]
         (self.root / "crates.txt").write_text("".join(lines))
         (self.root / ".git").mkdir()
-        shutil.copy(ROOT / "HANDLES", self.root)
-        take_over(ROOT / "crates" / crate, self.kept, [*TEXTS, "out/incremental"])
+        shutil.copy(TOP / "HANDLES", self.root)
+        take_over(TOP / "crates" / crate, self.kept, [*TEXTS, "out/incremental"])
         self.source = Source(self.kept)
         self.proved = proved
 
@@ -105,7 +106,7 @@ def rt_check(folder, only=()):
 
 def stands_on(crate):
     """What crates.txt says of the crate and of those below it."""
-    lines = [it.partition(":") for it in (ROOT / "crates.txt").read_text().splitlines()]
+    lines = [it.partition(":") for it in (TOP / "crates.txt").read_text().splitlines()]
     words = {name: rest.split() for name, colon, rest in lines if colon and name[0] != "#"}
     found, left = {}, [crate]
     while left:
@@ -232,7 +233,7 @@ def parted(batch, report):
 
 
 def edits_of(crate):
-    folder = ROOT / "crates" / crate
+    folder = TOP / "crates" / crate
     return sorted(it for part in EDITS for it in (folder / part).glob("*.edit"))
 
 
@@ -249,7 +250,7 @@ def bodies_of(crate, source):
 
 def try_crate(crate):
     """A verdict on each of the crate's wrong bodies."""
-    said = rt_check(ROOT / "crates" / crate)
+    said = rt_check(TOP / "crates" / crate)
     if "\nlogic=proved" not in said:
         return [Verdict("as it stands", Kind.NOT_PROVED, "its own check fails")]
     proved = re.findall(rf"^fn (\S+): {PROVED}$", said, re.M)
@@ -280,7 +281,7 @@ def faults(crates=()):
     """Which edits don't apply to the sources as they are, and how many edits there are."""
     found, count = [], 0
     for crate in crates or crates_with_edits():
-        bodies, bad = bodies_of(crate, Source(ROOT / "crates" / crate))
+        bodies, bad = bodies_of(crate, Source(TOP / "crates" / crate))
         found += [f"{crate}/{it.body}: {it.kind.value}: {it.said}" for it in bad]
         count += len(bodies) + len(bad)
     return found, count
@@ -294,7 +295,7 @@ def dry_run(crates):
 
 
 def crates_with_edits():
-    return sorted(it.name for it in (ROOT / "crates").iterdir() if edits_of(it.name))
+    return sorted(it.name for it in (TOP / "crates").iterdir() if edits_of(it.name))
 
 
 def try_all(crates, tells_all):
