@@ -4,7 +4,7 @@
 A name, of a file, a crate, a function or a definition, stands between two backquotes. A path is
 looked for by its ending among all files; a function or a definition, told as `NAME` (`PATH`), has to
 stand in a file of this path. A link to a file leads to one. Rows that don't begin with a heading and
-its rule were cut off their table.
+its rule were cut off their table. Sentences have few words: in the mean of a page, and each.
 """
 import pathlib
 import re
@@ -28,6 +28,13 @@ CRATE = re.compile(r"(?:mac|try)_[a-z]+|time_blocks|sha256x8|macaroond")
 PAIRED = re.compile(r"`([a-z_0-9:A-Z]+)` \(`((?:src|specs|crates)/[\w./-]+)`\)")
 LINK = re.compile(r"\]\(([^)#\s:]+)(?:#[^)]*)?\)")
 RULE = re.compile(r"\|[-| :]+\|?$")
+# How many words a sentence has: the mean of a page, and the longest, in what is written by hand.
+MEAN_MAX, WORDS_MAX = 25, 45
+# What is no sentence: code and comments, and what make pages writes.
+ASIDE = re.compile(r"^```.*?^```$|<!-- (?:laws|bodies) -->.*?<!-- end -->|<!--.*?-->", re.M | re.S)
+# What each passage begins with: a row's cell, an item of a list, or a blank line.
+PASSAGE = re.compile(r"\n\s*\n|\n(?=[ ]*(?:[-*]|\d+\.) |#)|(?<!\\)\|")
+SENTENCE = re.compile(r"(?<=[.?!])[\"')*]*\s+")
 
 
 def tracked():
@@ -76,19 +83,40 @@ def cut_rows(text):
             yield number + 1
 
 
+def sentences(text):
+    """The words of each sentence of a page, where code counts as one."""
+    plain = re.sub(r"`[^`\n]*`", "`..`", ASIDE.sub("", text))
+    for passage in PASSAGE.split(plain):
+        for sentence in SENTENCE.split(passage):
+            if words := re.findall(r"\S*[\w`]\S*", sentence):
+                yield words
+
+
+def long_sentences(text):
+    """What is wrong with the length of the sentences of a page."""
+    found = list(sentences(text))
+    count = sum(map(len, found))
+    if count > MEAN_MAX * len(found):
+        yield f"its sentences have {count / len(found):.0f} words in the mean"
+    for words in found:
+        if len(words) > WORDS_MAX:
+            yield f"a sentence of {len(words)} words: {' '.join(words[:8])} .."
+
+
 def faults():
-    """What the pages name that isn't there, and rows that are cut off; and how many pages there are."""
+    """What is wrong with the pages, and how many pages there are."""
     files = tracked()
     found = []
     for page in PAGES:
         text = page.read_text()
         name = page.relative_to(TOP)
-        found += [f"{name}: {it}" for it in (*missing(text, files), *dead_links(page, text))]
+        wrong = (*missing(text, files), *dead_links(page, text), *long_sentences(text))
+        found += [f"{name}: {it}" for it in wrong]
         found += [f"{name}, line {number}: a row without its table" for number in cut_rows(text)]
     return found, len(PAGES)
 
 
 if __name__ == "__main__":
     told, count = faults()
-    print("\n".join(told) or f"pages: what {count} pages name is there")
+    print("\n".join(told) or f"pages: {count} pages are as they must be")
     sys.exit(1 if told else 0)
