@@ -51,7 +51,12 @@ do_step() {
         token=*) echo "    $token" ;;
         narrow=*) echo "    $narrow" ;;
     esac
-    cmp -s "$1.due" "$1.came" || { echo "README shows otherwise:"; cat "$1.due"; exit 1; }
+    if ! cmp -s "$1.due" "$1.came"; then
+        echo "README shows otherwise:"
+        cat "$1.due"
+        [ ! -e said ] || tail -n 20 said
+        exit 1
+    fi
 }
 
 # Without a build the daemon's steps alone are run, since each run of `rt try` compiles anew. Its daemon answers the
@@ -63,7 +68,7 @@ stand_in() {
     cat > bin/macaroond <<END
 #!/bin/sh
 cd "$top/crates/macaroond"
-rt try --seconds 100 -- serve --socket "$folder/socket" --keys "$folder/keys" --workers 2 --accept 4 2> /dev/null |
+rt try --seconds 100 -- serve --socket "$folder/socket" --keys "$folder/keys" --workers 2 --accept 4 2> "$folder/said" |
     sed -u 's,^listening\$,listening at ./socket:,'
 END
     chmod +x bin/macaroond

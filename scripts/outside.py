@@ -22,6 +22,7 @@ from check import (
     daemon_rows,
     draw,
     edges,
+    http_rows,
     installing,
     lasting,
     life_cycle,
@@ -96,6 +97,7 @@ OF_TEXTS = {
     "promises": promises.faults,
     "picture": draw.faults,
     "man": man_page.faults,
+    "HTTP rows": http_rows.faults,
     "building": building.faults,
     "wrong bodies apply": wrong_bodies.faults,
 }

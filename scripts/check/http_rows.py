@@ -1,5 +1,5 @@
 #!/usr/bin/env python3
-"""http_rows.py [--check]: the rows of try_http, requests with the responses that they are to get.
+"""The rows of try_http, requests with the responses that they are to get.
 
 The statuses, fields and bodies stand here as docs/HTTP.md has them. Tokens are made by hmac and
 hashlib of Python, but for the README token of libmacaroons, whose text stands below.
@@ -8,7 +8,6 @@ import base64
 import hashlib
 import hmac
 import pathlib
-import sys
 
 CRATE = pathlib.Path(__file__).resolve().parents[2] / "crates" / "try_http"
 SECRET = b"this is our super secret key; only we should know it"
@@ -263,11 +262,19 @@ def files():
     return "\n".join(lines) + "\n", out
 
 
-if __name__ == "__main__":
+def faults():
+    """Which files of try_http aren't what is made here, and how many there are."""
     given, wanted = files()
-    for name, text in (("stdin", given), ("stdout", wanted)):
-        path = CRATE / name
-        if "--check" not in sys.argv:
-            path.write_bytes(text.encode())
-        elif path.read_bytes() != text.encode():
-            sys.exit(f"{path} isn't what http_rows.py makes")
+    made = {CRATE / "stdin": given, CRATE / "stdout": wanted}
+    old = [path.name for path, text in made.items() if path.read_bytes() != text.encode()]
+    return [f"crates/try_http/{name} is out of date: scripts/check/http_rows.py" for name in old], len(made)
+
+
+def main():
+    given, wanted = files()
+    (CRATE / "stdin").write_bytes(given.encode())
+    (CRATE / "stdout").write_bytes(wanted.encode())
+
+
+if __name__ == "__main__":
+    main()
