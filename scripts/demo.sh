@@ -1,7 +1,8 @@
 #!/bin/sh
-# Runs README's sessions step by step and says in words what each does; then `macaroond pipe` prints the token of
-# libmacaroons' README. By bin/macaroond where it is built, else the daemon's session alone, by an unproved run of the
-# toolchain. It ends with 1 where a step prints otherwise than README shows.
+# Runs README's sessions step by step and says in words what each does; then `macaroond pipe` prints
+# the token of libmacaroons' README. By bin/macaroond where it is built, else the daemon's session
+# alone, by an unproved run of the toolchain. It ends with 1 where a step prints otherwise than
+# README shows.
 set -eu
 top=$(cd "$(dirname "$0")/.." && pwd)
 folder=$(mktemp -d)
@@ -16,16 +17,21 @@ tell() {
 words() {
     case $1 in
         *" keygen "*) echo "A service makes a key, under the name \`bank\`:" ;;
-        token=*macaroond*) echo "With it, it mints a token for alice. Whoever holds the token may use all of the account:" ;;
-        narrow=*macaroond*) echo "Alice narrows it before she hands it on, which takes no key. It may read, and ends with this century:" ;;
-        *"macaroond verify"*read*) echo "Somebody brings the narrow token to read, and the service says so. It is granted:" ;;
-        *"macaroond verify"*) echo "To write is another action. The first caveat, number 0, doesn't hold:" ;;
+        token=*macaroond*)
+            echo "It mints a token for alice. Whoever holds it may use all of the account:" ;;
+        narrow=*macaroond*)
+            echo "Alice narrows it, which takes no key. It may read, and ends with the century:" ;;
+        *"macaroond verify"*read*)
+            echo "Somebody brings the narrow token to read, and the service says so:" ;;
+        *"macaroond verify"*)
+            echo "To write is another action. The first caveat, number 0, doesn't hold:" ;;
         *" listen "*) echo "The same by a daemon, which answers over a Unix socket:" ;;
         while*) echo "It prints a line once clients can connect. A script waits for that:" ;;
         "service()"*) echo "A client, in Python:" ;;
         token=*) echo "The daemon mints a token for alice:" ;;
         narrow=*) echo "It narrows it for her:" ;;
-        *" verify "*read*) echo "The narrow token is brought to read. A verify tells the moment too:" ;;
+        *" verify "*read*)
+            echo "The narrow token is brought to read. A verify tells the moment too:" ;;
         *" verify "*) echo "It is brought to write:" ;;
         kill*) echo "The daemon is stopped:" ;;
     esac
@@ -36,7 +42,12 @@ cut_steps() {
     awk -v to="$folder/step" '
         /^```/ { inside = $0 == "```shell-session"; next }
         !inside { next }
-        /^\$ / { file = sprintf("%s.%02d", to, ++count); print substr($0, 3) > file; printf "" > (file ".due"); next }
+        /^\$ / {
+            file = sprintf("%s.%02d", to, ++count)
+            print substr($0, 3) > file
+            printf "" > (file ".due")
+            next
+        }
         { print > (file ".due") }' "$top/README.md"
 }
 
@@ -59,17 +70,18 @@ do_step() {
     fi
 }
 
-# Without a build the daemon's steps alone are run, since each run of `rt try` compiles anew. Its daemon answers the
-# four connections of these steps, and ends.
+# Without a build the daemon's steps alone are run, since each run of `rt try` compiles anew. Its
+# daemon answers the four connections of these steps, and ends.
 stand_in() {
-    tell "bin/macaroond isn't built (make build): this is a run with no proof, by \`rt try\`. It is compiled first, in a minute or two."
+    tell "bin/macaroond isn't built (make build), so this is a run with no proof, by \`rt try\`." \
+        "It is compiled first, in a minute or two."
     cp "$top/examples/keys" keys
     mkdir bin
     cat > bin/macaroond <<END
 #!/bin/sh
 cd "$top/crates/macaroond"
-rt try --seconds 100 -- serve --socket "$folder/socket" --keys "$folder/keys" --workers 2 --accept 4 2> "$folder/said" |
-    sed -u 's,^listening\$,listening at ./socket:,'
+rt try --seconds 100 -- serve --socket "$folder/socket" --keys "$folder/keys" --workers 2 \\
+    --accept 4 2> "$folder/said" | sed -u 's,^listening\$,listening at ./socket:,'
 END
     chmod +x bin/macaroond
     for step in step.??; do
@@ -84,27 +96,26 @@ END
 cd "$folder"
 cut_steps
 ln -s "$top/examples" examples
-ln -s "$top/clients" clients
 if [ -x "$top/bin/macaroond" ]; then
     ln -s "$top/bin" bin
     bin/macaroond pipe < "$input" > piped
 elif command -v rt > /dev/null; then
     stand_in
 else
-    echo "There is no bin/macaroond, and the toolchain's command \`rt\` is not on the path: without either there is"
-    echo "nothing to run. README says which toolchain it is, under *What is trusted*."
+    echo "There is no bin/macaroond, and the toolchain's command \`rt\` is not on the path: without"
+    echo "either there is nothing to run. README says which toolchain it is (What is trusted)."
     exit 1
 fi
 for step in step.??; do
     do_step "$step"
 done
-tell "\`macaroond pipe\` answers a file: key lines, an empty line, and a request in hexadecimal on each line."
+tell "\`macaroond pipe\` answers a file: key lines, an empty line, and requests in hexadecimal."
 sed 's/^/    /' "$input"
 wait
 answer=$(grep '^token ' piped)
 printf '\n    %s\n\n' "$answer"
 if [ "$answer" != "$(cat "$top/crates/macaroond/stdout")" ]; then
-    echo "It isn't the token that libmacaroons' README prints for this secret, identifier and location."
+    echo "It isn't the token that libmacaroons' README prints for this secret and identifier."
     exit 1
 fi
-echo "It is the token that libmacaroons' README prints for this secret, identifier and location."
+echo "It is the token that libmacaroons' README prints for this secret and identifier."

@@ -2,9 +2,9 @@
 """What README, its neighbours and docs name is there, and their tables are whole.
 
 A name, of a file, a crate, a function or a definition, stands between two backquotes. A path is
-looked for by its ending among all files; a function or a definition, told as `NAME` (`PATH`), has to
-stand in a file of this path. A link to a file leads to one. Rows that don't begin with a heading and
-its rule were cut off their table. Sentences have few words: in the mean of a page, and each.
+looked for by its ending among all files; a function or a definition, told as `NAME` (`PATH`), has
+to stand in a file of this path. A link to a file leads to one. Rows that don't begin with a heading
+and its rule were cut off their table. Sentences have few words: in the mean of a page, and each.
 """
 import pathlib
 import re

@@ -4,10 +4,12 @@ import textwrap
 from check import sessions
 from common import TOP
 
+# The pages on calling a crate, and what they quote.
+CALLING = [str(page.relative_to(TOP)) for page in sorted(TOP.glob("crates/*/CALLING.md"))]
+ROWS = ["crates/try_cases/src/*.rt"]
 # Each page with the language of its blocks, and the files of which one has to have each of them.
-ROWS = "crates/try_cases/src/*.rt"
 SOURCES = {
-    **{(str(page.relative_to(TOP)), "rust"): [ROWS] for page in sorted(TOP.glob("crates/*/CALLING.md"))},
+    **{(page, "rust"): ROWS for page in CALLING},
     ("README.md", "python"): ["examples/service.py"],
     ("docs/FORMATS.md", "python"): ["examples/ask.py"],
     ("clients/README.md", "python"): ["examples/service.py"],
@@ -21,7 +23,10 @@ def is_quoted(block, text):
 
 
 def unfound(page, language, sources):
-    """The page's blocks that stand in none of these sources, and how many it has; sessions aside."""
+    """The page's blocks that stand in none of these sources, and how many it has.
+
+    Sessions are no quotes.
+    """
     texts = [path.read_text() for pattern in sources for path in TOP.glob(pattern)]
     quoted = [block for block in sessions.blocks(page, language) if not block.startswith(">>>")]
     left = [block for block in quoted if not any(is_quoted(block, text) for text in texts)]

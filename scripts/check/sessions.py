@@ -3,8 +3,8 @@
 
 In a block marked `shell-session` a line that begins with `$ ` is a command, and the lines below it
 are what it prints. All such blocks of a page run in one shell, in a folder of their own. Whoever
-starts a daemon there waits for it as the page says. In a block marked `python` a session begins with
-`>>>`; those of a page are one, beside a daemon that listens at ./socket.
+starts a daemon there waits for it as the page says. In a block marked `python` a session begins
+with `>>>`; those of a page are one, beside a daemon that listens at ./socket.
 """
 import doctest
 import os
@@ -39,14 +39,15 @@ def steps(page):
 
 
 def script(commands):
-    """One shell script of the commands; what each prints goes into a file of its number."""
+    """One shell script of the commands; what each prints goes into a file."""
     lines = ["set -eu", "trap 'kill ${!:-} 2> /dev/null || :' EXIT"]
-    lines += [f"{{ {command}\n}} > printed.{step} 2>&1" for step, command in enumerate(commands)]
+    for step, command in enumerate(commands):
+        lines.append(f"{{ {command}\n}} > printed.{step} 2>&1")
     return "\n".join(lines)
 
 
 def run(commands, folder):
-    """Runs the commands in one shell, in the folder: its status, and what those printed that ran."""
+    """Runs the commands in one shell, in the folder: its status, and what those printed."""
     status = subprocess.run(["sh", "-c", script(commands)], cwd=folder, timeout=SECONDS).returncode
     files = [folder / f"printed.{step}" for step in range(len(commands))]
     return status, [file.read_text() for file in files if file.exists()]

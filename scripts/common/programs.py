@@ -22,4 +22,5 @@ def stop_unless_built(*names):
     lacking = [name for name in names if not os.access(path_of(name), os.X_OK)]
     if lacking:
         targets = " ".join(dict.fromkeys(makers()[name] for name in lacking))
-        sys.exit(f"no bin/{' and no bin/'.join(lacking)}: run `make {targets}` first, which proves and builds what is missing")
+        named = " and no ".join(f"bin/{name}" for name in lacking)
+        sys.exit(f"no {named}: run `make {targets}` first, which proves and builds what is missing")

@@ -61,7 +61,8 @@ def tried_runs(cases):
         crate = TOP / "crates" / "macaroond"
         tried = subprocess.run(command, cwd=crate, capture_output=True, text=True)
     if tried.returncode != 0:
-        raise SystemExit(f"rt try ended with status {tried.returncode}:\n{tried.stdout}{tried.stderr}")
+        said = tried.stdout + tried.stderr
+        raise SystemExit(f"rt try ended with status {tried.returncode}:\n{said}")
     outputs, endings = tried_outputs(tried.stdout), tried_endings(tried.stderr)
     return {name: Run(endings[name][0], outputs[name], endings[name][1]) for name in cases}
 
@@ -73,7 +74,7 @@ def tried_outputs(text):
 
 
 def tried_endings(text):
-    """The status of each case and its standard error, which stands before the line on how it ended."""
+    """The status of each case and its standard error, which stands before its ending's line."""
     found, said = {}, ""
     for line in text.splitlines(keepends=True):
         ending = re.match(r"case=(\S+) run=ended status=(\d+) ", line)
