@@ -79,9 +79,17 @@ stand_in() {
     mkdir bin
     cat > bin/macaroond <<END
 #!/bin/sh
+# What the daemon prints comes once it has ended, so its socket says that clients can connect.
 cd "$top/crates/macaroond"
 rt try --seconds 100 -- serve --socket "$folder/socket" --keys "$folder/keys" --workers 2 \\
-    --accept 4 2> "$folder/said" | sed -u 's,^listening\$,listening at ./socket:,'
+    --accept 4 > "$folder/said" 2>&1 &
+trap 'kill \$!; exit' TERM
+while [ ! -S "$folder/socket" ]; do
+    kill -0 \$! || exit 1
+    sleep 0.1
+done
+echo "listening at ./socket:"
+wait
 END
     chmod +x bin/macaroond
     for step in step.??; do
