@@ -9,7 +9,7 @@ test:
 
 # All wrong bodies, many in one check, of the crates that are named behind it, or of all.
 wrong-bodies:
-	scripts/wrong_bodies.py $(CRATES)
+	scripts/wrong_bodies/wrong_bodies.py $(CRATES)
 
 CRATES = $(filter-out wrong-bodies,$(MAKECMDGOALS))
 $(notdir $(wildcard crates/*)):
@@ -24,7 +24,7 @@ demo:
 # `make deb` and `make tarball` take is what this has left.
 build:
 	rm -f bin/macaroond bin/time_blocks
-	scripts/build.py
+	scripts/build/build.py
 	$(MAKE) --silent bin/macaroond
 	$(call proved,time_blocks,0)
 
@@ -53,25 +53,24 @@ install uninstall:
 
 # The Debian package and the .tar.gz, in dist/. The first asks for debhelper; neither for root or the toolchain.
 deb tarball:
-	scripts/packaging.py $@
+	scripts/build/packaging.py $@
 
 # Builds the programs, the package and the .tar.gz of this commit twice, in two folders, and compares their bytes.
 reproduce:
-	scripts/reproduce.py
+	scripts/build/reproduce.py
 
 # The completions for bash and zsh, from what --help says. After make build.
 completions:
-	scripts/completions.py
+	scripts/build/completions.py
 
 # What stands in pages and is made of other files: the counts, laws and wrong bodies in the pages of promises, from
 # the tree; docs/architecture.svg, from docs/architecture.dot, where Graphviz is there or the text is as it was.
 pages:
-	scripts/promises.py
-	scripts/draw.py
+	scripts/check/promises.py
+	scripts/check/draw.py
 
-# The same for the programs that try the libraries: try_pool drives the ring and the pool, try_serve drives serve over
-# memory, try_refused makes single calls, and try_cases asks for answers to the cases of its stdin.
-TRIALS = try_pool try_serve try_refused try_cases
+# The same for the programs that try the libraries; scripts/programs.txt says what each is for.
+TRIALS = $(shell awk '$$1 == "build-runs" { print $$2 }' scripts/programs.txt)
 build-runs:
 	mkdir -p bin
 	rm -f $(TRIALS:%=bin/%)
@@ -79,7 +78,7 @@ build-runs:
 
 # The programs that `rt ci` left where it built them, as make build and make build-runs would leave them.
 taken:
-	scripts/build.py --taken
+	scripts/build/build.py --taken
 	rm -f bin/macaroond
 	$(MAKE) --silent bin/macaroond
 	for program in time_blocks $(TRIALS); do cp crates/$$program/out/$$program bin/ || exit 1; done
@@ -87,27 +86,27 @@ taken:
 # Each request for memory refused in turn, and each call of a device failed, of the programs and the daemon. After
 # make build build-runs, and with a C compiler.
 faults:
-	scripts/faults.py
+	scripts/faults/faults.py
 
 # Requests a second, beside what their hashing costs; what serve, the ring and the pool cost. After make build build-runs.
 bench:
-	scripts/bench.py
+	scripts/measure/bench.py
 
 # The daemon under load: requests a second, waits, processor time, memory. After make build.
 load:
-	scripts/load.py
-	scripts/load.py --window 1
+	scripts/measure/load.py
+	scripts/measure/load.py --window 1
 
 # The clients for Python and Go: their tests, 100,000 requests of each beside the daemon and the macaroons of others, and
 # how fast they are. After make build.
 clients:
-	scripts/clients.py
-	scripts/client_speed.py
+	scripts/check/clients.py
+	scripts/measure/client_speed.py
 
 # Four workers, 64 desks of two threads, pauses by chance, on two processors: 19,200 posts, then 1,000,320 of them.
 # A wait that nobody ends shows as a run that doesn't end. Then hostile clients of the daemon, beside one that
 # compares every reply, and clients that never read. After make build build-runs.
 MINUTES = 1
 soak:
-	scripts/soak.sh
-	scripts/hostile.py $(MINUTES)
+	scripts/faults/soak.sh
+	scripts/faults/hostile.py $(MINUTES)

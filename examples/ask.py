@@ -1,4 +1,5 @@
 import subprocess
+import time
 
 import request
 
@@ -13,4 +14,4 @@ def ask(key_file, *payloads):
 
 
 new = request.mint("v2-json", "bank", "http://mybank/", "we used our secret key")
-print(*ask("examples/keys", new, request.verify("pier", "!", 0)), sep="\n")
+print(*ask("examples/keys", new, request.verify("pier", "!", int(time.time()))), sep="\n")

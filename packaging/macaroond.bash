@@ -1,4 +1,4 @@
-# bash completion for macaroond, made by scripts/completions.py
+# bash completion for macaroond, made by scripts/build/completions.py
 
 # The names in the key file that the line gives.
 _macaroond_key_names() {

@@ -1,95 +1,129 @@
 #!/bin/sh
-# Tells what README's sessions show, step by step: a daemon mints, narrows and verifies a token; and `macaroond pipe`
-# prints the token of libmacaroons' README. By bin/macaroond where it is built, else by an unproved run of the toolchain.
+# Runs README's sessions step by step and says in words what each does; then `macaroond pipe` prints
+# the token of libmacaroons' README. By bin/macaroond where it is built, else the daemon's session
+# alone, by an unproved run of the toolchain. It ends with 1 where a step prints otherwise than
+# README shows.
 set -eu
 top=$(cd "$(dirname "$0")/.." && pwd)
 folder=$(mktemp -d)
-# Once nobody is there any more to ask, the daemon that answers a number of connections ends by itself.
-trap 'kill $daemon $piped 2> /dev/null || :; rm -rf "$folder"' EXIT
-daemon='' piped=''
-program=$top/bin/macaroond
+trap 'kill ${!:-} 2> /dev/null || :; rm -rf "$folder"' EXIT
 input=$top/crates/macaroond/stdin
 
 tell() {
     printf '\n%s\n\n' "$*"
 }
 
-# Prints a command as one would write it, does it, and prints what it prints.
-show() {
-    echo "    \$ $1"
-    answer=$(eval "$1") || :
-    printf '%s\n' "$answer" | sed 's/^/    /'
+# What a command of README does.
+words() {
+    case $1 in
+        *" keygen "*) echo "A service makes a key, under the name \`bank\`:" ;;
+        token=*macaroond*)
+            echo "It mints a token for alice. Whoever holds it may use all of the account:" ;;
+        narrow=*macaroond*)
+            echo "Alice narrows it, which takes no key. It may read, and ends with the century:" ;;
+        *"macaroond verify"*read*)
+            echo "Somebody brings the narrow token to read, and the service says so:" ;;
+        *"macaroond verify"*)
+            echo "To write is another action. The first caveat, number 0, doesn't hold:" ;;
+        *" listen "*) echo "The same by a daemon, which answers over a Unix socket:" ;;
+        while*) echo "It prints a line once clients can connect. A script waits for that:" ;;
+        "service()"*) echo "A client, in Python:" ;;
+        token=*) echo "The daemon mints a token for alice:" ;;
+        narrow=*) echo "It narrows it for her:" ;;
+        *" verify "*read*)
+            echo "The narrow token is brought to read. A verify tells the moment too:" ;;
+        *" verify "*) echo "It is brought to write:" ;;
+        kill*) echo "The daemon is stopped:" ;;
+    esac
 }
 
-service() {
-    python3 "$top/examples/client.py" "$folder/socket" "$@"
+# The commands of README's sessions, each in a file, and what it prints in another one.
+cut_steps() {
+    awk -v to="$folder/step" '
+        /^```/ { inside = $0 == "```shell-session"; next }
+        !inside { next }
+        /^\$ / {
+            file = sprintf("%s.%02d", to, ++count)
+            print substr($0, 3) > file
+            printf "" > (file ".due")
+            next
+        }
+        { print > (file ".due") }' "$top/README.md"
 }
 
-due() {
-    [ "$answer" = "$1" ] || { echo "Here \`$1\` is due."; exit 1; }
+# Does a step, and shows it with what it prints; of a variable that it sets, the value.
+do_step() {
+    command=$(cat "$1")
+    tell "$(words "$command")"
+    printf '    $ %s\n' "$command"
+    eval "$command" > "$1.came" 2>&1 || :
+    sed 's/^/    /' "$1.came"
+    case $command in
+        token=*) echo "    $token" ;;
+        narrow=*) echo "    $narrow" ;;
+    esac
+    if ! cmp -s "$1.due" "$1.came"; then
+        echo "README shows otherwise:"
+        cat "$1.due"
+        [ ! -e said ] || tail -n 20 said
+        exit 1
+    fi
 }
 
-serve() {
-    echo serve --socket "$folder/socket" --keys "$top/examples/keys" --workers 2 --accept 4
-}
-
-if [ ! -x "$program" ] && ! command -v rt > /dev/null; then
-    echo "There is no bin/macaroond, and the toolchain's command \`rt\` is not on the path: without either there is"
-    echo "nothing to run. README says which toolchain it is, under *What is trusted*."
-    exit 1
-fi
-
-tell "A service keeps a key under a name, here \`bank\`, and starts a daemon with it. It answers on a Unix socket."
-sed -n 's/^/    /p' "$top/examples/keys"
-if [ -x "$program" ]; then
-    tell "The daemon is the proved program, bin/macaroond:"
-    # shellcheck disable=SC2046
-    "$program" $(serve) > "$folder/said" 2>&1 &
-    daemon=$!
-    "$program" pipe < "$input" > "$folder/piped" &
-    piped=$!
-else
-    tell "bin/macaroond isn't built (make build): this is a run with no proof, by \`rt try\`. It is compiled first, in a minute:"
-    cd "$top/crates/macaroond"
-    # shellcheck disable=SC2046
-    rt try --seconds 100 -- $(serve) > "$folder/said" 2>&1 &
-    daemon=$!
-    rt try -- pipe < "$input" > "$folder/piped" 2> /dev/null &
-    piped=$!
-fi
-echo "    \$ macaroond $(serve)"
+# Without a build the daemon's steps alone are run, since each run of `rt try` compiles anew. Its
+# daemon answers the four connections of these steps, and ends.
+stand_in() {
+    tell "bin/macaroond isn't built (make build), so this is a run with no proof, by \`rt try\`." \
+        "It is compiled first, in a minute or two."
+    cp "$top/examples/keys" keys
+    mkdir bin
+    cat > bin/macaroond <<END
+#!/bin/sh
+# What the daemon prints comes once it has ended, so its socket says that clients can connect.
+cd "$top/crates/macaroond"
+rt try --seconds 100 -- serve --socket "$folder/socket" --keys "$folder/keys" --workers 2 \\
+    --accept 4 > "$folder/said" 2>&1 &
+trap 'kill \$!; exit' TERM
 while [ ! -S "$folder/socket" ]; do
-    kill -0 $daemon 2> /dev/null || { echo "It ended at once:"; cat "$folder/said"; exit 1; }
+    kill -0 \$! || exit 1
     sleep 0.1
 done
+echo "listening at ./socket:"
+wait
+END
+    chmod +x bin/macaroond
+    for step in step.??; do
+        case $(cat "$step") in
+            *" listen "* | while* | *service*) ;;
+            *) rm "$step" ;;
+        esac
+    done
+    (cd "$top/crates/macaroond" && rt try -- pipe < "$input" > "$folder/piped" 2> /dev/null) &
+}
 
-tell "It mints a token for alice. Whoever holds the token may use all of the account:"
-show "service mint v2-text bank http://mybank/ alice"
-token=${answer#token }
-
-tell "Alice narrows it before she hands it on, which takes no key. It may read, and ends with this century:"
-show "service attenuate v2-text $token 'action = read' 'time < 2100-01-01T00:00'"
-narrow=${answer#token }
-
-tell "Somebody brings the narrow token to read. The service says what is asked, and when:"
-show "service verify bank $narrow \$(date +%s) 'action = read'"
-due granted
-
-tell "To write is another action. The caveat with number 0 isn't satisfied, which is refusal 24:"
-show "service verify bank $narrow \$(date +%s) 'action = write'"
-due "refused 24 0"
-wait $daemon
-daemon=''
-
-tell "\`macaroond pipe\` answers a file: key lines, an empty line, and a request in hexadecimal on each line."
-sed 's/^/    /' "$input"
-wait $piped
-answer=$(grep '^token ' "$folder/piped")
-echo
-echo "    $answer"
-echo
-if [ "$answer" != "$(cat "$top/crates/macaroond/stdout")" ]; then
-    echo "It isn't the token that libmacaroons' README prints for this secret, identifier and location."
+cd "$folder"
+cut_steps
+ln -s "$top/examples" examples
+if [ -x "$top/bin/macaroond" ]; then
+    ln -s "$top/bin" bin
+    bin/macaroond pipe < "$input" > piped
+elif command -v rt > /dev/null; then
+    stand_in
+else
+    echo "There is no bin/macaroond, and the toolchain's command \`rt\` is not on the path: without"
+    echo "either there is nothing to run. README says which toolchain it is (What is trusted)."
     exit 1
 fi
-echo "It is the token that libmacaroons' README prints for this secret, identifier and location."
+for step in step.??; do
+    do_step "$step"
+done
+tell "\`macaroond pipe\` answers a file: key lines, an empty line, and requests in hexadecimal."
+sed 's/^/    /' "$input"
+wait
+answer=$(grep '^token ' piped)
+printf '\n    %s\n\n' "$answer"
+if [ "$answer" != "$(cat "$top/crates/macaroond/stdout")" ]; then
+    echo "It isn't the token that libmacaroons' README prints for this secret and identifier."
+    exit 1
+fi
+echo "It is the token that libmacaroons' README prints for this secret and identifier."

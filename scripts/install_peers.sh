@@ -7,22 +7,22 @@ set -eu
 # Each package, and why it stands here.
 list() {
     cat <<'END'
-libmacaroons0                   scripts/peers.py exchanges tokens with it
-python3-pymacaroons             scripts/peers.py exchanges tokens with it
-golang-go                       builds scripts/go_peer, which speaks for go-macaroon, and tests clients/go
-golang-gopkg-macaroon.v2-dev    scripts/peers.py exchanges tokens with it, by scripts/go_peer
-gcc                             builds what refuses memory, fails devices and counts (scripts/*.c)
+libmacaroons0                   scripts/check/peers.py exchanges tokens with it
+python3-pymacaroons             scripts/check/peers.py exchanges tokens with it
+golang-go                       builds scripts/check/go_peer, which speaks for go-macaroon, and tests clients/go
+golang-gopkg-macaroon.v2-dev    scripts/check/peers.py exchanges tokens with it, by scripts/check/go_peer
+gcc                             builds what refuses memory, fails devices and counts (scripts/faults/watch.c)
 libc6-dev                       the headers for that
-python3-pip                     scripts/clients.py installs clients/python with it
-groff-base                      scripts/man_page.py looks for its warnings
-valgrind                        scripts/instructions.py counts with it
-dpkg-dev                        scripts/packaging.py makes the package with it
+python3-pip                     scripts/check/clients.py installs clients/python with it
+groff-base                      scripts/check/man_page.py looks for its warnings
+valgrind                        scripts/measure/instructions.py counts with it
+dpkg-dev                        scripts/build/packaging.py makes the package with it
 debhelper                       debian/rules says by it how the package is made
-lintian                         scripts/package_runs.py asks it what is wrong with the package
-systemd                         scripts/package_runs.py asks it what the unit may do
-mmdebstrap                      scripts/life_cycle.py makes a plain Debian with it
-systemd-container               scripts/life_cycle.py boots that with it
-zsh                             scripts/completions.py tries its completion
+lintian                         scripts/check/package_runs.py asks it what is wrong with the package
+systemd                         scripts/check/package_runs.py asks it what the unit may do
+mmdebstrap                      scripts/check/life_cycle.py makes a plain Debian with it
+systemd-container               scripts/check/life_cycle.py boots that with it
+zsh                             scripts/build/completions.py tries its completion
 END
 }
 

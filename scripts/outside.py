@@ -1,43 +1,47 @@
 #!/usr/bin/env python3
 """Compares the program with its pages, with cases made elsewhere and with the macaroons of others.
 
+    outside.py           all parts
+    outside.py PART ..   these parts alone, by the names under which they are told
+
 Each part tells how many checks it made, what was wrong, and what it left out; the last line counts
 all of them. A part that breaks off counts as one that failed, and the others are made all the same.
 """
+import argparse
 import functools
 import sys
 import time
 import traceback
 import typing
 
-import allocations
-import building
-import case_files
-import clients
-import completions
-import daemon_rows
-import daemon_session
-import draw
-import edges
-import faults
-import hostile
-import installing
-import lasting
-import life_cycle
-import man_page
-import package_runs
-import pages
-import peers
-import pipe_runs
-import promises
-import quotes
-import refusing
-import starting
-import statuses
-import tutorial
-import versions
-import words
-import wrong_bodies
+from build import completions
+from check import (
+    building,
+    case_files,
+    clients,
+    daemon_rows,
+    draw,
+    edges,
+    http_rows,
+    installing,
+    lasting,
+    life_cycle,
+    man_page,
+    package_runs,
+    pages,
+    peers,
+    promises,
+    quotes,
+    sessions,
+    starting,
+    statuses,
+    versions,
+    words,
+)
+from common import runs
+from faults import faults, hostile, refusing
+from measure import allocations
+from wrong_bodies import wrong_bodies
 
 # How long hostile clients use the daemon.
 HOSTILE_SECONDS = 4
@@ -53,16 +57,14 @@ class Outcome(typing.NamedTuple):
 
 def over_pipe():
     """The parts whose cases are answered by runs of the pipe, all made at once."""
-    page, files = tutorial.Tutorial(), case_files.cases()
     others, missing = peers.installed_peers()
-    asked = [page.cases, files, statuses.cases(), words.cases(), peers.cases(others)]
-    runs = pipe_runs.runs({name: case for cases in asked for name, case in cases.items()})
-    yield "FORMATS", lambda: (page.compared(runs), len(page.shown) + 1)
-    yield "cases", lambda: (case_files.faults(runs), case_files.answers())
-    yield "endings", lambda: (statuses.faults(runs), len(statuses.ENDINGS))
-    yield "words", lambda: (words.faults(runs), len(words.USES))
+    asked = [case_files.cases(), statuses.cases(), words.cases(), peers.cases(others)]
+    made = runs.of_cases({name: case for cases in asked for name, case in cases.items()})
+    yield "cases", lambda: (case_files.faults(made), case_files.answers())
+    yield "endings", lambda: (statuses.faults(made), len(statuses.ENDINGS))
+    yield "words", lambda: (words.faults(made), len(words.USES))
     for peer in others:
-        yield peer.name, functools.partial(peers.outcome, peer, runs)
+        yield peer.name, functools.partial(peers.outcome, peer, made)
     for name in missing:
         yield name, skipping("it isn't installed (scripts/install_peers.sh)")
 
@@ -74,7 +76,7 @@ OF_PROGRAM = {
     "completions": completions.faults,
     "edges": edges.faults,
     "edges of words": words.edge_faults,
-    "sessions": daemon_session.faults,
+    "sessions": sessions.faults,
     "sockets": daemon_rows.faults,
     "starting": starting.faults,
     "lasting": lasting.faults,
@@ -95,6 +97,7 @@ OF_TEXTS = {
     "promises": promises.faults,
     "picture": draw.faults,
     "man": man_page.faults,
+    "HTTP rows": http_rows.faults,
     "building": building.faults,
     "wrong bodies apply": wrong_bodies.faults,
 }
@@ -107,7 +110,7 @@ def skipping(why):
 def parts():
     """The name of each part, and what makes it."""
     yield from over_pipe()
-    unbuilt = None if pipe_runs.is_built() else "bin/macaroond is missing or old (make build)"
+    unbuilt = None if runs.is_built() else "bin/macaroond is missing or old (make build)"
     uncompiled = None if refusing.has_compiler() else "there is no C compiler `cc`"
     for name, part in OF_PROGRAM.items():
         yield name, skipping(unbuilt) if unbuilt else part
@@ -143,9 +146,21 @@ def told(name, part):
     return passed, failed, len(came.skipped)
 
 
+def wanted():
+    """The names of the parts that the command line asks for; none asks for all."""
+    raw = argparse.RawDescriptionHelpFormatter
+    words = argparse.ArgumentParser(description=__doc__, formatter_class=raw)
+    words.add_argument("parts", nargs="*", metavar="PART")
+    return words.parse_args().parts
+
+
 def main():
     peers.run_by_debian_python()
-    passed, failed, skipped = map(sum, zip(*(told(name, part) for name, part in parts())))
+    names = wanted()
+    chosen = [(name, part) for name, part in parts() if not names or name in names]
+    if unknown := set(names) - {name for name, _ in chosen}:
+        sys.exit(f"there is no part {', '.join(sorted(unknown))}")
+    passed, failed, skipped = map(sum, zip(*(told(*it) for it in chosen)))
     print(f"{passed} passed, {failed} failed, {skipped} skipped")
     sys.exit(1 if failed else 0)
 

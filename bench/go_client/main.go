@@ -1,4 +1,4 @@
-// Times the Go client beside bare loops that write and read frames, for scripts/client_speed.py.
+// Times the Go client beside bare loops that write and read frames, for scripts/measure/client_speed.py.
 //
 //	go_client SOCKET SECONDS    prints a line for each way of asking: its name and requests a second
 package main

@@ -12,7 +12,7 @@ import (
 )
 
 // The repository's cases, whose values were made elsewhere.
-const caseFolder = "../../scripts/cases"
+const caseFolder = "../../scripts/check/cases"
 
 var (
 	signature, _ = hex.DecodeString("e3d9e02908526c4c0039ae15114115d97fdd68bf2ba379b342aaf0f617d0552f")

@@ -1,4 +1,4 @@
-"""Tokens without a daemon, beside values that were made elsewhere (the repository's scripts/cases) and by hand."""
+"""Tokens without a daemon, beside values that were made elsewhere (the repository's scripts/check/cases) and by hand."""
 import base64
 import pathlib
 import unittest
@@ -6,7 +6,7 @@ import unittest
 import macaroond
 from macaroond import BadToken, Form, tokens
 
-CASES = pathlib.Path(__file__).resolve().parents[3] / "scripts" / "cases"
+CASES = pathlib.Path(__file__).resolve().parents[3] / "scripts" / "check" / "cases"
 SIGNATURE = bytes.fromhex("e3d9e02908526c4c0039ae15114115d97fdd68bf2ba379b342aaf0f617d0552f")
 BINARY = b"\x02\x01\x0ehttp://mybank/\x02\x16we used our secret key\x00\x00\x06\x20" + SIGNATURE
 PLAIN = '{"i":"a","s64":"' + base64.urlsafe_b64encode(SIGNATURE).decode() + '"'

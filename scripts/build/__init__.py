@@ -1,0 +1,1 @@
+"""What builds the programs, packs them, and builds them again to compare."""

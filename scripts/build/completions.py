@@ -1,0 +1,269 @@
+#!/usr/bin/env python3
+"""The completions for bash and zsh, made from what `macaroond --help` says; and whether those in
+packaging/ are these, and complete what they should."""
+import pathlib
+import re
+import shutil
+import subprocess
+import sys
+import tempfile
+import typing
+
+sys.path.insert(0, str(pathlib.Path(__file__).resolve().parents[1]))
+from common import TOP, runs
+
+PACKAGING = TOP / "packaging"
+BASH, ZSH = PACKAGING / "macaroond.bash", PACKAGING / "_macaroond"
+# What an option takes, by the name that help has for its value. Help says these words too.
+CHOICES = {"FORM": ["v1", "v2", "json", "v2-text"], "DIGITS": ["600", "660", "666"]}
+FILES = {"FILE", "PATH"}
+# The option whose value is one of the names in the file of another one.
+KEY, KEYS = "--key", "--keys"
+NAMES = r"s/^key \([^ ]*\) .*/\1/p"
+
+
+class Option(typing.NamedTuple):
+    """An option, the name of its value (empty: it takes none), and what it is for."""
+
+    name: str
+    value: str
+    about: str
+
+    def choices(self):
+        return CHOICES.get(self.value, [])
+
+    def is_repeated(self):
+        return "may be given often" in self.about
+
+
+class Command(typing.NamedTuple):
+    """A subcommand, what it does, its options, and the words that it takes without a name."""
+
+    name: str
+    about: str
+    options: typing.Sequence[Option]
+    words: typing.Sequence[str]
+
+
+def help_of(*words):
+    command = [runs.PROGRAM, *words, "--help"]
+    return subprocess.run(command, capture_output=True, text=True, check=True).stdout
+
+
+def section(text, title):
+    """The lines of a part of the help, without the blanks in front."""
+    found = re.search(rf"^{title}:\n((?:  +.*\n?)*)", text, re.MULTILINE)
+    return [line.strip() for line in found[1].splitlines()] if found else []
+
+
+def options_of(text):
+    pattern = re.compile(r"(?:-\w, )?(--[\w-]+)(?: <(\w+)>)?(?:\.\.\.)?\s+(.*)")
+    return [Option(*(part or "" for part in pattern.fullmatch(line).groups())) for line in section(text, "Options")]
+
+
+def commands():
+    """Each subcommand, as its help tells it."""
+    named = [line.split(maxsplit=1) for line in section(help_of(), "Commands")]
+    for name, about in named:
+        text = help_of(name)
+        words = [re.match(r"<(\w+)>", line)[1] for line in section(text, "Arguments")]
+        yield Command(name, about, options_of(text), words)
+
+
+def distinct(found):
+    """Each option once, whatever the subcommands that have it."""
+    options = {}
+    for option in (option for command in found for option in command.options):
+        known = options.setdefault(option.name, option)
+        if known.choices() != option.choices() or (known.value in FILES) != (option.value in FILES):
+            raise SystemExit(f"{option.name} takes values of two kinds")
+        lacking = [word for word in option.choices() if not re.search(rf"\b{word}\b", option.about)]
+        if lacking:
+            raise SystemExit(f"the help of {option.name} doesn't say {' or '.join(lacking)}")
+    return list(options.values())
+
+
+def bash(found):
+    """The completion for bash."""
+    options = [option for option in distinct(found) if option.value]
+    files = " | ".join(option.name for option in options if option.value in FILES)
+    chosen = [f"        {option.name}) words='{' '.join(option.choices())}' ;;" for option in options if option.choices()]
+    free = [option.name for option in options if option.value not in FILES and not option.choices() and option.name != KEY]
+    each = [f"                    {it.name}) words='{' '.join(option.name for option in it.options)}' ;;" for it in found]
+    first = " ".join([*(it.name for it in found), *(option.name for option in options_of(help_of()))])
+    return f"""# bash completion for macaroond, made by scripts/build/completions.py
+
+# The names in the key file that the line gives.
+_macaroond_key_names() {{
+    local index file=
+    for ((index = 1; index < COMP_CWORD; index++)); do
+        [[ ${{COMP_WORDS[index]}} == {KEYS} ]] && file=${{COMP_WORDS[index + 1]}}
+    done
+    [[ -r $file ]] && sed -n '{NAMES}' "$file" | sort -u
+}}
+
+_macaroond() {{
+    local word=${{COMP_WORDS[COMP_CWORD]}} before=${{COMP_WORDS[COMP_CWORD - 1]}} words=
+    COMPREPLY=()
+    case $before in
+        {files})
+            mapfile -t COMPREPLY < <(compgen -f -- "$word")
+            compopt -o filenames 2> /dev/null
+            return
+            ;;
+{chr(10).join(chosen)}
+        {KEY}) words=$(_macaroond_key_names) ;;
+        {" | ".join(free)}) return ;;
+        *)
+            if ((COMP_CWORD == 1)); then
+                words='{first}'
+            else
+                case ${{COMP_WORDS[1]}} in
+{chr(10).join(each)}
+                esac
+            fi
+            ;;
+    esac
+    mapfile -t COMPREPLY < <(compgen -W "$words" -- "$word")
+}}
+complete -F _macaroond macaroond
+"""
+
+
+def quoted(text):
+    """The text within single quotes, for a description of zsh: its colons and brackets are no signs."""
+    return re.sub(r"([][:\\])", r"\\\1", re.sub(r" \[default: .*\]", "", text)).replace("'", "'\\''")
+
+
+def zsh_option(option):
+    action = ""
+    if option.value:
+        how = "_files" if option.value in FILES else "_macaroond_key_names" if option.name == KEY else ""
+        how = f"({' '.join(option.choices())})" if option.choices() else how
+        action = f":{option.value.lower()}:{how}"
+    return f"'{'*' * option.is_repeated()}{option.name}[{quoted(option.about)}]{action}'"
+
+
+def zsh_case(command):
+    words = [f"'{place}:{word.lower()}:'" for place, word in enumerate(command.words, 1)]
+    lines = " \\\n            ".join([*map(zsh_option, command.options), *words])
+    return f"    {command.name})\n        _arguments \\\n            {lines}\n        ;;"
+
+
+def zsh(found):
+    """The completion for zsh."""
+    described = "\n".join(f"    '{command.name}:{quoted(command.about)}'" for command in found)
+    first = "\n".join(f"    '{option.name}:{quoted(option.about)}'" for option in options_of(help_of()))
+    return f"""#compdef macaroond
+# zsh completion for macaroond, made by scripts/build/completions.py
+
+local -a commands=(
+{described}
+)
+local -a options=(
+{first}
+)
+
+# The names in the key file that the line gives.
+_macaroond_key_names() {{
+    local file=${{opt_args[{KEYS}]}}
+    [[ -r $file ]] && compadd -- ${{(f)"$(sed -n '{NAMES}' $file | sort -u)"}}
+}}
+
+if (( CURRENT == 2 )); then
+    _describe command commands
+    _describe option options
+    return
+fi
+
+local command=$words[2]
+shift words
+(( CURRENT-- ))
+case $command in
+{chr(10).join(map(zsh_case, found))}
+esac
+"""
+
+
+def made():
+    """Both files, with what they have to hold."""
+    found = list(commands())
+    return {BASH: bash(found), ZSH: zsh(found)}
+
+
+# What bash is asked to complete: the words of the line stand in COMP_WORDS.
+ASK_BASH = """
+source "$1"
+shift
+COMP_WORDS=("$@")
+COMP_CWORD=$(($# - 1))
+_macaroond
+printf '%s\\n' "${COMPREPLY[@]}"
+"""
+
+# Stand-ins for what zsh's completion calls, which print what they are given.
+ASK_ZSH = """
+_arguments() { print -rl -- "$@" }
+_describe() { print -rl -- "${(P)2[@]}" }
+file=$1
+shift
+words=("$@")
+CURRENT=$#
+complete_it() { source $file }
+complete_it
+"""
+
+
+def asked(shell, script, file, words):
+    """What the shell prints for a line of these words, the last of which is completed."""
+    run = subprocess.run([*shell, "-c", script, "ask", file, *words], capture_output=True, text=True)
+    return sorted(line for line in (run.stdout + run.stderr).splitlines() if line)
+
+
+def bash_rows(found):
+    """A line, what is completed there, and what should be."""
+    complete = lambda *words: asked(["bash", "--norc"], ASK_BASH, BASH, ["macaroond", *words])
+    first = [command.name for command in found] + [option.name for option in options_of(help_of())]
+    yield "first word", complete(""), sorted(first)
+    for command in found:
+        names = sorted(option.name for option in command.options)
+        yield f"bash: {command.name} --", complete(command.name, "--"), names
+        for option in command.options:
+            if option.choices():
+                yield f"bash: {option.name}", complete(command.name, option.name, ""), sorted(option.choices())
+    with tempfile.TemporaryDirectory() as folder:
+        keys = pathlib.Path(folder) / "keys"
+        keys.write_text("key bank 00\nkey bank 01\n# key note 02\nkey shop 03\n")
+        yield "bash: a file", complete("mint", KEYS, f"{folder}/k"), [str(keys)]
+        yield "bash: a key", complete("mint", KEYS, str(keys), KEY, ""), ["bank", "shop"]
+        yield "bash: a text", complete("mint", "--location", ""), []
+
+
+def zsh_rows(found):
+    complete = lambda *words: asked(["zsh", "-f"], ASK_ZSH, ZSH, ["macaroond", *words])
+    first = [command.name for command in found] + [option.name for option in options_of(help_of())]
+    yield "zsh: first word", sorted(line.split(":")[0] for line in complete("")), sorted(first)
+    for command in found:
+        names = sorted(option.name for option in command.options)
+        told = [re.match(r"\*?(--[\w-]+)\[", line) for line in complete(command.name, "--")]
+        yield f"zsh: {command.name}", sorted(match[1] for match in told if match), names
+
+
+def faults():
+    """What is otherwise than help says, how many lines were completed, and what wasn't tried."""
+    found = list(commands())
+    wrong = [f"{file.relative_to(TOP)} isn't what --help says: make completions, after make build"
+             for file, text in made().items() if not file.exists() or file.read_text() != text]
+    has_zsh = shutil.which("zsh") is not None
+    rows = [*bash_rows(found), *(zsh_rows(found) if has_zsh else [])]
+    wrong += [f"{what} completes {got} where {due} is due" for what, got, due in rows if got != due]
+    return wrong, len(rows) + 2, [] if has_zsh else ["zsh isn't there to read its completion"]
+
+
+def main():
+    for file, text in made().items():
+        file.write_text(text)
+
+
+if __name__ == "__main__":
+    main()

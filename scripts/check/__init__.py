@@ -1,0 +1,1 @@
+"""What the gate compares the program, its pages and what is installed with."""

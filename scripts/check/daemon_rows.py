@@ -1,0 +1,180 @@
+"""Runs of `macaroond serve` and `macaroond listen` over a socket: what comes back, and how they end."""
+import contextlib
+import os
+import pathlib
+import select
+import socket
+import stat
+import subprocess
+import tempfile
+import threading
+import time
+
+from common import KEYS, runs
+from common.daemon import PATIENCE, connected, frame, received
+
+import request
+
+MINT = request.mint("v1-text", "bank", "http://mybank/", "we used our secret key")
+TOKEN = (
+    b"MDAxY2xvY2F0aW9uIGh0dHA6Ly9teWJhbmsvCjAwMjZpZGVudGlmaWVyIHdlIHVzZWQgb3VyIHNlY3JldCBrZXkK"
+    b"MDAyZnNpZ25hdHVyZSDj2eApCFJsTAA5rhURQRXZf91ovyujebNCqvD2F9BVLwo"
+)
+NO_REQUEST = bytes([0, 0, 0, 1, 16])
+MALFORMED = bytes([0, 0, 0, 1, 20])
+# JSON that takes milliseconds to read, and is no token.
+SLOW_TOKEN = '{"a":[' + 10_900 * "{}," + "{}]}"
+# How often a quick request is sent behind a slow one until it is answered first.
+TRIES = 1000
+# How many requests are sent before the first reply is read.
+LATE = 20_000
+
+HELLO = b"\x02"
+
+
+def placed(*replies):
+    """The frames of replies in version two."""
+    return b"".join(frame(place.to_bytes(8, "big") + reply) for place, reply in enumerate(replies))
+
+
+def answer(stream, data):
+    """What comes back, to its end, for a stream of these bytes."""
+    stream.sendall(data)
+    stream.shutdown(socket.SHUT_WR)
+    received = b""
+    while piece := stream.recv(65_536):
+        received += piece
+    return received
+
+
+@contextlib.contextmanager
+def daemon(*words):
+    """A daemon that has printed its first line."""
+    pipes = {"stdout": subprocess.PIPE, "stderr": subprocess.PIPE, "text": True}
+    with subprocess.Popen([runs.PROGRAM, *words], **pipes) as run:
+        try:
+            run.first = run.stdout.readline()
+            yield run
+        finally:
+            run.kill()
+
+
+def served(path, workers):
+    """Three clients, of which the second comes while the first is there and the third breaks off."""
+    words = ["serve", "--socket", path, "--keys", KEYS, "--workers", str(workers), "--accept", "3"]
+    with daemon(*words) as run:
+        with connected(path) as first, connected(path) as second, connected(path) as third:
+            answers = [answer(second, bytes(12)), answer(third, bytes(3))]
+            answers.insert(0, answer(first, frame(MINT) + frame(b"")))
+        output, error = run.communicate(timeout=PATIENCE)
+    due = [frame(b"\x01" + TOKEN) + NO_REQUEST, NO_REQUEST * 3, b""]
+    yield f"{workers} workers answer", answers, due
+    yield f"{workers} workers end", (run.returncode, run.first + output, error), (0, "listening\nserved 3 faults 1\n", "")
+    again = subprocess.run([runs.PROGRAM, *words], capture_output=True, text=True, timeout=PATIENCE)
+    yield "a path that is there", (again.returncode, again.stdout, again.stderr), (3, "", "fault 3\n")
+
+
+def both_ways(path):
+    """Requests that are read while replies are written."""
+    mint, token = frame(MINT), frame(b"\x01" + TOKEN)
+    with daemon("serve", "--socket", path, "--keys", KEYS, "--workers", "2", "--accept", "2") as run:
+        with connected(path) as stream:
+            stream.sendall(mint + mint[:30])
+            yield "a reply while the next request is on its way", received(stream, len(token)), token
+            stream.sendall(mint[30:])
+            yield "and the next one", received(stream, len(token)), token
+            yield "and the last", answer(stream, frame(b"")), NO_REQUEST
+        with connected(path) as stream:
+            sender = threading.Thread(target=stream.sendall, args=(mint * LATE,), daemon=True)
+            sender.start()
+            time.sleep(0.2)
+            yield "replies to one who reads late", received(stream, LATE * len(token)) == LATE * token, True
+            sender.join()
+        output, _ = run.communicate(timeout=PATIENCE)
+        yield "the end of those", output, "served 2 faults 0\n"
+
+
+def overtaking(path):
+    """A quick request behind one that takes long: in the same connection its reply waits, in another it doesn't."""
+    slow, quick = frame(request.verify("bank", SLOW_TOKEN, 0)), frame(b"")
+    with daemon("serve", "--socket", path, "--keys", KEYS, "--workers", "2", "--accept", "2") as run:
+        with connected(path) as stream, connected(path) as other:
+            stream.sendall(20 * (slow + 8 * quick))
+            due = 20 * (MALFORMED + 8 * NO_REQUEST)
+            yield "replies keep the order of requests", received(stream, len(due)), due
+            for _ in range(TRIES):
+                stream.sendall(slow)
+                other.sendall(quick)
+                first = select.select([stream, other], [], [])[0]
+                replies = received(stream, len(MALFORMED)), received(other, len(NO_REQUEST))
+                if replies != (MALFORMED, NO_REQUEST) or first == [other]:
+                    break
+            yield "a quick request overtakes one that takes long", (first == [other], *replies), (True, MALFORMED, NO_REQUEST)
+        output, _ = run.communicate(timeout=PATIENCE)
+        yield "the end of those", output, "served 2 faults 0\n"
+
+
+def versions(path):
+    """Connections of version two beside one of version one, and a hello that comes by itself."""
+    requests = frame(MINT) + frame(b"") + bytes.fromhex("00010001")
+    due = placed(b"\x01" + TOKEN, b"\x10", b"\x11")
+    with daemon("serve", "--socket", path, "--keys", KEYS, "--workers", "2", "--accept", "5") as run:
+        with connected(path) as stream:
+            yield "places", answer(stream, HELLO + requests), due
+        with connected(path) as stream:
+            for byte in HELLO + requests[:20]:
+                stream.sendall(bytes([byte]))
+                time.sleep(0.001)
+            yield "places, where the hello comes alone", answer(stream, requests[20:]), due
+        with connected(path) as stream:
+            yield "none beside", answer(stream, frame(b"")), NO_REQUEST
+        with connected(path) as stream:
+            yield "a hello and no more", answer(stream, HELLO), b""
+        with connected(path) as stream:
+            yield "a hello and a part of a length", answer(stream, HELLO + bytes(1)), b""
+        output, _ = run.communicate(timeout=PATIENCE)
+        yield "the end of those", output, "served 5 faults 1\n"
+
+
+def listening(folder):
+    path = folder + "/listening"
+    words = ["listen", "--socket", path, "--keys", KEYS, "--workers", "2"]
+    with daemon(*words, "--mode", "660") as run:
+        yield "what listen prints", run.first, f"listening at {path}: 2 names, 2 workers\n"
+        yield "the mode", stat.filemode(os.stat(path).st_mode), "srw-rw----"
+        yield "its lock beside the socket, and no more", sorted(os.listdir(folder)), ["listening", "listening.lock"]
+        with connected(path) as stream:
+            yield "an answer", answer(stream, frame(MINT)), frame(b"\x01" + TOKEN)
+        taken = subprocess.run([runs.PROGRAM, *words], capture_output=True, text=True, timeout=PATIENCE)
+        due = (3, "", f"{path}: process {run.pid} has it\nfault 3\n")
+        yield "a path that is listened on", (taken.returncode, taken.stdout, taken.stderr), due
+    with daemon(*words, "--idle", "1") as run:
+        yield "a path that was left is taken over", run.first, f"listening at {path}: 2 names, 2 workers\n"
+        yield "the owner's mode", stat.filemode(os.stat(path).st_mode), "srw-------"
+        begin = time.monotonic()
+        with connected(path) as stream:
+            stream.sendall(bytes(3))
+            yield "silence is ended", stream.recv(1), b""
+        yield "after its second", 0.9 < time.monotonic() - begin, True
+        yield "and told", run.stderr.readline(), "a connection ended: it made no progress\n"
+        with contextlib.ExitStack() as crowd:
+            streams = [crowd.enter_context(connected(path)) for _ in range(130)]
+            streams[-1].sendall(frame(b""))
+            yield "a client behind 64 silent ones", streams[-1].recv(5), NO_REQUEST
+    file = folder + "/file"
+    pathlib.Path(file).write_text("")
+    words[2] = file
+    refused = subprocess.run([runs.PROGRAM, *words], capture_output=True, text=True, timeout=PATIENCE)
+    due = (3, "", f"{file}: there is something that is no socket\nfault 3\n")
+    yield "a path that is no socket", (refused.returncode, refused.stdout, refused.stderr), due
+
+
+def faults():
+    """What went otherwise than it must, and how many things were looked at."""
+    with tempfile.TemporaryDirectory() as folder:
+        seen = [one for workers in (1, 2, 16) for one in served(f"{folder}/{workers}", workers)]
+    with tempfile.TemporaryDirectory() as folder:
+        seen += [*both_ways(folder + "/both_ways"), *overtaking(folder + "/overtaking"), *versions(folder + "/versions")]
+    with tempfile.TemporaryDirectory() as folder:
+        seen += listening(folder)
+    return [f"daemon: {what}: {got!r} where {due!r} is due" for what, got, due in seen if got != due], len(seen)

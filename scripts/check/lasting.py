@@ -1,0 +1,231 @@
+#!/usr/bin/env python3
+"""Runs of `macaroond listen` that has to stay up: what it does where nobody reads what it prints, and
+how it ends connections."""
+import contextlib
+import os
+import pathlib
+import re
+import resource
+import subprocess
+import sys
+import threading
+import time
+
+sys.path.insert(0, str(pathlib.Path(__file__).resolve().parents[1]))
+from check.daemon_rows import MALFORMED, MINT, NO_REQUEST, TOKEN
+from common import daemon
+from common.daemon import connected, frame, received
+from faults import hostile
+
+import request
+
+# How many seconds a client waits at most: a daemon that hangs is told from a machine that is busy.
+LONGEST_WAIT = 30
+# How many connections end inside a frame.
+TORN = 1400
+# The line of each of them.
+TORN_LINE = "a connection ended: the stream ended inside a frame"
+# The length of a frame past the limit, which a socket's buffer holds whole, and the reply to it.
+OVERSIZE, TOO_LONG = 200_000, frame(b"\x11")
+# The bytes of a stack that a daemon is started under, and how deep the JSON of a request is nested then.
+LITTLE_STACK, DEPTH = 65_536, 120
+# A verify whose signature isn't the chain's is refused so; how many of them are sent at once.
+BAD_SIGNATURE, OWED = frame(b"\x17"), 400
+# How many clients send bursts of requests, how many requests each, and for how many seconds.
+BURSTERS, BURST, BURSTING = 24, 40, 4
+# What they send, and how many bytes the reply to it has.
+MINTING, MINTED = frame(MINT), len(frame(b"\x01" + TOKEN))
+LEFT_OUT = re.compile(r"(\d+) more lines were left out")
+
+
+def listening(error, *words, **how):
+    """The path of a daemon that listens, and its process. It prints its faults to `error`."""
+    return daemon.listening("--workers", "2", *words, stderr=error, **how)
+
+
+def full_pipe():
+    """A pipe that takes nothing more: its two ends, and how many bytes it holds."""
+    reading, writing = os.pipe()
+    os.set_blocking(writing, False)
+    held = 0
+    for piece in (bytes(4096), bytes(1)):
+        with contextlib.suppress(BlockingIOError):
+            while True:
+                held += os.write(writing, piece)
+    os.set_blocking(writing, True)
+    return reading, writing, held
+
+
+def lines_of(reading, held):
+    """The lines behind what the pipe held, until all connections are told of, or `LONGEST_WAIT` has passed."""
+    os.set_blocking(reading, False)
+    text, until = b"", time.monotonic() + LONGEST_WAIT
+    while time.monotonic() < until:
+        with contextlib.suppress(BlockingIOError):
+            text += os.read(reading, 65_536)
+            continue
+        lines = text[held:].decode().splitlines()
+        if told(lines) >= TORN:
+            break
+        time.sleep(0.05)
+    return text[held:].decode().splitlines()
+
+
+def told(lines):
+    """How many connections these lines tell of, those that were left out among them."""
+    left_out = sum(int(match[1]) for line in lines if (match := LEFT_OUT.fullmatch(line)))
+    return left_out + lines.count(TORN_LINE)
+
+
+def answered(path):
+    """What comes back for one request, within `LONGEST_WAIT`; nothing where the connection is closed before."""
+    try:
+        with connected(path) as stream:
+            stream.settimeout(LONGEST_WAIT)
+            stream.sendall(frame(b""))
+            return received(stream, len(NO_REQUEST))
+    except (TimeoutError, ConnectionError):
+        return b""
+
+
+def unread_errors():
+    """Standard error is a full pipe that nobody reads while connections end in faults."""
+    reading, writing, held = full_pipe()
+    with listening(writing) as (path, _):
+        os.close(writing)
+        for _ in range(TORN):
+            with connected(path) as stream:
+                stream.sendall(bytes(3))
+        yield "a client behind faults that nobody reads of", answered(path), NO_REQUEST
+        lines = lines_of(reading, held)
+        yield "each fault is told or counted", told(lines), TORN
+        strangers = [line for line in lines if line != TORN_LINE and not LEFT_OUT.fullmatch(line)]
+        yield "and nothing else is told", strangers, []
+    os.close(reading)
+
+
+def oversize_frames():
+    """A frame past the limit, whose payload the daemon answers without having read it all."""
+    with listening(subprocess.DEVNULL) as (path, _):
+        with connected(path) as stream:
+            stream.sendall(OVERSIZE.to_bytes(4, "big") + bytes(OVERSIZE))
+            yield "the reply to an oversize frame", received(stream, len(TOO_LONG)), TOO_LONG
+            yield "and then an end", end_of(stream), "an end"
+        yield "the next client", answered(path), NO_REQUEST
+
+
+def deep_requests():
+    """The deepest request, under a limit that is less of a stack than it takes to read."""
+    limited = lambda: resource.setrlimit(resource.RLIMIT_STACK, (LITTLE_STACK, LITTLE_STACK))
+    nested = {"lists": "[" * DEPTH + "]" * DEPTH, "members": '{"a":' * DEPTH + "1" + "}" * DEPTH}
+    with listening(subprocess.DEVNULL, preexec_fn=limited) as (path, run):
+        for kind, deep in nested.items():
+            with connected(path) as stream:
+                stream.sendall(frame(request.verify("bank", '{"v":' + deep + "}", 0)))
+                yield f"{kind} nested {DEPTH} deep, on little stack", received(stream, len(MALFORMED)), MALFORMED
+        yield "the next client", answered(path), NO_REQUEST
+        yield "the daemon stays up", run.poll(), None
+
+
+def begun_frames():
+    """A request that comes a byte at a time, under a bound of a second without progress."""
+    with listening(subprocess.DEVNULL, "--idle", "1") as (path, _):
+        with connected(path) as stream:
+            begin, is_open = time.monotonic(), True
+            stream.setblocking(False)
+            for byte in frame(bytes(60)):
+                with contextlib.suppress(BlockingIOError):
+                    try:
+                        stream.send(bytes([byte]))
+                        is_open = stream.recv(1) != b""
+                    except (BrokenPipeError, ConnectionResetError):
+                        is_open = False
+                if not is_open:
+                    break
+                time.sleep(0.2)
+            yield "a request that comes a byte at a time is ended", is_open, False
+            yield "after a second, and within three", 0.9 < time.monotonic() - begin < 4, True
+        yield "the next client", answered(path), NO_REQUEST
+
+
+def owed_replies():
+    """Requests that take longer to answer than a connection may make no progress."""
+    dear = hostile.dearest_request()
+    with listening(subprocess.DEVNULL, "--idle", "1") as (path, _):
+        with connected(path) as stream:
+            stream.settimeout(LONGEST_WAIT)
+            sender = threading.Thread(target=stream.sendall, args=(dear * OWED,))
+            sender.start()
+            replies = received(stream, len(BAD_SIGNATURE) * OWED)
+            sender.join()
+            yield "the replies to what takes long", replies == BAD_SIGNATURE * OWED, True
+
+
+def bursts(path, until, ended):
+    """Sends a burst of requests, takes the replies, rests, and does so again. Adds to `ended` how it was ended."""
+    try:
+        with connected(path) as stream:
+            stream.settimeout(LONGEST_WAIT)
+            while time.monotonic() < until:
+                stream.sendall(MINTING * BURST)
+                if len(received(stream, MINTED * BURST)) < MINTED * BURST:
+                    ended.append("an end")
+                    return
+                # All rest at a time, for 20 ms of every 40.
+                time.sleep(0.04 - time.monotonic() % 0.04)
+    except OSError as fault:
+        ended.append(str(fault))
+
+
+def busy_clients():
+    """Clients that are busy and rest by turns, so that loops hand them to one another again and again, under a bound
+    of a second without progress."""
+    ended = []
+    with listening(subprocess.DEVNULL, "--idle", "1", "--loops", "4") as (path, _):
+        until = time.monotonic() + BURSTING
+        clients = [threading.Thread(target=bursts, args=(path, until, ended)) for _ in range(BURSTERS)]
+        for one in clients:
+            one.start()
+        for one in clients:
+            one.join()
+    yield "how clients that make progress were ended", ended, []
+
+
+def past_the_limit():
+    """More connections than there may be: the last is closed, and one that ends makes room."""
+    with listening(subprocess.DEVNULL, "--connections", "2") as (path, _):
+        with connected(path) as one, connected(path) as other:
+            for stream in (one, other):
+                stream.sendall(frame(b""))
+                yield "a client within the limit", received(stream, len(NO_REQUEST)), NO_REQUEST
+            with connected(path) as third:
+                yield "a client past it", end_of(third), "an end"
+        until = time.monotonic() + LONGEST_WAIT
+        while (reply := answered(path)) != NO_REQUEST and time.monotonic() < until:
+            time.sleep(0.05)
+        yield "a client once they have gone", reply, NO_REQUEST
+
+
+def end_of(stream):
+    try:
+        return "an end" if stream.recv(1) == b"" else "more"
+    except ConnectionResetError:
+        return "a reset"
+
+
+def faults():
+    """What went otherwise than it must, and how many checks there were."""
+    parts = [unread_errors, oversize_frames, deep_requests, begun_frames, owed_replies, busy_clients, past_the_limit]
+    seen = [check for part in parts for check in part()]
+    found = [f"lasting: {what}: {got!r} where {due!r} is due" for what, got, due in seen if got != due]
+    return found, len(seen)
+
+
+def main():
+    found, _ = faults()
+    if found:
+        raise SystemExit("\n".join(found))
+
+
+if __name__ == "__main__":
+    main()

@@ -1,0 +1,1 @@
+"""Refused memory, failing devices and hostile clients."""

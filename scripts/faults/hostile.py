@@ -1,0 +1,315 @@
+#!/usr/bin/env python3
+"""Hostile clients against `macaroond listen`, and beside them one that compares every reply.
+
+    hostile.py [MINUTES]
+
+The hostile ones vanish in the middle of a frame, send garbage, send lengths that lie, never read,
+connect and say nothing, send 64 KiB frames without end, and connect a thousand times one after the
+other. The one beside them, which was there before, must lose nothing and wait no longer than a
+second for a reply; on a machine that is busy with other work it may wait longer, and the run fails.
+
+They come in rounds. After each, the daemon's descriptors and threads are as many as before the first,
+and within SETTLING seconds it is as large as after the first, but for GROWTH_MAX: each of its loops
+and of the C library's arenas keeps some of what it once held.
+
+Then 8 and 60 clients send the dearest requests without end, tokens in JSON of 32 KiB, and another's
+small verify is timed beside them: its median, its 99th percentile and its longest wait are told.
+
+Then 63 clients that never read send requests whose replies are the largest beside them, as many as
+the daemon takes, and the daemon, now with all arenas, stays below PEAK_MAX. Asks for bin/macaroond,
+or the program that MACAROOND names.
+"""
+import contextlib
+import functools
+import multiprocessing
+import os
+import pathlib
+import random
+import select
+import socket
+import subprocess
+import sys
+import time
+
+sys.path.insert(0, str(pathlib.Path(__file__).resolve().parents[1]))
+from common import daemon
+from common.daemon import frame
+
+import client
+import request
+
+FRAME_MAX = 65_536
+LONGEST_WAIT = 1.0
+ROUNDS = 4
+# How many MiB the daemon may have once its clients have left, by how many it may be larger after a later
+# round than after the first, and within how many seconds.
+SIZE_MAX, GROWTH_MAX, SETTLING = 40, 12, 10
+# How many clients never read, and the most MiB of the daemon that answers them.
+SILENT, PEAK_MAX = 63, 450
+# How many clients send dear requests at a time, for how many seconds another is timed beside them, and
+# how many seconds of its waits the 99th percentile may be, on a machine that does other work too.
+CROWDS, DEAR_SECONDS, DEAR_WAIT_MAX = (8, 60), 3, 0.5
+# A caveat that JSON writes with six letters for a byte, and how many of them fill a token.
+CONTROL, CONTROLS = "hex:" + "01" * 1000, 5
+
+
+# A client that waits for five seconds at most.
+connected = functools.partial(daemon.connected, patience=5)
+
+
+def vanishes(path, rng):
+    with connected(path) as stream:
+        stream.sendall((1000).to_bytes(4, "big") + bytes(rng.randrange(1000)))
+
+
+def sends_garbage(path, rng):
+    with connected(path) as stream:
+        stream.sendall(rng.randbytes(rng.randrange(1, 20_000)))
+        stream.shutdown(socket.SHUT_WR)
+        while stream.recv(FRAME_MAX):
+            pass
+
+
+def lies(path, rng):
+    with connected(path) as stream:
+        stream.sendall(rng.choice([0, 1, FRAME_MAX + 1, 2**32 - 1]).to_bytes(4, "big") + b"x" * 64)
+        stream.recv(FRAME_MAX)
+
+
+def never_reads(path, rng):
+    with connected(path) as stream:
+        while True:
+            stream.sendall(bytes(4 * 4096))
+
+
+def says_nothing(path, rng):
+    with connected(path) as stream:
+        stream.recv(1)
+
+
+def sends_large_frames(path, rng):
+    with connected(path) as stream:
+        for _ in range(200):
+            stream.sendall(FRAME_MAX.to_bytes(4, "big") + bytes(FRAME_MAX))
+            stream.recv(FRAME_MAX)
+
+
+def comes_often(path, rng):
+    for _ in range(1000):
+        with connected(path) as stream:
+            stream.sendall(bytes(4))
+            stream.recv(5)
+
+
+HOSTILE = [vanishes, sends_garbage, lies, never_reads, says_nothing, sends_large_frames, comes_often]
+
+
+def pesters(path, kind, is_over, seed):
+    rng = random.Random(seed)
+    while not is_over.is_set():
+        try:
+            kind(path, rng)
+        except OSError:
+            pass
+
+
+def behaves(asked, until):
+    """Compares each reply, and gives how many came and the longest wait."""
+    mint = request.mint("v1-text", "bank", "http://mybank/", "we used our secret key")
+    count, longest, due = 0, 0.0, None
+    while time.monotonic() < until:
+        begin = time.monotonic()
+        reply = asked.ask(mint)
+        longest = max(longest, time.monotonic() - begin)
+        due = due or reply
+        if reply != due or client.line(reply).split()[0] != "token":
+            raise SystemExit("a reply was not what is due")
+        count += 1
+    return count, longest
+
+
+def status(pid):
+    lines = pathlib.Path(f"/proc/{pid}/status").read_text().splitlines()
+    return dict(line.split(":\t", 1) for line in lines if ":\t" in line)
+
+
+def mebibytes(pid, field):
+    return int(status(pid)[field].split()[0]) / 1024
+
+
+def state(pid):
+    """How many descriptors and threads the daemon has."""
+    return len(os.listdir(f"/proc/{pid}/fd")), int(status(pid)["Threads"])
+
+
+def settled(pid, before):
+    """The state once the last connections have ended, waited for up to ten seconds."""
+    for _ in range(100):
+        if state(pid) == before:
+            break
+        time.sleep(0.1)
+    return state(pid)
+
+
+def settled_size(pid, most=SIZE_MAX):
+    """How many MiB the daemon has once they are no more than `most`, waited for up to `SETTLING` seconds."""
+    until = time.monotonic() + SETTLING
+    while (size := mebibytes(pid, "VmRSS")) > most and time.monotonic() < until:
+        time.sleep(0.1)
+    return size
+
+
+def crowded(path, seconds):
+    """A round: how many replies came as due beside the hostile clients, and the longest wait."""
+    is_over = multiprocessing.Event()
+    crowd = [
+        multiprocessing.Process(target=pesters, args=(path, kind, is_over, f"{kind.__name__} {number}"), daemon=True)
+        for kind in HOSTILE
+        for number in range(3)
+    ]
+    with client.Client(path) as asked:
+        # Connected before the crowd comes: who comes later waits behind those that are to be accepted.
+        asked.ask(b"")
+        for one in crowd:
+            one.start()
+            # A machine under load may take longer to start them all than a connection may be idle.
+            asked.ask(b"")
+        count, longest = behaves(asked, time.monotonic() + seconds)
+    is_over.set()
+    for one in crowd:
+        one.join(timeout=30)
+    return count, longest
+
+
+def soak(path, pid, seconds):
+    """The rounds. What is wrong with them, if anything."""
+    with client.Client(path) as first:
+        first.ask(b"")
+    time.sleep(0.2)
+    before = state(pid)
+    count, longest, states, sizes = 0, 0.0, [], []
+    for _ in range(ROUNDS):
+        replies, wait = crowded(path, seconds / ROUNDS)
+        count, longest = count + replies, max(longest, wait)
+        states.append(settled(pid, before))
+        sizes.append(settled_size(pid, sizes[0] + GROWTH_MAX if sizes else SIZE_MAX))
+    print(f"hostile: {count} replies as due beside hostile clients, the longest wait {longest * 1000:.0f} ms;", end=" ")
+    print(f"descriptors and threads {before} and {states[-1]}; MiB after each round", *(f"{size:.1f}" for size in sizes))
+    if longest > LONGEST_WAIT:
+        yield "a reply came late"
+    if any(one != before for one in states):
+        yield f"descriptors and threads were {before}, and then {states}"
+    if max(sizes) > min(sizes[0] + GROWTH_MAX, SIZE_MAX):
+        yield "the daemon grew"
+
+
+def dearest_request():
+    """A verify of a token of nearly 32 KiB in JSON, with as many caveats as it may have."""
+    caveats = ",".join('{"i":"' + "x" * 230 + '"}' for _ in range(128))
+    token = '{"v":2,"i":"a","c":[' + caveats + '],"s64":"' + "A" * 43 + '"}'
+    payload = request.verify("bank", token, 0)
+    return frame(payload)
+
+
+def sends_dear(path, count, until):
+    """So many connections on which dear requests go out without end, and replies are read."""
+    frames = dearest_request() * 8
+    rest = {connected(path): memoryview(frames) for _ in range(count)}
+    for one in rest:
+        one.setblocking(False)
+    while time.monotonic() < until:
+        readable, writable, _ = select.select(rest, rest, [], 0.1)
+        for one in readable:
+            one.recv(65_536)
+        for one in writable:
+            rest[one] = rest[one][one.send(rest[one]) :] or memoryview(frames)
+
+
+def waits_beside(path, count):
+    """The seconds that small verifies waited beside so many clients with dear requests, sorted."""
+    until = time.monotonic() + DEAR_SECONDS
+    crowd = multiprocessing.Process(target=sends_dear, args=(path, count, until), daemon=True)
+    waits = []
+    with client.Client(path) as asked:
+        token = asked.ask(request.mint("v2-binary", "bank", "", "a", "a = 1", "b = 2", "c = 3"))[1:]
+        small = request.verify("bank", "hex:" + token.hex(), 0, "a = 1", "b = 2", "c = 3")
+        crowd.start()
+        time.sleep(0.3)
+        while time.monotonic() < until:
+            begin = time.monotonic()
+            if asked.ask(small) != b"\x00":
+                raise SystemExit("hostile: a small verify was not granted")
+            waits.append(time.monotonic() - begin)
+            time.sleep(0.001)
+    crowd.join(timeout=30)
+    return sorted(waits)
+
+
+def beside_dear(path):
+    """What is wrong with the waits of a client beside others with dear requests, if anything."""
+    for count in CROWDS:
+        waits = waits_beside(path, count)
+        median, late = waits[len(waits) // 2], waits[len(waits) * 99 // 100]
+        told = f"p50 {median * 1000:.2f} ms, p99 {late * 1000:.1f} ms, the longest {waits[-1] * 1000:.0f} ms"
+        print(f"hostile: a small verify beside {count} clients with dear requests, {len(waits)} times: {told}")
+        if late > DEAR_WAIT_MAX:
+            yield f"beside {count} clients with dear requests a small verify waited {late:.2f} s (p99)"
+
+
+def largest_reply(path):
+    """A request of 5 KiB whose reply is a token of nearly 32 KiB."""
+    with client.Client(path) as asked:
+        token = asked.ask(request.mint("v2-binary", "bank", "", "a"))[1:]
+        narrowing = request.attenuate("v2-json", "hex:" + token.hex(), *[CONTROL] * CONTROLS)
+        reply = asked.ask(narrowing)
+    if reply[0] != 1 or len(reply) < 30_000:
+        raise SystemExit("hostile: the largest reply is not what it was thought to be")
+    return frame(narrowing)
+
+
+def fill(path, pid):
+    """Clients that send and never read. What is wrong with the daemon then, if anything."""
+    asked_for = largest_reply(path)
+    with contextlib.ExitStack() as stack:
+        crowd = [stack.enter_context(connected(path)) for _ in range(SILENT)]
+        rest = {one: memoryview(asked_for * 400) for one in crowd}
+        until = time.monotonic() + 20
+        for one in crowd:
+            one.setblocking(False)
+        while (writable := select.select([], crowd, [], 1)[1]) and time.monotonic() < until:
+            for one in writable:
+                rest[one] = rest[one][one.send(rest[one]) :]
+        with client.Client(path) as asked:
+            asked.ask(b"")
+    peak, size = mebibytes(pid, "VmHWM"), settled_size(pid)
+    print(f"hostile: {peak:.0f} MiB at most beside {SILENT} clients that never read, {size:.0f} MiB after them")
+    if peak > PEAK_MAX:
+        yield f"the daemon took {peak:.0f} MiB"
+    if size > SIZE_MAX:
+        yield f"the daemon had {size:.0f} MiB still after {SETTLING} seconds"
+
+
+def listening(*words):
+    """A daemon that listens: its socket's path and its process."""
+    return daemon.listening("--workers", "4", *words, stderr=subprocess.DEVNULL)
+
+
+def faults(seconds):
+    """What is wrong with the daemon after so many seconds of hostile use, beside what it prints."""
+    with listening("--idle", "2") as (path, run):
+        found = [*soak(path, run.pid, seconds)]
+    with listening() as (path, _):
+        found += beside_dear(path)
+    with listening() as (path, run):
+        found += fill(path, run.pid)
+    return [f"hostile: {fault}" for fault in found]
+
+
+def main():
+    found = faults(60 * float(sys.argv[1]) if len(sys.argv) > 1 else 8)
+    if found:
+        raise SystemExit("\n".join(found))
+
+
+if __name__ == "__main__":
+    main()

@@ -1,0 +1,1 @@
+"""Speed, load, instructions and requests for memory, counted."""

@@ -1,0 +1,1 @@
+"""Wrong bodies: the edits that a check has to refuse."""
