@@ -21,6 +21,7 @@ list() {
         echo 644 "$page" "$prefix/share/man/man${page##*.}/${page#man/}"
     done
     echo 644 packaging/macaroond.service "$unitdir/macaroond.service"
+    echo 644 packaging/macaroond.socket "$unitdir/macaroond.socket"
     echo 644 packaging/macaroond.sysusers "$prefix/lib/sysusers.d/macaroond.conf"
     echo 644 packaging/macaroond.bash "$prefix/share/bash-completion/completions/macaroond"
     echo 644 packaging/_macaroond "$zshdir/_macaroond"

@@ -2,16 +2,25 @@
 
    The programs lie in ../libexec/macaroond/ as seen from the folder of this file, wherever that is: x86-64-v3 for
    processors that have all that this name stands for, and x86-64-v2 for every other one. What is started keeps the
-   words, the surroundings and the number of this process, and answers in its place. */
+   words, the surroundings and the number of this process, and answers in its place.
+
+   `listen` reads signals from a descriptor, since it can't hold one back: SIGTERM, SIGINT and SIGHUP are held back for
+   it here. */
 #include <errno.h>
+#include <fcntl.h>
 #include <limits.h>
+#include <signal.h>
 #include <stdio.h>
 #include <stdlib.h>
 #include <string.h>
 #include <sys/auxv.h>
+#include <sys/signalfd.h>
 #include <unistd.h>
 
 #define PROGRAMS "../libexec/macaroond/"
+
+/* The variable in which the program is told of the descriptor of its signals. */
+#define SIGNALS "MACAROOND_SIGNALS"
 
 /* The exit status of macaroond where a file fails. */
 enum { DEVICE_FAULT = 3 };
@@ -46,6 +55,30 @@ static void give_memory_back(void)
     setenv("MALLOC_TRIM_THRESHOLD_", "65536", 0);
 }
 
+/* Holds signals back, and tells in the environment from which descriptor they are read: one above standard input,
+   output and error, which may be closed. Where that fails they do what they do to any program. */
+static void hold_signals(void)
+{
+    sigset_t held;
+    char number[16];
+    int made, kept;
+
+    sigemptyset(&held);
+    sigaddset(&held, SIGTERM);
+    sigaddset(&held, SIGINT);
+    sigaddset(&held, SIGHUP);
+    if ((made = signalfd(-1, &held, 0)) < 0)
+        return;
+    kept = made > STDERR_FILENO ? made : fcntl(made, F_DUPFD, STDERR_FILENO + 1);
+    if (kept != made)
+        close(made);
+    if (kept < 0)
+        return;
+    snprintf(number, sizeof number, "%d", kept);
+    if (setenv(SIGNALS, number, 1) == 0)
+        sigprocmask(SIG_BLOCK, &held, NULL);
+}
+
 /* Starts the program of this name. It returns only where that fails, with errno. */
 static void start(const char *folder, const char *name, char **words)
 {
@@ -60,8 +93,9 @@ int main(int count, char **words)
     char path[PATH_MAX];
     const char *folder = own_folder(path);
 
-    (void)count;
     give_memory_back();
+    if (count > 1 && strcmp(words[1], "listen") == 0)
+        hold_signals();
     if (folder != NULL) {
         __builtin_cpu_init();
         if (__builtin_cpu_supports("x86-64-v3"))

@@ -136,11 +136,17 @@ def versions(path):
         yield "the end of those", output, "served 5 faults 1\n"
 
 
+def listening_line(path, workers):
+    """What `listen` prints once clients can connect."""
+    version = subprocess.run([runs.PROGRAM, "--version"], capture_output=True, text=True).stdout
+    return f"listening at {path}: 2 names, {workers}; {version}"
+
+
 def listening(folder):
     path = folder + "/listening"
     words = ["listen", "--socket", path, "--keys", KEYS, "--workers", "2"]
     with daemon(*words, "--mode", "660") as run:
-        yield "what listen prints", run.first, f"listening at {path}: 2 names, 2 workers\n"
+        yield "what listen prints", run.first, listening_line(path, "2 workers")
         yield "the mode", stat.filemode(os.stat(path).st_mode), "srw-rw----"
         yield "its lock beside the socket, and no more", sorted(os.listdir(folder)), ["listening", "listening.lock"]
         with connected(path) as stream:
@@ -149,7 +155,7 @@ def listening(folder):
         due = (3, "", f"{path}: process {run.pid} has it\nfault 3\n")
         yield "a path that is listened on", (taken.returncode, taken.stdout, taken.stderr), due
     with daemon(*words, "--idle", "1") as run:
-        yield "a path that was left is taken over", run.first, f"listening at {path}: 2 names, 2 workers\n"
+        yield "a path that was left is taken over", run.first, listening_line(path, "2 workers")
         yield "the owner's mode", stat.filemode(os.stat(path).st_mode), "srw-------"
         begin = time.monotonic()
         with connected(path) as stream:

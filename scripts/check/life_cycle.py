@@ -225,7 +225,7 @@ def with_a_fault(system):
     begin = time.monotonic()
     yield "a start with a fault", system.run("systemctl", "restart", "macaroond").status, 1
     yield "and how it ended", system.says("systemctl", "show", "-P", "ExecMainStatus", "macaroond"), "1"
-    yield "and what it told", "keys: line 1 kind" in system.says("journalctl", "-u", "macaroond", "-n", "20"), True
+    yield "and what it told", "keys: line 1: " in system.says("journalctl", "-u", "macaroond", "-n", "20"), True
     yield "at once", time.monotonic() - begin < 8, True
     pathlib.Path(system.path(KEYS)).write_text(kept)
     yield "a start behind it", system.did("systemctl", "restart", "macaroond"), True

@@ -1,5 +1,5 @@
 """Starts of `macaroond listen`: two at once on one path, behind one that was killed, and with a
-standard descriptor closed."""
+standard descriptor closed; and a key file that others may use."""
 import os
 import pathlib
 import re
@@ -7,7 +7,7 @@ import signal
 import subprocess
 import tempfile
 
-from check.daemon_rows import NO_REQUEST, answer
+from check.daemon_rows import NO_REQUEST, answer, listening_line
 from common import KEYS, runs
 from common.daemon import connected, frame
 
@@ -15,12 +15,12 @@ from common.daemon import connected, frame
 ROUNDS = 60
 
 
-def words(path):
-    return [runs.PROGRAM, "listen", "--socket", path, "--keys", KEYS, "--workers", "1"]
+def words(path, keys=KEYS):
+    return [runs.PROGRAM, "listen", "--socket", path, "--keys", keys, "--workers", "1"]
 
 
-def started(path, **how):
-    return subprocess.Popen(words(path), **{"stdout": subprocess.PIPE, "stderr": subprocess.PIPE, "text": True, **how})
+def started(path, keys=KEYS, **how):
+    return subprocess.Popen(words(path, keys), **{"stdout": subprocess.PIPE, "stderr": subprocess.PIPE, "text": True, **how})
 
 
 def first_line(path):
@@ -65,7 +65,7 @@ def together(folder):
 def leftovers(folder):
     """What a killed run leaves doesn't stop a start; what is nobody's lock is left alone."""
     path = f"{folder}/left"
-    due = f"listening at {path}: 2 names, 1 worker\n"
+    due = listening_line(path, "1 worker")
     inside = pathlib.Path(path + ".new")
     inside.mkdir()
     yield "a folder that was left", first_line(path), due
@@ -80,6 +80,19 @@ def leftovers(folder):
         pathlib.Path(path + ".lock").write_text(text)
         yield "no lock", first_line(path), f"{path}: beside it there is a .lock that is no lock\n"
         yield "it stays", pathlib.Path(path + ".lock").read_text(), text
+
+
+def shared_keys(folder):
+    """A key file that others may use is warned of, and one that they may not use isn't."""
+    keys = pathlib.Path(folder, "keys")
+    keys.write_bytes(KEYS.read_bytes())
+    warning = f"warning: {keys}: others than its owner may use the key file\n"
+    for mode, due in ((0o640, warning), (0o602, warning), (0o600, "")):
+        keys.chmod(mode)
+        with started(f"{folder}/shared", keys) as run:
+            run.stdout.readline()
+            run.terminate()
+            yield f"keys of mode {mode:o}", run.stderr.read(), due
 
 
 def closed(folder):
@@ -105,5 +118,5 @@ def closed(folder):
 def faults():
     """What went otherwise than it must, and how many checks there were."""
     with tempfile.TemporaryDirectory() as folder:
-        seen = [*together(folder), *leftovers(folder), *closed(folder)]
+        seen = [*together(folder), *leftovers(folder), *shared_keys(folder), *closed(folder)]
     return [f"start: {what}: {got!r} where {due!r} is due" for what, got, due in seen if got != due], len(seen)

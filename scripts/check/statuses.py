@@ -9,7 +9,8 @@ PIPE = "Answers the requests on standard input, one line each\n"
 INPUT_MAX = 16_777_216
 TWO_BAD = "refused 16\nrefused 16\n"
 SERVE = "Answers the requests of so many connections over a Unix socket\n"
-LISTEN = "Answers requests over a Unix socket until it is stopped\n"
+LISTEN = "Answers requests over a Unix socket until it is told to end\n"
+NO_KEY_FILE = f"error: /nowhere/keys: the key file can't be read, or is longer than {INPUT_MAX} bytes\n"
 # The greatest payload that a frame carries, in digits.
 FRAME_DIGITS = 131_072
 
@@ -82,7 +83,7 @@ ENDINGS = {
     "listen_connections": (Case("", listen_with("--connections", "1000001")), bad("")),
     "listen_accept": (Case("", listen_with("--accept", "1")), bad("")),
     "no_key_file": (Case("", serve_with()), Ending(3, "", "fault 3\n")),
-    "no_listen_key_file": (Case("", listen_with("--mode=660")), Ending(3, "", "fault 3\n")),
+    "no_listen_key_file": (Case("", listen_with("--mode=660")), Ending(3, "", NO_KEY_FILE)),
     "bad_line": (Case("lock a 00\n"), keys_fault(1, 6)),
     "bad_name": (Case("key  00\n\n"), keys_fault(1, 1)),
     "bad_hex": (Case("key a 0\n\n"), keys_fault(1, 2)),

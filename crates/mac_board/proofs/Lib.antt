@@ -1,2 +1,4 @@
 mod Board
 pub mod Taking
+pub mod Editing
+pub mod Watching

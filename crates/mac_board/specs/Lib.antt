@@ -1,4 +1,7 @@
 -- what the contracts mean
 pub mod Board
 pub mod Follows
+pub mod Editor
 pub mod Publisher
+pub mod Sight
+pub mod Watcher

@@ -1,9 +1,14 @@
 //! What follows from the definitions alone. Each law is the contract of a function that does
 //! nothing.
 
-ghost use Rattle.std.specs.Prelude.{◌≡◌, [], ◌∷◌, Bool, List, All};
+ghost use Rattle.std.specs.Prelude.{◌≡◌, ℕ, [], ◌∷◌, Bool, List, All};
 ghost use Rattle.mac_keys.specs.Keys.{Table};
 ghost use Rattle.mac_board.specs.Follows.{Known, Takes, AreInOrder};
+ghost use Rattle.mac_board.specs.Watcher.{AreIdle, AreOf, Goes, HasRested, IsNews, NeverRests, Sees};
+ghost use Rattle.mac_board.specs.declared.sight.FileState.{FileState};
+ghost use Rattle.mac_board.specs.declared.sight.Sight.{Sight};
+ghost use Rattle.mac_board.specs.declared.watcher.Finding.{Finding};
+ghost use Rattle.mac_board.specs.declared.watcher.Watcher.{Watcher};
 
 /// Tables that were taken, each by a look of its own, were published, and none before an earlier
 /// one.
@@ -17,4 +22,25 @@ pub fn one_table_is_always_taken()
     ensures { (tells : Bool) (before after : Known) (table : Table) (tables : List Table)
         → after.published ≡ table ∷ [] → Takes tells before after tables
         → All (λ taken. taken ≡ table) tables }
+{}
+
+/// A table that is taken is that of a text which was read while the file was in one state: before
+/// it was read, after it, and at the look before.
+pub fn what_is_taken_has_rested()
+    ensures { (was : Watcher) (names : ℕ) (sight : Sight) (table : Table) (now : Watcher)
+        → Sees was names sight (Finding.Table table) now → HasRested was sight table }
+{}
+
+/// Nothing comes of a file that changes from look to look, or while it is looked at.
+pub fn what_never_rests_is_left_alone()
+    ensures { (was : Watcher) (looks : List (ℕ × Sight)) (found : List Finding) (now : Watcher)
+        → Goes was looks found now → NeverRests was.last looks → AreIdle found }
+{}
+
+/// Of a file that stays in one state one thing is told, or one table taken, and nothing after it.
+pub fn each_state_is_told_once()
+    ensures { (was : Watcher) (look : ℕ × Sight) (looks : List (ℕ × Sight)) (first : Finding)
+        (others : List Finding) (now : Watcher) (state : FileState)
+        → Goes was (look ∷ looks) (first ∷ others) now → AreOf state (look ∷ looks)
+        → IsNews first → AreIdle others }
 {}

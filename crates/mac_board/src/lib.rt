@@ -3,16 +3,24 @@
 //!
 //! A [`Publisher`] puts tables up. A [`Follower`], which [`Followers`] makes, has the table that was
 //! up when it looked last. Who answers requests asks for [`Tables`], which a follower is, and so is
-//! one table that stays, as [`FixedTables`]. A [`Keeper`] says when a key file that changes is taken,
-//! and when its fault is told; the looks at the file are its caller's.
+//! one table that stays, as [`FixedTables`].
+//!
+//! A [`Editor`] puts up the tables of a key file that changes. Its [`Watcher`] says when the file is
+//! read, when it is taken, and when it is told why not; the looks at the file are its caller's.
 #![tactic(auto)]
 
+mod editor;
 mod follower;
 mod issue;
 pub mod laws;
 mod publisher;
+mod sight;
 mod tables;
+mod watcher;
 
+pub use editor::{Editor, News};
 pub use follower::{Follower, Followers};
 pub use publisher::{PublishFault, Publisher};
+pub use sight::{FileState, Mark, ReadFault, Sight, Stamp};
 pub use tables::{FixedTables, Tables};
+pub use watcher::{Finding, Refusal, Watcher};

@@ -1,15 +1,19 @@
-//! The loop that accepts the connections of a socket, for so many of them or without end.
-ghost use Rattle.std.specs.Prelude.{◌≡◌, IfOk, Some};
+//! The loop that accepts the connections of a socket: so many of them, or until it is shut.
+ghost use Rattle.std.specs.Prelude.{◌≡◌, IfOk};
+ghost use Rattle.mac_daemon.specs.Day.{MeetsCount};
 
+use crate::entrance::Entrance;
 use crate::fault::DaemonFault;
 use crate::notices::Notice;
 use crate::quay::Quay;
 use mac_loop::{Handover, Loops, SocketPort, microseconds};
 use mac_wire::Session;
 use std::alloc::Global;
-use std::os::unix::net::{UnixListener, UnixStream};
-use std::sync::Wait;
+use std::io::ErrorKind;
+use std::os::unix::net::UnixStream;
+use std::sync::{Arc, Wait};
 use std::thread;
+use std::thread::{Builder, Promise, PromisedHandle, Threads};
 use std::time::{Clock, Duration};
 
 /// How many milliseconds to wait where the system accepts no connection, for want of descriptors.
@@ -18,30 +22,83 @@ const PAUSE_MILLIS: u64 = 100;
 /// The loop that a connection begins in. From there it goes to others where that is busy.
 const FIRST_LOOP: usize = 0;
 
+/// The stack of the thread that accepts, in bytes, whatever limit the process was started under.
+const STACK: usize = 1_048_576;
+
 /// What the connections of a socket are held to.
 #[derive(Clone, Copy)]
 pub struct Limits {
-    /// How many are accepted: without a number, one after another without end.
+    /// How many are accepted: without a number, one after another until the entrance is shut.
     pub count: Option<u64>,
     /// How many there are at a time.
     pub connections: u64,
 }
 
+/// So many connections are accepted as were asked for.
+#[derive(Drop)]
+pub struct AsAsked(Option<u64>);
+
+impl Promise<Result<u64, DaemonFault>> for AsAsked {
+    ghost use Rattle.std.specs.Prelude.{IfOk};
+    ghost use Rattle.mac_daemon.specs.Day.{MeetsCount};
+
+    ghost kept_by = { λ p outcome. IfOk outcome (λ served. MeetsCount p.0 served) };
+}
+
+/// The thread that accepts connections.
+pub type Acceptor = PromisedHandle<Result<u64, DaemonFault>, AsAsked>;
+
+/// Starts the thread that accepts connections.
+pub fn start_accepting<R>(
+    rt: R,
+    alloc: Global,
+    entrance: Entrance,
+    loops: &Arc<Loops, Global>,
+    quay: &Arc<Quay, Global>,
+    limits: Limits,
+) -> Result<Acceptor, DaemonFault>
+where
+    R: Threads + Wait + Clock + Sync + Copy + Send + 'static,
+    ensures { IfOk result (λ acceptor. acceptor.promise.0 ≡ limits.count) }
+{
+    let loops = Arc::try_clone(loops)?;
+    let quay = Arc::try_clone(quay)?;
+    let work = move || -> Result<u64, DaemonFault>
+        ensures { IfOk result (λ served. MeetsCount limits.count served) }
+    {
+        let mut entrance = entrance;
+        accept_to_end(&rt, alloc, &mut entrance, &loops, &quay, limits)
+    };
+    match Builder::new()
+        .stack_size(STACK)
+        .spawn_with(&rt, AsAsked(limits.count), work)
+    {
+        Ok(acceptor) => Ok(acceptor),
+        Err(_) => Err(DaemonFault::NoThread),
+    }
+}
+
 /// Accepts as many connections as the limits say, waits until all have ended, and then has the
-/// keeper of the desks return. The number of those that were accepted is told.
-pub fn accept_to_end<R>(
+/// keeper of the desks return. The number of those that were accepted is told. Without a count,
+/// connections are read no further than what has come once the entrance is shut.
+fn accept_to_end<R>(
     rt: &R,
     alloc: Global,
-    listener: &UnixListener,
+    entrance: &mut Entrance,
     loops: &Loops,
     quay: &Quay,
     limits: Limits,
 ) -> Result<u64, DaemonFault>
 where
     R: Wait + Clock,
-    ensures { IfOk result (λ served. limits.count ≡ Some served) }
+    ensures { IfOk result (λ served. MeetsCount limits.count served) }
 {
-    let served = accept_each(rt, alloc, listener, loops, quay, limits);
+    let served = accept_each(rt, alloc, entrance, loops, quay, limits);
+    entrance.close();
+    if limits.count.is_none() {
+        quay.say_left(rt);
+        loops.drain();
+    }
     quay.await_end(rt);
     quay.close();
     served
@@ -49,18 +106,18 @@ where
 
 /// Accepts as many connections as the limits say, and hands each to a loop. Some may not have ended
 /// yet where it returns the number of those that were accepted. With a count, a socket that accepts
-/// nothing is an error; without one, it is asked again after a pause.
+/// nothing is an error; without one, it is asked again after a pause, until the entrance is shut.
 fn accept_each<R>(
     rt: &R,
     alloc: Global,
-    listener: &UnixListener,
+    entrance: &mut Entrance,
     loops: &Loops,
     quay: &Quay,
     limits: Limits,
 ) -> Result<u64, DaemonFault>
 where
     R: Wait + Clock,
-    ensures { IfOk result (λ served. limits.count ≡ Some served) }
+    ensures { IfOk result (λ served. MeetsCount limits.count served) }
 {
     let mut served: u64 = 0;
     for _ in rt.forever() {
@@ -68,13 +125,15 @@ where
             Some(count) if count == served => return Ok(served),
             _ => {}
         }
-        match listener.accept() {
-            Ok((stream, _)) => {
+        match entrance.accept(rt) {
+            Some(Ok(stream)) => {
                 served = served.saturating_add(1);
                 welcome(rt, alloc, stream, loops, quay, limits.connections);
             }
-            Err(fault) if limits.count.is_some() => return Err(DaemonFault::System(fault)),
-            Err(_) => thread::sleep(rt, Duration::from_millis(PAUSE_MILLIS)),
+            Some(Err(fault)) if limits.count.is_some() => return Err(DaemonFault::System(fault)),
+            Some(Err(_)) => thread::sleep(rt, Duration::from_millis(PAUSE_MILLIS)),
+            None if limits.count.is_none() => return Ok(served),
+            None => return Err(DaemonFault::System(ErrorKind::ConnectionAborted.into())),
         }
     }
     unreachable!()

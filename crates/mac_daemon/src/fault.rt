@@ -3,6 +3,7 @@
 use crate::place::PlaceFault;
 use mac_loop::LoopFault;
 use mac_pool::PoolFault;
+use mac_system::HandedFault;
 use std::alloc::AllocError;
 use std::io;
 use thiserror::Error;
@@ -16,6 +17,9 @@ pub enum DaemonFault {
     /// A call of the system failed.
     #[error("{0}")]
     System(io::Error),
+    /// The socket that was handed over can't be served.
+    #[error("{0}")]
+    Handed(HandedFault),
     /// What it says can't be printed.
     #[error("standard output failed")]
     Output,
@@ -44,6 +48,15 @@ impl From<PlaceFault> for DaemonFault {
         match refused {
             PlaceFault::NoMemory => DaemonFault::NoMemory,
             refused => DaemonFault::Place(refused),
+        }
+    }
+}
+
+impl From<HandedFault> for DaemonFault {
+    fn from(refused: HandedFault) -> DaemonFault {
+        match refused {
+            HandedFault::NoMemory => DaemonFault::NoMemory,
+            refused => DaemonFault::Handed(refused),
         }
     }
 }

@@ -1,19 +1,19 @@
 //! The threads of a daemon: its loops, its workers, who accepts, and who keeps the desks.
-ghost use Rattle.std.specs.Prelude.{◌≡◌, IfOk, Some};
+ghost use Rattle.std.specs.Prelude.{◌≡◌, IfOk};
+ghost use Rattle.mac_daemon.specs.Day.{MeetsCount};
 
-use crate::accepting::{Limits, accept_to_end};
+use crate::accepting::{Acceptor, Limits, start_accepting};
 use crate::crew::Crew;
+use crate::entrance::Entrance;
 use crate::fault::DaemonFault;
 use crate::keeping::keep_desks;
-use crate::notices::Notices;
 use crate::quay::Quay;
 use mac_board::{Follower, Followers};
 use mac_loop::{Loop, Loops, make_loops};
 use std::alloc::Global;
 use std::net::Net;
-use std::os::unix::net::UnixListener;
 use std::sync::{Arc, Wait};
-use std::thread::{Builder, JoinHandle, Threads, join_mut};
+use std::thread::{Builder, JoinHandle, Threads};
 use std::time::Clock;
 
 /// The stack of a loop's thread, in bytes, whatever limit the process was started under.
@@ -45,6 +45,36 @@ pub struct Day {
     pub faults: u64,
 }
 
+/// Loops that have no threads yet.
+#[derive(Drop)]
+pub struct Idlers {
+    loops: Arc<Loops, Global>,
+    made: Vec<Loop>,
+}
+
+impl Idlers {
+    /// As many loops as a daemon of this shape has.
+    pub fn make<R: Net>(rt: &R, alloc: Global, shape: Shape) -> Result<Idlers, DaemonFault> {
+        let (loops, made) = make_loops(rt, alloc, shape.loops, shape.idle)?;
+        Ok(Idlers { loops, made })
+    }
+}
+
+/// What the threads of a daemon are started with.
+#[derive(Drop)]
+pub struct Service {
+    /// How many workers answer wide connections.
+    pub workers: usize,
+    /// The loops that answer all others.
+    pub idlers: Idlers,
+    /// Where connections come in.
+    pub entrance: Entrance,
+    /// What they are held to.
+    pub limits: Limits,
+    /// What the threads tell one another.
+    pub quay: Arc<Quay, Global>,
+}
+
 /// The threads of a daemon that waits for connections.
 #[derive(Drop)]
 pub struct Fleet {
@@ -52,24 +82,32 @@ pub struct Fleet {
     loops: Arc<Loops, Global>,
     quay: Arc<Quay, Global>,
     threads: Vec<JoinHandle<()>>,
+    acceptor: Acceptor,
 }
 
 impl Fleet {
-    /// Starts loops and workers.
+    /// Starts these loops and as many workers, which tell one another of connections at this quay,
+    /// and accepts the connections that come in, as many as the limits say.
     pub fn start<R>(
         rt: &R,
         alloc: Global,
-        shape: Shape,
+        service: Service,
         followers: &Followers,
-        notices: Option<Arc<Notices, Global>>,
     ) -> Result<Fleet, DaemonFault>
     where
-        R: Net + Threads + Wait + Clock + Sync + Copy + Send + 'static,
+        R: Threads + Wait + Clock + Sync + Copy + Send + 'static,
+        ensures { IfOk result (λ fleet. fleet.acceptor.promise.0 ≡ service.limits.count) }
     {
-        let quay = Quay::new(alloc, notices)?;
-        let crew = Crew::new(rt, alloc, shape.workers)?;
-        let (loops, made) = make_loops(rt, alloc, shape.loops, shape.idle)?;
-        let mut threads = Vec::with_capacity(alloc, shape.loops)?;
+        let Service {
+            workers,
+            idlers,
+            entrance,
+            limits,
+            quay,
+        } = service;
+        let Idlers { loops, made } = idlers;
+        let crew = Crew::new(rt, alloc, workers)?;
+        let mut threads = Vec::with_capacity(alloc, made.len())?;
         for one in made {
             let keys = followers.follower()?;
             let thread = start_loop(*rt, one, &quay, &loops, keys)?;
@@ -77,45 +115,36 @@ impl Fleet {
                 return Err(DaemonFault::NoMemory);
             }
         }
+        let acceptor = start_accepting(*rt, alloc, entrance, &loops, &quay, limits)?;
         Ok(Fleet {
             crew,
             loops,
             quay,
             threads,
+            acceptor,
         })
     }
 
-    /// Serves the connections of a socket, as many as the limits say, to their ends. This thread
-    /// keeps the desks, and another one accepts.
-    pub fn run<R>(
-        self,
-        rt: &R,
-        alloc: Global,
-        listener: &UnixListener,
-        followers: &Followers,
-        limits: Limits,
-    ) -> Result<Day, DaemonFault>
+    /// Keeps the desks until all connections have ended, and ends the threads.
+    pub fn run<R>(self, rt: &R, alloc: Global, followers: &Followers) -> Result<Day, DaemonFault>
     where
         R: Threads + Wait + Clock + Sync + Copy + Send + 'static,
-        ensures { IfOk result (λ day. limits.count ≡ Some day.served) }
+        ensures { IfOk result (λ day. MeetsCount self.acceptor.promise.0 day.served) }
     {
         let Fleet {
             mut crew,
             loops,
             quay,
             threads,
+            acceptor,
         } = self;
-        let (served, ()) = join_mut(
-            rt,
-            &mut || accept_to_end(rt, alloc, listener, &loops, &quay, limits),
-            &mut || keep_desks(rt, alloc, &mut crew, &quay, &loops, followers),
-        );
+        keep_desks(rt, alloc, &mut crew, &quay, &loops, followers);
         loops.close();
         for thread in threads {
             thread.join(rt);
         }
         crew.stop(rt);
-        let served = served?;
+        let served = acceptor.join(rt)?;
         Ok(Day {
             served,
             faults: quay.faults(),

@@ -57,12 +57,13 @@ impl From<io::Error> for PlaceFault {
     }
 }
 
-/// A listener with the lock of its path, which is held as long as this is.
+/// A listener, with the lock of its path where it was made there.
 #[derive(Drop)]
 pub struct Place {
-    /// What listens at the path.
+    /// What listens.
     pub listener: UnixListener,
-    _lock: File,
+    /// What no other process has as long as it is kept.
+    pub lock: Option<File>,
 }
 
 /// A listener at `path`, whose file has its mode from the first moment that it can be reached: it
@@ -87,7 +88,7 @@ where
     let _ = fs::remove_dir(rt, folder.as_str());
     Ok(Place {
         listener: listener?,
-        _lock: lock,
+        lock: Some(lock),
     })
 }
 

@@ -90,6 +90,19 @@ impl Quay {
         }
     }
 
+    /// How many connections there are.
+    pub fn live(&self) -> u64 {
+        self.live.load(SeqCst)
+    }
+
+    /// Tells that the daemon ends, where there are connections.
+    pub fn say_left<R: Wait>(&self, rt: &R) {
+        let left = self.live();
+        if left > 0 {
+            self.post(rt, Notice::Ending(left));
+        }
+    }
+
     /// How many connections have ended in a fault, or were not served.
     pub fn faults(&self) -> u64 {
         self.faults.load(SeqCst)

@@ -2,8 +2,10 @@
 ghost use Rattle.std.specs.Prelude.{◌≡◌, ◌<◌, IfOk, OnOk};
 
 use crate::accepting::Limits;
+use crate::entrance::Entrance;
 use crate::fault::DaemonFault;
-use crate::fleet::{Day, Fleet, Shape};
+use crate::fleet::{Day, Fleet, Idlers, Service, Shape};
+use crate::quay::Quay;
 use mac_board::Followers;
 use mac_wire::{Sink, send_all};
 use std::alloc::Global;
@@ -31,14 +33,19 @@ where
     requires writable { W.faults out.old < u64.MAX }
     ensures served { IfOk result (λ day. day.served ≡ accept) }
 {
-    let listener = UnixListener::bind(rt, path)?;
-    let fleet = Fleet::start(rt, alloc, shape, followers, None)?;
-    say(out, b"listening\n")?;
-    let limits = Limits {
-        count: Some(accept),
-        connections: shape.connections,
+    let service = Service {
+        workers: shape.workers,
+        idlers: Idlers::make(rt, alloc, shape)?,
+        entrance: Entrance::open(rt, alloc, UnixListener::bind(rt, path)?)?,
+        limits: Limits {
+            count: Some(accept),
+            connections: shape.connections,
+        },
+        quay: Quay::new(alloc, None)?,
     };
-    let day = fleet.run(rt, alloc, &listener, followers, limits)?;
+    let fleet = Fleet::start(rt, alloc, service, followers)?;
+    say(out, b"listening\n")?;
+    let day = fleet.run(rt, alloc, followers)?;
     let text = format!(in alloc; "served {} faults {}\n", day.served, day.faults)?;
     say(out, text.as_bytes())?;
     Ok(day)

@@ -114,7 +114,7 @@ has_fault_below table line fault = (found_below table line fault (line_of line) 
 
 -- ---- the names that the lines give secrets once, and twice
 
-named_here : (name line : List ℕ) (g : Given) → line_of line ≡ Ok (Some g) → bytes_eq g.name name ≡ true → GivesName name line
+pub named_here : (name line : List ℕ) (g : Given) → line_of line ≡ Ok (Some g) → bytes_eq g.name name ≡ true → GivesName name line
 named_here name line g said same = (
   g.secret,
   Spells-from_line line _ (said ∙ ap (λ n. Ok (Some (record { name = n; secret = g.secret }))) ((bytes_eq-Decides g.name name).0 same)),
@@ -138,11 +138,11 @@ any_from_said name line lines below (Ok (Some g)) is some =
       | false ↦ λ apart found. any_later _ line lines (below found)
     ] refl some
 
-any_named : (name : List ℕ) (lines : List (List ℕ)) → has (keys_given name lines) ≡ true → Any (GivesName name) lines
+pub any_named : (name : List ℕ) (lines : List (List ℕ)) → has (keys_given name lines) ≡ true → Any (GivesName name) lines
 any_named name [] some = absurd (false≢true some)
 any_named name (line ∷ lines) some = any_from_said name line lines (any_named name lines) (line_of line) refl some
 
-has_named : (name : List ℕ) (lines : List (List ℕ)) → Any (GivesName name) lines → has (keys_given name lines) ≡ true
+pub has_named : (name : List ℕ) (lines : List (List ℕ)) → Any (GivesName name) lines → has (keys_given name lines) ≡ true
 has_named name [] (k, line, within, is, given) = absurd (omega arith)
 has_named name (first ∷ lines) (zero, line, within, is, given) =
     ap has (said_first name given.0 first (keys_given name lines) (ap line_of is ∙ said_by name line given))

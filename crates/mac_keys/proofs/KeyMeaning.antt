@@ -23,7 +23,7 @@ use Rattle.mac_keys.proofs.Names.{order, order-IsAntisymmetric}
 
 -- ---- both tests of names
 
-same_name : (name other : List ℕ) → eq_by_cmp order name other ≡ true → name ≡ other
+pub same_name : (name other : List ℕ) → eq_by_cmp order name other ≡ true → name ≡ other
 same_name name other same = order-IsAntisymmetric name other ((Equal-is (order name other)).0 same)
 
 pub tests_alike : (name other : List ℕ) → eq_by_cmp order name other ≡ bytes_eq other name

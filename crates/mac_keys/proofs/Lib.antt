@@ -1,11 +1,14 @@
 pub mod Above
 pub mod Bounded
+pub mod ChangeLemmas
 pub mod FaultLemmas
 pub mod FileMeaning
 pub mod KeyMeaning
+pub mod LineByLine
 pub mod Lines
 pub mod Names
 pub mod Numbered
 pub mod Pairs
 pub mod Refused
 pub mod Spelling
+pub mod Whole

@@ -11,7 +11,10 @@ use Rattle.std.specs.BTreeMap.{is_at, insert_entry}
 use Rattle.std.specs.Cmp.Lexicographic.{slice_cmp, nat_list_cmp_total}
 use Rattle.std.specs.FinMap as map
 use Rattle.std.specs.FinMap.Entries.{find, put, by_order, find-put}
-use Rattle.mac_keys.specs.Keys.{by_name}
+use Rattle.std.specs.Prelude.{map as map_list}
+use Rattle.mac_keys.specs.declared.keys.Keys.{Keys}
+use Rattle.mac_keys.specs.Keys.{Table, by_name, listed}
+use Rattle.mac_keys.specs.Names.{names_of}
 
 -- the order of names, and that of their vectors
 abbrev pub order : List ℕ → List ℕ → Ordering
@@ -86,3 +89,38 @@ insert-seen es fs keys k name v w seen put named valued =
     ∙ ap (λ m. map.insert m k.items v) seen
     ∙ ap (λ n. map.insert keys n v) named
     ∙ ap (map.insert keys name) valued
+
+-- ---- the entries in order
+
+-- entries by the bytes of their names, with the numbers of their keys
+abbrev pub counted : List (Vec ℕ Global × Keys) → List (List ℕ × ℕ)
+counted es = map_list (λ e. (e.0.items, length (listed e.1))) es
+
+nothing_of : {A : Type 0} (es : List A) → length es ≡ 0 → es ≡ []
+nothing_of [] e = refl
+nothing_of (x ∷ es) e = absurd (omega arith)
+
+put_first : {X : Type 0} (k : Vec ℕ Global) (v : X) (es : List (Vec ℕ Global × X)) → AllByRecursion (λ y. order_of k y ≡ Less) (keys_of es) → put order k.items v (by_name es) ≡ (k.items, v) ∷ by_name es
+put_first k v [] below = refl
+put_first k v (e ∷ es) below =
+    ap (λ o. by_order o ((k.items, v) ∷ by_name (e ∷ es)) ((e.0.items, v) ∷ by_name es) ((e.0.items, e.1) ∷ put order k.items v (by_name es))) below.0
+
+-- entries that are in order are those of the map that they make
+pub entries-by_name : {X : Type 0} (es : List (Vec ℕ Global × X)) → IsStrictlySortedBy order_of (keys_of es) → map.entries (map.from_entries {R = order} (by_name es)) ≡ by_name es
+unfolding IsStrictlySortedBy
+entries-by_name {X} [] ordered =
+    nothing_of (map.entries (map.empty {X = X} {R = order})) (sym (map.len-entries (map.empty {X = X} {R = order})) ∙ map.len-empty order X)
+entries-by_name (e ∷ es) ordered =
+    map.entries-insert nat_list_cmp_total (map.from_entries {R = order} (by_name es)) e.0.items e.1
+    ∙ ap (put order e.0.items e.1) (entries-by_name es ordered.1)
+    ∙ put_first e.0 e.1 es ordered.0
+
+counted-by_name : (es : List (Vec ℕ Global × Keys)) → map_list (λ e. (e.0, length (listed e.1))) (by_name es) ≡ counted es
+counted-by_name [] = refl
+counted-by_name (e ∷ es) = ap (λ rest. (e.0.items, length (listed e.1)) ∷ rest) (counted-by_name es)
+
+-- so the names of a table are counted where they lie
+pub counted-names : (es : List (Vec ℕ Global × Keys)) (table : Table) → IsStrictlySortedBy order_of (keys_of es) → map.from_entries {R = order} (by_name es) ≡ table → counted es ≡ names_of table
+counted-names es table ordered seen =
+    sym (ap (map_list (λ e. (e.0, length (listed e.1)))) (entries-by_name es ordered) ∙ counted-by_name es)
+    ∙ ap names_of seen

@@ -1,7 +1,10 @@
 pub mod Answers
+pub mod Change
 pub mod Fault
+pub mod Found
 pub mod Keys
 pub mod Line
 pub mod Meaning
+pub mod Names
 pub mod Table
 pub mod Taken

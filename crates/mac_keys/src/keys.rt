@@ -1,4 +1,6 @@
 //! The keys of a name.
+ghost use Rattle.std.specs.Prelude.{◌≡◌, length};
+ghost use Rattle.mac_keys.specs.Keys.{listed};
 
 use mac_hmac::RootKey;
 
@@ -9,4 +11,25 @@ pub struct Keys {
     pub first: RootKey,
     /// The key of its second line, where it has one.
     pub second: Option<RootKey>,
+}
+
+impl Keys {
+    /// How many keys there are: one or two.
+    pub fn count(&self) -> usize
+        ensures { result ≡ length (listed self.now) }
+    {
+        match self.second {
+            Some(_) => 2,
+            None => 1,
+        }
+    }
+}
+
+/// A name of a table.
+#[derive(Clone, Copy, PartialEq, Eq)]
+pub struct KeyName<'a> {
+    /// The name.
+    pub name: &'a [u8],
+    /// How many keys it has: one or two.
+    pub keys: usize,
 }

@@ -5,13 +5,15 @@
 //! [`KeyTable::find`] looks a name up. [`laws`] says in other words what a file means.
 #![tactic(auto)]
 
+mod change;
 mod fault;
 mod keys;
 pub mod laws;
 mod line;
 mod table;
 
+pub use change::{ChangeFault, add_above, drop_lower};
 pub use fault::{KeyFault, LineFault};
-pub use keys::Keys;
+pub use keys::{KeyName, Keys};
 pub use line::{NAME_MAX, is_name};
 pub use table::{KeyTable, NAMES_MAX};

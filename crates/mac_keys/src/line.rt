@@ -8,6 +8,7 @@
 ghost use Rattle.std.specs.Prelude.{◌≡◌, ◌+◌, ◌^◌, ◌<◌, length, position, option_map, IfSome, IsErrOf};
 ghost use Rattle.std.specs.List.{list_all};
 ghost use Rattle.mac_keys.specs.Line.{is_ignored, is_name_byte, is_name, is_space, parted, fields_of, secret_of, line_of};
+ghost use Rattle.mac_keys.specs.Found.{is_line_of};
 ghost use Rattle.mac_keys.specs.Meaning.{ArePairs, HasPairs};
 ghost use Rattle.mac_keys.specs.Answers.{Answers, seen};
 ghost use Rattle.mac_keys.specs.Taken.{fault_of_line};
@@ -90,6 +91,16 @@ pub(crate) fn read_line<'a>(alloc: Global, line: &'a [u8]) -> Result<Option<KeyL
     }
     let secret = secret(alloc, digits)?;
     Ok(Some(KeyLine { name, secret }))
+}
+
+/// Whether a line has the form of a key line, and this name.
+pub(crate) fn is_line_of(line: &[u8], name: &[u8]) -> bool
+    ensures { result ≡ is_line_of name.now line.now }
+{
+    match fields(line) {
+        Some((found, _)) => found == name,
+        None => false,
+    }
 }
 
 fn is_ignored(line: &[u8]) -> bool

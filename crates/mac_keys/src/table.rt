@@ -2,6 +2,7 @@
 ghost use Rattle.std.specs.Prelude.{◌≡◌, ◌⊎◌, ℕ, None, Some, IfOk, IfErr, OnOk, OnErr, IsErrOf, option_copied};
 ghost use Rattle.std.specs.FinMap as map;
 ghost use Rattle.mac_keys.specs.Line.{line_of};
+ghost use Rattle.mac_keys.specs.Names.{names_of, told};
 ghost use Rattle.mac_hmac.specs.Chain.{root_of};
 ghost use Rattle.mac_keys.specs.Table.{lines_of, table_of, fault_below, fault_of_keys, fault_of_name};
 ghost use Rattle.mac_keys.specs.Meaning.{HasPairs, TakeMemory};
@@ -9,10 +10,10 @@ ghost use Rattle.mac_keys.specs.Taken.{keys_with, table_with, Gets, IsFor};
 ghost use Rattle.mac_keys.specs.declared.fault.KeyFault.TheVariants.{Memory};
 
 use crate::fault::{KeyFault, LineFault};
-use crate::keys::Keys;
+use crate::keys::{KeyName, Keys};
 use crate::line::{Refusal, read_line};
 use mac_hmac::root_key;
-use std::alloc::Global;
+use std::alloc::{AllocError, Global};
 use std::collections::BTreeMap;
 use std::marker::Model;
 
@@ -70,6 +71,20 @@ impl KeyTable {
         ensures { result ≡ map.len self.now }
     {
         self.keys.len()
+    }
+
+    /// The names in the order of their bytes, each with the number of its keys.
+    pub fn names(&self, alloc: Global) -> Result<Vec<KeyName<'_>>, AllocError>
+        ensures { IfOk result (λ names. told names.items ≡ names_of self.now) }
+    {
+        let mut names = Vec::new(alloc);
+        for (name, keys) in &self.keys {
+            names.push(KeyName {
+                name: name.as_slice(),
+                keys: keys.count(),
+            })?;
+        }
+        Ok(names)
     }
 
     /// Takes the next line of a file into the table.

@@ -40,6 +40,7 @@ impl Inbox {
 pub struct Loops {
     inboxes: Vec<Inbox>,
     unsent: AtomicU64,
+    is_draining: AtomicBool,
     is_closed: AtomicBool,
 }
 
@@ -49,6 +50,7 @@ impl Loops {
         Loops {
             inboxes: Vec::new(alloc),
             unsent: AtomicU64::new(0),
+            is_draining: AtomicBool::new(false),
             is_closed: AtomicBool::new(false),
         }
     }
@@ -115,9 +117,25 @@ impl Loops {
         }
     }
 
+    /// Has the loops take no more from clients than what has come. Each client ends once that is
+    /// answered and its replies are sent.
+    pub fn drain(&self) {
+        self.is_draining.store(true, SeqCst);
+        self.wake_all();
+    }
+
+    /// Whether clients end once what has come is answered.
+    pub fn is_draining(&self) -> bool {
+        self.is_draining.load(SeqCst)
+    }
+
     /// Has each loop return that has no clients.
     pub fn close(&self) {
         self.is_closed.store(true, SeqCst);
+        self.wake_all();
+    }
+
+    fn wake_all(&self) {
         for inbox in self.inboxes.iter() {
             let _ = inbox.waker.wake();
         }

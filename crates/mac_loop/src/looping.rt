@@ -63,6 +63,8 @@ pub struct Loop {
     shares: Shares,
     // The seconds after which a client that makes no progress is ended.
     idle: Option<u64>,
+    // Whether its clients are read no further than what has come.
+    is_draining: bool,
     swept: u64,
     // When the turn began, in microseconds.
     now: u64,
@@ -92,6 +94,7 @@ pub fn make_loops<R: Net>(
             parts: PARTS_MAX,
             shares: Shares::new(alloc, count)?,
             idle,
+            is_draining: false,
             swept: 0,
             now: 0,
         })?;
@@ -113,6 +116,7 @@ impl Loop {
             self.now = microseconds(rt);
             self.take_events();
             self.welcome(rt, loops, watch);
+            self.drain(loops);
             self.serve_ready(rt, loops, keys, watch);
             self.sweep(rt, loops, watch);
             self.keep_time(rt, loops);
@@ -156,6 +160,17 @@ impl Loop {
         }
     }
 
+    /// Once the loops are draining, takes nothing more from its clients than what has come.
+    fn drain(&mut self, loops: &Loops) {
+        if self.is_draining || !loops.is_draining() {
+            return;
+        }
+        self.is_draining = true;
+        for slot in 0..self.members.slots() {
+            self.members.end_reading(slot);
+        }
+    }
+
     /// Whether there was memory to take a client in.
     fn take_in(&mut self, client: Handover, loops: &Loops) -> bool {
         let Handover {
@@ -175,7 +190,9 @@ impl Loop {
         let is_ready = client.course() == Course::Open || client.unsent() > 0;
         loops.count_unsent(0, client.unsent());
         self.members.begin(slot, client, since);
-        if is_ready {
+        if self.is_draining {
+            self.members.end_reading(slot);
+        } else if is_ready {
             self.members.list(slot);
         }
         true

@@ -187,6 +187,15 @@ impl Members {
         self.list(slot);
     }
 
+    /// Takes nothing more from the client of a slot than what has come.
+    pub fn end_reading(&mut self, slot: usize) {
+        if let Some(Some(client)) = self.clients.get_mut(slot) {
+            client.port().end_reading();
+            client.wake_reading();
+        }
+        self.list(slot);
+    }
+
     /// Lists a slot as ready, once.
     pub fn list(&mut self, slot: usize) {
         if let Some(note) = self.notes.get_mut(slot) {

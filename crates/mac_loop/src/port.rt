@@ -9,6 +9,7 @@ use mio::unix::SourceFd;
 use mio::{Interest, Registry, Token};
 use std::io;
 use std::io::{ErrorKind, Read, Write};
+use std::net::Shutdown;
 use std::os::fd::AsRawFd;
 use std::os::unix::net;
 
@@ -44,6 +45,11 @@ impl SocketPort {
     /// Whether the last read gave bytes.
     pub fn has_read(&self) -> bool {
         self.has_read
+    }
+
+    /// Takes nothing more from the peer: behind what has come its stream ends.
+    pub fn end_reading(&self) {
+        let _ = self.stream.shutdown(Shutdown::Read);
     }
 
     /// Has a poll tell of what comes, under this token.

@@ -11,6 +11,7 @@ use Rattle.hex.proofs.HexLemmas.{decode_of-encode_lower, length-encode_with}
 use Rattle.mac_hmac.specs.Chain.{root_of}
 use Rattle.mac_keys.specs.declared.keys.Keys.{Keys}
 use Rattle.mac_keys.specs.declared.line.TheConstants.{NAME_MAX}
+use Rattle.mac_keys.specs.Change.{IsKeyLine}
 use Rattle.mac_keys.specs.Line.{is_name, is_name_byte, line_of}
 use Rattle.mac_keys.specs.Table.{is_line_feed, lines_of, first_two, entry_said, keys_of, fault_of_keys, fault_below, faults_of, table_or_first, table_of}
 use Rattle.mac_keys.specs.Meaning.{AreFaultless}
@@ -139,3 +140,18 @@ key_text-table name secret named bytes some =
     let line = front name secret in
     let lines : lines_of (key_text name secret) ≡ line ∷ [] ∷ [] = ap lines_of (key_text-front name secret) ∙ lines-one line (others-front name secret named) in
     ap (λ ls. table_or_first (keys_of ls) (faults_of ls)) lines ∙ table-one name secret line (said_of name secret named bytes some)
+
+-- ---- in another file
+
+lines-first : (line rest : List ℕ) → AllByRecursion IsOther line → lines_of ((line ++ 10 ∷ []) ++ rest) ≡ line ∷ lines_of rest
+lines-first [] rest free = refl
+lines-first (b ∷ line) rest free =
+    slice_split-cons_no is_line_feed b ((line ++ 10 ∷ []) ++ rest) free.0 ∙ ap (λ parts. onto_first b parts) (lines-first line rest free.1)
+
+-- the line is one line of any file
+pub key_text-line : (name secret : List ℕ) → is_name name ≡ true → IsBytes secret → 0 < length secret → IsKeyLine name secret (key_text name secret)
+key_text-line name secret named bytes some = record {
+  line = front name secret;
+  alone = λ rest. ap (λ text. lines_of (text ++ rest)) (key_text-front name secret) ∙ lines-first (front name secret) rest (others-front name secret named);
+  said = said_of name secret named bytes some;
+}

@@ -5,6 +5,7 @@ use Rattle.std.specs.declared.alloc.Global.{Global}
 use Rattle.std.specs.declared.vec.Vec.{Vec}
 use Rattle.hex.specs.Hex.{encode_lower}
 use Rattle.mac_hmac.specs.Chain.{root_of}
+use Rattle.mac_keys.specs.Change.{IsKeyLine}
 use Rattle.mac_keys.specs.Line.{is_name}
 use Rattle.mac_keys.specs.Table.{Table, table_of}
 use Rattle.mac_words.specs.declared.key_lines.NameFault.{NameFault}
@@ -18,11 +19,13 @@ key_text name secret = codes "key " ++ (name ++ 32 ∷ (encode_lower secret ++ 1
 abbrev pub only_key : List ℕ → List ℕ → Table
 only_key name root = from_entries ((name, record { first = root; second = None }) ∷ [])
 
--- The line of a name: as a key file it gives that name the secret, and says nothing else. Or else
--- that the name is none, or that memory ran out.
+-- The line of a name: as a key file it gives that name the secret, and says nothing else; and it is
+-- one line, which says the same in another file. Or else that the name is none, or that memory ran
+-- out.
 abbrev pub GivesLine : List ℕ → List ℕ → Result (Vec ℕ Global) NameFault → Type 0
 GivesLine name secret (Ok line) =
     IsTrue (is_name name) × (line.items ≡ key_text name secret)
     × (table_of line.items ≡ Ok (only_key name (root_of secret)))
+    × IsKeyLine name secret line.items
 GivesLine name secret (Err fault.BadName) = ¬ IsTrue (is_name name)
 GivesLine name secret (Err fault.Memory) = Unit {0}

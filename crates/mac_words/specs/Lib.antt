@@ -2,6 +2,7 @@ pub mod Payload
 pub mod TokenText
 pub mod Spelling
 pub mod Moment
+pub mod NameList
 pub mod NearBound
 pub mod Escaped
 pub mod ReplyText

@@ -12,6 +12,7 @@ mod fault;
 mod inspected;
 mod key_lines;
 mod moments;
+mod name_list;
 mod near_bounds;
 mod payload;
 mod refusal;
@@ -25,6 +26,7 @@ pub use fault::{FieldFault, TextFault};
 pub use inspected::inspect;
 pub use key_lines::{NameFault, key_line};
 pub use moments::moment;
+pub use name_list::list_names;
 pub use near_bounds::warnings;
 pub use payload::{
     CAVEATS_TOLD_MAX, KEY_NAME_MAX, TEXT_MAX, attenuate_payload, mint_payload, reply_to,

@@ -1,11 +1,11 @@
 -- The names of subcommands, told apart by their first letters.
-use Rattle.std.proofs.Common.{◌≡◌, ◌∙◌, ◌==◌, ◌||◌, ◌⊎◌, inl, inr, ℕ, Bool, codes, true, false, refl, sym, ap, subst, List, Option, Some, None, option_map, slice_index}
+use Rattle.std.proofs.Common.{◌≡◌, ◌∙◌, ◌==◌, ◌||◌, ◌⊎◌, inl, inr, ℕ, Bool, codes, true, false, refl, sym, ap, ap₂, subst, List, Option, Some, None, option_map, slice_index}
 use Rattle.clap.specs.Walk.{Row, Text}
 use Rattle.macaroond.specs.Options.{HasCommand, HasOptions}
 use Rattle.macaroond.specs.People.{IsTaskName}
 
 abbrev is_task_letter : ℕ → Bool
-is_task_letter x = (x == 107) || ((x == 109) || ((x == 97) || ((x == 118) || (x == 105))))
+is_task_letter x = (x == 107) || ((x == 99) || ((x == 109) || ((x == 97) || ((x == 118) || (x == 105)))))
 
 abbrev begins_task : Text → Bool
 begins_task name = is_task_letter (slice_index name 0)
@@ -15,7 +15,8 @@ task_begins name (inl e) = subst (λ n. begins_task n ≡ true) (sym e) refl
 task_begins name (inr (inl e)) = subst (λ n. begins_task n ≡ true) (sym e) refl
 task_begins name (inr (inr (inl e))) = subst (λ n. begins_task n ≡ true) (sym e) refl
 task_begins name (inr (inr (inr (inl e)))) = subst (λ n. begins_task n ≡ true) (sym e) refl
-task_begins name (inr (inr (inr (inr e)))) = subst (λ n. begins_task n ≡ true) (sym e) refl
+task_begins name (inr (inr (inr (inr (inl e))))) = subst (λ n. begins_task n ≡ true) (sym e) refl
+task_begins name (inr (inr (inr (inr (inr e))))) = subst (λ n. begins_task n ≡ true) (sym e) refl
 
 machine_begins : (name : Text) → (name ≡ codes "pipe") ⊎ ((name ≡ codes "serve") ⊎ (name ≡ codes "listen")) → begins_task name ≡ false
 machine_begins name (inl e) = subst (λ n. begins_task n ≡ false) (sym e) refl
@@ -38,3 +39,13 @@ met_options f g (Some x) name rows named options (other, others, same, has) =
     let first : other ≡ name = sym (ap (λ (p : Text × List Row). p.0) pair) ∙ sym own in
     let second : others ≡ rows = sym (ap (λ (p : Text × List Row). p.1) pair) ∙ sym given in
     subst (λ (n : Text). HasOptions n rows ⊎ IsTaskName n) first (subst (λ (r : List Row). HasOptions other r ⊎ IsTaskName other) second has)
+
+-- the name and the rows that were found are those of the subcommand
+pub met_pair : {X : Type 0} (f : X → Text) (g : X → List Row) (met : Option X) (name : Text) (rows : List Row) → Some name ≡ option_map f met
+    → Some rows ≡ option_map (λ p. p.1) (option_map {U = Text × List Row} (λ x. (f x, g x)) met) → option_map {U = Text × List Row} (λ x. (f x, g x)) met ≡ Some (name, rows)
+met_pair f g None name rows named options = cc
+met_pair f g (Some x) name rows named options =
+    let own : name ≡ f x = cc in
+    let given : rows ≡ g x = cc in
+    let pair : Text → List Row → Option (Text × List Row) = λ n r. Some (n, r) in
+    ap₂ pair (sym own) (sym given)

@@ -62,6 +62,7 @@ listen_command = with_rules (new_app (codes "listen"))
     ∷ number 86400 (option (codes "idle"))
     ∷ number 64 (option (codes "loops"))
     ∷ number 1000000 (option (codes "connections"))
+    ∷ number 3600 (option (codes "drain"))
     ∷ [])
 
 -- the whole command line
@@ -146,6 +147,7 @@ HasListen options rows = IsText options.socket (first_of (codes "socket") rows)
     × IsNumberOrNone 86400 options.idle (first_of (codes "idle") rows)
     × IsNumberOrNone 64 options.loops (first_of (codes "loops") rows)
     × IsNumberOrNone 1000000 options.connections (first_of (codes "connections") rows)
+    × IsNumberOrNone 3600 options.drain (first_of (codes "drain") rows)
 
 -- the choice has the values of a subcommand's options
 abbrev pub HasValues : Choice → List Row → Type 0
@@ -213,6 +215,6 @@ status_of_arguments (word ∷ rest) = if bytes_eq word (codes "pipe") then statu
 abbrev pub names_another : List Text → Bool
 names_another [] = false
 names_another (word ∷ rest) = bytes_eq word (codes "serve") || (bytes_eq word (codes "listen")
-    || (bytes_eq word (codes "keygen") || (bytes_eq word (codes "mint")
-    || (bytes_eq word (codes "attenuate") || (bytes_eq word (codes "verify")
-    || bytes_eq word (codes "inspect"))))))
+    || (bytes_eq word (codes "keygen") || (bytes_eq word (codes "check")
+    || (bytes_eq word (codes "mint") || (bytes_eq word (codes "attenuate")
+    || (bytes_eq word (codes "verify") || bytes_eq word (codes "inspect")))))))

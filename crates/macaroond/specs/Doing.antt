@@ -1,10 +1,21 @@
 -- What doing a person's task comes to: what is said, and how the run ends.
-use Rattle.std.specs.Prelude.{◌≡◌, ◌≢◌, ◌⊎◌, ℕ, false, List, [], ◌∷◌, Option, Some, None, codes, length}
-use Rattle.std.specs.Prelude.{option_map, string_bytes, Ok}
+use Rattle.std.specs.Prelude.{◌≡◌, ◌≢◌, ◌⊎◌, ◌&&◌, ◌||◌, ℕ, Bool, true, false, List, [], ◌∷◌}
+use Rattle.std.specs.Prelude.{Option, Some, None, codes, length}
+use Rattle.std.specs.Prelude.{option_map, string_bytes, Result, Ok, Err}
+use Rattle.std.specs.Bool.{MatchBool}
+use Rattle.std.specs.Option.{is_some}
+use Rattle.std.specs.declared.alloc.Global.{Global}
+use Rattle.std.specs.declared.vec.Vec.{Vec}
+use Rattle.mac_hmac.specs.Chain.{root_of}
+use Rattle.mac_keys.specs.Change.{AddsKey, DropsKey, IsKeyLine}
+use Rattle.mac_keys.specs.declared.change.ChangeFault.{ChangeFault}
+use Rattle.mac_keys.specs.declared.change.ChangeFault.TheVariants as change
+use Rattle.mac_keys.specs.declared.fault.KeyFault.TheVariants as key
 use Rattle.mac_keys.specs.Table.{Table, table_of}
 use Rattle.mac_wire.specs.declared.request.TokenForm.{TokenForm}
 use Rattle.mac_words.specs.KeyLine.{GivesLine}
 use Rattle.mac_words.specs.Moment.{IsMoment}
+use Rattle.mac_words.specs.NameList.{names_text}
 use Rattle.mac_words.specs.Said.{Says, SaysAlone, SaysBytes}
 use Rattle.mac_words.specs.TokenText.{bytes_told}
 use Rattle.mac_words.specs.declared.saying.Said.{Said}
@@ -12,13 +23,19 @@ use Rattle.macaroond.specs.Lines.{lines}
 use Rattle.macaroond.specs.People.{GivesForm, IsToldSo, attenuate_asked, mint_asked, person_status}
 use Rattle.macaroond.specs.People.{verify_asked}
 use Rattle.macaroond.specs.declared.people.asking.AttenuateWords.{AttenuateWords}
+use Rattle.macaroond.specs.declared.people.asking.KeygenWords.{KeygenWords}
 use Rattle.macaroond.specs.declared.people.asking.MintWords.{MintWords}
 use Rattle.macaroond.specs.declared.people.asking.VerifyWords.{VerifyWords}
 use Rattle.macaroond.specs.declared.people.asking.Task.{Task}
-use Rattle.macaroond.specs.declared.people.asking.Task.TheVariants.{Keygen, Mint, Attenuate, Verify}
+use Rattle.macaroond.specs.declared.people.asking.Task.TheVariants.{Keygen, Check, Mint, Attenuate}
+use Rattle.macaroond.specs.declared.people.asking.Task.TheVariants.{Verify}
 use Rattle.macaroond.specs.declared.people.asking.Task.TheVariants.{Inspect}
 use Rattle.macaroond.specs.declared.people.fault.PersonFault.{PersonFault}
+use Rattle.macaroond.specs.declared.people.fault.PersonFault.TheVariants as fault
+use Rattle.macaroond.specs.declared.people.keygen.Deed.{Deed}
+use Rattle.macaroond.specs.declared.people.keygen.Deed.TheVariants as deed
 use Rattle.macaroond.specs.declared.status.Status.{Status}
+use Rattle.macaroond.specs.declared.status.Status.TheVariants as status
 
 -- ---- what words name outside of the command line
 
@@ -41,9 +58,69 @@ IsMomentGiven None moment = Unit {0}
 -- ---- what is said
 
 -- a key line that gives the name some secret of 32 bytes
-abbrev pub DoesKeygen : List ℕ → Said → Type 0
-DoesKeygen name said = ((secret : List ℕ) × (length secret ≡ 32) × GivesLine name secret (Ok said.text))
-    × (said.is_refusal ≡ false)
+abbrev pub IsNewLine : List ℕ → Vec ℕ Global → Type 0
+IsNewLine name line = (secret : List ℕ) × (length secret ≡ 32) × GivesLine name secret (Ok line)
+
+abbrev pub PrintsLine : List ℕ → Said → Type 0
+PrintsLine name said = IsNewLine name said.text × (said.is_refusal ≡ false)
+
+abbrev pub SaysNothing : Said → Type 0
+SaysNothing said = (said.text.items ≡ []) × (said.is_refusal ≡ false)
+
+-- one of the options names a file
+abbrev pub names_file : KeygenWords → Bool
+names_file words = is_some words.into || (is_some words.above || is_some words.drop)
+
+-- two of them do
+abbrev pub names_two : KeygenWords → Bool
+names_two words = (is_some words.into && (is_some words.above || is_some words.drop))
+    || (is_some words.above && is_some words.drop)
+
+-- what the words ask for: a line that is printed, or the one option that names a file
+abbrev pub GivesDeed : KeygenWords → Result Deed PersonFault → Type 0
+GivesDeed words (Ok deed.Print) = names_file words ≡ false
+GivesDeed words (Ok (deed.Into path)) =
+    (option_map string_bytes words.into ≡ Some path.now) × (names_two words ≡ false)
+GivesDeed words (Ok (deed.Above path)) =
+    (option_map string_bytes words.above ≡ Some path.now) × (names_two words ≡ false)
+GivesDeed words (Ok (deed.Drop path)) =
+    (option_map string_bytes words.drop ≡ Some path.now) × (names_two words ≡ false)
+GivesDeed words (Err why) = (why ≡ fault.Options) × (names_two words ≡ true)
+
+-- the line is printed where no option names a file; else nothing is
+abbrev pub DoesKeygen : KeygenWords → Said → Type 0
+DoesKeygen words said =
+    MatchBool (names_file words) (SaysNothing said) (PrintsLine (string_bytes words.name) said)
+
+-- the text is a line that gives some name a secret
+abbrev pub IsSomeLine : List ℕ → Type 0
+IsSomeLine text = (name secret : List ℕ) × IsKeyLine name secret text
+
+-- one name has one more key in the changed text, or one less; all else stays
+abbrev pub IsChange : List ℕ → List ℕ → Type 0
+IsChange text changed = (name : List ℕ)
+    × (((secret : List ℕ) × AddsKey name (root_of secret) text changed)
+    ⊎ DropsKey name text changed)
+
+-- how a run ends in which a key file doesn't change
+abbrev pub change_status : ChangeFault → Status
+change_status (change.File (key.Line line kind)) = status.DeviceFault
+change_status (change.File key.Memory) = status.NoMemory
+change_status change.NoLine = status.Refused
+change_status change.OneLine = status.Refused
+change_status change.TwoLines = status.Refused
+
+-- the names of the text's table, or its first fault, unless memory runs out
+abbrev pub ChecksText : List ℕ → Result Said PersonFault → Type 0
+ChecksText text (Ok said) = (table : Table) × (table_of text ≡ Ok table)
+    × (said.text.items ≡ names_text table) × (said.is_refusal ≡ false)
+ChecksText text (Err (fault.Checked path line kind)) = table_of text ≡ Err (key.Line line kind)
+ChecksText text (Err fault.Memory) = Unit {0}
+ChecksText text (Err _) = ⊥
+
+-- the names of some key file
+abbrev pub DoesCheck : Said → Type 0
+DoesCheck said = (text : List ℕ) × ChecksText text (Ok said)
 
 -- what is said of the words under the keys of some file, in the form that they name
 abbrev pub DoesMint : MintWords → Said → Type 0
@@ -72,7 +149,8 @@ DoesInspect word said = (token : List ℕ) × StandsFor word token × SaysBytes 
 
 -- what is said where a task is done
 abbrev pub DoesTask : Task → Said → Type 0
-DoesTask (Keygen name) said = DoesKeygen (string_bytes name) said
+DoesTask (Keygen words) said = DoesKeygen words said
+DoesTask (Check keys) said = DoesCheck said
 DoesTask (Mint words) said = DoesMint words said
 DoesTask (Attenuate words) said = DoesAttenuate words said
 DoesTask (Verify words) said = DoesVerify words said

@@ -12,3 +12,4 @@ pub mod PipeText
 pub mod ReplyLine
 pub mod Shape
 pub mod Status
+pub mod Watching

@@ -52,6 +52,7 @@ pub record HasListenOptions (rows : List Row) : Type 0 where
   pub idle : MayBeNumber 86400 (codes "idle") rows
   pub loops : MayBeNumber 64 (codes "loops") rows
   pub connections : MayBeNumber 1000000 (codes "connections") rows
+  pub drain : MayBeNumber 3600 (codes "drain") rows
 
 -- the rows are those of one of the three subcommands
 abbrev pub HasOptions : Text → List Row → Type 0

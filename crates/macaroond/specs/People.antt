@@ -1,5 +1,6 @@
 -- What people ask of the program, and what they are told.
-use Rattle.std.specs.Prelude.{◌≡◌, ◌≢◌, ◌⊎◌, ℕ, Bool, List, [], Option, Some, None, codes, string_bytes}
+use Rattle.std.specs.Prelude.{◌≡◌, ◌≢◌, ◌⊎◌, ℕ, Bool, List, [], Option, Some, None, codes}
+use Rattle.std.specs.Prelude.{string_bytes}
 use Rattle.std.specs.Prelude.{if◌then◌else◌, option_map, unwrap_or, Result, Ok, Err}
 use Rattle.std.specs.declared.alloc.Global.{Global}
 use Rattle.std.specs.declared.string.String.{String}
@@ -24,10 +25,12 @@ use Rattle.macaroond.specs.declared.status.Status.TheVariants as status
 use Rattle.macaroond.specs.declared.people.fault.PersonFault.{PersonFault}
 use Rattle.macaroond.specs.declared.people.fault.PersonFault.TheVariants as fault
 use Rattle.macaroond.specs.declared.people.asking.AttenuateWords.{AttenuateWords}
+use Rattle.macaroond.specs.declared.people.asking.KeygenWords.{KeygenWords}
 use Rattle.macaroond.specs.declared.people.asking.MintWords.{MintWords}
 use Rattle.macaroond.specs.declared.people.asking.VerifyWords.{VerifyWords}
 use Rattle.macaroond.specs.declared.people.asking.Task.{Task}
-use Rattle.macaroond.specs.declared.people.asking.Task.TheVariants.{Keygen, Mint, Attenuate, Verify}
+use Rattle.macaroond.specs.declared.people.asking.Task.TheVariants.{Keygen, Check, Mint, Attenuate}
+use Rattle.macaroond.specs.declared.people.asking.Task.TheVariants.{Verify}
 use Rattle.macaroond.specs.declared.people.asking.Task.TheVariants.{Inspect}
 
 -- ---- what `clap` is told
@@ -40,9 +43,15 @@ word name = record (new_rule name) { value_names = 1 }
 abbrev pub repeated : Rule → Rule
 repeated rule = record rule { action = Some Append; parser = Some NonEmptyString }
 
--- the subcommand `keygen`, with one word
+-- the subcommand `keygen`, with three options and a word
 abbrev pub keygen_command : App
-keygen_command = with_rule (new_app (codes "keygen")) (required (word (codes "name")))
+keygen_command = with_rule (with_rule (with_rule (with_rule (new_app (codes "keygen"))
+    (option (codes "into"))) (option (codes "above"))) (option (codes "drop")))
+    (required (word (codes "name")))
+
+-- the subcommand `check`, with one option
+abbrev pub check_command : App
+check_command = with_rule (new_app (codes "check")) (required (option (codes "keys")))
 
 -- a subcommand with the options `--keys` and `--key`
 abbrev pub with_key : App → App
@@ -73,8 +82,8 @@ inspect_command = with_rule (new_app (codes "inspect")) (required (word (codes "
 -- a program with the subcommands for people
 abbrev pub with_people : App → App
 with_people program = with_subcommand (with_subcommand (with_subcommand (with_subcommand
-    (with_subcommand program keygen_command.top) mint_command.top) attenuate_command.top)
-    verify_command.top) inspect_command.top
+    (with_subcommand (with_subcommand program keygen_command.top) check_command.top)
+    mint_command.top) attenuate_command.top) verify_command.top) inspect_command.top
 
 -- ---- what the task says of the words
 
@@ -94,6 +103,12 @@ IsOptionalText text id rows = option_map string_bytes text ≡ first_of id rows
 
 abbrev pub AreGivenTexts : List (String Global) → Text → List Row → Type 0
 AreGivenTexts texts id rows = texts_of texts ≡ texts_given (all_of id rows)
+
+abbrev pub HasKeygen : KeygenWords → List Row → Type 0
+HasKeygen words rows = IsGivenText words.name (codes "name") rows
+    × IsOptionalText words.into (codes "into") rows
+    × IsOptionalText words.above (codes "above") rows
+    × IsOptionalText words.drop (codes "drop") rows
 
 abbrev pub HasMint : MintWords → List Row → Type 0
 HasMint words rows = IsGivenText words.keys (codes "keys") rows
@@ -117,7 +132,8 @@ HasVerify words rows = IsGivenText words.keys (codes "keys") rows
 
 -- the task has the values of a subcommand's arguments
 abbrev pub HasTask : Task → List Row → Type 0
-HasTask (Keygen name) rows = IsGivenText name (codes "name") rows
+HasTask (Keygen words) rows = HasKeygen words rows
+HasTask (Check keys) rows = IsGivenText keys (codes "keys") rows
 HasTask (Mint words) rows = HasMint words rows
 HasTask (Attenuate words) rows = HasAttenuate words rows
 HasTask (Verify words) rows = HasVerify words rows
@@ -125,7 +141,8 @@ HasTask (Inspect token) rows = IsGivenText token (codes "token") rows
 
 -- the subcommand that the task stands for
 abbrev pub task_name : Task → Text
-task_name (Keygen name) = codes "keygen"
+task_name (Keygen words) = codes "keygen"
+task_name (Check keys) = codes "check"
 task_name (Mint words) = codes "mint"
 task_name (Attenuate words) = codes "attenuate"
 task_name (Verify words) = codes "verify"
@@ -137,8 +154,8 @@ IsTask task met = (rows : List Row) × (met ≡ Some (task_name task, rows)) × 
 
 -- the names of the subcommands for people
 abbrev pub IsTaskName : Text → Type 0
-IsTaskName name = (name ≡ codes "keygen") ⊎ ((name ≡ codes "mint") ⊎ ((name ≡ codes "attenuate")
-    ⊎ ((name ≡ codes "verify") ⊎ (name ≡ codes "inspect"))))
+IsTaskName name = (name ≡ codes "keygen") ⊎ ((name ≡ codes "check") ⊎ ((name ≡ codes "mint")
+    ⊎ ((name ≡ codes "attenuate") ⊎ ((name ≡ codes "verify") ⊎ (name ≡ codes "inspect")))))
 
 -- ---- what the words ask
 
@@ -179,7 +196,7 @@ GivesMoment given (Err why) =
 
 -- ---- how a run ends
 
--- want of memory; words that say nothing; a file or a device
+-- want of memory; words that say nothing; what is refused of a key file; a file or a device
 abbrev pub person_status : PersonFault → Status
 person_status fault.Memory = status.NoMemory
 person_status (fault.Words field.Memory) = status.NoMemory
@@ -190,6 +207,12 @@ person_status (fault.Name _) = status.BadLine
 person_status (fault.Token _) = status.BadLine
 person_status fault.Form = status.BadLine
 person_status fault.Moment = status.BadLine
+person_status fault.Options = status.BadLine
+person_status (fault.Checked path line kind) = status.Refused
+person_status (fault.Change path why) = status.Refused
+person_status (fault.Exists path) = status.Refused
+person_status (fault.Beside path) = status.Refused
+person_status (fault.Meanwhile path) = status.Refused
 person_status _ = status.DeviceFault
 
 abbrev pub said_status : Bool → Status

@@ -11,3 +11,8 @@ HasCount most (Some asked) count =
 abbrev pub connections_of : Option ℕ → ℕ
 connections_of None = 10000
 connections_of (Some asked) = asked
+
+-- the seconds that connections have to end: ten, where no other number is asked for
+abbrev pub drain_of : Option ℕ → ℕ
+drain_of None = 10
+drain_of (Some asked) = asked

@@ -32,6 +32,7 @@ run_status (Err fault) = pipe_status fault
 abbrev pub daemon_status : DaemonFault → Status
 daemon_status (daemon.Place fault) = status.DeviceFault
 daemon_status (daemon.System fault) = status.DeviceFault
+daemon_status (daemon.Handed fault) = status.DeviceFault
 daemon_status daemon.Output = status.DeviceFault
 daemon_status daemon.NoThread = status.NoMemory
 daemon_status daemon.NoMemory = status.NoMemory

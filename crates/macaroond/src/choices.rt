@@ -20,7 +20,7 @@ pub enum Choice {
     Pipe,
     /// Answer the requests of so many connections over a socket, and end.
     Serve(ServeOptions),
-    /// Answer requests over a socket, without end.
+    /// Answer requests over a socket until told to end.
     Listen(ListenOptions),
 }
 
@@ -54,6 +54,8 @@ pub struct ListenOptions {
     pub loops: Option<u64>,
     /// How many connections are live at a time, from 1 to 1,000,000.
     pub connections: Option<u64>,
+    /// How many seconds connections have to end once the daemon is told to, from 1 to 3,600.
+    pub drain: Option<u64>,
 }
 
 /// Who may connect to a socket, as the permissions of its file say.

@@ -24,9 +24,12 @@ pub const LOOPS_MAX: u64 = 64;
 /// The most connections that `--connections` takes.
 pub const CONNECTIONS_MAX: u64 = 1_000_000;
 
-/// The version, as `--version` prints it. A build of a commit writes its first digits over the last
+/// The most seconds that `--drain` takes: an hour.
+pub const DRAIN_MAX: u64 = 3600;
+
+/// The version, as `--version` and `listen` print it. A build of a commit writes its first digits over the last
 /// word.
-const VERSION: &str = "0.1.0 (uncommitted)";
+pub(crate) const VERSION: &str = "0.1.0 (uncommitted)";
 
 /// What the help of `pipe` says below its options.
 const PIPE_HELP: &str = "\
@@ -72,15 +75,21 @@ Exit status:
 
 /// What the help of `listen` says below its options.
 const LISTEN_HELP: &str = "\
-Runs until it is stopped. Prints one line once clients can connect, and one line on standard error
-for each connection that ended in a fault. A socket at PATH on which nobody listens is taken over;
-anything else at PATH is left alone, and the run ends with status 3. The key file has key lines, as
-`macaroond pipe` reads them, and at most 16777216 bytes.
+Prints one line once clients can connect, and one line on standard error for each connection that
+ended in a fault. A socket at PATH on which nobody listens is taken over; anything else at PATH is
+left alone, and the run ends with status 3. A socket that systemd hands over (LISTEN_FDS) is served
+in place of one at PATH. The key file has key lines, as `macaroond pipe` reads them, and at most
+16777216 bytes.
+
+Runs until SIGTERM or SIGINT. Then it takes no more connections, answers what has come, closes each
+connection once its replies are sent, and ends. A second signal ends it at once. The key file is looked
+at twice a second, and at SIGHUP; a changed one is taken where it has no fault.
 
 Example:
   macaroond listen --socket /run/macaroond/socket --keys /etc/macaroond/keys --mode 660 --idle 60
 
 Exit status:
+  0  it was told to end
   1  a key line has a fault; standard error names it as `keys: line L kind K`
   2  a bad command line
   3  a file or the socket failed, or the key file is longer than it may be
@@ -107,6 +116,9 @@ const LOOPS_HELP: &str =
 
 const CONNECTIONS_HELP: &str =
     "How many connections are live at a time, from 1 to 1000000 [default: 10000]";
+
+const DRAIN_HELP: &str =
+    "How many seconds connections have to end once it is told to, from 1 to 3600 [default: 10]";
 
 /// The whole command line.
 pub fn build_command<'a>(alloc: Global) -> Result<Command<'a>, AllocError>
@@ -149,9 +161,10 @@ fn build_serve<'a>(alloc: Global) -> Result<Command<'a>, AllocError>
 fn build_listen<'a>(alloc: Global) -> Result<Command<'a>, AllocError>
     ensures { IfOk result (λ listen. app_of listen ≡ listen_command) }
 {
-    let about = "Answers requests over a Unix socket until it is stopped";
+    let about = "Answers requests over a Unix socket until it is told to end";
     let workers = build_count(alloc, "workers", WORKERS_MAX as u64, LISTEN_WORKERS_HELP);
     let connections = build_count(alloc, "connections", CONNECTIONS_MAX, CONNECTIONS_HELP);
+    let drain = build_count(alloc, "drain", DRAIN_MAX, DRAIN_HELP);
     let listen = build_subcommand(alloc, "listen", about, LISTEN_HELP);
     let listen = add_arg(listen, build_path(alloc, "socket", SOCKET_HELP))?;
     let listen = add_arg(listen, build_path(alloc, "keys", KEYS_HELP))?;
@@ -159,7 +172,8 @@ fn build_listen<'a>(alloc: Global) -> Result<Command<'a>, AllocError>
     let listen = add_arg(listen, build_option(alloc, "mode", "DIGITS", MODE_HELP))?;
     let listen = add_arg(listen, build_count(alloc, "idle", IDLE_MAX, IDLE_HELP))?;
     let listen = add_arg(listen, build_count(alloc, "loops", LOOPS_MAX, LOOPS_HELP))?;
-    add_arg(listen, connections)
+    let listen = add_arg(listen, connections)?;
+    add_arg(listen, drain)
 }
 
 /// A required option that takes a path.

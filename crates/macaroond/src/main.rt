@@ -7,8 +7,8 @@
 ghost use Rattle.std.specs.Prelude.{◌≡◌, ◌≤◌, IfErr};
 ghost use Rattle.mac_pool.specs.declared.pool.TheConstants.{WORKERS_MAX};
 ghost use Rattle.macaroond.specs.CommandLine.{permissions};
-ghost use Rattle.macaroond.specs.Shape.{HasCount, connections_of};
-ghost use Rattle.macaroond.specs.Status.{IsShown, daemon_status, run_status};
+ghost use Rattle.macaroond.specs.Shape.{HasCount, connections_of, drain_of};
+ghost use Rattle.macaroond.specs.Status.{IsShown, daemon_status, pipe_status, run_status};
 ghost use Rattle.macaroond.specs.declared.commands.TheConstants.{LOOPS_MAX};
 
 mod arrived;
@@ -19,6 +19,8 @@ mod descriptors;
 mod fault;
 mod input;
 mod key_file;
+mod key_store;
+mod key_watch;
 pub mod laws;
 mod lines;
 mod options;
@@ -30,16 +32,19 @@ mod status;
 
 pub use choices::{Choice, Chosen, ListenOptions, Mode, ServeOptions};
 pub use command_line::{choose, read_words};
-pub use commands::{ACCEPT_MAX, CONNECTIONS_MAX, IDLE_MAX, LOOPS_MAX};
+use commands::VERSION;
+pub use commands::{ACCEPT_MAX, CONNECTIONS_MAX, DRAIN_MAX, IDLE_MAX, LOOPS_MAX};
 use descriptors::{NOWHERE, open_standard};
 pub use fault::PipeFault;
 pub use input::INPUT_MAX;
 use key_file::read_keys;
+use key_store::read_first;
+use key_watch::listen_and_watch;
 use mac_board::Publisher;
-use mac_daemon::{DaemonFault, FOLLOWERS_MAX, Shape, Terms, accept_all, listen};
+use mac_daemon::{DaemonFault, FOLLOWERS_MAX, Shape, Terms, accept_all};
 use mac_pool::WORKERS_MAX;
 use mac_wire::{ReaderSource, WriterSink};
-use people::run_task;
+use people::{run_task, warn_of_readers};
 pub use people::{PersonFault, Task};
 pub use piping::pipe;
 pub use status::Status;
@@ -56,6 +61,9 @@ use std::{io, thread};
 
 /// How many connections there are at a time, where nothing else is asked for.
 const CONNECTIONS: u64 = 10_000;
+
+/// How many seconds they have to end, where nothing else is asked for.
+const DRAIN: u64 = 10;
 
 fn main(rt: HostRuntime) -> ExitCode {
     ExitCode::from(run(&rt, rt.process()).code())
@@ -83,7 +91,15 @@ where
 /// Does what was chosen, and says how the run ended; what was refused is shown and not done.
 fn run_chosen<R>(rt: &R, chosen: Result<Chosen, (Status, String)>, process: Process) -> Status
 where
-    R: Alloc<A = Global> + Input + Print + Eprint + Files<File = File> + Net + Clock + RandomSource,
+    R: Env
+        + Alloc<A = Global>
+        + Input
+        + Print
+        + Eprint
+        + Files<File = File>
+        + Net
+        + Clock
+        + RandomSource,
     R: Threads + Wait + Sync + Copy + Send + 'static,
     R::Reader: Send,
     ensures { IfErr chosen (λ refusal. IsShown refusal.0 result) }
@@ -98,7 +114,7 @@ where
 /// Answers the requests of programs, and says how the run ended.
 fn run_machine<R>(rt: &R, choice: Choice, process: Process) -> Status
 where
-    R: Alloc<A = Global> + Input + Print + Eprint + Files<File = File> + Net + Clock,
+    R: Env + Alloc<A = Global> + Input + Print + Eprint + Files<File = File> + Net + Clock,
     R: Threads + Wait + Sync + Copy + Send + 'static,
     R::Reader: Send,
 {
@@ -171,35 +187,40 @@ where
     }
 }
 
-/// Listens without end, or says how the run ended where that can't begin.
+/// Listens until it is told to end, and says how the run ended.
 fn run_listen<R>(rt: &R, options: &ListenOptions, process: Process) -> Status
 where
-    R: Alloc<A = Global> + Print + Eprint + Files<File = File> + Net + Clock,
+    R: Env + Alloc<A = Global> + Print + Eprint + Files<File = File> + Net + Clock,
     R: Threads + Wait + Sync + Copy + Send + 'static,
 {
     if let Err(refused) = open_standard(rt) {
         let _ = eprintln!(rt; "{NOWHERE}: {refused}");
         return tell_fault(rt, Status::DeviceFault);
     }
-    let keys = match read_keys(rt, options.keys.as_str()) {
-        Ok(keys) => keys,
-        Err(fault) => return tell_ending(rt, Err(fault)),
+    let keys = options.keys.as_str();
+    let first = match read_first(rt, keys) {
+        Ok(first) => first,
+        Err(fault) => return tell_key_file(rt, keys, fault),
     };
-    let terms = name_terms(rt, options, keys.len());
-    let Ok(publisher) = Publisher::new(rt.alloc(), *rt, keys, FOLLOWERS_MAX) else {
-        return tell_fault(rt, Status::NoMemory);
-    };
-    let Ok(followers) = publisher.followers() else {
-        return tell_fault(rt, Status::NoMemory);
-    };
+    warn_of_readers(rt, keys);
+    let terms = name_terms(rt, options, first.table.len());
     let path = terms.path;
-    match listen(rt, rt.alloc(), terms, &followers, process) {
-        Ok(never) => match never {},
+    match listen_and_watch(rt, terms, keys, first, process) {
+        Ok(()) => Status::Done,
         Err(fault) => {
             let _ = eprintln!(rt; "{path}: {fault}");
             tell_fault(rt, status_of_daemon(&fault))
         }
     }
+}
+
+/// Says in words why the key file at a path gives no table, and how the run ends.
+fn tell_key_file<R: Eprint>(rt: &R, path: &str, fault: PipeFault) -> Status
+    ensures { result ≡ pipe_status fault }
+{
+    let words = PersonFault::of_key_file(path, fault);
+    let _ = eprintln!(rt; "error: {words}");
+    fault.status()
 }
 
 /// How a run ends that a daemon ended with this fault.
@@ -208,7 +229,8 @@ fn status_of_daemon(fault: &DaemonFault) -> Status
 {
     match fault {
         DaemonFault::NoThread | DaemonFault::NoMemory => Status::NoMemory,
-        DaemonFault::Place(_) | DaemonFault::System(_) | DaemonFault::Output => Status::DeviceFault,
+        DaemonFault::Place(_) | DaemonFault::System(_) => Status::DeviceFault,
+        DaemonFault::Handed(_) | DaemonFault::Output => Status::DeviceFault,
     }
 }
 
@@ -216,6 +238,7 @@ fn status_of_daemon(fault: &DaemonFault) -> Status
 fn name_terms<'a, R: Threads>(rt: &R, options: &'a ListenOptions, names: usize) -> Terms<'a>
     ensures mode { result.permissions ≡ permissions options.now.mode }
     ensures idle { result.shape.idle ≡ options.now.idle }
+    ensures drain { result.drain ≡ drain_of options.now.drain }
     ensures connections { result.shape.connections ≡ connections_of options.now.connections }
     ensures loops { HasCount LOOPS_MAX options.now.loops result.shape.loops }
     ensures workers { HasCount WORKERS_MAX options.now.workers result.shape.workers }
@@ -224,12 +247,14 @@ fn name_terms<'a, R: Threads>(rt: &R, options: &'a ListenOptions, names: usize) 
         path: options.socket.as_str(),
         permissions: options.mode.permissions(),
         names,
+        version: VERSION,
         shape: Shape {
             loops: count_loops(rt, options.loops),
             workers: count_workers(rt, options.workers),
             connections: options.connections.unwrap_or(CONNECTIONS),
             idle: options.idle,
         },
+        drain: options.drain.unwrap_or(DRAIN),
     }
 }
 

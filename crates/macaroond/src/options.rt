@@ -73,6 +73,7 @@ fn read_listen(alloc: Global, options: &ArgMatches<'_>) -> Result<Choice, Option
         idle: read_optional_number(options, "idle"),
         loops: read_optional_number(options, "loops"),
         connections: read_optional_number(options, "connections"),
+        drain: read_optional_number(options, "drain"),
     }))
 }
 

@@ -3,10 +3,14 @@ mod answering;
 mod asking;
 mod fault;
 mod given;
+mod key_files;
+mod keygen;
+mod readers;
 mod subcommands;
 
 pub use answering::run_task;
 pub use asking::Task;
 pub(crate) use asking::read_task;
 pub use fault::PersonFault;
+pub(crate) use readers::warn_of_readers;
 pub(crate) use subcommands::add_people;

@@ -1,6 +1,6 @@
 //! `try_refused CALL..`: each call is made, and what came of it is told in a line. Where memory is
 //! refused to it, it is told whether what is to stand then stands, and the call is made once more.
-//! `calls.rt` lists the calls. Who refuses the memory stands outside: `scripts/faults.py`.
+//! `calls.rt` lists the calls. Who refuses the memory stands outside: `scripts/faults/faults.py`.
 #![tactic(auto)]
 
 mod answers;

@@ -1,19 +1,21 @@
 //! Doing what a person asks.
 ghost use Rattle.std.specs.Prelude.{◌≡◌, [], IfOk};
-ghost use Rattle.macaroond.specs.Doing.{DoesAttenuate, DoesInspect, DoesKeygen, DoesMint, DoesTask};
+ghost use Rattle.macaroond.specs.Doing.{DoesAttenuate, DoesInspect, DoesMint, DoesTask};
 ghost use Rattle.macaroond.specs.Doing.{DoesVerify, EndsTask};
 ghost use Rattle.macaroond.specs.People.{IsToldSo, SaysWords, SaysWordsAlone, attenuate_asked};
 ghost use Rattle.macaroond.specs.People.{mint_asked, person_status, said_status, verify_asked};
 
 use super::asking::{AttenuateWords, MintWords, VerifyWords};
-use super::given::{draw_secret, load_keys, read_form, read_moment, read_token};
+use super::given::{load_keys, read_form, read_moment, read_token};
+use super::keygen::{do_check, do_keygen};
+use super::readers::warn_of_readers;
 use super::{PersonFault, Task};
 use crate::status::Status;
 use mac_keys::KeyTable;
 use mac_wire::{TokenForm, WriterSink, send_all};
-use mac_words::{Said, key_line, say_attenuate, say_inspect, say_mint, say_verify, warnings};
+use mac_words::{Said, say_attenuate, say_inspect, say_mint, say_verify, warnings};
 use std::alloc::{Alloc, Global};
-use std::fs::Files;
+use std::fs::{File, Files};
 use std::io;
 use std::random::RandomSource;
 use std::time::Clock;
@@ -21,14 +23,14 @@ use std::time::Clock;
 /// Does what a person asks, tells what comes of it, and says how the run ends.
 pub fn run_task<R>(rt: &R, task: &Task) -> Status
 where
-    R: Alloc<A = Global> + Input + Print + Eprint + Files + Clock + RandomSource + Sync,
+    R: Alloc<A = Global> + Input + Print + Eprint,
+    R: Files<File = File> + Clock + RandomSource + Sync,
     R::Reader: Send,
-    R::File: Send,
     ensures { EndsTask task.now result }
 {
     match do_task(rt, task) {
         Ok(said) => {
-            warn_of_caveats(rt, task, &said);
+            warn(rt, task, &said);
             tell_said(rt, task, &said)
         }
         Err(fault) => tell_person(rt, fault),
@@ -38,32 +40,18 @@ where
 /// What is said to the person.
 fn do_task<'a, R>(rt: &R, task: &'a Task) -> Result<Said, PersonFault<'a>>
 where
-    R: Alloc<A = Global> + Input + Files + Clock + RandomSource,
+    R: Alloc<A = Global> + Input + Files<File = File> + Clock + RandomSource,
     R::Reader: Send,
-    R::File: Send,
     ensures { IfOk result (DoesTask task.now) }
 {
     match task {
-        Task::Keygen { name } => do_keygen(rt, name.as_str()),
+        Task::Keygen(words) => do_keygen(rt, words),
+        Task::Check { keys } => do_check(rt, keys.as_str()),
         Task::Mint(words) => do_mint(rt, words),
         Task::Attenuate(words) => do_attenuate(rt, words),
         Task::Verify(words) => do_verify(rt, words),
         Task::Inspect { token } => do_inspect(rt, token.as_str()),
     }
-}
-
-/// The line of a key file with a new secret.
-fn do_keygen<'a, R>(rt: &R, name: &str) -> Result<Said, PersonFault<'a>>
-where
-    R: Alloc<A = Global> + RandomSource,
-    ensures { IfOk result (DoesKeygen name.now) }
-{
-    let secret = draw_secret(rt)?;
-    let text = key_line(rt.alloc(), name, &secret)?;
-    Ok(Said {
-        text,
-        is_refusal: false,
-    })
 }
 
 /// What is said of a mint: first its form is read, then its key file.
@@ -167,16 +155,22 @@ fn say_verify_under<'a>(
     )?)
 }
 
-/// Warns on standard error of the caveats of a new token that will not hold as bounds of time.
-fn warn_of_caveats<R: Alloc<A = Global> + Eprint>(rt: &R, task: &Task, said: &Said) {
+/// Warns on standard error of what is right but seldom meant: caveats of a new token that will not
+/// hold as bounds of time, and a checked key file that others than its owner may use.
+fn warn<R: Alloc<A = Global> + Eprint + Files>(rt: &R, task: &Task, said: &Said) {
     if said.is_refusal {
         return;
     }
-    let caveats = match task {
-        Task::Mint(words) => words.caveats.as_slice(),
-        Task::Attenuate(words) => words.caveats.as_slice(),
-        Task::Keygen { .. } | Task::Verify(_) | Task::Inspect { .. } => return,
-    };
+    match task {
+        Task::Mint(words) => warn_of_caveats(rt, words.caveats.as_slice()),
+        Task::Attenuate(words) => warn_of_caveats(rt, words.caveats.as_slice()),
+        Task::Check { keys } => warn_of_readers(rt, keys.as_str()),
+        Task::Keygen(_) | Task::Verify(_) | Task::Inspect { .. } => {},
+    }
+}
+
+/// Warns on standard error of the caveats that will not hold as bounds of time.
+fn warn_of_caveats<R: Alloc<A = Global> + Eprint>(rt: &R, caveats: &[String]) {
     if let Ok(text) = warnings(rt.alloc(), caveats) {
         tell_text(rt, text.as_slice());
     }

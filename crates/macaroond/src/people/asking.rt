@@ -2,7 +2,8 @@
 ghost use Rattle.std.specs.Prelude.{◌≡◌, codes, map, option_map, string_bytes, IfOk};
 ghost use Rattle.clap.specs.Words.{all_of, first_of, found_of, rows_of};
 ghost use Rattle.mac_words.specs.Payload.{texts_of};
-ghost use Rattle.macaroond.specs.People.{HasAttenuate, HasMint, HasTask, HasVerify, IsTaskName};
+ghost use Rattle.macaroond.specs.People.{HasAttenuate, HasKeygen, HasMint, HasTask, HasVerify};
+ghost use Rattle.macaroond.specs.People.{IsTaskName};
 ghost use Rattle.macaroond.specs.People.{task_name, text_given, texts_given};
 
 use clap::ArgMatches;
@@ -11,10 +12,12 @@ use std::alloc::{AllocError, Global};
 /// What a person asks of the program, in the words of the command line.
 #[derive(Drop)]
 pub enum Task {
-    /// Print a key line with a new secret.
-    Keygen {
-        /// The name of the key.
-        name: String,
+    /// Make a key line with a new secret, or drop an old one.
+    Keygen(KeygenWords),
+    /// Tell what a key file holds.
+    Check {
+        /// The path of the key file.
+        keys: String,
     },
     /// Print a new token.
     Mint(MintWords),
@@ -27,6 +30,19 @@ pub enum Task {
         /// The token.
         token: String,
     },
+}
+
+/// The words of a keygen: of the three paths one at most is to be given.
+#[derive(Drop)]
+pub struct KeygenWords {
+    /// The name of the key.
+    pub name: String,
+    /// The path of a new file for the line.
+    pub into: Option<String>,
+    /// The path of a key file in which the line is put above the name's old one.
+    pub above: Option<String>,
+    /// The path of a key file from which the name's lower line is dropped.
+    pub drop: Option<String>,
 }
 
 /// The words of a mint.
@@ -80,7 +96,8 @@ pub fn read_task(alloc: Global, name: &str, options: &ArgMatches<'_>) -> Result<
         × HasTask task (rows_of (found_of options.now))) }
 {
     match name {
-        "keygen" => read_keygen(alloc, options),
+        "keygen" => Ok(Task::Keygen(read_keygen(alloc, options)?)),
+        "check" => read_check(alloc, options),
         "mint" => Ok(Task::Mint(read_mint(alloc, options)?)),
         "attenuate" => Ok(Task::Attenuate(read_attenuate(alloc, options)?)),
         "verify" => Ok(Task::Verify(read_verify(alloc, options)?)),
@@ -89,13 +106,25 @@ pub fn read_task(alloc: Global, name: &str, options: &ArgMatches<'_>) -> Result<
     }
 }
 
-/// The task of the arguments of `keygen`.
-fn read_keygen(alloc: Global, options: &ArgMatches<'_>) -> Result<Task, AllocError>
-    ensures { IfOk result (λ task. (task_name task ≡ codes "keygen")
+/// The words of the arguments of `keygen`.
+fn read_keygen(alloc: Global, options: &ArgMatches<'_>) -> Result<KeygenWords, AllocError>
+    ensures { IfOk result (λ words. HasKeygen words (rows_of (found_of options.now))) }
+{
+    Ok(KeygenWords {
+        name: read_text_or_empty(alloc, options, "name")?,
+        into: read_optional_text(alloc, options, "into")?,
+        above: read_optional_text(alloc, options, "above")?,
+        drop: read_optional_text(alloc, options, "drop")?,
+    })
+}
+
+/// The task of the arguments of `check`.
+fn read_check(alloc: Global, options: &ArgMatches<'_>) -> Result<Task, AllocError>
+    ensures { IfOk result (λ task. (task_name task ≡ codes "check")
         × HasTask task (rows_of (found_of options.now))) }
 {
-    let name = read_text_or_empty(alloc, options, "name")?;
-    Ok(Task::Keygen { name })
+    let keys = read_text_or_empty(alloc, options, "keys")?;
+    Ok(Task::Check { keys })
 }
 
 /// The task of the arguments of `inspect`.

@@ -3,8 +3,9 @@ ghost use Rattle.std.specs.Prelude.{◌≡◌};
 ghost use Rattle.macaroond.specs.People.{person_status};
 ghost use Rattle.macaroond.specs.declared.people.fault.PersonFault.TheVariants as fault;
 
+use crate::fault::PipeFault;
 use crate::status::Status;
-use mac_keys::LineFault;
+use mac_keys::{ChangeFault, LineFault};
 use mac_words::{FieldFault, NameFault, TextFault};
 use std::alloc::AllocError;
 use thiserror::Error;
@@ -39,6 +40,42 @@ pub enum PersonFault<'a> {
     KeyFile {
         path: &'a str,
     },
+    /// A line of the key file that was to be checked, counted from 1, and what is wrong with it.
+    #[error("{path}: line {line}: {kind}")]
+    Checked {
+        path: &'a str,
+        line: u64,
+        kind: LineFault,
+    },
+    /// The keys of the name don't change so.
+    #[error("{path}: {why}")]
+    Change {
+        path: &'a str,
+        why: ChangeFault,
+    },
+    /// The file that was to be made is there.
+    #[error("{path}: the file is there already")]
+    Exists {
+        path: &'a str,
+    },
+    /// The file beside the key file is there.
+    #[error("{path}.new: the file is there already")]
+    Beside {
+        path: &'a str,
+    },
+    /// Somebody wrote the key file while its change was made.
+    #[error("{path}: the key file was changed meanwhile")]
+    Meanwhile {
+        path: &'a str,
+    },
+    /// A file can't be written.
+    #[error("{path}: the key file can't be written, or not for its owner")]
+    Unwritten {
+        path: &'a str,
+    },
+    /// Two options name files.
+    #[error("of `--into`, `--above` and `--drop` one alone may be given")]
+    Options,
     /// Standard input.
     #[error("standard input can't be read, or is longer than 16777216 bytes")]
     Input,
@@ -57,6 +94,15 @@ pub enum PersonFault<'a> {
 }
 
 impl<'a> PersonFault<'a> {
+    /// Why the key file at a path gives no table, in words for people.
+    pub(crate) fn of_key_file(path: &'a str, fault: PipeFault) -> PersonFault<'a> {
+        match fault {
+            PipeFault::Keys { line, kind } => PersonFault::KeyLine { path, line, kind },
+            PipeFault::Device | PipeFault::TooLong => PersonFault::KeyFile { path },
+            PipeFault::Memory => PersonFault::Memory,
+        }
+    }
+
     /// How a run ends that has this fault.
     pub fn status(self) -> Status
         ensures { result ≡ person_status self.entry }
@@ -70,7 +116,13 @@ impl<'a> PersonFault<'a> {
             | PersonFault::Name(_)
             | PersonFault::Token(_)
             | PersonFault::Form
-            | PersonFault::Moment => Status::BadLine,
+            | PersonFault::Moment
+            | PersonFault::Options => Status::BadLine,
+            PersonFault::Checked { .. }
+            | PersonFault::Change { .. }
+            | PersonFault::Exists { .. }
+            | PersonFault::Beside { .. }
+            | PersonFault::Meanwhile { .. } => Status::Refused,
             _ => Status::DeviceFault,
         }
     }

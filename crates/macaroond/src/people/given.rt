@@ -28,9 +28,7 @@ where
 {
     match read_keys(rt, path) {
         Ok(table) => Ok(table),
-        Err(PipeFault::Keys { line, kind }) => Err(PersonFault::KeyLine { path, line, kind }),
-        Err(PipeFault::Device | PipeFault::TooLong) => Err(PersonFault::KeyFile { path }),
-        Err(PipeFault::Memory) => Err(PersonFault::Memory),
+        Err(fault) => Err(PersonFault::of_key_file(path, fault)),
     }
 }
 

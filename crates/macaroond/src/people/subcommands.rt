@@ -2,9 +2,9 @@
 ghost use Rattle.std.specs.Prelude.{◌≡◌, false, true, IfOk};
 ghost use Rattle.clap.specs.Words.{app_of, rule_of};
 ghost use Rattle.macaroond.specs.Arguments.{option, required};
-ghost use Rattle.macaroond.specs.People.{attenuate_command, inspect_command, keygen_command};
-ghost use Rattle.macaroond.specs.People.{mint_command, repeated, verify_command, with_key};
-ghost use Rattle.macaroond.specs.People.{with_people, word};
+ghost use Rattle.macaroond.specs.People.{attenuate_command, check_command, inspect_command};
+ghost use Rattle.macaroond.specs.People.{keygen_command, mint_command, repeated, verify_command};
+ghost use Rattle.macaroond.specs.People.{with_key, with_people, word};
 
 use crate::parts::{KEYS_HELP, add_arg, add_subcommand, build_option, build_subcommand};
 use clap::builder::ValueParser;
@@ -14,17 +14,41 @@ use std::alloc::{AllocError, Global};
 /// What the help of `keygen` says below its options.
 const KEYGEN_HELP: &str = "\
 Prints a line of a key file, `key NAME SECRET`: the secret is 32 random bytes of the system, in
-hexadecimal. NAME has 1 to 64 letters, digits, dots, underscores or dashes. Whoever has the line
-can mint tokens under the key. A new line above the name's old one changes the key: it mints, and
-tokens of the old line are verified until that is dropped.
+hexadecimal. NAME has 1 to 64 letters, digits, dots, underscores or dashes. Whoever can read the
+line can mint tokens under the key, so a key file is for its owner alone: the options that write
+files give them mode 600. One of them at most may be given:
+  --into makes a file that isn't there yet, with the line.
+  --above puts the line above that of a name which has one. From then on the new key mints, and
+  tokens of the old one are verified all the same.
+  --drop makes no key. It drops the lower line of a name that has two, once its tokens are gone.
+The last two write FILE.new, for the owner of FILE, and move it over FILE, whose other bytes stay.
 
 Example:
-  macaroond keygen bank >> keys
+  macaroond keygen bank --into keys
+  macaroond keygen bank --above keys
+  macaroond keygen bank --drop keys
 
 Exit status:
-  0  the line was printed
+  0  the line was printed, or the file was written
+  1  refused, and nothing was changed: the file is there already or was changed meanwhile, or the
+     name has no line, or two already, or one alone
   2  a bad command line
-  3  the system gives no random bytes, or standard output failed
+  3  the system gives no random bytes, a file or standard output failed, or a key line has a fault
+  4  memory ran out";
+
+/// What the help of `check` says below its options.
+const CHECK_HELP: &str = "\
+Prints a line for each name of the key file, in the order of their bytes: `NAME: one key`, or
+`NAME: two keys`. Warns on standard error of a file that others than its owner may read or write.
+
+Example:
+  macaroond check --keys keys
+
+Exit status:
+  0  each line of the file is right, and its names were printed
+  1  a line has a fault; standard error names the first with its number
+  2  a bad command line
+  3  the key file or standard output failed
   4  memory ran out";
 
 /// What the help of `mint` says below its options.
@@ -94,6 +118,12 @@ Exit status:
   3  standard input or standard output failed
   4  memory ran out";
 
+const INTO_HELP: &str = "Makes this file with the line, for its owner alone";
+
+const ABOVE_HELP: &str = "Puts the line above the name's old one in this key file";
+
+const DROP_HELP: &str = "Drops the name's lower line from this key file";
+
 const KEY_HELP: &str = "The name of the key";
 
 const TOKEN_HELP: &str = "The token, or - for a line of standard input";
@@ -111,26 +141,35 @@ pub(crate) fn add_people<'a>(alloc: Global, program: Command<'a>) -> Result<Comm
     ensures { IfOk result (λ whole. app_of whole ≡ with_people (app_of program.entry)) }
 {
     let program = add_subcommand(program, build_keygen(alloc)?)?;
+    let program = add_subcommand(program, build_check(alloc)?)?;
     let program = add_subcommand(program, build_mint(alloc)?)?;
     let program = add_subcommand(program, build_attenuate(alloc)?)?;
     let program = add_subcommand(program, build_verify(alloc)?)?;
     add_subcommand(program, build_inspect(alloc)?)
 }
 
-/// The subcommand `keygen`, with the name of the key.
+/// The subcommand `keygen`, with three options and the name of the key.
 fn build_keygen<'a>(alloc: Global) -> Result<Command<'a>, AllocError>
     ensures { IfOk result (λ whole. app_of whole ≡ keygen_command) }
 {
     let command = build_subcommand(
         alloc,
         "keygen",
-        "Prints a key line with a new secret",
+        "Makes a key line with a new secret, or drops an old one",
         KEYGEN_HELP,
     );
-    add_arg(
-        command,
-        build_word(alloc, "name", "NAME", "The name of the key"),
-    )
+    let command = add_arg(command, build_option(alloc, "into", "FILE", INTO_HELP))?;
+    let command = add_arg(command, build_option(alloc, "above", "FILE", ABOVE_HELP))?;
+    let command = add_arg(command, build_option(alloc, "drop", "FILE", DROP_HELP))?;
+    add_arg(command, build_word(alloc, "name", "NAME", KEY_HELP))
+}
+
+/// The subcommand `check`, with the key file.
+fn build_check<'a>(alloc: Global) -> Result<Command<'a>, AllocError>
+    ensures { IfOk result (λ whole. app_of whole ≡ check_command) }
+{
+    let command = build_subcommand(alloc, "check", "Tells what a key file holds", CHECK_HELP);
+    add_arg(command, build_required(alloc, "keys", "FILE", KEYS_HELP))
 }
 
 /// The subcommand `mint`: of its six options three have to be given.

@@ -12,4 +12,5 @@ returns c =
     let mode = c.in_ok-listen-4.ensures ∙ ap₂ with_rule workers c.build_option.ensures.rule in
     let idle = c.in_ok-listen-5.ensures ∙ ap₂ with_rule mode c.build_count.ensures.rule in
     let loops = c.in_ok-listen-6.ensures ∙ ap₂ with_rule idle c.build_count-2.ensures.rule in
-    IfOk-weaker c.add_arg-7.result _ _ (λ listen connections. connections ∙ ap₂ with_rule loops c.build_count-connections.ensures.rule) c.add_arg-7.ensures
+    let connections = c.in_ok-listen-7.ensures ∙ ap₂ with_rule loops c.build_count-connections.ensures.rule in
+    IfOk-weaker c.add_arg-8.result _ _ (λ listen drain. drain ∙ ap₂ with_rule connections c.build_count-drain.ensures.rule) c.add_arg-8.ensures

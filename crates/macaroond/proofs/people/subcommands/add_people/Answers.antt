@@ -1,7 +1,7 @@
 use Rattle.std.proofs.Common.{◌≡◌, ◌∙◌, ap, ap₂}
 use Rattle.std.proofs.lemmas.Result.{IfOk-weaker}
 use Rattle.clap.specs.Words.{App, app_of, with_subcommand}
-use Rattle.macaroond.specs.People.{attenuate_command, keygen_command, mint_command, verify_command}
+use Rattle.macaroond.specs.People.{attenuate_command, check_command, keygen_command, mint_command, verify_command}
 use Rattle.macaroond.proofs.people.subcommands.add_people.Goals as goal
 
 -- a program with one more subcommand
@@ -12,7 +12,8 @@ pub returns : goal.returns
 returns c =
     let start = app_of c.args.program in
     let first : app_of c.in_ok-program.program ≡ with_one start keygen_command = c.in_ok-program.ensures ∙ ap (λ (a : App). with_one start a) c.in_ok-build_keygen.ensures in
-    let second : app_of c.in_ok-program-2.program ≡ with_one (with_one start keygen_command) mint_command = c.in_ok-program-2.ensures ∙ ap₂ with_one first c.in_ok-build_mint.ensures in
-    let third : app_of c.in_ok-program-3.program ≡ with_one (with_one (with_one start keygen_command) mint_command) attenuate_command = c.in_ok-program-3.ensures ∙ ap₂ with_one second c.in_ok-build_attenuate.ensures in
-    let fourth : app_of c.in_ok-program-4.program ≡ with_one (with_one (with_one (with_one start keygen_command) mint_command) attenuate_command) verify_command = c.in_ok-program-4.ensures ∙ ap₂ with_one third c.in_ok-build_verify.ensures in
-    IfOk-weaker c.add_subcommand-5.result _ _ (λ whole last. last ∙ ap₂ with_one fourth c.in_ok-build_inspect.ensures) c.add_subcommand-5.ensures
+    let second : app_of c.in_ok-program-2.program ≡ with_one (with_one start keygen_command) check_command = c.in_ok-program-2.ensures ∙ ap₂ with_one first c.in_ok-build_check.ensures in
+    let third : app_of c.in_ok-program-3.program ≡ with_one (with_one (with_one start keygen_command) check_command) mint_command = c.in_ok-program-3.ensures ∙ ap₂ with_one second c.in_ok-build_mint.ensures in
+    let fourth : app_of c.in_ok-program-4.program ≡ with_one (with_one (with_one (with_one start keygen_command) check_command) mint_command) attenuate_command = c.in_ok-program-4.ensures ∙ ap₂ with_one third c.in_ok-build_attenuate.ensures in
+    let fifth : app_of c.in_ok-program-5.program ≡ with_one (with_one (with_one (with_one (with_one start keygen_command) check_command) mint_command) attenuate_command) verify_command = c.in_ok-program-5.ensures ∙ ap₂ with_one fourth c.in_ok-build_verify.ensures in
+    IfOk-weaker c.add_subcommand-6.result _ _ (λ whole last. last ∙ ap₂ with_one fifth c.in_ok-build_inspect.ensures) c.add_subcommand-6.ensures

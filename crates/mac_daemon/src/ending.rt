@@ -1,0 +1,136 @@
+//! How far a daemon is: whether it has begun, was told to end, and has ended.
+
+use crate::entrance::Shutter;
+use crate::fault::DaemonFault;
+use std::alloc::{AllocError, Global};
+use std::sync::{Arc, Condvar, CondvarTimeouts, Mutex, Wait};
+use std::time::{Clock, Duration};
+
+/// What a daemon is told.
+#[derive(Clone, Copy, Debug, PartialEq, Eq)]
+pub enum Call {
+    /// Nothing yet.
+    Nothing,
+    /// To look at once at what it looks at now and then.
+    Look,
+    /// To end.
+    End,
+}
+
+/// What a daemon that may be told to end shares with who tells it.
+#[derive(Drop)]
+pub struct Ending {
+    shutter: Arc<Shutter, Global>,
+    standing: Mutex<Standing>,
+    change: Condvar,
+}
+
+/// How far a daemon is.
+#[derive(Drop)]
+struct Standing {
+    has_begun: bool,
+    // Whether it was told to look, and hasn't heard of it.
+    looks: bool,
+    // How often it was told to end.
+    calls: u64,
+    is_over: bool,
+    // Why it could not begin, until that is asked for.
+    fault: Option<DaemonFault>,
+}
+
+impl Ending {
+    /// The end of a daemon whose connections come in through the entrance of this shutter.
+    pub fn new(
+        alloc: Global,
+        shutter: &Arc<Shutter, Global>,
+    ) -> Result<Arc<Ending, Global>, AllocError> {
+        let ending = Ending {
+            shutter: Arc::try_clone(shutter)?,
+            standing: Mutex::new(Standing {
+                has_begun: false,
+                looks: false,
+                calls: 0,
+                is_over: false,
+                fault: None,
+            }),
+            change: Condvar::new(),
+        };
+        Ok(Arc::new(alloc, ending)?)
+    }
+
+    /// Tells the daemon to end: once what it has read is answered, or at once where it was told
+    /// before.
+    pub fn tell<R: Wait>(&self, rt: &R) {
+        let mut standing = self.standing.lock(rt);
+        standing.calls = standing.calls.saturating_add(1);
+        drop(standing);
+        self.shutter.shut();
+        self.change.notify_all();
+    }
+
+    /// Tells the daemon to look.
+    pub fn prompt<R: Wait>(&self, rt: &R) {
+        let mut standing = self.standing.lock(rt);
+        standing.looks = true;
+        drop(standing);
+        self.change.notify_all();
+    }
+
+    /// Notes that the daemon has begun.
+    pub fn begin<R: Wait>(&self, rt: &R) {
+        let mut standing = self.standing.lock(rt);
+        standing.has_begun = true;
+        drop(standing);
+        self.change.notify_all();
+    }
+
+    /// Notes that the daemon has ended, or why it could not begin.
+    pub fn finish<R: Wait>(&self, rt: &R, outcome: Result<(), DaemonFault>) {
+        let mut standing = self.standing.lock(rt);
+        standing.is_over = true;
+        standing.fault = outcome.err();
+        drop(standing);
+        self.change.notify_all();
+    }
+
+    /// Waits until the daemon has begun, or could not.
+    pub fn await_begin<R: Wait>(&self, rt: &R) -> Result<(), DaemonFault> {
+        let standing = self.standing.lock(rt);
+        let waits = |standing: &mut Standing| !standing.has_begun && !standing.is_over;
+        let mut standing = self.change.wait_while(rt, standing, waits);
+        match standing.fault.take() {
+            Some(fault) => Err(fault),
+            None => Ok(()),
+        }
+    }
+
+    /// Waits until the daemon is told something, for so long at most. One that has ended by itself is
+    /// told to end.
+    pub fn await_call<R: Wait + Clock>(&self, rt: &R, patience: Duration) -> Call {
+        let standing = self.standing.lock(rt);
+        let waits = |standing: &mut Standing| standing.calls == 0
+            && !standing.is_over
+            && !standing.looks;
+        let (mut standing, _) = self
+            .change
+            .wait_timeout_while(rt, standing, patience, waits);
+        if standing.calls > 0 || standing.is_over {
+            return Call::End;
+        }
+        let looks = standing.looks;
+        standing.looks = false;
+        if looks { Call::Look } else { Call::Nothing }
+    }
+
+    /// Waits until the daemon has ended, for so many seconds at most, and no longer than until it
+    /// is told a second time. Whether it has ended.
+    pub fn await_end<R: Wait + Clock>(&self, rt: &R, seconds: u64) -> bool {
+        let standing = self.standing.lock(rt);
+        let patience = Duration::from_secs(seconds);
+        let waits = |standing: &mut Standing| standing.calls < 2 && !standing.is_over;
+        let (standing, _) = self
+            .change
+            .wait_timeout_while(rt, standing, patience, waits);
+        standing.is_over
+    }
+}

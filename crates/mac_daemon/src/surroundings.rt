@@ -1,0 +1,64 @@
+//! What a daemon finds in the environment that it is started in.
+
+use crate::ending::Ending;
+use crate::fault::DaemonFault;
+use mac_system::{NotifySocket, Signal, Signals, handed_listener};
+use std::alloc::{Alloc, Global};
+use std::env::Env;
+use std::os::unix::net::UnixListener;
+use std::process::Process;
+use std::sync::{Arc, Wait};
+use std::thread;
+use std::thread::Threads;
+
+/// What a daemon is given by who starts it.
+#[derive(Drop)]
+pub struct Surroundings {
+    /// The socket that was opened for it.
+    pub listener: Option<UnixListener>,
+    /// Where signals are read that were held back for it.
+    pub signals: Option<Signals>,
+    /// The service manager that waits to be told.
+    pub manager: Option<NotifySocket>,
+}
+
+impl Surroundings {
+    /// What the environment of this process names. A socket that was handed over and can't be
+    /// served is an error.
+    pub fn find<R: Env + Alloc<A = Global>>(
+        rt: &R,
+        process: Process,
+    ) -> Result<Surroundings, DaemonFault> {
+        Ok(Surroundings {
+            listener: handed_listener(rt, process)?,
+            signals: Signals::of_environment(rt),
+            manager: NotifySocket::of_environment(rt),
+        })
+    }
+}
+
+/// Starts the thread that tells a daemon to end at SIGTERM and SIGINT, and to look at SIGHUP.
+pub fn heed_signals<R>(
+    rt: R,
+    signals: Signals,
+    ending: &Arc<Ending, Global>,
+) -> Result<(), DaemonFault>
+where
+    R: Threads + Wait + Copy + Send + 'static,
+{
+    let ending = Arc::try_clone(ending)?;
+    match thread::spawn(&rt, move || heed_each(&rt, signals, &ending)) {
+        Ok(_) => Ok(()),
+        Err(_) => Err(DaemonFault::NoThread),
+    }
+}
+
+fn heed_each<R: Wait>(rt: &R, signals: Signals, ending: &Ending) {
+    for _ in rt.forever() {
+        match signals.wait() {
+            None => return,
+            Some(Signal::HangUp) => ending.prompt(rt),
+            Some(Signal::Interrupt | Signal::Terminate) => ending.tell(rt),
+        }
+    }
+}

@@ -1,0 +1,121 @@
+//! The key file of a daemon as the system shows it: its state, and its text.
+ghost use Rattle.std.specs.Prelude.{IfOk};
+ghost use Rattle.macaroond.specs.Doing.{IsKeyTable};
+
+use crate::fault::PipeFault;
+use crate::input::read_input;
+use crate::key_file::read_keys;
+use mac_board::{Editor, FileState, Mark, ReadFault, Sight, Stamp};
+use mac_keys::KeyTable;
+use mac_wire::ReaderSource;
+use std::alloc::{Alloc, AllocError, Global};
+use std::fs::{File, Files, Metadata};
+use std::io::ErrorKind;
+use std::os::unix::fs::MetadataExt;
+use std::sync::Wait;
+use std::{fs, io};
+
+/// What a key file gave first.
+#[derive(Drop)]
+pub(crate) struct FirstKeys {
+    /// Its table.
+    pub(crate) table: KeyTable,
+    /// The state of the file before it was read.
+    pub(crate) before: FileState,
+    /// Its state after.
+    pub(crate) after: FileState,
+}
+
+/// Reads a key file for the first time.
+pub(crate) fn read_first<R>(rt: &R, path: &str) -> Result<FirstKeys, PipeFault>
+where
+    R: Files + Alloc<A = Global>,
+    R::File: Send,
+    ensures { IfOk result (λ first. IsKeyTable first.table) }
+{
+    let before = find_state(rt, path);
+    let table = read_keys(rt, path)?;
+    let after = find_state(rt, path);
+    Ok(FirstKeys {
+        table,
+        before,
+        after,
+    })
+}
+
+/// Looks at a key file, and reads it where its editor wants that.
+pub(crate) fn look_at<R, K>(rt: &R, path: &str, editor: &Editor<K>) -> Result<Sight, AllocError>
+where
+    R: Files<File = File> + Alloc<A = Global>,
+    K: Wait + Drop,
+{
+    let found = find_state(rt, path);
+    match found {
+        FileState::Marked(_) if editor.wants(found) => read_sight(rt, path, found),
+        _ => Ok(Sight::Glance(found)),
+    }
+}
+
+/// Reads a file that was found in a state, between two looks at the very file that is read.
+fn read_sight<R>(rt: &R, path: &str, found: FileState) -> Result<Sight, AllocError>
+where
+    R: Files<File = File> + Alloc<A = Global>,
+{
+    let Ok(file) = File::open(rt, path) else {
+        return Ok(Sight::Read {
+            before: found,
+            text: Err(ReadFault::Unreadable),
+            after: find_state(rt, path),
+        });
+    };
+    let before = state_of(file.metadata());
+    let text = read_text(rt.alloc(), &file)?;
+    let after = state_of(file.metadata());
+    Ok(Sight::Read {
+        before,
+        text,
+        after,
+    })
+}
+
+/// The text of a file, if it can be read and isn't too long.
+fn read_text(alloc: Global, file: &File) -> Result<Result<Vec<u8>, ReadFault>, AllocError> {
+    match read_input(alloc, &mut ReaderSource::new(file)) {
+        Ok(text) => Ok(Ok(text)),
+        Err(PipeFault::TooLong) => Ok(Err(ReadFault::TooLong)),
+        Err(PipeFault::Memory) => Err(AllocError),
+        Err(_) => Ok(Err(ReadFault::Unreadable)),
+    }
+}
+
+/// The state of the file at a path.
+fn find_state<R: Files>(rt: &R, path: &str) -> FileState {
+    state_of(fs::metadata(rt, path))
+}
+
+/// The state that the system tells of a file.
+fn state_of(told: io::Result<Metadata>) -> FileState {
+    match told {
+        Ok(found) if found.is_file() => FileState::Marked(mark_of(&found)),
+        Ok(_) => FileState::Unknown,
+        Err(refused) if refused.kind() == ErrorKind::NotFound => FileState::Missing,
+        Err(_) => FileState::Unknown,
+    }
+}
+
+/// The mark of a file.
+fn mark_of(found: &Metadata) -> Mark {
+    Mark {
+        device: found.dev(),
+        inode: found.ino(),
+        size: found.size(),
+        modified: Stamp {
+            seconds: found.mtime(),
+            nanoseconds: found.mtime_nsec(),
+        },
+        changed: Stamp {
+            seconds: found.ctime(),
+            nanoseconds: found.ctime_nsec(),
+        },
+    }
+}

@@ -1,0 +1,268 @@
+#!/usr/bin/env python3
+"""How `macaroond listen` ends where it is told to: what has come is answered, and nothing is cut off;
+how a socket is handed over to it; and what it tells a service manager."""
+import os
+import pathlib
+import re
+import signal
+import socket
+import subprocess
+import sys
+import tempfile
+import threading
+import time
+
+sys.path.insert(0, str(pathlib.Path(__file__).resolve().parents[1]))
+from check.daemon_rows import MINT, NO_REQUEST, SLOW_TOKEN, TOKEN
+from common import KEYS
+from common.daemon import PROGRAM, connected, frame, received
+
+import request
+
+# How many seconds anything may take, on a machine that is busy with other work.
+PATIENCE = 60
+# The requests of a rolling restart, how many clients send them, and how many stand out at a time.
+ALL, CLIENTS, WINDOW = 200_000, 4, 100
+# How many seconds pass between restarts meanwhile, and how many of these there are at least.
+BETWEEN, RESTARTS = 0.1, 3
+MINTING, MINTED = frame(MINT), frame(b"\x01" + TOKEN)
+DEAR = frame(request.verify("bank", SLOW_TOKEN, 0))
+MALFORMED = frame(b"\x14")
+
+
+def started(path, *words, **how):
+    """A daemon that clients can connect to, and what it printed first."""
+    pipes = {"stdout": subprocess.PIPE, "stderr": subprocess.PIPE, "text": True}
+    command = [PROGRAM, "listen", "--socket", path, "--keys", KEYS, "--workers", "2", *words]
+    run = subprocess.Popen(command, **{**pipes, **how})
+    run.first = run.stdout.readline()
+    return run
+
+
+def ended(run):
+    """How a run ended, and what it said."""
+    try:
+        output, error = run.communicate(timeout=PATIENCE)
+    except subprocess.TimeoutExpired:
+        run.kill()
+        return "it runs on"
+    return run.returncode, output, error
+
+
+def to_the_end(stream):
+    """All that comes, until the stream's end."""
+    pieces = []
+    while piece := stream.recv(65_536):
+        pieces.append(piece)
+    return b"".join(pieces)
+
+
+def said(left, cut=0):
+    """How a daemon ends, and what it says of its connections, where there is anything to be said."""
+    lines = [f"told to end; connections left: {left}\n"] * (left > 0)
+    return 0, "", "".join(lines + [f"ended; connections cut off: {cut}\n"] * (cut > 0))
+
+
+def quiet_clients(folder):
+    """Clients that wait for nothing read an end."""
+    for number in (signal.SIGTERM, signal.SIGINT):
+        path = f"{folder}/quiet"
+        run = started(path)
+        with connected(path) as stream:
+            stream.sendall(frame(b""))
+            yield "a reply before the end", received(stream, len(NO_REQUEST)), NO_REQUEST
+            run.send_signal(number)
+            yield "an end", to_the_end(stream), b""
+        yield f"how it ends at {number.name}", ended(run), said(1)
+
+
+def owed_replies(folder, requests, reply):
+    """Requests that were written before it was told are answered, all of them."""
+    path = f"{folder}/owed"
+    run = started(path)
+    with connected(path) as stream:
+        stream.sendall(frame(b""))
+        received(stream, len(NO_REQUEST))
+        count = 0
+        stream.setblocking(False)
+        try:
+            while count < 20_000:
+                stream.sendall(requests)
+                count += 1
+        except BlockingIOError:
+            pass
+        stream.settimeout(PATIENCE)
+        run.send_signal(signal.SIGTERM)
+        came = to_the_end(stream)
+    whole, rest = divmod(len(came), len(reply))
+    yield "whole replies", rest, 0
+    yield "each as it must be", came, reply * whole
+    yield f"as many as were sent, or one fewer: {whole} of {count}", count - 1 <= whole <= count + 1, True
+    yield "how it ends", ended(run), said(1)
+
+
+def short_requests(folder):
+    yield from owed_replies(folder, MINTING, MINTED)
+
+
+def dear_requests(folder):
+    yield from owed_replies(folder, DEAR, MALFORMED)
+
+
+def cut_off(folder):
+    """A client that takes no reply is cut off once the time is up, or at a second signal."""
+    for words, again in ((["--drain", "1"], False), ([], True)):
+        path = f"{folder}/cut"
+        run = started(path, *words)
+        with connected(path) as stream:
+            stream.setblocking(False)
+            until = time.monotonic() + 3
+            while time.monotonic() < until:
+                try:
+                    stream.send(MINTING * 100)
+                except BlockingIOError:
+                    time.sleep(0.05)
+            run.send_signal(signal.SIGTERM)
+            begin = time.monotonic()
+            if again:
+                time.sleep(0.3)
+                run.send_signal(signal.SIGTERM)
+            yield "how it ends", ended(run), said(1, 1)
+            took = time.monotonic() - begin
+            yield "in time", took < 8, True
+
+
+def hang_up(folder):
+    """SIGHUP ends nothing."""
+    path = f"{folder}/hang_up"
+    run = started(path)
+    run.send_signal(signal.SIGHUP)
+    time.sleep(0.3)
+    with connected(path) as stream:
+        stream.sendall(frame(b""))
+        yield "a reply after SIGHUP", received(stream, len(NO_REQUEST)), NO_REQUEST
+    run.send_signal(signal.SIGTERM)
+    yield "how it ends", ended(run)[0], 0
+
+
+def handed_over(path):
+    """What a daemon is started by that gets this socket as descriptor 3."""
+    listener = socket.socket(socket.AF_UNIX)
+    listener.bind(path)
+    listener.listen(64)
+    script = 'exec 3<&"$1"; shift; export LISTEN_PID=$$ LISTEN_FDS=1; exec "$@"'
+    return listener, ["bash", "-c", script, "bash", str(listener.fileno())]
+
+
+def start_handed(listener, before, path):
+    command = [*before, PROGRAM, "listen", "--socket", path, "--keys", KEYS]
+    pipes = {"stdout": subprocess.PIPE, "stderr": subprocess.PIPE, "text": True}
+    run = subprocess.Popen(command, pass_fds=[listener.fileno()], **pipes)
+    run.first = run.stdout.readline()
+    return run
+
+
+class Asking(threading.Thread):
+    """A client that asks so many times, and connects anew where its connection ends: what was out is sent again."""
+
+    def __init__(self, path, count):
+        super().__init__()
+        self.path, self.left, self.fault, self.anew = path, count, None, 0
+
+    def run(self):
+        try:
+            while self.left > 0 and not self.fault:
+                with connected(self.path) as stream:
+                    self.ask(stream)
+                self.anew += 1
+        except OSError as fault:
+            self.fault = repr(fault)
+
+    def ask(self, stream):
+        """Asks until all is answered or the connection ends."""
+        while self.left > 0:
+            asked = min(WINDOW, self.left)
+            try:
+                stream.sendall(MINTING * asked)
+                gone = False
+            except BrokenPipeError:
+                gone = True
+            came = received(stream, len(MINTED) * asked)
+            whole, rest = divmod(len(came), len(MINTED))
+            if rest or came != MINTED * whole:
+                self.fault = f"{rest} bytes behind {whole} replies"
+                return
+            self.left -= whole
+            if gone or whole < asked:
+                return
+
+
+def rolling_restart(folder):
+    """Restarts behind one socket, while clients ask: each request is answered in the end, no connection is refused."""
+    path = f"{folder}/handed"
+    listener, before = handed_over(path)
+    run = start_handed(listener, before, path)
+    yield "its first line", bool(re.match("listening at ", run.first)), True
+    clients = [Asking(path, ALL // CLIENTS) for _ in range(CLIENTS)]
+    for one in clients:
+        one.start()
+    endings = []
+    while any(one.is_alive() for one in clients):
+        time.sleep(BETWEEN)
+        run.send_signal(signal.SIGTERM)
+        endings.append(ended(run)[0])
+        run = start_handed(listener, before, path)
+    for one in clients:
+        one.join()
+    run.send_signal(signal.SIGTERM)
+    endings.append(ended(run)[0])
+    listener.close()
+    yield "how the daemons ended", endings, [0] * len(endings)
+    yield f"restarts: {len(endings) - 1}", len(endings) > RESTARTS, True
+    yield "what clients met", [one.fault for one in clients], [None] * CLIENTS
+    yield "requests left", [one.left for one in clients], [0] * CLIENTS
+    yield "whether restarts met them", sum(one.anew for one in clients) > CLIENTS, True
+
+
+def no_listener(folder):
+    """What is handed over and is no socket is told."""
+    script = 'exec 3</dev/null; export LISTEN_PID=$$ LISTEN_FDS=1; exec "$@"'
+    command = ["bash", "-c", script, "bash", PROGRAM, "listen", "--socket", f"{folder}/none", "--keys", KEYS]
+    run = subprocess.run(command, capture_output=True, text=True, timeout=PATIENCE)
+    told = "descriptor 3, which was handed over, is no Unix socket that listens"
+    yield "no socket", (run.returncode, told in run.stderr), (3, True)
+
+
+def told_manager(folder):
+    """A service manager is told when clients can connect, and when the daemon ends."""
+    for name in (f"{folder}/manager", "@macaroond-manager-%d" % os.getpid()):
+        with socket.socket(socket.AF_UNIX, socket.SOCK_DGRAM) as manager:
+            manager.bind("\0" + name[1:] if name.startswith("@") else name)
+            manager.settimeout(PATIENCE)
+            run = started(f"{folder}/told", env={**os.environ, "NOTIFY_SOCKET": name})
+            yield "ready", manager.recv(100), b"READY=1"
+            run.send_signal(signal.SIGTERM)
+            yield "stopping", manager.recv(100), b"STOPPING=1"
+            yield "how it ends", ended(run), said(0)
+
+
+def faults():
+    """What went otherwise than it must, and how many checks there were."""
+    parts = [quiet_clients, short_requests, dear_requests, cut_off, hang_up, rolling_restart, no_listener, told_manager]
+    seen = []
+    for part in parts:
+        with tempfile.TemporaryDirectory() as folder:
+            seen += [(part.__name__, *check) for check in part(folder)]
+    found = [f"{part}: {what}: {str(got)[:300]} where {str(due)[:300]} is due" for part, what, got, due in seen if got != due]
+    return found, len(seen)
+
+
+def main():
+    found, count = faults()
+    if found:
+        raise SystemExit("\n".join(found))
+    print(count, "checks")
+
+
+if __name__ == "__main__":
+    main()
