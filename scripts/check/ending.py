@@ -1,6 +1,7 @@
 #!/usr/bin/env python3
 """How `macaroond listen` ends where it is told to: what has come is answered, and nothing is cut off;
 how a socket is handed over to it; and what it tells a service manager."""
+import contextlib
 import os
 import pathlib
 import re
@@ -21,10 +22,10 @@ import request
 
 # How many seconds anything may take, on a machine that is busy with other work.
 PATIENCE = 60
-# The requests of a rolling restart, how many clients send them, and how many stand out at a time.
+# The requests of rolling restarts at least, how many clients send them, and how many stand out at a time.
 ALL, CLIENTS, WINDOW = 200_000, 4, 100
-# How many seconds pass between restarts meanwhile, and how many of these there are at least.
-BETWEEN, RESTARTS = 0.1, 3
+# How many restarts there are at least, and how many seconds pass between two.
+RESTARTS, BETWEEN = 6, 0.1
 MINTING, MINTED = frame(MINT), frame(b"\x01" + TOKEN)
 DEAR = frame(request.verify("bank", SLOW_TOKEN, 0))
 MALFORMED = frame(b"\x14")
@@ -163,65 +164,67 @@ def start_handed(listener, before, path):
 
 
 class Asking(threading.Thread):
-    """A client that asks so many times, and connects anew where its connection ends: what was out is sent again."""
+    """A client that asks without end, and connects anew where its connection ends: what was out is sent again."""
 
-    def __init__(self, path, count):
+    def __init__(self, path):
         super().__init__()
-        self.path, self.left, self.fault, self.anew = path, count, None, 0
+        self.path, self.is_over, self.fault = path, False, None
+        # How many of the requests that were sent are owed a reply, how many were answered, and how often it connected.
+        self.owed, self.answered, self.connected = 0, 0, 0
 
     def run(self):
         try:
-            while self.left > 0 and not self.fault:
+            while self.owed > 0 or not self.is_over:
                 with connected(self.path) as stream:
+                    self.connected += 1
                     self.ask(stream)
-                self.anew += 1
-        except OSError as fault:
+        except (OSError, ValueError) as fault:
             self.fault = repr(fault)
 
     def ask(self, stream):
-        """Asks until all is answered or the connection ends."""
-        while self.left > 0:
-            asked = min(WINDOW, self.left)
-            try:
+        """Asks until all is answered, or the connection ends."""
+        while self.owed > 0 or not self.is_over:
+            self.owed = asked = self.owed or WINDOW
+            # Where the connection has ended, replies may be there all the same.
+            with contextlib.suppress(BrokenPipeError):
                 stream.sendall(MINTING * asked)
-                gone = False
-            except BrokenPipeError:
-                gone = True
             came = received(stream, len(MINTED) * asked)
             whole, rest = divmod(len(came), len(MINTED))
             if rest or came != MINTED * whole:
-                self.fault = f"{rest} bytes behind {whole} replies"
-                return
-            self.left -= whole
-            if gone or whole < asked:
+                raise ValueError(f"{rest} bytes behind {whole} replies")
+            self.owed -= whole
+            self.answered += whole
+            if whole < asked:
                 return
 
 
 def rolling_restart(folder):
-    """Restarts behind one socket, while clients ask: each request is answered in the end, no connection is refused."""
+    """Restarts behind one socket, while clients ask: each request is answered in the end, and no connection is refused."""
     path = f"{folder}/handed"
     listener, before = handed_over(path)
     run = start_handed(listener, before, path)
     yield "its first line", bool(re.match("listening at ", run.first)), True
-    clients = [Asking(path, ALL // CLIENTS) for _ in range(CLIENTS)]
+    clients = [Asking(path) for _ in range(CLIENTS)]
     for one in clients:
         one.start()
-    endings = []
-    while any(one.is_alive() for one in clients):
+    endings, until = [], time.monotonic() + PATIENCE
+    while (len(endings) < RESTARTS or sum(one.answered for one in clients) < ALL) and time.monotonic() < until:
         time.sleep(BETWEEN)
         run.send_signal(signal.SIGTERM)
         endings.append(ended(run)[0])
         run = start_handed(listener, before, path)
+    for one in clients:
+        one.is_over = True
     for one in clients:
         one.join()
     run.send_signal(signal.SIGTERM)
     endings.append(ended(run)[0])
     listener.close()
     yield "how the daemons ended", endings, [0] * len(endings)
-    yield f"restarts: {len(endings) - 1}", len(endings) > RESTARTS, True
     yield "what clients met", [one.fault for one in clients], [None] * CLIENTS
-    yield "requests left", [one.left for one in clients], [0] * CLIENTS
-    yield "whether restarts met them", sum(one.anew for one in clients) > CLIENTS, True
+    yield "requests without a reply", [one.owed for one in clients], [0] * CLIENTS
+    yield "as many as were to be asked", sum(one.answered for one in clients) >= ALL, True
+    yield "each restart met a client", sum(one.connected for one in clients) >= CLIENTS + RESTARTS, True
 
 
 def no_listener(folder):

@@ -130,8 +130,9 @@ impl Daemon {
     pub fn see_off<R: Wait + Clock>(self, rt: &R) {
         tell_manager(self.manager, State::Stopping);
         let has_ended = self.ending.await_end(rt, self.drain);
-        if !has_ended {
-            self.notices.post(rt, Notice::Ended(self.quay.live()));
+        let cut = self.quay.live();
+        if !has_ended && cut > 0 {
+            self.notices.post(rt, Notice::Ended(cut));
         }
         self.notices.await_printed(rt);
     }

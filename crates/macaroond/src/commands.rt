@@ -52,7 +52,7 @@ Exit status:
   0  every request was answered, be it granted or refused
   1  a key line has a fault; standard error names it as `keys: line L kind K`: 1 a bad name,
      2 a secret that isn't hexadecimal, 3 an empty secret, 4 a name that stands on two earlier
-     lines, 5 more than 1000 names, 6 no key line
+     lines, 5 more than 1000 names, 6 a line that is no key line
   2  a bad command line
   3  reading or writing failed, or the input is longer than it may be
   4  memory ran out";
@@ -82,15 +82,15 @@ in place of one at PATH. The key file has key lines, as `macaroond pipe` reads t
 16777216 bytes.
 
 Runs until SIGTERM or SIGINT. Then it takes no more connections, answers what has come, closes each
-connection once its replies are sent, and ends. A second signal ends it at once. The key file is looked
-at twice a second, and at SIGHUP; a changed one is taken where it has no fault.
+connection once its replies are sent, and ends. A second signal ends it at once. The key file is
+looked at twice a second, and at SIGHUP. A changed one is taken where it has no fault.
 
 Example:
   macaroond listen --socket /run/macaroond/socket --keys /etc/macaroond/keys --mode 660 --idle 60
 
 Exit status:
   0  it was told to end
-  1  a key line has a fault; standard error names it as `keys: line L kind K`
+  1  a key line has a fault; standard error names it as `error: FILE: line L:` and what is wrong
   2  a bad command line
   3  a file or the socket failed, or the key file is longer than it may be
   4  memory ran out";
@@ -118,7 +118,7 @@ const CONNECTIONS_HELP: &str =
     "How many connections are live at a time, from 1 to 1000000 [default: 10000]";
 
 const DRAIN_HELP: &str =
-    "How many seconds connections have to end once it is told to, from 1 to 3600 [default: 10]";
+    "How many seconds connections have to end once the daemon is told to, from 1 to 3600 [default: 10]";
 
 /// The whole command line.
 pub fn build_command<'a>(alloc: Global) -> Result<Command<'a>, AllocError>

@@ -30,8 +30,8 @@ Example:
 
 Exit status:
   0  the line was printed, or the file was written
-  1  refused, and nothing was changed: the file is there already or was changed meanwhile, or the
-     name has no line, or two already, or one alone
+  1  refused, and nothing was changed: FILE (--into) or FILE.new is there already, FILE was changed
+     meanwhile, or the name has no line, or two already (--above), or one alone (--drop)
   2  a bad command line
   3  the system gives no random bytes, a file or standard output failed, or a key line has a fault
   4  memory ran out";
