@@ -33,10 +33,18 @@ def mebibytes(pid):
     return next(int(line.split()[1]) for line in text.splitlines() if line.startswith("VmRSS")) / 1024
 
 
+def joined(path):
+    """A connection, once the system has room for one more that waits to be accepted."""
+    while True:
+        with contextlib.suppress(BlockingIOError):
+            return connected(path)
+        time.sleep(0.01)
+
+
 def silence(path, pid, count):
     """The line for so many connections."""
     with contextlib.ExitStack() as until:
-        streams = [until.enter_context(connected(path)) for _ in range(count)]
+        streams = [until.enter_context(joined(path)) for _ in range(count)]
         for stream in streams:
             stream.sendall(ASKED)
         answered = sum(stream.recv(len(DUE)) == DUE for stream in streams)
