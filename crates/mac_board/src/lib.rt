@@ -1,12 +1,12 @@
 //! The board of key tables: one thread puts a table up, and others take the one that is up, with no
 //! lock, while they go on answering.
 //!
-//! A [`Publisher`] puts tables up. A [`Follower`], which [`Followers`] makes, has the table that was
-//! up when it looked last. Who answers requests asks for [`Tables`], which a follower is, and so is
-//! one table that stays, as [`FixedTables`].
+//! A [`Publisher`] puts tables up. A [`Follower`], which [`Followers`] makes, has the table that
+//! was up when it looked last. Who answers requests asks for [`Tables`], which a follower is, and so
+//! is one table that stays, as [`FixedTables`].
 //!
-//! A [`Editor`] puts up the tables of a key file that changes. Its [`Watcher`] says when the file is
-//! read, when it is taken, and when it is told why not; the looks at the file are its caller's.
+//! An [`Editor`] puts up the tables of a key file that changes. Its [`Watcher`] says when the file
+//! is read, when it is taken, and when it is told why not; the looks at the file are its caller's.
 #![tactic(auto)]
 
 mod editor;

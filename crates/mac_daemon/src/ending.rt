@@ -104,8 +104,8 @@ impl Ending {
         }
     }
 
-    /// Waits until the daemon is told something, for so long at most. One that has ended by itself is
-    /// told to end.
+    /// Waits until the daemon is told something, for so long at most. One that has ended by itself
+    /// is told to end.
     pub fn await_call<R: Wait + Clock>(&self, rt: &R, patience: Duration) -> Call {
         let standing = self.standing.lock(rt);
         let waits = |standing: &mut Standing| standing.calls == 0

@@ -124,9 +124,9 @@ impl Daemon {
         self.notices.post(rt, Notice::Keys(line));
     }
 
-    /// Sees a daemon off that was told to end. It takes no further connection, answers what has come
-    /// on those that there are, and closes each once its replies are sent. What isn't done after the
-    /// seconds of its terms, or once it is told to end again, is cut off.
+    /// Sees a daemon off that was told to end. It takes no further connection, answers what has
+    /// come on those that there are, and closes each once its replies are sent. What isn't done
+    /// after the seconds of its terms, or once it is told to end again, is cut off.
     pub fn see_off<R: Wait + Clock>(self, rt: &R) {
         tell_manager(self.manager, State::Stopping);
         let has_ended = self.ending.await_end(rt, self.drain);

@@ -42,11 +42,10 @@ pub struct Served {
 }
 
 /// Serves a connection that is between two requests: writes what is unsent, reads requests from the
-/// source to its end, those that are carried first, lets the workers of the desk's pool answer them,
-/// each under the key table that is up once it is read, and writes the replies into the sink, in
-/// order, as the stream's version has them, at the places that follow. Requests are read in this
-/// thread, and replies sent from a thread of their own, which begins once the stream's version is
-/// known.
+/// source to its end, those that are carried first, and lets the workers of the desk's pool answer
+/// them, each under the key table that is up once it is read. The replies go into the sink in order,
+/// as the stream's version has them, at the places that follow. Requests are read in this thread,
+/// and replies sent from a thread of their own, which begins once the stream's version is known.
 pub fn serve<R: Threads + Wait + Sync, In: Source, Out: Sink, K: Tables>(
     rt: &R,
     alloc: Global,

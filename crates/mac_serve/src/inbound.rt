@@ -190,8 +190,8 @@ impl Inbound {
         self.put(rt, place, job, signals)
     }
 
-    /// Admits the jobs of arrivals, and puts them into the queue. It looks at the tables before each:
-    /// one that waited for those before it is answered under the table that is up then.
+    /// Admits the jobs of arrivals, and puts them into the queue. It looks at the tables before
+    /// each: one that waited for those before it is answered under the table that is up then.
     fn take_arrivals<R: Wait, K: Tables>(
         &mut self,
         rt: &R,

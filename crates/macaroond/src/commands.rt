@@ -27,8 +27,8 @@ pub const CONNECTIONS_MAX: u64 = 1_000_000;
 /// The most seconds that `--drain` takes: an hour.
 pub const DRAIN_MAX: u64 = 3600;
 
-/// The version, as `--version` and `listen` print it. A build of a commit writes its first digits over the last
-/// word.
+/// The version, as `--version` and `listen` print it. A build of a commit writes its first digits
+/// over the last word.
 pub(crate) const VERSION: &str = "0.1.0 (uncommitted)";
 
 /// What the help of `pipe` says below its options.
@@ -112,13 +112,13 @@ const IDLE_HELP: &str =
     "Ends a connection that makes no progress for so many seconds [default: never]";
 
 const LOOPS_HELP: &str =
-    "How many threads wait for connections and answer them, from 1 to 64 [default: one a processor]";
+    "How many threads wait for connections and answer them, 1 to 64 [default: one a processor]";
 
 const CONNECTIONS_HELP: &str =
     "How many connections are live at a time, from 1 to 1000000 [default: 10000]";
 
 const DRAIN_HELP: &str =
-    "How many seconds connections have to end once the daemon is told to, from 1 to 3600 [default: 10]";
+    "How many seconds connections get once the daemon is told to end, 1 to 3600 [default: 10]";
 
 /// The whole command line.
 pub fn build_command<'a>(alloc: Global) -> Result<Command<'a>, AllocError>
