@@ -1,4 +1,4 @@
-.PHONY: test wrong-bodies demo build build-runs install uninstall deb tarball reproduce completions
+.PHONY: test wrong-bodies wrong-runs demo build build-runs install uninstall deb tarball reproduce completions
 .PHONY: clients faults bench load soak pages taken
 
 # Every proof from nothing, the wrong bodies, every test and program; then the proved program beside its pages and the
@@ -10,6 +10,10 @@ test:
 # All wrong bodies, many in one check, of the crates that are named behind it, or of all.
 wrong-bodies:
 	scripts/wrong_bodies/wrong_bodies.py $(CRATES)
+
+# Wrong bodies that no contract refuses, but a run that hangs or prints something else.
+wrong-runs:
+	scripts/wrong_bodies/wrong_runs.py
 
 CRATES = $(filter-out wrong-bodies,$(MAKECMDGOALS))
 $(notdir $(wildcard crates/*)):

@@ -3,7 +3,8 @@
 
     client.py SOCKET mint FORM NAME LOCATION IDENTIFIER [CAVEAT ..]
     client.py SOCKET attenuate FORM TOKEN [CAVEAT ..]
-    client.py SOCKET verify NAME TOKEN MOMENT [FACT ..]
+    client.py SOCKET verify NAME TOKEN [MOMENT [FACT ..]]
+    client.py SOCKET owner NAME TOKEN [FACT ..]
     client.py SOCKET
 
 The words are those of request.py. Without them the requests are on standard input, a line each in
@@ -19,11 +20,19 @@ sys.path.insert(0, str(pathlib.Path(__file__).resolve().parent.parent / "clients
 from macaroond import Client, MacaroondError
 
 
+def parts(rest):
+    """The identifier and the location of a reply that tells whose a token is."""
+    middle = 2 + int.from_bytes(rest[:2], "big")
+    return rest[2:middle], rest[middle + 2:]
+
+
 def line(reply):
     """A reply as `macaroond pipe` prints it."""
     number, rest = reply[0], reply[1:]
     if number == 0:
         return "granted"
+    if number == 3:
+        return "granted to {} at {}".format(*(part.hex() for part in parts(rest)))
     if number == 1:
         return f"token hex:{rest.hex()}" if rest[:1] == b"\x02" else f"token {rest.decode()}"
     return f"refused 24 {int.from_bytes(rest, 'big')}" if number == 24 else f"refused {number}"

@@ -4,10 +4,12 @@
     request.py key NAME [SECRET]                                     a key line, for the key file
     request.py mint FORM NAME LOCATION IDENTIFIER [CAVEAT ..]        a new token
     request.py attenuate FORM TOKEN [CAVEAT ..]                      the token, narrowed
-    request.py verify NAME TOKEN MOMENT [FACT ..]                    whether it is granted
+    request.py verify NAME TOKEN [MOMENT [FACT ..]]                  whether it is granted
+    request.py owner NAME TOKEN [FACT ..]                            the same, and whose it is
 
 FORM is v1-text, v2-binary, v2-json or v2-text. NAME is 1 to 64 letters, digits, dots, underscores
-or dashes. MOMENT is in seconds since 1970-01-01T00:00:00Z. Each other field is its bytes as they are
+or dashes. MOMENT is in seconds since 1970-01-01T00:00:00Z, or `now` for that of the daemon's clock,
+which is also meant where there is none and which `owner` asks for. Each other field is its bytes as they are
 given, or `hex:` and its bytes in hexadecimal, as the pipe prints a binary token. Without SECRET the
 secret is all that standard input holds, a line feed at its end too: `request.py key NAME < FILE`.
 """
@@ -77,9 +79,21 @@ def attenuate(form, token, *caveats):
     return b"\x02" + form_of(form) + sized(field(token), 2, "token") + listed(caveats, "caveat")
 
 
-def verify(name, token, moment, *facts):
+def verify(name, token, moment="now", *facts):
+    if moment == "now":
+        return at_the_clock(4, name, token, facts)
     fields = sized(field(token), 2, "token") + moment_of(moment)
     return b"\x03" + sized(name_of(name), 1, "name") + fields + listed(facts, "fact")
+
+
+def owner(name, token, *facts):
+    return at_the_clock(5, name, token, facts)
+
+
+def at_the_clock(kind, name, token, facts):
+    """A verify at the moment of the daemon's clock."""
+    fields = sized(name_of(name), 1, "name") + sized(field(token), 2, "token")
+    return bytes([kind]) + fields + listed(facts, "fact")
 
 
 def payload(words):
@@ -89,8 +103,10 @@ def payload(words):
             return mint(*words[1:])
         case ["attenuate", _, _, *_]:
             return attenuate(*words[1:])
-        case ["verify", _, _, _, *_]:
+        case ["verify", _, _, *_]:
             return verify(*words[1:])
+        case ["owner", _, _, *_]:
+            return owner(*words[1:])
     return None
 
 

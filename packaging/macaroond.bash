@@ -13,29 +13,32 @@ _macaroond() {
     local word=${COMP_WORDS[COMP_CWORD]} before=${COMP_WORDS[COMP_CWORD - 1]} words=
     COMPREPLY=()
     case $before in
-        --socket | --keys | --into | --above | --drop)
+        --socket | --keys | --verify-socket | --into | --above | --drop)
             mapfile -t COMPREPLY < <(compgen -f -- "$word")
             compopt -o filenames 2> /dev/null
             return
             ;;
         --mode) words='600 660 666' ;;
+        --verify-mode) words='600 660 666' ;;
+        --http-mode) words='600 660 666' ;;
         --form) words='v1 v2 json v2-text' ;;
         --key) words=$(_macaroond_key_names) ;;
-        --workers | --accept | --idle | --loops | --connections | --drain | --location | --identifier | --caveat | --fact | --at) return ;;
+        --workers | --accept | --idle | --loops | --connections | --drain | --names | --verify-names | --http | --http-anywhere | --http-connections | --http-patience | --http-granted | --http-facts | --http-admin | --location | --identifier | --caveat | --fact | --at) return ;;
         *)
             if ((COMP_CWORD == 1)); then
-                words='pipe serve listen keygen check mint attenuate verify inspect --help --version'
+                words='pipe serve listen keygen check mint attenuate verify inspect status --help --version'
             else
                 case ${COMP_WORDS[1]} in
                     pipe) words='--help' ;;
                     serve) words='--socket --keys --workers --accept --help' ;;
-                    listen) words='--socket --keys --workers --mode --idle --loops --connections --drain --help' ;;
+                    listen) words='--socket --keys --workers --mode --idle --loops --connections --drain --names --verify-socket --verify-mode --verify-names --http --http-anywhere --http-mode --http-connections --http-patience --http-granted --http-facts --http-admin --help' ;;
                     keygen) words='--into --above --drop --help' ;;
                     check) words='--keys --help' ;;
                     mint) words='--keys --key --location --identifier --caveat --form --help' ;;
                     attenuate) words='--caveat --form --help' ;;
                     verify) words='--keys --key --fact --at --help' ;;
                     inspect) words='--help' ;;
+                    status) words='--socket --prometheus --connections --help' ;;
                 esac
             fi
             ;;

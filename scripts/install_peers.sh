@@ -23,6 +23,11 @@ systemd                         scripts/check/package_runs.py asks it what the u
 mmdebstrap                      scripts/check/life_cycle.py makes a plain Debian with it
 systemd-container               scripts/check/life_cycle.py boots that with it
 zsh                             scripts/build/completions.py tries its completion
+nginx-light                     scripts/check/gateways.py has it ask macaroond over HTTP
+caddy                           scripts/check/gateways.py has it ask macaroond over HTTP
+haproxy                         scripts/check/gateways.py has it ask macaroond over HTTP
+apache2-bin                     scripts/check/gateways.py has it ask macaroond over HTTP
+lua-socket                      by it Apache asks macaroond (examples/gateways/apache.lua)
 END
 }
 

@@ -20,21 +20,30 @@ from check import (
     case_files,
     changing_keys,
     clients,
+    clocks,
     daemon_rows,
     draw,
     edges,
     ending,
+    gateways,
     http_rows,
+    http_sockets,
     installing,
     key_lines,
     lasting,
     life_cycle,
+    linked_keys,
+    log_lines,
     man_page,
+    messages,
+    numbers,
+    operators,
     package_runs,
     pages,
     peers,
     promises,
     quotes,
+    rights,
     sessions,
     starting,
     statuses,
@@ -44,7 +53,7 @@ from check import (
 from common import runs
 from faults import faults, hostile, refusing
 from measure import allocations
-from wrong_bodies import wrong_bodies
+from wrong_bodies import wrong_bodies, wrong_runs
 
 # How long hostile clients use the daemon.
 HOSTILE_SECONDS = 4
@@ -81,17 +90,27 @@ OF_PROGRAM = {
     "edges of words": words.edge_faults,
     "sessions": sessions.faults,
     "sockets": daemon_rows.faults,
+    "rights": rights.faults,
+    "clocks": clocks.faults,
     "starting": starting.faults,
+    "messages": messages.faults,
+    "log lines": log_lines.faults,
     "key files": key_lines.faults,
     "lasting": lasting.faults,
     "ending": ending.faults,
     "changing keys": changing_keys.faults,
+    "linked keys": linked_keys.faults,
+    "numbers": numbers.faults,
+    "operators": operators.faults,
+    "HTTP": http_sockets.faults,
+    "gateways": gateways.faults,
     "hostile": lambda: hostile.faults(HOSTILE_SECONDS),
     "clients": clients.daemon_faults,
 }
 OF_CLIENTS = {"Python client": clients.python_faults, "Go client": clients.go_faults}
 OF_COMPILER = {
     "allocations": allocations.faults,
+    "clockless": clocks.clockless_faults,
     "faults": faults.some_faults,
     "installing": installing.faults,
     "package": package_runs.faults,
@@ -106,6 +125,7 @@ OF_TEXTS = {
     "HTTP rows": http_rows.faults,
     "building": building.faults,
     "wrong bodies apply": wrong_bodies.faults,
+    "wrong runs": wrong_runs.faults,
 }
 
 

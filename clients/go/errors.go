@@ -18,12 +18,15 @@ var (
 	ErrBadToken = errors.New("macaroond: bad token")
 	// ErrNotAllowed tells that the daemon's socket doesn't allow this request.
 	ErrNotAllowed = errors.New("macaroond: the socket does not allow this request")
+	// ErrNoClock tells that the daemon's clock tells no moment: a verify has to give one.
+	ErrNoClock = errors.New("macaroond: the clock tells no moment")
 )
 
 // The numbers of replies that are told apart here.
 const (
 	codeGranted      = 0
 	codeToken        = 1
+	codeGrantedTo    = 3
 	codeBadRequest   = 16
 	codeFrameTooLong = 17
 	codeUnknownKey   = 18
@@ -35,6 +38,7 @@ const (
 	codeUnsatisfied  = 24
 	codeLocation     = 26
 	codeNotAllowed   = 27
+	codeNoClock      = 28
 )
 
 // A refusal in words, and the error that it counts as outside of a verdict.
@@ -55,6 +59,7 @@ var refusals = map[int]refusal{
 	codeUnsatisfied:  {"a caveat is not satisfied", nil},
 	codeLocation:     {"a first-party caveat of the token has a location", ErrBadToken},
 	codeNotAllowed:   {"the socket does not allow this request", ErrNotAllowed},
+	codeNoClock:      {"the clock tells no moment", ErrNoClock},
 }
 
 // RefusedError is a refusal that is no verdict, or what a client itself finds wrong

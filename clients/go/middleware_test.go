@@ -10,7 +10,7 @@ import (
 func TestRequireMacaroon(t *testing.T) {
 	// Answers a verify by its one fact.
 	judges := func(s *stream) {
-		replies := map[string]string{"granted": "\x00", "forged": "\x17", "narrow": "\x18\x00\x00", "unknown": "\x12", "forbidden": "\x1b"}
+		replies := map[string]string{"granted": "\x00", "owned": "\x03\x00\x05carol\x00\x00", "forged": "\x17", "narrow": "\x18\x00\x00", "unknown": "\x12", "forbidden": "\x1b"}
 		for payload, isThere := s.request(); isThere; payload, isThere = s.request() {
 			for fact, content := range replies {
 				if strings.HasSuffix(string(payload), fact) {
@@ -39,6 +39,7 @@ func TestRequireMacaroon(t *testing.T) {
 	}{
 		{"Bearer " + token, "/granted", 200, ""},
 		{"bearer  " + token, "/granted", 200, ""},
+		{"Bearer " + token, "/owned", 200, ""},
 		{"", "/granted", 401, "Bearer"},
 		{"Bearer ", "/granted", 401, "Bearer"},
 		{"Basic " + token, "/granted", 401, "Bearer"},
@@ -52,7 +53,8 @@ func TestRequireMacaroon(t *testing.T) {
 		asked.Header.Set("Authorization", one.header)
 		came := httptest.NewRecorder()
 		guarded.ServeHTTP(came, asked)
-		isLetThrough := came.Body.String() == "alice"
+		seen := came.Body.String()
+		isLetThrough := seen == "alice" && one.path == "/granted" || seen == "carol" && one.path == "/owned"
 		if came.Code != one.status || came.Header().Get("WWW-Authenticate") != one.challenge || isLetThrough != (one.status == 200) {
 			t.Errorf("%q, %s: %d %q %q", one.header, one.path, came.Code, came.Header().Get("WWW-Authenticate"), came.Body)
 		}

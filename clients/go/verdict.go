@@ -14,21 +14,42 @@ type Verdict struct {
 	// So that a verdict that nobody gave grants nothing.
 	isGranted bool
 	token     string
+	// The identifier that the daemon told, where it told whose the token is.
+	identifier string
+	isTold     bool
 }
 
 // verdictOf gives the verdict that a verify's reply tells, or the error that it tells.
 func verdictOf(came reply, token string) (Verdict, error) {
 	switch came.code {
 	case codeGranted:
-		return Verdict{codeGranted, -1, true, token}, nil
+		return Verdict{Code: codeGranted, Caveat: -1, isGranted: true, token: token}, nil
+	case codeGrantedTo:
+		if identifier, isThere := owner(came.rest); isThere {
+			return Verdict{codeGranted, -1, true, token, identifier, true}, nil
+		}
 	case codeTransport, codeMalformed, codeThirdParty, codeLimit, codeBadSignature, codeLocation:
-		return Verdict{int(came.code), -1, false, token}, nil
+		return Verdict{Code: int(came.code), Caveat: -1, token: token}, nil
 	case codeUnsatisfied:
 		if len(came.rest) == 2 {
-			return Verdict{codeUnsatisfied, int(binary.BigEndian.Uint16([]byte(came.rest))), false, token}, nil
+			caveat := int(binary.BigEndian.Uint16([]byte(came.rest)))
+			return Verdict{Code: codeUnsatisfied, Caveat: caveat, token: token}, nil
 		}
 	}
 	return Verdict{}, refused(int(came.code))
+}
+
+// owner gives the identifier of a reply that tells whose a token is; behind it stands
+// the location.
+func owner(fields string) (string, bool) {
+	if len(fields) < 2 {
+		return "", false
+	}
+	end := 2 + int(binary.BigEndian.Uint16([]byte(fields)))
+	if len(fields) < end {
+		return "", false
+	}
+	return fields[2:end], true
 }
 
 // Granted tells whether the token is granted.
@@ -39,6 +60,9 @@ func (v Verdict) Granted() bool { return v.isGranted }
 func (v Verdict) Identifier() string {
 	if !v.Granted() {
 		return ""
+	}
+	if v.isTold {
+		return v.identifier
 	}
 	token, err := Inspect(v.token)
 	if err != nil {

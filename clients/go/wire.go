@@ -17,6 +17,13 @@ const (
 	lengthOfSize = 4
 )
 
+// The numbers of a verify at a moment, and of one at the daemon's clock that asks
+// whose a granted token is.
+const (
+	verifyAt    = 0x03
+	verifyOwner = 0x05
+)
+
 // Form is a form in which a token is written; the numbers are those of the wire.
 type Form byte
 
@@ -141,7 +148,7 @@ type Check struct {
 	Token string
 	// Facts are what is known of the token's use; they are believed.
 	Facts []string
-	// At is the moment of the verify: this machine's now where it is left out.
+	// At is the moment of the verify: that of the daemon's clock where it is left out.
 	At time.Time
 }
 
@@ -153,24 +160,27 @@ type verification struct {
 func (v *verification) mayRepeat() bool { return true }
 
 func (v *verification) appendPayload(to []byte) ([]byte, error) {
-	to, err := appendSized(append(to, 0x03), 1, v.key, "key's name")
+	kind := byte(verifyAt)
+	if v.At.IsZero() {
+		kind = verifyOwner
+	}
+	to, err := appendSized(append(to, kind), 1, v.key, "key's name")
 	if err != nil {
 		return to, err
 	}
 	if to, err = appendToken(to, v.Token); err != nil {
 		return to, err
 	}
-	if to, err = appendMoment(to, v.At); err != nil {
-		return to, err
+	if kind == verifyAt {
+		if to, err = appendMoment(to, v.At); err != nil {
+			return to, err
+		}
 	}
 	return appendList(to, factsThatCount(v.Facts), "fact")
 }
 
-// appendMoment appends a moment, by this machine's clock where none is given.
+// appendMoment appends a moment.
 func appendMoment(to []byte, at time.Time) ([]byte, error) {
-	if at.IsZero() {
-		at = time.Now()
-	}
 	if at.Unix() < 0 {
 		return to, badRequest("the moment %v is before 1970", at)
 	}

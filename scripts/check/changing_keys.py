@@ -19,6 +19,7 @@ from concurrent.futures import ThreadPoolExecutor
 
 sys.path.insert(0, str(pathlib.Path(__file__).resolve().parents[1]))
 from check.daemon_rows import HELLO, placed
+from common import logged
 from common.daemon import PROGRAM, connected, frame, received
 
 import request
@@ -40,8 +41,7 @@ DEAR_CAVEATS = [f"caveat {number}" for number in range(20)]
 FAULTY, DAEMONS = 40, 8
 # How many times the file is swapped, and after how many the daemon gets time to take it.
 SWAPS, SWAPS_AT_ONCE = 1000, 250
-# What is told of a file that isn't taken, behind why; and what a name has.
-STAY = "; the keys stay as they were"
+# What a name has.
 NAME_BYTES = "letters, digits, dots, underscores or dashes"
 SECRETS = {name: f"the secret {name}".encode() for name in ("old", "new", "other")}
 
@@ -101,9 +101,9 @@ class Listener:
         beside.rename(self.keys)
 
     def told(self):
-        """What it has told, without the path of the key file."""
-        lines = (self.folder / "errors").read_text().splitlines()
-        return [line.removeprefix(f"{self.keys}: ") for line in lines]
+        """What it has told of its key file: how many names were read anew, or why none were."""
+        lines = logged.read_all((self.folder / "errors").read_text())
+        return [told_of(line.fields) for line in lines if line.fields.get("file") == str(self.keys)]
 
     def await_told(self, count):
         """What it has told once these are so many lines, or `PATIENCE` has passed."""
@@ -117,6 +117,10 @@ class Listener:
         self.run.wait()
         self.run.stdout.close()
         self.errors.close()
+
+
+def told_of(fields):
+    return fields["fault"] if "fault" in fields else f"names: {fields['names']}"
 
 
 @contextlib.contextmanager
@@ -264,7 +268,7 @@ def a_change(what, before, after, code_before, code_after):
         yield f"{what}: each connection turned once", turns, [1] * 5
         yield f"{what}: to what is up", {one.last[0] for one in running.askers}, {code_after}
         yield f"{what}: as many were asked", running.asked() >= REQUESTS, True
-        told = f"read anew: {len(names(after))} names"
+        told = f"names: {len(names(after))}"
         yield f"{what}: told once", listener.await_told(1), [told]
 
 
@@ -294,7 +298,7 @@ def faulty_files():
         "# no key\n": "the key file has no key",
         "#" * (16 * 2**20) + "\n": "the key file is longer than a key file may be",
     }
-    return [(text, why + STAY) for text, why in texts.items()]
+    return list(texts.items())
 
 
 def one_row_of_faulty(first):
@@ -312,14 +316,14 @@ def one_row_of_faulty(first):
         time.sleep(AWAITED)
         yield "faulty files: each is told once", listener.told(), due
         listener.keys.unlink()
-        yield "a missing file", listener.await_told(len(due) + 1)[-1], "there is no key file" + STAY
+        yield "a missing file", listener.await_told(len(due) + 1)[-1], "there is no key file"
         listener.keys.mkdir()
-        yield "a folder", listener.await_told(len(due) + 2)[-1], "the key file can't be read" + STAY
+        yield "a folder", listener.await_told(len(due) + 2)[-1], "the key file can't be read"
         yield "a folder: the key stays", probe.ask(asked), GRANTED
         listener.keys.rmdir()
         listener.replace(lines(bank=["new"]))
         yield "a good file behind them", probe.await_reply(asked, BAD_SIGNATURE), True
-        yield "is told, too", listener.await_told(len(due) + 3)[-1], "read anew: 1 name"
+        yield "is told, too", listener.await_told(len(due) + 3)[-1], "names: 1"
 
 
 def swapped():
@@ -366,11 +370,11 @@ def written_in_place():
         yield "written in place: nothing but the old table", replies, {(GRANTED, NO_NAME)}
         is_up = probe.await_reply(added_last, GRANTED)
         yield "written in place: taken once it rests", is_up, True
-        yield "written in place: told once", listener.await_told(1), ["read anew: 3 names"]
+        yield "written in place: told once", listener.await_told(1), ["names: 3"]
         with open(listener.keys, "w"):
             listener.await_told(2)
             yield "emptied: the keys stay", probe.ask(kept), GRANTED
-        yield "emptied: told once", listener.told()[1:], ["the key file has no key" + STAY]
+        yield "emptied: told once", listener.told()[1:], ["the key file has no key"]
 
 
 def faults():

@@ -10,7 +10,7 @@ import tempfile
 import threading
 import time
 
-from common import KEYS, runs
+from common import KEYS, logged, runs
 from common.daemon import PATIENCE, connected, frame, received
 
 import request
@@ -30,6 +30,10 @@ TRIES = 1000
 LATE = 20_000
 
 HELLO = b"\x02"
+# Why a path isn't taken, and what is to be done.
+END_FIRST = "end that process first, or give another path"
+EXISTS = "there is something already; remove that, or give another path"
+NO_SOCKET = "there is something that is no socket; remove that, or give another path"
 
 
 def placed(*replies):
@@ -71,7 +75,7 @@ def served(path, workers):
     yield f"{workers} workers answer", answers, due
     yield f"{workers} workers end", (run.returncode, run.first + output, error), (0, "listening\nserved 3 faults 1\n", "")
     again = subprocess.run([runs.PROGRAM, *words], capture_output=True, text=True, timeout=PATIENCE)
-    yield "a path that is there", (again.returncode, again.stdout, again.stderr), (3, "", "fault 3\n")
+    yield "a path that is there", (again.returncode, again.stdout, again.stderr), (3, "", f"error: {path}: {EXISTS}\n")
 
 
 def both_ways(path):
@@ -148,11 +152,12 @@ def listening(folder):
     with daemon(*words, "--mode", "660") as run:
         yield "what listen prints", run.first, listening_line(path, "2 workers")
         yield "the mode", stat.filemode(os.stat(path).st_mode), "srw-rw----"
-        yield "its lock beside the socket, and no more", sorted(os.listdir(folder)), ["listening", "listening.lock"]
+        beside = [name + ending for name in ("listening", "listening.status") for ending in ("", ".lock")]
+        yield "its status socket and two locks beside the socket", sorted(os.listdir(folder)), sorted(beside)
         with connected(path) as stream:
             yield "an answer", answer(stream, frame(MINT)), frame(b"\x01" + TOKEN)
         taken = subprocess.run([runs.PROGRAM, *words], capture_output=True, text=True, timeout=PATIENCE)
-        due = (3, "", f"{path}: process {run.pid} has it\nfault 3\n")
+        due = (3, "", f"error: {path}: process {run.pid} has it; {END_FIRST}\n")
         yield "a path that is listened on", (taken.returncode, taken.stdout, taken.stderr), due
     with daemon(*words, "--idle", "1") as run:
         yield "a path that was left is taken over", run.first, listening_line(path, "2 workers")
@@ -162,7 +167,9 @@ def listening(folder):
             stream.sendall(bytes(3))
             yield "silence is ended", stream.recv(1), b""
         yield "after its second", 0.9 < time.monotonic() - begin, True
-        yield "and told", run.stderr.readline(), "a connection ended: it made no progress\n"
+        run.stderr.readline()
+        told = logged.read(run.stderr.readline().rstrip("\n"))
+        yield "and told", (told.what, told.fields["connection"]), ("connection_idle", "1")
         with contextlib.ExitStack() as crowd:
             streams = [crowd.enter_context(connected(path)) for _ in range(130)]
             streams[-1].sendall(frame(b""))
@@ -171,7 +178,7 @@ def listening(folder):
     pathlib.Path(file).write_text("")
     words[2] = file
     refused = subprocess.run([runs.PROGRAM, *words], capture_output=True, text=True, timeout=PATIENCE)
-    due = (3, "", f"{file}: there is something that is no socket\nfault 3\n")
+    due = (3, "", f"error: {file}: {NO_SOCKET}\n")
     yield "a path that is no socket", (refused.returncode, refused.stdout, refused.stderr), due
 
 

@@ -15,7 +15,7 @@ import time
 
 sys.path.insert(0, str(pathlib.Path(__file__).resolve().parents[1]))
 from check.daemon_rows import MINT, NO_REQUEST, SLOW_TOKEN, TOKEN
-from common import KEYS
+from common import KEYS, logged
 from common.daemon import PROGRAM, connected, frame, received
 
 import request
@@ -47,7 +47,7 @@ def ended(run):
     except subprocess.TimeoutExpired:
         run.kill()
         return "it runs on"
-    return run.returncode, output, error
+    return run.returncode, output, [line[1:] for line in logged.read_all(error) if line.what != "start"]
 
 
 def to_the_end(stream):
@@ -59,9 +59,8 @@ def to_the_end(stream):
 
 
 def said(left, cut=0):
-    """How a daemon ends, and what it says of its connections, where there is anything to be said."""
-    lines = [f"told to end; connections left: {left}\n"] * (left > 0)
-    return 0, "", "".join(lines + [f"ended; connections cut off: {cut}\n"] * (cut > 0))
+    """How a daemon ends, and what it says of its connections."""
+    return 0, "", [("drain", {"connections": str(left)}), ("end", {"connections": str(cut)})]
 
 
 def quiet_clients(folder):

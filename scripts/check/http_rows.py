@@ -21,7 +21,8 @@ WHOSE = [("macaroon-identifier", "we%20used%20our%20secret%20key"),
 
 REASONS = {200: "OK", 204: "No Content", 400: "Bad Request", 401: "Unauthorized",
            403: "Forbidden", 404: "Not Found", 413: "Payload Too Large",
-           431: "Request Header Fields Too Large", 501: "Not Implemented"}
+           431: "Request Header Fields Too Large", 501: "Not Implemented",
+           503: "Service Unavailable"}
 
 
 def mac(key, text):
@@ -101,6 +102,18 @@ def response(status, fields=(), body="", version="1.1", length=True, close=False
 
 def granted(identifier, location=""):
     return response(200, [("macaroon-identifier", identifier), ("macaroon-location", location)])
+
+
+PLAIN = ("content-type", "text/plain; charset=utf-8")
+
+
+def page(status, text):
+    return response(status, [PLAIN], text)
+
+
+def closing(status, fields, text=""):
+    """A response behind which the connection is closed, as the service says itself."""
+    return response(status, [*fields, ("connection", "close")], text)
 
 
 def asks(challenge):
@@ -234,6 +247,15 @@ ROWS = [
         "X-Forwarded-Uri: /a/b?c"), ALICE)]),
     ("forwarded", [(get("/verify/bank", token(v2(b"alice", [b"ip = 192.0.2.7"])),
                         "X-Real-IP: 192.0.2.7", "X-Real-IP: 192.0.2.8"), unsatisfied(0))]),
+    # ---- the daemon's own pages, and a daemon that ends
+    ("", [(get("/healthz"), page(200, "ok\n")), (get("/healthz?x"), page(200, "ok\n"))]),
+    ("unwell", [(get("/healthz"), page(503, "why\n")),
+                (get("/verify/bank", token(plain)), ALICE)]),
+    ("", [(get("/metrics"), UNKNOWN), (get("/healthz/"), UNKNOWN)]),
+    ("ending", [(get("/verify/bank", token(plain)),
+                 closing(200, [("macaroon-identifier", "alice"), ("macaroon-location", "")])),
+                (get("/verify/bank", token(plain)), "")]),
+    ("ending", [(get("/healthz"), closing(200, [PLAIN], "ok\n"))]),
     # ---- HTTP: one connection after another request, without a body, and what is no request
     ("", [(get("/verify/bank", token(plain)), ALICE), (get("/verify/bank"), NO_TOKEN),
           (get("/verify/bank", token(README)), README_GRANTED)]),

@@ -51,6 +51,7 @@ def kept(text, words, ending):
 
 WRITTEN = Ending(0, "", "")
 UNREAD = "the key file can't be read, or is longer than 16777216 bytes"
+NO_KEY = "warning: keys: the key file has no key; `macaroond keygen NAME` prints a line for it\n"
 CHECK = ["check", "--keys", "keys"]
 BAD_HEX = "line 3: the secret is not in hexadecimal, two digits a byte"
 ROWS = {
@@ -76,7 +77,7 @@ ROWS = {
         bad("of `--into`, `--above` and `--drop` one alone may be given\n"),
     ),
     "check": kept(TWO, CHECK, Ending(0, "bank: two keys\npier: one key\nshop: one key\n", "")),
-    "check_empty": kept("", CHECK, Ending(0, "", "")),
+    "check_empty": kept("", CHECK, Ending(0, "", NO_KEY)),
     "check_faulty": kept(FAULTY, CHECK, refused(BAD_HEX)),
     "check_missing": kept(None, CHECK, failed(UNREAD)),
     "check_nothing": kept(ONE, ["check"], bad("the following required arguments were not provided:\n")),

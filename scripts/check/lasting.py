@@ -4,7 +4,6 @@ how it ends connections."""
 import contextlib
 import os
 import pathlib
-import re
 import resource
 import subprocess
 import sys
@@ -13,7 +12,7 @@ import time
 
 sys.path.insert(0, str(pathlib.Path(__file__).resolve().parents[1]))
 from check.daemon_rows import MALFORMED, MINT, NO_REQUEST, TOKEN
-from common import daemon
+from common import daemon, logged
 from common.daemon import connected, frame, received
 from faults import hostile
 
@@ -23,19 +22,18 @@ import request
 LONGEST_WAIT = 30
 # How many connections end inside a frame.
 TORN = 1400
-# The line of each of them.
-TORN_LINE = "a connection ended: the stream ended inside a frame"
+# What is told of each of them.
+TORN_FAULT = "the stream ended inside a frame"
 # The length of a frame past the limit, which a socket's buffer holds whole, and the reply to it.
 OVERSIZE, TOO_LONG = 200_000, frame(b"\x11")
 # The bytes of a stack that a daemon is started under, and how deep the JSON of a request is nested then.
-LITTLE_STACK, DEPTH = 65_536, 120
+LITTLE_STACK, DEPTH = 98_304, 120
 # A verify whose signature isn't the chain's is refused so; how many of them are sent at once.
 BAD_SIGNATURE, OWED = frame(b"\x17"), 400
 # How many clients send bursts of requests, how many requests each, and for how many seconds.
 BURSTERS, BURST, BURSTING = 24, 40, 4
 # What they send, and how many bytes the reply to it has.
 MINTING, MINTED = frame(MINT), len(frame(b"\x01" + TOKEN))
-LEFT_OUT = re.compile(r"(\d+) more lines were left out")
 
 
 def listening(error, *words, **how):
@@ -64,17 +62,28 @@ def lines_of(reading, held):
         with contextlib.suppress(BlockingIOError):
             text += os.read(reading, 65_536)
             continue
-        lines = text[held:].decode().splitlines()
-        if told(lines) >= TORN:
+        if told(whole_lines(text[held:])) >= TORN:
             break
         time.sleep(0.05)
-    return text[held:].decode().splitlines()
+    return whole_lines(text[held:])
+
+
+def whole_lines(text):
+    """The lines that came whole."""
+    return logged.read_all(text[: text.rfind(b"\n") + 1].decode())
 
 
 def told(lines):
     """How many connections these lines tell of, those that were left out among them."""
-    left_out = sum(int(match[1]) for line in lines if (match := LEFT_OUT.fullmatch(line)))
-    return left_out + lines.count(TORN_LINE)
+    return sum(tells_of(line) for line in lines)
+
+
+def tells_of(line):
+    """How many connections a line tells of that ended inside a frame."""
+    if line.what == "connection_fault":
+        return int(line.fields["fault"] == TORN_FAULT)
+    is_count = line.what == "left_out" and line.fields["kind"] == "connection_fault"
+    return int(line.fields["count"]) if is_count else 0
 
 
 def answered(path):
@@ -99,8 +108,7 @@ def unread_errors():
         yield "a client behind faults that nobody reads of", answered(path), NO_REQUEST
         lines = lines_of(reading, held)
         yield "each fault is told or counted", told(lines), TORN
-        strangers = [line for line in lines if line != TORN_LINE and not LEFT_OUT.fullmatch(line)]
-        yield "and nothing else is told", strangers, []
+        yield "and nothing else is told", [line for line in lines[1:] if not tells_of(line)], []
     os.close(reading)
 
 

@@ -6,7 +6,7 @@ import subprocess
 from common import TOP
 
 PAGE = TOP / "man" / "macaroond.1"
-SUBCOMMANDS = ["keygen", "check", "mint", "attenuate", "verify", "inspect", "pipe", "serve", "listen"]
+SUBCOMMANDS = ["keygen", "check", "mint", "attenuate", "verify", "inspect", "status", "pipe", "serve", "listen"]
 STATUSES = ["0", "1", "2", "3", "4"]
 
 
@@ -15,7 +15,7 @@ def faults():
     text = PAGE.read_text().replace("\\-", "-")
     uses = [f"macaroond {name}" for name in SUBCOMMANDS]
     sources = "".join(path.read_text() for path in TOP.glob("crates/macaroond/src/**/*.rt"))
-    options = set(re.findall(r'\balloc, "([a-z]+)", ', sources)) - set(SUBCOMMANDS) - {"macaroond", "name", "token"}
+    options = set(re.findall(r'\balloc, "([a-z-]+)", ', sources)) - set(SUBCOMMANDS) - {"macaroond", "name", "token"}
     names = uses + [f"--{name}" for name in sorted(options)]
     missing = [name for name in names if name not in text]
     missing += [f"status {status}" for status in STATUSES if text.count(f".TP\n.B {status}\n") != 2]

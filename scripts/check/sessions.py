@@ -18,7 +18,7 @@ sys.path.insert(0, str(pathlib.Path(__file__).resolve().parents[1]))
 from common import TOP
 from common.daemon import listening
 
-SHELL = ["README.md", "docs/OPERATING.md", "docs/FORMATS.md"]
+SHELL = ["README.md", "docs/OPERATING.md", "docs/FORMATS.md", "docs/GATEWAYS.md"]
 PYTHON = ["clients/README.md"]
 # What a page's shell session finds in its folder.
 LENT = ["bin", "examples"]

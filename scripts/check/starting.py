@@ -7,10 +7,12 @@ import signal
 import subprocess
 import tempfile
 
-from check.daemon_rows import NO_REQUEST, answer, listening_line
+from check.daemon_rows import END_FIRST, NO_REQUEST, answer, listening_line
 from common import KEYS, runs
 from common.daemon import connected, frame
 
+# What is told where the file in the lock's place is none.
+NO_LOCK = "beside it there is a .lock that is no lock; remove that, or give another path"
 # How often two daemons are started together on one path.
 ROUNDS = 60
 
@@ -34,7 +36,7 @@ def first_line(path):
 def is_told(path, error):
     """Whether a daemon that didn't start says that another process has the path. Which one it is may
     not be written yet, or be the last one that had it: `daemon_rows` asks that later."""
-    told = re.escape(path) + r": (process \d+|another process) has it\nfault 3\n"
+    told = re.escape(f"error: {path}: ") + r"(process \d+|another process) has it; " + END_FIRST + "\n"
     return re.fullmatch(told, error) is not None
 
 
@@ -78,7 +80,7 @@ def leftovers(folder):
     yield "an empty lock that was left", first_line(path), due
     for text in ("a page of somebody's\n", "12", "7" * 40):
         pathlib.Path(path + ".lock").write_text(text)
-        yield "no lock", first_line(path), f"{path}: beside it there is a .lock that is no lock\n"
+        yield "no lock", first_line(path), f"error: {path}: {NO_LOCK}\n"
         yield "it stays", pathlib.Path(path + ".lock").read_text(), text
 
 
@@ -86,13 +88,14 @@ def shared_keys(folder):
     """A key file that others may use is warned of, and one that they may not use isn't."""
     keys = pathlib.Path(folder, "keys")
     keys.write_bytes(KEYS.read_bytes())
-    warning = f"warning: {keys}: others than its owner may use the key file\n"
-    for mode, due in ((0o640, warning), (0o602, warning), (0o600, "")):
+    warning = [f"warning: {keys}: others than its owner may use the key file\n"]
+    for mode, due in ((0o640, warning), (0o602, warning), (0o600, [])):
         keys.chmod(mode)
         with started(f"{folder}/shared", keys) as run:
             run.stdout.readline()
             run.terminate()
-            yield f"keys of mode {mode:o}", run.stderr.read(), due
+            warned = [line for line in run.stderr if line.startswith("warning: ")]
+            yield f"keys of mode {mode:o}", warned, due
 
 
 def closed(folder):

@@ -10,7 +10,7 @@ INPUT_MAX = 16_777_216
 TWO_BAD = "refused 16\nrefused 16\n"
 SERVE = "Answers the requests of so many connections over a Unix socket\n"
 LISTEN = "Answers requests over a Unix socket until it is told to end\n"
-NO_KEY_FILE = f"error: /nowhere/keys: the key file can't be read, or is longer than {INPUT_MAX} bytes\n"
+NO_KEY_FILE = "error: /nowhere/keys: there is no key file; `macaroond keygen NAME --into /nowhere/keys` makes one\n"
 # The greatest payload that a frame carries, in digits.
 FRAME_DIGITS = 131_072
 
@@ -82,7 +82,7 @@ ENDINGS = {
     "listen_loops": (Case("", listen_with("--loops", "65")), bad("")),
     "listen_connections": (Case("", listen_with("--connections", "1000001")), bad("")),
     "listen_accept": (Case("", listen_with("--accept", "1")), bad("")),
-    "no_key_file": (Case("", serve_with()), Ending(3, "", "fault 3\n")),
+    "no_key_file": (Case("", serve_with()), Ending(3, "", NO_KEY_FILE)),
     "no_listen_key_file": (Case("", listen_with("--mode=660")), Ending(3, "", NO_KEY_FILE)),
     "bad_line": (Case("lock a 00\n"), keys_fault(1, 6)),
     "bad_name": (Case("key  00\n\n"), keys_fault(1, 1)),

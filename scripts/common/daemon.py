@@ -14,12 +14,12 @@ PATIENCE = 120
 
 
 @contextlib.contextmanager
-def listening(*words, **how):
+def listening(*words, keys=KEYS, **how):
     """The path of a daemon that listens, started with these words, and its process."""
     with tempfile.TemporaryDirectory() as folder:
         path = folder + "/socket"
-        command = [PROGRAM, "listen", "--socket", path, "--keys", KEYS, *words]
-        with subprocess.Popen(command, **{"stdout": subprocess.PIPE, **how}) as run:
+        command = [PROGRAM, "listen", "--socket", path, "--keys", keys, *words]
+        with subprocess.Popen(command, **{"stdout": subprocess.PIPE, "stderr": subprocess.DEVNULL, **how}) as run:
             try:
                 run.stdout.readline()
                 yield path, run

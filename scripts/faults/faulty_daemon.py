@@ -20,12 +20,12 @@ from faults.refusing import Ended, PATIENCE, Row, Watch, in_turn
 ASKED = frame(MINT) + frame(b"")
 DUE = [frame(b"\x01" + TOKEN), frame(b"\x10")]
 ENDINGS = {
-    (4, b"", b"fault 4\n"): "status 4 before it listens",
-    (4, b"listening\n", b"fault 4\n"): "status 4 once it has served",
-    (0, b"listening\nserved 2 faults 0\n", b""): "both served",
-    (0, b"listening\nserved 2 faults 1\n", b""): "one connection ended, the other served",
-    (3, b"listening\n", b"fault 3\n"): "status 3 at an accept",
-    (3, b"", b"fault 3\n"): "status 3 before it listens",
+    (4, b""): "status 4 before it listens",
+    (4, b"listening\n"): "status 4 once it has served",
+    (0, b"listening\nserved 2 faults 0\n"): "both served",
+    (0, b"listening\nserved 2 faults 1\n"): "one connection ended, the other served",
+    (3, b"listening\n"): "status 3 at an accept",
+    (3, b""): "status 3 before it listens",
 }
 # How many clients have all their replies then, at least.
 WHOLE = {
@@ -112,7 +112,9 @@ def served(times):
         if came is None:
             return None
         ended, replies = came
-        word = ENDINGS.get(tuple(ended))
+        word = ENDINGS.get((ended.status, ended.output))
+        if ended.error and not ended.error.startswith((b"error: ", b"fault 4\n")):
+            return None
         whole = sum(count == 2 * times for count in replies)
         return word if None not in replies and whole >= WHOLE.get(word, 2) else None
 

@@ -5,7 +5,7 @@
 """
 from .aio import AsyncClient
 from .client import Client
-from .errors import BadRequest, BadToken, Disconnected, MacaroondError, NotAllowed, Refused, TimedOut, UnknownKey
+from .errors import BadRequest, BadToken, Disconnected, MacaroondError, NoClock, NotAllowed, Refused, TimedOut, UnknownKey
 from .forms import Form
 from .tokens import Token, attenuate, inspect
 from .verdict import Verdict
@@ -18,6 +18,7 @@ __all__ = [
     "Disconnected",
     "Form",
     "MacaroondError",
+    "NoClock",
     "NotAllowed",
     "Refused",
     "TimedOut",

@@ -103,7 +103,10 @@ class Client:
         return self._made(attenuate_call(token, caveats, form))
 
     def verify(self, key: Text, token: Text, facts: Iterable[Text] = (), at: Optional[float] = None) -> Verdict:
-        """Whether the daemon's key grants the token, given these facts, at a moment in seconds since 1970 (or now)."""
+        """Whether the daemon's key grants the token, given these facts, at a moment in seconds since 1970.
+
+        Without a moment it is that of the daemon's clock.
+        """
         made: Verdict = self._made(verify_call(key, token, facts, at))
         return made
 

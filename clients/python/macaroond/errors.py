@@ -15,6 +15,7 @@ REASONS = {
     24: "a caveat is not satisfied",
     26: "a first-party caveat of the token has a location",
     27: "the socket does not allow this request",
+    28: "the clock tells no moment",
 }
 
 
@@ -54,6 +55,10 @@ class NotAllowed(Refused):
     """The daemon's socket doesn't allow this request."""
 
 
+class NoClock(Refused):
+    """The daemon's clock tells no moment: a verify has to give one."""
+
+
 CLASSES: Dict[int, Type[Refused]] = {
     16: BadRequest,
     17: BadRequest,
@@ -64,6 +69,7 @@ CLASSES: Dict[int, Type[Refused]] = {
     22: BadToken,
     26: BadToken,
     27: NotAllowed,
+    28: NoClock,
 }
 
 

@@ -4,10 +4,11 @@ from __future__ import annotations
 from typing import Optional
 
 from .errors import REASONS, BadToken, refusal
-from .text import Text
+from .text import Text, text_of
 from .tokens import inspect
+from .wire import owner
 
-GRANTED, UNSATISFIED = 0, 24
+GRANTED, GRANTED_TO, UNSATISFIED = 0, 3, 24
 # The refusals of a verify that speak of the token; the others are raised.
 OF_TOKEN = frozenset((19, 20, 21, 22, 23, UNSATISFIED, 26))
 
@@ -19,12 +20,13 @@ class Verdict:
     the first caveat that isn't satisfied, counted from 0, where that is the refusal (24).
     """
 
-    __slots__ = ("code", "caveat", "_token")
+    __slots__ = ("code", "caveat", "_token", "_owner")
 
-    def __init__(self, code: int, caveat: Optional[int], token: Text) -> None:
+    def __init__(self, code: int, caveat: Optional[int], token: Text, owner: Optional[bytes] = None) -> None:
         self.code = code
         self.caveat = caveat
         self._token = token
+        self._owner = owner
 
     def __bool__(self) -> bool:
         return self.code == GRANTED
@@ -35,6 +37,8 @@ class Verdict:
     @property
     def identifier(self) -> Optional[str]:
         """The identifier of a token that is granted; of any other None, since nobody vouches for it."""
+        if self._owner is not None:
+            return text_of(self._owner)
         return inspect(self._token).identifier if self else None
 
     @property
@@ -56,6 +60,8 @@ class Verdict:
 def verdict(reply: bytes, token: Text) -> Verdict:
     """The verdict that a verify's reply tells, or the error that it tells."""
     code = reply[0]
+    if code == GRANTED_TO:
+        return Verdict(GRANTED, None, token, owner(reply[1:]))
     if code == GRANTED or code in OF_TOKEN:
         return Verdict(code, int.from_bytes(reply[1:], "big") if code == UNSATISFIED else None, token)
     raise refusal(code)

@@ -3,7 +3,6 @@ from __future__ import annotations
 
 import collections
 import struct
-import time
 from typing import Callable, Deque, Iterable, List, Optional
 
 from .errors import BadRequest, Disconnected
@@ -15,6 +14,8 @@ HELLO = b"\x02"
 FRAME_MAX, TOKEN_MAX, CAVEAT_MAX = 65_536, 32_768, 4_096
 # The fewest and the most bytes of a reply's payload: its place, a byte, and perhaps a token.
 REPLY_MIN, REPLY_MAX = 9, 9 + TOKEN_MAX
+# The numbers of a verify at a moment, and of one at the daemon's clock that asks whose a granted token is.
+AT_A_MOMENT, OWNER_NOW = b"\x03", b"\x05"
 # A reply's front: the length of its payload, and its place.
 FRONT = struct.Struct(">IQ")
 
@@ -52,10 +53,13 @@ def attenuate_request(token: Text, caveats: Iterable[Text], form: int) -> bytes:
 
 
 def verify_request(key: Text, token: Text, facts: Iterable[Text], at: Optional[float]) -> bytes:
-    """A fact that is longer than any caveat satisfies none, and so it is left out."""
+    """A fact that is longer than any caveat satisfies none, and so it is left out.
+
+    Without a moment the daemon's clock is asked, and the reply tells whose a granted token is.
+    """
     told = [fact for fact in map(bytes_of, facts) if len(fact) <= CAVEAT_MAX]
-    front = b"\x03" + sized(bytes_of(key), 1, "key's name") + told_token(token)
-    return front + moment(at) + listed(told, "fact")
+    kind, second = (OWNER_NOW, b"") if at is None else (AT_A_MOMENT, moment(at))
+    return kind + sized(bytes_of(key), 1, "key's name") + told_token(token) + second + listed(told, "fact")
 
 
 def told_token(token: Text) -> bytes:
@@ -63,9 +67,14 @@ def told_token(token: Text) -> bytes:
     return sized(bytes_of(token)[: TOKEN_MAX + 1], 2, "token")
 
 
-def moment(at: Optional[float]) -> bytes:
-    """The moment of a verify, by this machine's clock where none is given."""
-    second = int(time.time() if at is None else at)
+def owner(fields: bytes) -> bytes:
+    """The identifier of a reply that tells whose a token is: behind it stands the location."""
+    return fields[2 : 2 + int.from_bytes(fields[:2], "big")]
+
+
+def moment(at: float) -> bytes:
+    """The moment of a verify."""
+    second = int(at)
     if not 0 <= second < 2**64:
         raise BadRequest(16, f"{second} is no number of seconds since 1970")
     return second.to_bytes(8, "big")

@@ -19,8 +19,8 @@ def no_facts(environ: Environ) -> Iterable[Text]:
 class RequireMacaroon:
     """Lets those requests through to an application whose bearer token is granted.
 
-    `facts` tells what is known of a request; the token's caveats are looked at against that and this
-    machine's clock. The application finds the token's identifier in `environ["macaroond.identifier"]`.
+    `facts` tells what is known of a request; the token's caveats are looked at against that and the
+    daemon's clock. The application finds the token's identifier in `environ["macaroond.identifier"]`.
     A request without a token or with a bad one is answered 401, one that a caveat forbids 403, one
     whose facts no request can tell 400, and each one 503 while the daemon gives no verdict.
     """

@@ -11,11 +11,14 @@ from .script import GRANTED, folder, server
 # A token whose identifier is `alice`, without caveats; what signs it doesn't matter to the scripted server.
 TOKEN = b"\x02\x02\x05alice\x00\x00\x06\x20" + bytes(32)
 TEXT = "AgIFYWxpY2UAAAYg" + "A" * 43
-REPLIES = {b"granted": GRANTED, b"forged": b"\x17", b"narrow": b"\x18\x00\x00", b"unknown": b"\x12", b"forbidden": b"\x1b"}
+# What tells that `carol` has it, at no location: the middlewares believe the reply.
+OWNED = b"\x03\x00\x05carol\x00\x00"
+REPLIES = {b"granted": GRANTED, b"owned": OWNED, b"forged": b"\x17", b"narrow": b"\x18\x00\x00", b"unknown": b"\x12", b"forbidden": b"\x1b"}
 # The Authorization header and the one fact; the status, the challenge, and what the application saw.
 CASES = [
     ("Bearer " + TEXT, "granted", 200, None, "alice"),
     ("bearer  " + TEXT, "granted", 200, None, "alice"),
+    ("Bearer " + TEXT, "owned", 200, None, "carol"),
     (None, "granted", 401, "Bearer", None),
     ("", "granted", 401, "Bearer", None),
     ("Bearer ", "granted", 401, "Bearer", None),

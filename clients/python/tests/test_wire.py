@@ -16,8 +16,9 @@ class Requests(unittest.TestCase):
         self.assertEqual(wire.attenuate_request(b"!", ["a", b"\xff", "\udcff"], Form.V2_JSON).hex(), "02030001210300016100" + "01ff0001ff")
 
     def test_now(self):
-        now = wire.verify_request("a", "!", NOTHING, None)
-        self.assertLess(1_700_000_000, int.from_bytes(now[6:14], "big"))
+        """Without a moment the daemon's clock is asked, and whose the token is."""
+        self.assertEqual(wire.verify_request("a", "!", ["f"], None).hex(), "050161000121" + "01000166")
+        self.assertEqual(wire.owner(bytes.fromhex("000169" + "00026c6c")), b"i")
 
     def test_too_long(self):
         """What a request can't tell is an error; what changes no verdict is cut or left out."""

@@ -1,6 +1,6 @@
 -- Tables that are taken one after the other.
-use Rattle.std.proofs.Common.{◌≡◌, ℕ, zero, suc, ◌≤◌, List, [], ◌∷◌, ◌++◌, slice_get, refl, sym, ap, subst, ◌∙◌, append_assoc, append-nil, le_refl, le_trans}
-use Rattle.std.specs.Prelude.{Bool, IsTrue, Some, All}
+use Rattle.std.proofs.Common.{◌≡◌, ℕ, zero, suc, ◌≤◌, List, [], ◌∷◌, ◌++◌, slice_get, refl, sym, ap, subst, ◌∙◌, append_assoc, append-nil, le_refl}
+use Rattle.std.specs.Prelude.{Bool, Some, All}
 use Rattle.std.proofs.lemmas.List.Elements.{All-nil, All-cons}
 use Rattle.mac_keys.specs.Keys.{Table}
 use Rattle.mac_board.specs.Follows.{Known, IsUp, Begins, Looks, Takes, Follows, AreInOrder}

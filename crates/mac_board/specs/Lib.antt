@@ -5,3 +5,4 @@ pub mod Editor
 pub mod Publisher
 pub mod Sight
 pub mod Watcher
+pub mod Noticed

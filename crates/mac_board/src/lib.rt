@@ -3,7 +3,8 @@
 //!
 //! A [`Publisher`] puts tables up. A [`Follower`], which [`Followers`] makes, has the table that
 //! was up when it looked last. Who answers requests asks for [`Tables`], which a follower is, and so
-//! is one table that stays, as [`FixedTables`].
+//! is one table that stays, as [`FixedTables`]. [`Moments`] tell the seconds, and [`TimedTables`]
+//! join both to an [`Outlook`], each look of which comes to a table and a moment.
 //!
 //! An [`Editor`] puts up the tables of a key file that changes. Its [`Watcher`] says when the file
 //! is read, when it is taken, and when it is told why not; the looks at the file are its caller's.
@@ -13,6 +14,8 @@ mod editor;
 mod follower;
 mod issue;
 pub mod laws;
+mod moments;
+mod outlook;
 mod publisher;
 mod sight;
 mod tables;
@@ -20,6 +23,8 @@ mod watcher;
 
 pub use editor::{Editor, News};
 pub use follower::{Follower, Followers};
+pub use moments::Moments;
+pub use outlook::{Current, Outlook, TimedTables};
 pub use publisher::{PublishFault, Publisher};
 pub use sight::{FileState, Mark, ReadFault, Sight, Stamp};
 pub use tables::{FixedTables, Tables};

@@ -11,16 +11,20 @@ use Rattle.mac_count.specs.declared.number.Request.{Request}
 use Rattle.mac_count.specs.Number.{all_numbers, all_requests, number_place, request_place}
 
 pub number_once : (n : Number) → count_by (λ (other : Number). number_place other == number_place n) all_numbers ≡ 1
-number_once number.SecondsUp = refl
+number_once number.StartedAt = refl
 number_once number.Connections = refl
+number_once number.ConnectionsPlain = refl
+number_once number.ConnectionsWide = refl
 number_once number.ConnectionsTotal = refl
 number_once number.ConnectionsAtLimit = refl
 number_once number.ConnectionsFaulty = refl
+number_once number.RequestsWide = refl
 number_once number.BytesIn = refl
 number_once number.BytesOut = refl
 number_once number.KeyNames = refl
 number_once number.KeysReadAt = refl
 number_once number.KeysRefused = refl
+number_once number.ConnectionsHttp = refl
 
 request_once_of : (a : Asked) (t : Told) → count_by (λ (other : Request). request_place other == request_place (record { asked = a; told = t })) all_requests ≡ 1
 request_once_of asked.Mint told.Granted = refl

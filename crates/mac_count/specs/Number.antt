@@ -10,46 +10,58 @@ use Rattle.mac_count.specs.declared.number.Told.TheVariants as told
 
 -- the name of a number
 abbrev pub number_word : Number → List ℕ
-number_word number.SecondsUp = codes "seconds_up"
+number_word number.StartedAt = codes "started_seconds"
 number_word number.Connections = codes "connections"
+number_word number.ConnectionsPlain = codes "connections_plain"
+number_word number.ConnectionsWide = codes "connections_wide"
 number_word number.ConnectionsTotal = codes "connections_total"
 number_word number.ConnectionsAtLimit = codes "connections_closed_at_limit_total"
 number_word number.ConnectionsFaulty = codes "connections_faulty_total"
+number_word number.RequestsWide = codes "requests_wide_total"
 number_word number.BytesIn = codes "bytes_in_total"
 number_word number.BytesOut = codes "bytes_out_total"
 number_word number.KeyNames = codes "key_names"
 number_word number.KeysReadAt = codes "keys_read_seconds"
 number_word number.KeysRefused = codes "keys_refused"
+number_word number.ConnectionsHttp = codes "connections_http"
 
 -- a counter only grows, a gauge goes both ways
 abbrev pub number_kind : Number → List ℕ
-number_kind number.SecondsUp = codes "gauge"
+number_kind number.StartedAt = codes "gauge"
 number_kind number.Connections = codes "gauge"
+number_kind number.ConnectionsPlain = codes "gauge"
+number_kind number.ConnectionsWide = codes "gauge"
 number_kind number.ConnectionsTotal = codes "counter"
 number_kind number.ConnectionsAtLimit = codes "counter"
 number_kind number.ConnectionsFaulty = codes "counter"
+number_kind number.RequestsWide = codes "counter"
 number_kind number.BytesIn = codes "counter"
 number_kind number.BytesOut = codes "counter"
 number_kind number.KeyNames = codes "gauge"
 number_kind number.KeysReadAt = codes "gauge"
 number_kind number.KeysRefused = codes "gauge"
+number_kind number.ConnectionsHttp = codes "gauge"
 
 -- the place of a number in a snapshot
 abbrev pub number_place : Number → ℕ
-number_place number.SecondsUp = 0
+number_place number.StartedAt = 0
 number_place number.Connections = 1
-number_place number.ConnectionsTotal = 2
-number_place number.ConnectionsAtLimit = 3
-number_place number.ConnectionsFaulty = 4
-number_place number.BytesIn = 5
-number_place number.BytesOut = 6
-number_place number.KeyNames = 7
-number_place number.KeysReadAt = 8
-number_place number.KeysRefused = 9
+number_place number.ConnectionsPlain = 2
+number_place number.ConnectionsWide = 3
+number_place number.ConnectionsTotal = 4
+number_place number.ConnectionsAtLimit = 5
+number_place number.ConnectionsFaulty = 6
+number_place number.RequestsWide = 7
+number_place number.BytesIn = 8
+number_place number.BytesOut = 9
+number_place number.KeyNames = 10
+number_place number.KeysReadAt = 11
+number_place number.KeysRefused = 12
+number_place number.ConnectionsHttp = 13
 
 -- all numbers, in the order in which they are written
 abbrev pub all_numbers : List Number
-all_numbers = number.SecondsUp ∷ number.Connections ∷ number.ConnectionsTotal ∷ number.ConnectionsAtLimit ∷ number.ConnectionsFaulty ∷ number.BytesIn ∷ number.BytesOut ∷ number.KeyNames ∷ number.KeysReadAt ∷ number.KeysRefused ∷ []
+all_numbers = number.StartedAt ∷ number.Connections ∷ number.ConnectionsPlain ∷ number.ConnectionsWide ∷ number.ConnectionsTotal ∷ number.ConnectionsAtLimit ∷ number.ConnectionsFaulty ∷ number.RequestsWide ∷ number.BytesIn ∷ number.BytesOut ∷ number.KeyNames ∷ number.KeysReadAt ∷ number.KeysRefused ∷ number.ConnectionsHttp ∷ []
 
 -- the word for what a request asks for
 abbrev pub asked_word : Asked → List ℕ

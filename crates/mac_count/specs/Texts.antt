@@ -15,6 +15,10 @@ number_value s n = slice_index s.numbers (number_place n)
 abbrev pub request_value : Snapshot → Request → ℕ
 request_value s r = slice_index s.requests (request_place r)
 
+-- `version TEXT`
+abbrev pub version_line : List ℕ → List ℕ
+version_line version = codes "version " ++ (version ++ 10 ∷ [])
+
 -- a value and the end of its line
 abbrev pub value_text : ℕ → List ℕ
 value_text value = decimal value ++ 10 ∷ []

@@ -43,6 +43,26 @@ impl Counters {
         self.requests[request.place()].fetch_add(1, SeqCst);
     }
 
+    /// Counts requests that were answered, so many of each at its place.
+    pub fn add_requests(&self, counts: &[u64; REQUESTS]) {
+        for place in 0..REQUESTS {
+            if counts[place] > 0 {
+                self.requests[place].fetch_add(counts[place], SeqCst);
+            }
+        }
+    }
+
+    /// Adds what the counters show to a snapshot.
+    pub fn add_to(&self, snapshot: &mut Snapshot) {
+        let own = self.snapshot();
+        for place in 0..NUMBERS {
+            snapshot.numbers[place] = snapshot.numbers[place].saturating_add(own.numbers[place]);
+        }
+        for place in 0..REQUESTS {
+            snapshot.requests[place] = snapshot.requests[place].saturating_add(own.requests[place]);
+        }
+    }
+
     /// What the counters show.
     pub fn snapshot(&self) -> Snapshot {
         Snapshot {

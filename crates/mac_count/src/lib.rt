@@ -9,9 +9,11 @@ pub mod laws;
 mod number;
 mod snapshot;
 mod texts;
+mod version;
 
 pub use counters::Counters;
 pub use number::{Asked, NUMBERS, Number, REQUESTS, Request, Told};
 pub use snapshot::Snapshot;
 pub use std::alloc::AllocError as NoMemory;
 pub use texts::{append_metrics, append_status};
+pub use version::append_version;

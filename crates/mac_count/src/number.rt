@@ -5,7 +5,7 @@ ghost use Rattle.mac_count.specs.Number.{asked_word, number_kind, number_place, 
 ghost use Rattle.mac_count.specs.Number.{request_place, told_word};
 
 /// How many numbers there are beside those of requests.
-pub const NUMBERS: usize = 10;
+pub const NUMBERS: usize = 14;
 
 /// How many numbers there are of requests: one for each thing asked and each answer.
 pub const REQUESTS: usize = 16;
@@ -13,16 +13,22 @@ pub const REQUESTS: usize = 16;
 /// A number that stands alone.
 #[derive(Clone, Copy, Debug, PartialEq, Eq)]
 pub enum Number {
-    /// How many seconds the daemon has been up.
-    SecondsUp,
+    /// When the daemon began: seconds from 1970.
+    StartedAt,
     /// How many connections there are.
     Connections,
+    /// How many of them a loop answers.
+    ConnectionsPlain,
+    /// How many of them have a desk and two threads.
+    ConnectionsWide,
     /// How many there have been.
     ConnectionsTotal,
     /// How many were closed because there were as many as may be.
     ConnectionsAtLimit,
     /// How many ended in a fault.
     ConnectionsFaulty,
+    /// How many requests were answered on wide connections, which are counted by nothing else.
+    RequestsWide,
     /// How many bytes came in.
     BytesIn,
     /// How many bytes went out.
@@ -33,6 +39,8 @@ pub enum Number {
     KeysReadAt,
     /// Whether the last key file was refused: 1 or 0.
     KeysRefused,
+    /// How many connections there are over HTTP, beside the others.
+    ConnectionsHttp,
 }
 
 /// What a request asks for.
@@ -73,16 +81,20 @@ pub struct Request {
 impl Number {
     /// All of them, in the order in which they are written.
     pub const ALL: [Number; NUMBERS] = [
-        Number::SecondsUp,
+        Number::StartedAt,
         Number::Connections,
+        Number::ConnectionsPlain,
+        Number::ConnectionsWide,
         Number::ConnectionsTotal,
         Number::ConnectionsAtLimit,
         Number::ConnectionsFaulty,
+        Number::RequestsWide,
         Number::BytesIn,
         Number::BytesOut,
         Number::KeyNames,
         Number::KeysReadAt,
         Number::KeysRefused,
+        Number::ConnectionsHttp,
     ];
 
     /// Its name, as Prometheus's rules for names have it.
@@ -90,16 +102,20 @@ impl Number {
         ensures { result.now ≡ number_word self }
     {
         match self {
-            Number::SecondsUp => "seconds_up",
+            Number::StartedAt => "started_seconds",
             Number::Connections => "connections",
+            Number::ConnectionsPlain => "connections_plain",
+            Number::ConnectionsWide => "connections_wide",
             Number::ConnectionsTotal => "connections_total",
             Number::ConnectionsAtLimit => "connections_closed_at_limit_total",
             Number::ConnectionsFaulty => "connections_faulty_total",
+            Number::RequestsWide => "requests_wide_total",
             Number::BytesIn => "bytes_in_total",
             Number::BytesOut => "bytes_out_total",
             Number::KeyNames => "key_names",
             Number::KeysReadAt => "keys_read_seconds",
             Number::KeysRefused => "keys_refused",
+            Number::ConnectionsHttp => "connections_http",
         }
     }
 
@@ -111,13 +127,17 @@ impl Number {
             Number::ConnectionsTotal
             | Number::ConnectionsAtLimit
             | Number::ConnectionsFaulty
+            | Number::RequestsWide
             | Number::BytesIn
             | Number::BytesOut => "counter",
-            Number::SecondsUp
+            Number::StartedAt
             | Number::Connections
+            | Number::ConnectionsPlain
+            | Number::ConnectionsWide
             | Number::KeyNames
             | Number::KeysReadAt
-            | Number::KeysRefused => "gauge",
+            | Number::KeysRefused
+            | Number::ConnectionsHttp => "gauge",
         }
     }
 

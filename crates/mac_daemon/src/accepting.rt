@@ -1,20 +1,19 @@
-//! The loop that accepts the connections of a socket: so many of them, or until it is shut.
+//! The loop that accepts the connections of sockets: so many of them, or until it is shut.
 ghost use Rattle.std.specs.Prelude.{◌≡◌, IfOk};
 ghost use Rattle.mac_daemon.specs.Day.{MeetsCount};
 
-use crate::entrance::Entrance;
+use crate::entrance::{Arrived, Entrance};
 use crate::fault::DaemonFault;
 use crate::notices::Notice;
 use crate::quay::Quay;
-use mac_loop::{Handover, Loops, SocketPort, microseconds};
+use mac_loop::{Badge, Handover, Life, Loops, SocketPort};
 use mac_wire::Session;
 use std::alloc::Global;
 use std::io::ErrorKind;
-use std::os::unix::net::UnixStream;
 use std::sync::{Arc, Wait};
-use std::thread;
 use std::thread::{Builder, Promise, PromisedHandle, Threads};
 use std::time::{Clock, Duration};
+use std::{io, thread};
 
 /// How many milliseconds to wait where the system accepts no connection, for want of descriptors.
 const PAUSE_MILLIS: u64 = 100;
@@ -126,12 +125,15 @@ where
             _ => {}
         }
         match entrance.accept(rt) {
-            Some(Ok(stream)) => {
+            Some(Ok(arrived)) => {
                 served = served.saturating_add(1);
-                welcome(rt, alloc, stream, loops, quay, limits.connections);
+                if quay.admit(rt, limits.connections) {
+                    let badge = quay.badge(rt, served, arrived.door);
+                    welcome(rt, alloc, arrived, badge, loops, quay);
+                }
             }
             Some(Err(fault)) if limits.count.is_some() => return Err(DaemonFault::System(fault)),
-            Some(Err(_)) => thread::sleep(rt, Duration::from_millis(PAUSE_MILLIS)),
+            Some(Err(fault)) => pause(rt, alloc, fault, quay),
             None if limits.count.is_none() => return Ok(served),
             None => return Err(DaemonFault::System(ErrorKind::ConnectionAborted.into())),
         }
@@ -139,30 +141,41 @@ where
     unreachable!()
 }
 
-/// Hands a connection to a loop. One too many, or one for which there is no memory, is closed, and
-/// a notice says why.
+/// Waits for a moment where the system gave no connection, and tells why.
+fn pause<R: Wait + Clock>(rt: &R, alloc: Global, fault: io::Error, quay: &Quay) {
+    if let Ok(text) = fault.to_string(alloc) {
+        quay.say_refused(rt, text.as_str());
+    }
+    thread::sleep(rt, Duration::from_millis(PAUSE_MILLIS));
+}
+
+/// Hands a connection to a loop. One for which there is no memory is closed, and that is told.
 fn welcome<R: Wait + Clock>(
     rt: &R,
     alloc: Global,
-    stream: UnixStream,
+    arrived: Arrived,
+    badge: Badge,
     loops: &Loops,
     quay: &Quay,
-    connections: u64,
 ) {
-    if !quay.admit(connections) {
-        quay.refuse(rt, Notice::Full);
-        return;
-    }
+    let life = Life { badge, answered: 0 };
+    let Arrived { stream, rights, .. } = arrived;
     let Ok(port) = SocketPort::new(stream) else {
-        quay.end(rt, Some(Notice::System));
+        quay.end(rt, life, Some(Notice::System));
+        return;
+    };
+    let Some(rights) = rights else {
+        quay.end(rt, life, Some(Notice::NoMemory));
         return;
     };
     let client = Handover {
         port,
         session: Session::new(alloc),
-        since: microseconds(rt),
+        rights,
+        since: badge.accepted,
+        badge,
     };
     if loops.hand(rt, FIRST_LOOP, client).is_err() {
-        quay.end(rt, Some(Notice::NoMemory));
+        quay.end(rt, life, Some(Notice::NoMemory));
     }
 }

@@ -4,11 +4,12 @@ ghost use Rattle.mac_queue.specs.Pass.{IsSamePass};
 
 use crate::quay::Mooring;
 use crate::stay::{StayReader, limit_waits};
-use mac_board::Follower;
-use mac_decide::Macaroons;
-use mac_loop::{Handover, SocketPort, microseconds};
+use mac_board::{Follower, TimedTables};
+use mac_decide::{Macaroons, Rights};
+use mac_loop::{Badge, Handover, Life, SocketPort, microseconds};
 use mac_pool::Desk;
 use mac_serve::{ServeFault, Served, serve};
+use mac_system::SystemMoments;
 use mac_wire::{DeviceFault, Ending, NoMemory, ReaderSource, Session, Sink, WriterSink};
 use std::alloc::Global;
 use std::io;
@@ -38,11 +39,21 @@ const DROPPED_MILLIS: u64 = 100;
 #[derive(Drop)]
 pub enum Parting {
     /// It is over, with the fault that it ended in.
-    Over(Option<ServeFault>),
+    Over(Life, Option<ServeFault>),
     /// It goes on in a loop.
     Back(Handover),
     /// It can't go on in a loop, since the system failed.
-    Stuck,
+    Stuck(Life),
+}
+
+impl Parting {
+    /// What the connection had come to.
+    pub fn life(&self) -> Life {
+        match self {
+            Parting::Over(life, _) | Parting::Stuck(life) => *life,
+            Parting::Back(client) => client.life(),
+        }
+    }
 }
 
 /// What a connection leaves in its berth.
@@ -89,17 +100,18 @@ where
         return Err(desk);
     };
     let promise = SamePass(Snapshot::of(&desk));
+    let life = client.life();
     let work = move || -> Left
         ensures { IsSamePass desk.putter result.desk.putter }
     {
-        let (own, client, mooring, mut keys) = (desk, client, mooring, keys);
+        let (own, client, mooring, keys) = (desk, client, mooring, keys);
         if heard.load(SeqCst) {
             return Left {
-                parting: Parting::Over(Some(ServeFault::NoMemory)),
+                parting: Parting::Over(life, Some(ServeFault::NoMemory)),
                 desk: own,
             };
         }
-        let left = serve_client(&rt, alloc, client, &mut keys, own, &mooring);
+        let left = serve_client(&rt, alloc, client, keys, own, &mooring);
         mooring.quay.leave(mooring.mark);
         left
     };
@@ -129,41 +141,47 @@ fn serve_client<R: Threads + Wait + Clock + Sync>(
     rt: &R,
     alloc: Global,
     client: Handover,
-    keys: &mut Follower,
+    keys: Follower,
     desk: Desk<Macaroons>,
     mooring: &Mooring,
 ) -> Left
     ensures { IsSamePass desk.putter result.desk.putter }
 {
+    let life = client.life();
     let Handover {
         port,
         session,
+        rights,
         since,
+        badge,
     } = client;
     let Ok(stream) = open_stay(port) else {
         return Left {
-            parting: Parting::Stuck,
+            parting: Parting::Stuck(life),
             desk,
         };
     };
-    let (fault, served) = serve_stream(rt, alloc, &stream, keys, desk, session, mooring);
+    let (fault, served) = serve_stream(rt, alloc, &stream, keys, &rights, desk, session, mooring);
     let Served {
         arrived,
+        sent,
+        written,
         ending,
         desk,
         session,
-        ..
     } = served;
+    mooring.quay.numbers().count_wide(sent, written);
     let parting = match session {
         Some(session) => {
             let since = if arrived > 0 { microseconds(rt) } else { since };
-            go_back(stream, session, since)
+            go_back(stream, session, rights, since, badge)
         }
         None => {
             if ending == Ending::Oversize {
                 drop_rest(&stream);
             }
-            Parting::Over(fault)
+            let answered = life.answered.saturating_add(sent);
+            Parting::Over(Life { badge, answered }, fault)
         }
     };
     Left { parting, desk }
@@ -177,14 +195,23 @@ fn open_stay(port: SocketPort) -> io::Result<UnixStream> {
 }
 
 /// A connection that goes on in a loop, if the system lets it.
-fn go_back(stream: UnixStream, session: Session, since: u64) -> Parting {
+fn go_back(
+    stream: UnixStream,
+    session: Session,
+    rights: Arc<Rights, Global>,
+    since: u64,
+    badge: Badge,
+) -> Parting {
+    let answered = session.answered;
     match SocketPort::new(stream) {
         Ok(port) => Parting::Back(Handover {
             port,
             session,
+            rights,
             since,
+            badge,
         }),
-        Err(_) => Parting::Stuck,
+        Err(_) => Parting::Stuck(Life { badge, answered }),
     }
 }
 
@@ -193,16 +220,27 @@ fn serve_stream<R: Threads + Wait + Clock + Sync>(
     rt: &R,
     alloc: Global,
     stream: &UnixStream,
-    keys: &mut Follower,
+    keys: Follower,
+    rights: &Rights,
     desk: Desk<Macaroons>,
     session: Session,
     mooring: &Mooring,
 ) -> (Option<ServeFault>, Served)
     ensures { IsSamePass desk.putter result.1.desk.putter }
 {
+    let mut outlook = TimedTables::new(keys, SystemMoments::new(rt));
     let mut source = ReaderSource::new(StayReader::begin(rt, stream, mooring));
     let mut sink = Outgoing::new(stream);
-    match serve(rt, alloc, &mut source, &mut sink, keys, desk, session) {
+    match serve(
+        rt,
+        alloc,
+        &mut source,
+        &mut sink,
+        &mut outlook,
+        rights,
+        desk,
+        session,
+    ) {
         Ok(served) => (None, served),
         Err((fault, served)) => (Some(fault), served),
     }

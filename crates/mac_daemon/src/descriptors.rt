@@ -9,8 +9,9 @@ const KEPT: u64 = 32;
 /// How many descriptors a loop waits by: its poll's, and that which wakes it.
 const EACH_LOOP: u64 = 2;
 
-/// The most connections for which there are descriptors beside what so many loops wait by.
-pub fn most_connections(loops: usize) -> u64 {
+/// The most connections for which there are descriptors beside what so many loops wait by, and
+/// those that others have.
+pub fn most_connections(loops: usize, others: u64) -> u64 {
     let mut limit = rlimit {
         rlim_cur: u64::MAX,
         rlim_max: u64::MAX,
@@ -22,5 +23,6 @@ pub fn most_connections(loops: usize) -> u64 {
     limit
         .rlim_cur
         .saturating_sub(KEPT.saturating_add(waits))
+        .saturating_sub(others)
         .max(1)
 }

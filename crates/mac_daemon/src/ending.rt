@@ -2,6 +2,9 @@
 
 use crate::entrance::Shutter;
 use crate::fault::DaemonFault;
+use crate::numbers::Numbers;
+use crate::quay::Quay;
+use mac_count::{Counters, Told};
 use std::alloc::{AllocError, Global};
 use std::sync::{Arc, Condvar, CondvarTimeouts, Mutex, Wait};
 use std::time::{Clock, Duration};
@@ -33,6 +36,8 @@ struct Standing {
     looks: bool,
     // How often it was told to end.
     calls: u64,
+    // How many connections there are that aren't its own.
+    guests: u64,
     is_over: bool,
     // Why it could not begin, until that is asked for.
     fault: Option<DaemonFault>,
@@ -50,6 +55,7 @@ impl Ending {
                 has_begun: false,
                 looks: false,
                 calls: 0,
+                guests: 0,
                 is_over: false,
                 fault: None,
             }),
@@ -122,15 +128,82 @@ impl Ending {
         if looks { Call::Look } else { Call::Nothing }
     }
 
-    /// Waits until the daemon has ended, for so many seconds at most, and no longer than until it
-    /// is told a second time. Whether it has ended.
+    /// Waits until the daemon has ended, and its guests too, for so many seconds at most, and no
+    /// longer than until it is told a second time. Whether all have ended.
     pub fn await_end<R: Wait + Clock>(&self, rt: &R, seconds: u64) -> bool {
         let standing = self.standing.lock(rt);
         let patience = Duration::from_secs(seconds);
-        let waits = |standing: &mut Standing| standing.calls < 2 && !standing.is_over;
+        let waits = |standing: &mut Standing| standing.calls < 2
+            && (!standing.is_over || standing.guests > 0);
         let (standing, _) = self
             .change
             .wait_timeout_while(rt, standing, patience, waits);
-        standing.is_over
+        standing.is_over && standing.guests == 0
+    }
+
+    /// How many connections there are that aren't the daemon's own.
+    pub fn guests<R: Wait>(&self, rt: &R) -> u64 {
+        let standing = self.standing.lock(rt);
+        standing.guests
+    }
+}
+
+/// Counts the connections that aren't a daemon's own, and that its end waits for.
+#[derive(Drop)]
+pub struct Guests {
+    ending: Arc<Ending, Global>,
+    quay: Arc<Quay, Global>,
+    numbers: Numbers,
+}
+
+impl Guests {
+    /// The guests of this daemon's end, which are among its numbers. Its own connections are those
+    /// of the quay.
+    pub fn of(
+        ending: &Arc<Ending, Global>,
+        quay: &Arc<Quay, Global>,
+        numbers: &Numbers,
+    ) -> Result<Guests, AllocError> {
+        Ok(Guests {
+            ending: Arc::try_clone(ending)?,
+            quay: Arc::try_clone(quay)?,
+            numbers: numbers.share()?,
+        })
+    }
+
+    /// Counts one more.
+    pub fn enter<R: Wait>(&self, rt: &R) {
+        let mut standing = self.ending.standing.lock(rt);
+        standing.guests = standing.guests.saturating_add(1);
+        self.numbers.count_guest();
+    }
+
+    /// Counts one less.
+    pub fn leave<R: Wait>(&self, rt: &R) {
+        let mut standing = self.ending.standing.lock(rt);
+        standing.guests = standing.guests.saturating_sub(1);
+        drop(standing);
+        self.numbers.count_guest_gone();
+        self.ending.change.notify_all();
+    }
+
+    /// Counts a verify that one of them asked for, by what it was told.
+    pub fn count_verify(&self, told: Told) {
+        self.numbers.count_verify(told);
+    }
+
+    /// What the daemon counts.
+    pub fn counters(&self) -> &Counters {
+        self.numbers.counters()
+    }
+
+    /// Appends a line for each connection of the daemon's own.
+    pub fn append_connections<R: Clock>(
+        &self,
+        rt: &R,
+        alloc: Global,
+        text: &mut Vec<u8>,
+    ) -> Result<(), AllocError> {
+        self.quay.roster().append_lines(rt, alloc, text)
     }
 }

@@ -1,31 +1,32 @@
-//! Where connections come in: a socket that listens, until it is shut.
+//! Where connections come in: sockets that listen, until it is shut.
 
+use crate::door::Door;
 use crate::fault::DaemonFault;
+use mac_decide::Rights;
 use mio::unix::SourceFd;
 use mio::{Events, Interest, Poll, Token, Waker};
 use std::alloc::Global;
 use std::io;
-use std::io::ErrorKind;
 use std::net::Net;
 use std::os::fd::AsRawFd;
-use std::os::unix::net::{UnixListener, UnixStream};
+use std::os::unix::net::UnixStream;
 use std::sync::atomic::AtomicBool;
 use std::sync::atomic::Ordering::SeqCst;
 use std::sync::{Arc, Wait};
 
-/// The tokens of what ends a wait: a connection, or that the entrance is shut.
-const LISTENER: usize = 0;
-
-const SHUTTER: usize = 1;
+/// The token of what shuts an entrance, which no door has.
+const SHUTTER: usize = 1 << 40;
 
 /// How many events are taken at a time.
-const EVENTS: usize = 2;
+const EVENTS: usize = 3;
 
-/// A socket that listens, and what the waits for its connections end by.
+/// Sockets that listen, and what the waits for their connections end by.
 #[derive(Drop)]
 pub struct Entrance {
-    // It is closed once no more connections are taken.
-    listener: Option<UnixListener>,
+    // There are none once no more connections are taken.
+    doors: Vec<Door>,
+    // The door that is looked at first.
+    next: usize,
     poll: Poll,
     events: Events,
     shutter: Arc<Shutter, Global>,
@@ -37,6 +38,20 @@ pub struct Shutter {
     waker: Waker,
     is_shut: AtomicBool,
 }
+
+/// A connection that has come in.
+#[derive(Drop)]
+pub struct Arrived {
+    /// Its stream.
+    pub stream: UnixStream,
+    /// What its requests may do, where there is memory for that.
+    pub rights: Option<Arc<Rights, Global>>,
+    /// The number of its door.
+    pub door: usize,
+}
+
+/// A connection, or why the system gives none.
+pub type Welcome = io::Result<Arrived>;
 
 impl Shutter {
     /// Has the entrance take no more connections.
@@ -51,21 +66,18 @@ impl Shutter {
 }
 
 impl Entrance {
-    /// The entrance through a socket that listens.
-    pub fn open<R: Net>(
-        rt: &R,
-        alloc: Global,
-        listener: UnixListener,
-    ) -> Result<Entrance, DaemonFault> {
-        listener.set_nonblocking(true)?;
+    /// The entrance through these doors.
+    pub fn open<R: Net>(rt: &R, alloc: Global, doors: Vec<Door>) -> Result<Entrance, DaemonFault> {
         let poll = Poll::new(rt)?;
         let registry = poll.registry();
-        let descriptor = listener.as_raw_fd();
-        registry.register(
-            &mut SourceFd(&descriptor),
-            Token(LISTENER),
-            Interest::READABLE,
-        )?;
+        for (number, door) in doors.iter().enumerate() {
+            let descriptor = door.listener().as_raw_fd();
+            registry.register(
+                &mut SourceFd(&descriptor),
+                Token(number),
+                Interest::READABLE,
+            )?;
+        }
         let shutter = Shutter {
             waker: Waker::new(registry, Token(SHUTTER))?,
             is_shut: AtomicBool::new(false),
@@ -74,7 +86,8 @@ impl Entrance {
             return Err(DaemonFault::NoMemory);
         };
         Ok(Entrance {
-            listener: Some(listener),
+            doors,
+            next: 0,
             poll,
             events: Events::with_capacity(alloc, EVENTS)?,
             shutter,
@@ -86,31 +99,53 @@ impl Entrance {
         &self.shutter
     }
 
-    /// The next connection, or why the system gives none; nothing more once it is shut.
-    pub fn accept<R: Wait>(&mut self, rt: &R) -> Option<io::Result<UnixStream>> {
+    /// The next connection, or why the system gives none; nothing more once the entrance is shut.
+    pub fn accept<R: Wait>(&mut self, rt: &R) -> Option<Welcome> {
         for _ in rt.forever() {
-            if self.shutter.is_shut() {
+            if self.shutter.is_shut() || self.doors.is_empty() {
                 return None;
             }
-            let Some(listener) = &self.listener else {
-                return None;
-            };
-            match listener.accept() {
-                Ok((stream, _)) => return Some(Ok(stream)),
-                Err(fault) if fault.kind() == ErrorKind::WouldBlock => self.wait(),
-                Err(fault) if fault.kind() == ErrorKind::Interrupted => {}
-                Err(fault) => return Some(Err(fault)),
+            if let Some(welcome) = self.try_doors(rt) {
+                return Some(welcome);
             }
+            self.wait();
         }
         unreachable!()
+    }
+
+    /// What waits at the first door that has something, from the next one on. So no door keeps
+    /// another from its turn.
+    fn try_doors<R: Wait>(&mut self, rt: &R) -> Option<Welcome> {
+        for _ in 0..self.doors.len() {
+            let number = if self.next < self.doors.len() {
+                self.next
+            } else {
+                0
+            };
+            self.next = number.saturating_add(1);
+            let door = &self.doors[number];
+            match door.accept(rt) {
+                None => {}
+                Some(Err(fault)) => return Some(Err(fault)),
+                Some(Ok(stream)) => {
+                    return Some(Ok(Arrived {
+                        stream,
+                        rights: Arc::try_clone(door.rights()).ok(),
+                        door: number,
+                    }));
+                }
+            }
+        }
+        None
     }
 
     fn wait(&mut self) {
         let _ = self.poll.poll(&mut self.events, None);
     }
 
-    /// Closes the socket. Whoever waits there is refused, unless another process listens there too.
+    /// Closes the sockets. Whoever waits there is refused, unless another process listens there
+    /// too.
     pub fn close(&mut self) {
-        self.listener = None;
+        self.doors.clear();
     }
 }

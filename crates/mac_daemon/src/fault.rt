@@ -14,17 +14,20 @@ pub enum DaemonFault {
     /// There is no socket at its path.
     #[error("{0}")]
     Place(PlaceFault),
-    /// A call of the system failed.
+    /// There is no second socket at its path.
     #[error("{0}")]
+    Side(PlaceFault),
+    /// A call of the system failed.
+    #[error("the system refused a step: {0}")]
     System(io::Error),
     /// The socket that was handed over can't be served.
     #[error("{0}")]
     Handed(HandedFault),
     /// What it says can't be printed.
-    #[error("standard output failed")]
+    #[error("standard output failed; give it a place where the first line can be written")]
     Output,
     /// The system gives no further thread.
-    #[error("the system gives no further thread")]
+    #[error("the system gives no further thread; raise the limit of processes, or that of memory")]
     NoThread,
     /// Memory ran out.
     #[error("memory ran out")]

@@ -8,8 +8,9 @@ use crate::entrance::Entrance;
 use crate::fault::DaemonFault;
 use crate::keeping::keep_desks;
 use crate::quay::Quay;
-use mac_board::{Follower, Followers};
+use mac_board::{Follower, Followers, TimedTables};
 use mac_loop::{Loop, Loops, make_loops};
+use mac_system::SystemMoments;
 use std::alloc::Global;
 use std::net::Net;
 use std::sync::{Arc, Wait};
@@ -166,8 +167,8 @@ where
     let quay = Arc::try_clone(quay)?;
     let loops = Arc::try_clone(loops)?;
     let work = move || {
-        let mut keys = keys;
-        one.run(&rt, &loops, &mut keys, &*quay)
+        let mut outlook = TimedTables::new(keys, SystemMoments::new(&rt));
+        one.run(&rt, &loops, &mut outlook, &*quay)
     };
     match Builder::new().stack_size(STACK).spawn(&rt, work) {
         Ok(thread) => Ok(thread),

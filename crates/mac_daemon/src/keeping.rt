@@ -43,23 +43,37 @@ where
 }
 
 /// Sees off the connections of these berths, a bit for each.
-fn leave_each<R: Threads + Wait>(rt: &R, crew: &mut Crew, left: u64, quay: &Quay, loops: &Loops) {
+fn leave_each<R: Threads + Wait + Clock>(
+    rt: &R,
+    crew: &mut Crew,
+    left: u64,
+    quay: &Quay,
+    loops: &Loops,
+) {
     for berth in 0..WIDE_MAX {
         if left >> berth & 1 == 1 {
-            match crew.leave(rt, berth) {
-                None => {}
-                Some(Parting::Over(fault)) => quay.end(rt, fault.map(Notice::Wide)),
-                Some(Parting::Stuck) => quay.end(rt, Some(Notice::System)),
-                Some(Parting::Back(client)) => go_on(rt, client, quay, loops),
+            if let Some(parting) = crew.leave(rt, berth) {
+                quay.note_plain(parting.life());
+                see_off(rt, parting, quay, loops);
             }
         }
     }
 }
 
+/// Sees off a connection that has left its berth.
+fn see_off<R: Wait + Clock>(rt: &R, parting: Parting, quay: &Quay, loops: &Loops) {
+    match parting {
+        Parting::Over(life, fault) => quay.end(rt, life, fault.map(Notice::Wide)),
+        Parting::Stuck(life) => quay.end(rt, life, Some(Notice::System)),
+        Parting::Back(client) => go_on(rt, client, quay, loops),
+    }
+}
+
 /// Has a connection go on in a loop.
-fn go_on<R: Wait>(rt: &R, client: Handover, quay: &Quay, loops: &Loops) {
+fn go_on<R: Wait + Clock>(rt: &R, client: Handover, quay: &Quay, loops: &Loops) {
+    let life = client.life();
     if loops.hand(rt, FIRST_LOOP, client).is_err() {
-        quay.end(rt, Some(Notice::NoMemory));
+        quay.end(rt, life, Some(Notice::NoMemory));
     }
 }
 
@@ -86,10 +100,12 @@ where
         let Some(client) = quay.next_asking(rt) else {
             return true;
         };
+        let life = client.life();
         if crew.take_on(*rt, alloc, berth, client, followers, quay) {
+            quay.note_wide(life);
             *starting = 1 << berth;
         } else {
-            quay.end(rt, Some(Notice::Dropped));
+            quay.end(rt, life, Some(Notice::Dropped));
         }
     }
     unreachable!()

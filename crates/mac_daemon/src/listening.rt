@@ -2,17 +2,21 @@
 
 use crate::accepting::Limits;
 use crate::descriptors::most_connections;
-use crate::ending::{Call, Ending};
+use crate::door::{Door, SideSocket};
+use crate::ending::{Call, Ending, Guests};
 use crate::entrance::Entrance;
 use crate::fault::DaemonFault;
 use crate::fleet::{Fleet, Idlers, Service, Shape};
-use crate::notices::{Notice, Notices, start_printing};
-use crate::place::{Place, bind_at};
+use crate::notices::{Beginning, Notices};
+use crate::numbers::Numbers;
+use crate::place::{Place, PlaceFault, bind_at};
 use crate::quay::Quay;
+use crate::roster::Roster;
 use crate::surroundings::{Surroundings, heed_signals};
-use mac_board::Followers;
+use mac_board::{Followers, News};
+use mac_decide::Rights;
 use mac_system::{NotifySocket, State};
-use std::alloc::Global;
+use std::alloc::{AllocError, Global};
 use std::fs::{File, Files};
 use std::net::Net;
 use std::os::unix::net::UnixListener;
@@ -39,6 +43,8 @@ pub struct Terms<'a> {
     pub shape: Shape,
     /// How many seconds connections have to end once the daemon is told to.
     pub drain: u64,
+    /// How many descriptors of the process are others'.
+    pub reserved: u64,
 }
 
 /// A daemon that serves the connections of a socket, until it is told to end.
@@ -46,18 +52,23 @@ pub struct Terms<'a> {
 pub struct Daemon {
     ending: Arc<Ending, Global>,
     quay: Arc<Quay, Global>,
-    notices: Arc<Notices, Global>,
+    notices: Notices,
+    numbers: Numbers,
     manager: Option<NotifySocket>,
     drain: u64,
     // No other daemon has the path as long as this is kept.
     _lock: Option<File>,
+    _side_lock: Option<File>,
 }
 
-/// Starts a daemon, in threads of its own. Clients can connect once it is there.
+/// Starts a daemon, in threads of its own. Clients can connect once it is there. The connections of
+/// its socket have these rights, and those of the side socket the ones that it tells.
 pub fn listen<R>(
     rt: &R,
     alloc: Global,
     terms: Terms<'_>,
+    rights: Rights,
+    side: Option<SideSocket<'_>>,
     followers: Followers,
     surroundings: Surroundings,
     process: Process,
@@ -79,19 +90,28 @@ where
         listener,
         signals,
         manager,
+        is_journal,
     } = surroundings;
     let Place { listener, lock } = take_place(rt, alloc, terms, listener, process)?;
-    let entrance = Entrance::open(rt, alloc, listener)?;
+    let mut doors = Vec::with_capacity(alloc, 2)?;
+    Door::add(&mut doors, alloc, listener, rights)?;
+    let side_path = side.as_ref().map(|side| side.path);
+    let side_lock = open_side(rt, alloc, side, &mut doors, process)?;
+    let entrance = Entrance::open(rt, alloc, doors)?;
     let ending = Ending::new(alloc, entrance.shutter())?;
     if let Some(signals) = signals {
         heed_signals(*rt, signals, &ending)?;
     }
-    let notices = start_printing(*rt, alloc)?;
-    let quay = Quay::new(alloc, Some(Arc::try_clone(&notices)?))?;
+    let notices = Notices::start(*rt, alloc, is_journal)?;
+    let numbers = Numbers::begin(rt, alloc)?;
+    numbers.set_keys(rt, terms.names);
     let limits = Limits {
         count: None,
-        connections: allow_connections(rt, terms.shape),
+        connections: allow_connections(rt, terms, &notices),
     };
+    let paths = socket_paths(alloc, terms.path, side_path)?;
+    let roster = Roster::new(rt, alloc, limits.connections, paths)?;
+    let quay = Quay::new(alloc, Some(notices.share()?), numbers.share()?, roster)?;
     let service = Service {
         workers: terms.shape.workers,
         idlers: Idlers::make(rt, alloc, terms.shape)?,
@@ -101,15 +121,18 @@ where
     };
     start_serving(*rt, alloc, service, followers, &ending)?;
     ending.await_begin(rt)?;
-    say_listening(rt, terms)?;
+    say_listening(rt, terms, side_path)?;
+    notices.tell_begin(rt, beginning_of(terms, side_path));
     tell_manager(manager, State::Ready);
     Ok(Daemon {
         ending,
         quay,
         notices,
+        numbers,
         manager,
         drain: terms.drain,
         _lock: lock,
+        _side_lock: side_lock,
     })
 }
 
@@ -119,22 +142,27 @@ impl Daemon {
         self.ending.await_call(rt, patience)
     }
 
-    /// Tells what its keys come to, on standard error.
-    pub fn tell_keys<R: Wait>(&self, rt: &R, line: String) {
-        self.notices.post(rt, Notice::Keys(line));
+    /// Tells what came of a look at its key file, if there is anything to be told.
+    pub fn tell_keys<R: Wait + Clock>(&self, rt: &R, file: &str, news: News) {
+        self.numbers.note_keys(rt, &news);
+        self.notices.tell_keys(rt, file, news);
+    }
+
+    /// Who counts connections that aren't its own, which are seen off with it.
+    pub fn guests(&self) -> Result<Guests, AllocError> {
+        Guests::of(&self.ending, &self.quay, &self.numbers)
     }
 
     /// Sees a daemon off that was told to end. It takes no further connection, answers what has
     /// come on those that there are, and closes each once its replies are sent. What isn't done
-    /// after the seconds of its terms, or once it is told to end again, is cut off.
+    /// after the seconds of its terms, or once it is told to end again, is cut off. Guests have as
+    /// long to leave.
     pub fn see_off<R: Wait + Clock>(self, rt: &R) {
         tell_manager(self.manager, State::Stopping);
         let has_ended = self.ending.await_end(rt, self.drain);
-        let cut = self.quay.live();
-        if !has_ended && cut > 0 {
-            self.notices.post(rt, Notice::Ended(cut));
-        }
-        self.notices.await_printed(rt);
+        let left = self.quay.live().saturating_add(self.ending.guests(rt));
+        let cut = if has_ended { 0 } else { left };
+        self.notices.tell_end(rt, cut);
     }
 }
 
@@ -156,6 +184,47 @@ where
         }),
         None => Ok(bind_at(rt, alloc, terms.path, terms.permissions, process)?),
     }
+}
+
+/// Makes the side socket, where there is one, and adds its door.
+fn open_side<R>(
+    rt: &R,
+    alloc: Global,
+    side: Option<SideSocket<'_>>,
+    doors: &mut Vec<Door>,
+    process: Process,
+) -> Result<Option<File>, DaemonFault>
+where
+    R: Files<File = File> + Net,
+{
+    let Some(
+        SideSocket {
+            path,
+            permissions,
+            rights,
+        },
+    ) = side
+    else {
+        return Ok(None);
+    };
+    match bind_at(rt, alloc, path, permissions, process) {
+        Ok(Place { listener, lock }) => {
+            Door::add(doors, alloc, listener, rights)?;
+            Ok(lock)
+        }
+        Err(PlaceFault::NoMemory) => Err(DaemonFault::NoMemory),
+        Err(fault) => Err(DaemonFault::Side(fault)),
+    }
+}
+
+/// The paths of the sockets, in the order of their doors.
+fn socket_paths(alloc: Global, path: &str, side: Option<&str>) -> Result<Vec<String>, AllocError> {
+    let mut paths = Vec::with_capacity(alloc, 2)?;
+    paths.push(String::from_str(alloc, path)?)?;
+    if let Some(side) = side {
+        paths.push(String::from_str(alloc, side)?)?;
+    }
+    Ok(paths)
 }
 
 /// Starts the thread that serves the connections that come in, to their ends.
@@ -205,18 +274,38 @@ fn tell_manager(manager: Option<NotifySocket>, state: State) {
 }
 
 /// How many connections there may be at a time: as many as were asked for, or as the system's limit
-/// of descriptors allows, which is told then.
-fn allow_connections<R: Eprint>(rt: &R, shape: Shape) -> u64 {
-    let most = most_connections(shape.loops);
+/// of descriptors allows beside those that are reserved, which is told then.
+fn allow_connections<R: Wait + Clock>(rt: &R, terms: Terms<'_>, notices: &Notices) -> u64 {
+    let Terms {
+        shape,
+        reserved,
+        ..
+    } = terms;
+    let most = most_connections(shape.loops, reserved);
     if most >= shape.connections {
         return shape.connections;
     }
-    let _ = eprintln!(rt; "{most} connections at most: the limit of descriptors allows no more");
+    notices.tell_low(rt, most);
     most
 }
 
-/// Prints the line that tells that clients can connect.
-fn say_listening<R: Print>(rt: &R, terms: Terms<'_>) -> Result<(), DaemonFault> {
+/// What is told of a daemon at its start.
+fn beginning_of<'a>(terms: Terms<'a>, side: Option<&'a str>) -> Beginning<'a> {
+    Beginning {
+        version: terms.version,
+        socket: terms.path,
+        side,
+        names: terms.names,
+        workers: terms.shape.workers,
+    }
+}
+
+/// Prints the line that tells that clients can connect, and at which sockets.
+fn say_listening<R: Print>(
+    rt: &R,
+    terms: Terms<'_>,
+    side: Option<&str>,
+) -> Result<(), DaemonFault> {
     let Terms {
         path,
         names,
@@ -225,8 +314,12 @@ fn say_listening<R: Print>(rt: &R, terms: Terms<'_>) -> Result<(), DaemonFault> 
         ..
     } = terms;
     let workers = shape.workers;
+    let (and, side) = match side {
+        Some(side) => (" and ", side),
+        None => ("", ""),
+    };
     let told = println!(rt;
-        "listening at {path}: {names} name{}, {workers} worker{}; macaroond {version}",
+        "listening at {path}{and}{side}: {names} name{}, {workers} worker{}; macaroond {version}",
         plural_ending(names),
         plural_ending(workers)
     );

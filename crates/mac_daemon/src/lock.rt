@@ -42,7 +42,7 @@ where
 fn check_plain<R: Files>(rt: &R, name: &str) -> Result<(), PlaceFault> {
     match fs::symlink_metadata(rt, name) {
         Err(refused) if refused.kind() == ErrorKind::NotFound => Ok(()),
-        Err(refused) => Err(PlaceFault::System(refused)),
+        Err(refused) => Err(PlaceFault::from(refused)),
         Ok(found) if found.file_type().is_file() => Ok(()),
         Ok(_) => Err(PlaceFault::NoLock),
     }

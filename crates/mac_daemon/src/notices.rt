@@ -1,147 +1,200 @@
-//! What the daemon says on standard error while it runs. A thread of its own prints it, so that
-//! nobody else waits where nobody reads.
+//! What the daemon says on standard error while it runs: which line tells what.
 
 use crate::fault::DaemonFault;
-use crossbeam_queue::ArrayQueue;
-use mac_loop::PlainFault;
-use mac_mail::Bell;
+use mac_board::{News, Refusal};
+use mac_log::{Fields, Key, Kind, Log, NoMemory, start_log};
+use mac_loop::{Life, PlainFault, microseconds};
 use mac_serve::ServeFault;
-use std::alloc::{AllocError, Global};
-use std::sync::atomic::AtomicU64;
-use std::sync::atomic::Ordering::SeqCst;
+use std::alloc::Global;
 use std::sync::{Arc, Wait};
-use std::thread;
 use std::thread::Threads;
-use std::time::{Clock, Duration};
+use std::time::Clock;
 use thiserror::Error;
 
-/// The most notices that wait to be printed.
-const NOTICES_MAX: usize = 256;
+/// How many milliseconds the daemon waits at its end until its last lines are printed.
+const PATIENCE_MILLIS: u64 = 200;
 
-/// How often it is looked whether all are printed before the daemon ends, and how many milliseconds
-/// pass between two looks.
-const LOOKS: usize = 20;
-
-const LOOK_MILLIS: u64 = 10;
-
-/// What is said of a connection, or of the daemon.
-#[derive(Debug, Drop, Error)]
+/// Why a connection ended that might have gone on.
+#[derive(Clone, Copy, Debug, Error)]
 pub enum Notice {
     /// It ended in a fault while a loop answered it.
-    #[error("a connection ended: {0}")]
+    #[error("{0}")]
     Plain(PlainFault),
     /// It ended in a fault while it was wide.
-    #[error("a connection ended: {0}")]
+    #[error("{0}")]
     Wide(ServeFault),
     /// It asked for a desk, and got none.
-    #[error("a connection was dropped: no desk, thread or memory for it")]
+    #[error("no desk, thread or memory for it")]
     Dropped,
     /// The system failed as it went from one thread to another.
-    #[error("a connection was dropped: the system failed")]
+    #[error("the system failed")]
     System,
     /// There was no memory for it.
-    #[error("a connection was dropped: memory ran out")]
+    #[error("memory ran out")]
     NoMemory,
-    /// There are as many as there may be.
-    #[error("a connection was closed: there are as many as there may be")]
-    Full,
-    /// The daemon ends, and so many connections are left.
-    #[error("told to end; connections left: {0}")]
-    Ending(u64),
-    /// It has ended, and so many connections were cut off.
-    #[error("ended; connections cut off: {0}")]
-    Ended(u64),
-    /// What its keys come to.
-    #[error("{0}")]
-    Keys(String),
 }
 
-/// Notices that wait to be printed. One for which there is no room is counted and left out.
+impl Notice {
+    /// Whether it is a fault, and no rest that was too long.
+    pub fn is_fault(self) -> bool {
+        self.kind() != Kind::ConnectionIdle
+    }
+
+    /// The kind of the line that tells it.
+    fn kind(self) -> Kind {
+        match self {
+            Notice::Plain(PlainFault::Idle) => Kind::ConnectionIdle,
+            Notice::Plain(_) | Notice::Wide(_) => Kind::ConnectionFault,
+            Notice::Dropped | Notice::System | Notice::NoMemory => Kind::ConnectionDropped,
+        }
+    }
+}
+
+/// What a daemon serves, as it is told at its start.
+#[derive(Clone, Copy)]
+pub struct Beginning<'a> {
+    /// The version of the program.
+    pub version: &'a str,
+    /// The path of its socket.
+    pub socket: &'a str,
+    /// The path of its second socket, where it has one.
+    pub side: Option<&'a str>,
+    /// How many names have a key.
+    pub names: usize,
+    /// How many workers it has.
+    pub workers: usize,
+}
+
+/// The log of a daemon. Who tells something waits for nobody.
 #[derive(Drop)]
 pub struct Notices {
-    queue: ArrayQueue<Notice>,
-    // How many there are that aren't printed yet.
-    waiting: AtomicU64,
-    left_out: AtomicU64,
-    bell: Bell,
+    alloc: Global,
+    log: Arc<Log, Global>,
 }
 
 impl Notices {
-    /// No notice yet.
-    pub fn new(alloc: Global) -> Result<Notices, AllocError> {
+    /// Starts the thread that prints lines, each with its priority where systemd's journal reads
+    /// them.
+    pub fn start<R>(rt: R, alloc: Global, is_journal: bool) -> Result<Notices, DaemonFault>
+    where
+        R: Threads + Wait + Clock + Eprint + Copy + Send + 'static,
+    {
+        match start_log(rt, alloc, is_journal) {
+            Some(log) => Ok(Notices { alloc, log }),
+            None => Err(DaemonFault::NoThread),
+        }
+    }
+
+    /// The same log, for another thread.
+    pub fn share(&self) -> Result<Notices, NoMemory> {
         Ok(Notices {
-            queue: ArrayQueue::new(alloc, NOTICES_MAX)?,
-            waiting: AtomicU64::new(0),
-            left_out: AtomicU64::new(0),
-            bell: Bell::new(),
+            alloc: self.alloc,
+            log: Arc::try_clone(&self.log)?,
         })
     }
 
-    /// Hands a notice to the thread that prints, without waiting for it.
-    pub fn post<R: Wait>(&self, rt: &R, notice: Notice) {
-        self.waiting.fetch_add(1, SeqCst);
-        if self.queue.push(rt, notice).is_err() {
-            self.waiting.fetch_sub(1, SeqCst);
-            self.left_out.fetch_add(1, SeqCst);
-        }
-        self.bell.ring();
+    /// Tells that the daemon serves.
+    pub fn tell_begin<R: Wait + Clock>(&self, rt: &R, beginning: Beginning<'_>) {
+        let fields = beginning_fields(self.alloc, beginning);
+        self.log.post(rt, Kind::Start, fields);
     }
 
-    /// Waits until all notices are printed, for a moment at most.
-    pub fn await_printed<R: Clock>(&self, rt: &R) {
-        for _ in 0..LOOKS {
-            if self.waiting.load(SeqCst) == 0 {
-                return;
-            }
-            thread::sleep(rt, Duration::from_millis(LOOK_MILLIS));
-        }
+    /// Tells why a connection ended that might have gone on.
+    pub fn tell_parting<R: Wait + Clock>(&self, rt: &R, life: Life, notice: Notice) {
+        let fields = parting_fields(rt, self.alloc, life, notice);
+        self.log.post(rt, notice.kind(), fields);
     }
 
-    /// Prints what is there. Whether there was anything.
-    fn print_waiting<R: Wait + Eprint>(&self, rt: &R) -> bool {
-        let mut found = false;
-        for _ in rt.forever() {
-            let Some(notice) = self.queue.pop(rt) else {
-                break;
-            };
-            let _ = eprintln!(rt; "{notice}");
-            self.waiting.fetch_sub(1, SeqCst);
-            found = true;
-        }
-        let left_out = self.left_out.swap(0, SeqCst);
-        if left_out > 0 {
-            let _ = eprintln!(rt; "{left_out} more lines were left out");
-        }
-        found || left_out > 0
+    /// Tells that a connection was closed, since there are as many as there may be.
+    pub fn tell_full<R: Wait + Clock>(&self, rt: &R, most: u64) {
+        let fields = limit_fields(self.alloc, "connections", most);
+        self.log.post(rt, Kind::LimitReached, fields);
     }
 
-    /// Prints notices without end.
-    fn print_each<R: Wait + Eprint>(&self, rt: &R) {
-        for _ in rt.forever() {
-            if self.print_waiting(rt) {
-                continue;
-            }
-            let notice = self.bell.announce();
-            if self.print_waiting(rt) {
-                self.bell.withdraw(notice);
-            } else {
-                self.bell.sleep(rt, notice);
-            }
-        }
+    /// Tells that the limit of descriptors allows no more connections than so many.
+    pub fn tell_low<R: Wait + Clock>(&self, rt: &R, most: u64) {
+        let fields = limit_fields(self.alloc, "descriptors", most);
+        self.log.post(rt, Kind::LimitLow, fields);
+    }
+
+    /// Tells that the system gave no connection.
+    pub fn tell_refused<R: Wait + Clock>(&self, rt: &R, fault: &str) {
+        let fields = Fields::new(self.alloc).with_text(Key::Fault, fault.as_bytes());
+        self.log.post(rt, Kind::AcceptFault, fields);
+    }
+
+    /// Tells what came of a look at the key file, if there is anything to be told.
+    pub fn tell_keys<R: Wait + Clock>(&self, rt: &R, file: &str, news: News) {
+        let (kind, fields) = match news {
+            News::Nothing => return,
+            News::Taken(names) => (Kind::KeysRead, taken_fields(self.alloc, file, names)),
+            News::Refused(why) => (Kind::KeysRefused, refused_fields(self.alloc, file, why)),
+        };
+        self.log.post(rt, kind, fields);
+    }
+
+    /// Tells that the daemon was told to end, and how many connections there are.
+    pub fn tell_drain<R: Wait + Clock>(&self, rt: &R, left: u64) {
+        let fields = Fields::new(self.alloc).with_number(self.alloc, Key::Connections, left);
+        self.log.post(rt, Kind::Drain, fields);
+    }
+
+    /// Tells that the daemon ends, and how many connections are cut off. Waits for a moment at most
+    /// until all lines are printed.
+    pub fn tell_end<R: Wait + Clock>(&self, rt: &R, cut: u64) {
+        let fields = Fields::new(self.alloc).with_number(self.alloc, Key::Connections, cut);
+        self.log.post(rt, Kind::End, fields);
+        self.log.flush(rt, PATIENCE_MILLIS);
     }
 }
 
-/// Starts the thread that prints notices.
-pub fn start_printing<R>(rt: R, alloc: Global) -> Result<Arc<Notices, Global>, DaemonFault>
-where
-    R: Threads + Wait + Eprint + Copy + Send + 'static,
-{
-    let Ok(notices) = Arc::new(alloc, Notices::new(alloc)?) else {
-        return Err(DaemonFault::NoMemory);
-    };
-    let printed = Arc::try_clone(&notices)?;
-    match thread::spawn(&rt, move || printed.print_each(&rt)) {
-        Ok(_) => Ok(notices),
-        Err(_) => Err(DaemonFault::NoThread),
+fn beginning_fields(alloc: Global, beginning: Beginning<'_>) -> Result<Fields, NoMemory> {
+    let mut fields = Fields::new(alloc)
+        .with_text(Key::Version, beginning.version.as_bytes())?
+        .with_text(Key::Socket, beginning.socket.as_bytes())?;
+    if let Some(side) = beginning.side {
+        fields = fields.with_text(Key::Socket, side.as_bytes())?;
     }
+    fields
+        .with_number(alloc, Key::Names, beginning.names as u64)?
+        .with_number(alloc, Key::Workers, beginning.workers as u64)
+}
+
+/// Which connection it was, how long it was there, what it was answered, and why it ended.
+fn parting_fields<R: Clock>(
+    rt: &R,
+    alloc: Global,
+    life: Life,
+    notice: Notice,
+) -> Result<Fields, NoMemory> {
+    let micros = microseconds(rt).saturating_sub(life.badge.accepted);
+    let fields = Fields::new(alloc)
+        .with_number(alloc, Key::Connection, life.badge.number)?
+        .with_number(alloc, Key::Millis, micros / 1_000)?
+        .with_number(alloc, Key::Requests, life.answered)?;
+    let why = notice.to_string(alloc)?;
+    match notice.kind() {
+        Kind::ConnectionFault => fields.with_text(Key::Fault, why.as_bytes()),
+        Kind::ConnectionDropped => fields.with_text(Key::Cause, why.as_bytes()),
+        _ => Ok(fields),
+    }
+}
+
+fn limit_fields(alloc: Global, limit: &str, most: u64) -> Result<Fields, NoMemory> {
+    Fields::new(alloc)
+        .with_text(Key::Limit, limit.as_bytes())?
+        .with_number(alloc, Key::Connections, most)
+}
+
+fn taken_fields(alloc: Global, file: &str, names: usize) -> Result<Fields, NoMemory> {
+    Fields::new(alloc)
+        .with_text(Key::File, file.as_bytes())?
+        .with_number(alloc, Key::Names, names as u64)
+}
+
+fn refused_fields(alloc: Global, file: &str, why: Refusal) -> Result<Fields, NoMemory> {
+    let why = why.to_string(alloc)?;
+    Fields::new(alloc)
+        .with_text(Key::File, file.as_bytes())?
+        .with_text(Key::Fault, why.as_bytes())
 }

@@ -2,13 +2,16 @@
 //! them ask for a desk, whose berth was left, and what is printed.
 
 use crate::notices::{Notice, Notices};
+use crate::numbers::Numbers;
+use crate::roster::Roster;
 use crossbeam_queue::SegQueue;
-use mac_loop::{Handover, PlainFault, Watch};
+use mac_loop::{Badge, Handover, Life, PlainFault, Turn, Watch, microseconds};
 use mac_mail::Bell;
 use std::alloc::{AllocError, Global};
 use std::sync::atomic::Ordering::SeqCst;
 use std::sync::atomic::{AtomicBool, AtomicU64};
 use std::sync::{Arc, Wait};
+use std::time::Clock;
 
 /// What the threads of a daemon share.
 #[derive(Drop)]
@@ -30,14 +33,18 @@ pub struct Quay {
     is_closed: AtomicBool,
     /// The keeper sleeps here.
     work: Bell,
-    notices: Option<Arc<Notices, Global>>,
+    notices: Option<Notices>,
+    numbers: Numbers,
+    roster: Roster,
 }
 
 impl Quay {
     /// A quay without connections.
     pub fn new(
         alloc: Global,
-        notices: Option<Arc<Notices, Global>>,
+        notices: Option<Notices>,
+        numbers: Numbers,
+        roster: Roster,
     ) -> Result<Arc<Quay, Global>, AllocError> {
         let quay = Quay {
             live: AtomicU64::new(0),
@@ -49,33 +56,69 @@ impl Quay {
             is_closed: AtomicBool::new(false),
             work: Bell::new(),
             notices,
+            numbers,
+            roster,
         };
         Ok(Arc::new(alloc, quay)?)
     }
 
-    /// Counts one connection more, where there are fewer than `most`.
-    pub fn admit(&self, most: u64) -> bool {
+    /// Counts one connection more. Where there are as many as there may be, that is told.
+    pub fn admit<R: Wait + Clock>(&self, rt: &R, most: u64) -> bool {
         let is_room = self.live.load(SeqCst) < most;
+        self.numbers.count_accepted(is_room);
         if is_room {
             self.live.fetch_add(1, SeqCst);
+            return true;
         }
-        is_room
+        self.faults.fetch_add(1, SeqCst);
+        if let Some(notices) = &self.notices {
+            notices.tell_full(rt, most);
+        }
+        false
     }
 
-    /// Notes that a connection was not counted, and why.
-    pub fn refuse<R: Wait>(&self, rt: &R, notice: Notice) {
-        self.faults.fetch_add(1, SeqCst);
-        self.post(rt, notice);
+    /// What the connection of this number is known by, which came in now through the door of that
+    /// number. It is listed until it ends.
+    pub fn badge<R: Wait + Clock>(&self, rt: &R, number: u64, door: usize) -> Badge {
+        let accepted = microseconds(rt);
+        let place = self.roster.enter(rt, number, accepted, door);
+        Badge {
+            number,
+            accepted,
+            place,
+        }
+    }
+
+    /// Tells that the system gave no connection.
+    pub fn say_refused<R: Wait + Clock>(&self, rt: &R, fault: &str) {
+        if let Some(notices) = &self.notices {
+            notices.tell_refused(rt, fault);
+        }
     }
 
     /// Notes that a connection has ended, with what is to be told of that.
-    pub fn end<R: Wait>(&self, rt: &R, notice: Option<Notice>) {
+    pub fn end<R: Wait + Clock>(&self, rt: &R, life: Life, notice: Option<Notice>) {
+        self.roster.leave(rt, life);
+        self.numbers
+            .count_ended(notice.is_some_and(Notice::is_fault));
         if let Some(notice) = notice {
             self.faults.fetch_add(1, SeqCst);
-            self.post(rt, notice);
+            if let Some(notices) = &self.notices {
+                notices.tell_parting(rt, life, notice);
+            }
         }
         self.live.fetch_sub(1, SeqCst);
         self.ends.ring();
+    }
+
+    /// What is counted.
+    pub fn numbers(&self) -> &Numbers {
+        &self.numbers
+    }
+
+    /// Which connections there are.
+    pub fn roster(&self) -> &Roster {
+        &self.roster
     }
 
     /// Waits until all connections have ended.
@@ -95,17 +138,29 @@ impl Quay {
         self.live.load(SeqCst)
     }
 
-    /// Tells that the daemon ends, where there are connections.
-    pub fn say_left<R: Wait>(&self, rt: &R) {
-        let left = self.live();
-        if left > 0 {
-            self.post(rt, Notice::Ending(left));
+    /// Tells that the daemon was told to end, and how many connections there are.
+    pub fn say_left<R: Wait + Clock>(&self, rt: &R) {
+        if let Some(notices) = &self.notices {
+            notices.tell_drain(rt, self.live());
         }
     }
 
     /// How many connections have ended in a fault, or were not served.
     pub fn faults(&self) -> u64 {
         self.faults.load(SeqCst)
+    }
+
+    /// Notes that a connection has a desk.
+    pub fn note_wide(&self, life: Life) {
+        self.numbers.count_widened();
+        self.roster.set_wide(life, true);
+    }
+
+    /// Notes that a connection has come to this, and gave its desk back.
+    pub fn note_plain(&self, life: Life) {
+        self.numbers.count_narrowed();
+        self.roster.set_wide(life, false);
+        self.roster.see(life, 0);
     }
 
     /// Has the keeper return once all berths are free.
@@ -164,13 +219,6 @@ impl Quay {
             || self.is_closed.load(SeqCst)
             || (has_room && !self.asking.is_empty())
     }
-
-    /// Posts a notice, where notices are told.
-    fn post<R: Wait>(&self, rt: &R, notice: Notice) {
-        if let Some(notices) = &self.notices {
-            notices.post(rt, notice);
-        }
-    }
 }
 
 /// The berth of a connection at a quay.
@@ -183,14 +231,23 @@ pub struct Mooring {
 }
 
 impl Watch for Quay {
-    fn end<R: Wait>(&self, rt: &R, fault: Option<PlainFault>) {
-        Quay::end(self, rt, fault.map(Notice::Plain));
+    fn end<R: Wait + Clock>(&self, rt: &R, life: Life, fault: Option<PlainFault>) {
+        Quay::end(self, rt, life, fault.map(Notice::Plain));
     }
 
-    fn widen<R: Wait>(&self, rt: &R, client: Handover) {
+    fn count(&self, turn: &Turn) {
+        self.numbers.count_turn(turn);
+    }
+
+    fn see(&self, life: Life, unsent: usize) {
+        self.roster.see(life, unsent);
+    }
+
+    fn widen<R: Wait + Clock>(&self, rt: &R, client: Handover) {
+        let life = client.life();
         match self.asking.push(rt, client) {
             Ok(()) => self.work.ring(),
-            Err(_) => Quay::end(self, rt, Some(Notice::NoMemory)),
+            Err(_) => Quay::end(self, rt, life, Some(Notice::NoMemory)),
         }
     }
 }

@@ -2,16 +2,20 @@
 ghost use Rattle.std.specs.Prelude.{◌≡◌, ◌<◌, IfOk, OnOk};
 
 use crate::accepting::Limits;
+use crate::door::Door;
 use crate::entrance::Entrance;
 use crate::fault::DaemonFault;
 use crate::fleet::{Day, Fleet, Idlers, Service, Shape};
+use crate::numbers::Numbers;
+use crate::place::bind_new;
 use crate::quay::Quay;
+use crate::roster::Roster;
 use mac_board::Followers;
+use mac_decide::Rights;
 use mac_wire::{Sink, send_all};
 use std::alloc::Global;
 use std::fs::Files;
 use std::net::Net;
-use std::os::unix::net::UnixListener;
 use std::sync::Wait;
 use std::thread::Threads;
 use std::time::Clock;
@@ -33,15 +37,19 @@ where
     requires writable { W.faults out.old < u64.MAX }
     ensures served { IfOk result (λ day. day.served ≡ accept) }
 {
+    let listener = bind_new(rt, path)?;
+    let mut doors = Vec::with_capacity(alloc, 1)?;
+    Door::add(&mut doors, alloc, listener, Rights::all())?;
+    let roster = Roster::new(rt, alloc, shape.connections, Vec::new(alloc))?;
     let service = Service {
         workers: shape.workers,
         idlers: Idlers::make(rt, alloc, shape)?,
-        entrance: Entrance::open(rt, alloc, UnixListener::bind(rt, path)?)?,
+        entrance: Entrance::open(rt, alloc, doors)?,
         limits: Limits {
             count: Some(accept),
             connections: shape.connections,
         },
-        quay: Quay::new(alloc, None)?,
+        quay: Quay::new(alloc, None, Numbers::begin(rt, alloc)?, roster)?,
     };
     let fleet = Fleet::start(rt, alloc, service, followers)?;
     say(out, b"listening\n")?;

@@ -58,6 +58,8 @@ impl<'a, R: Clock> Read for StayReader<'a, R> {
             return Err(ErrorKind::TimedOut.into());
         }
         let mut stream = self.stream;
-        stream.read(buf)
+        let count = stream.read(buf)?;
+        self.mooring.quay.numbers().count_came(count);
+        Ok(count)
     }
 }

@@ -8,8 +8,8 @@ use std::env::Env;
 use std::os::unix::net::UnixListener;
 use std::process::Process;
 use std::sync::{Arc, Wait};
-use std::thread;
 use std::thread::Threads;
+use std::{env, thread};
 
 /// What a daemon is given by who starts it.
 #[derive(Drop)]
@@ -20,6 +20,8 @@ pub struct Surroundings {
     pub signals: Option<Signals>,
     /// The service manager that waits to be told.
     pub manager: Option<NotifySocket>,
+    /// Whether systemd's journal reads what it says.
+    pub is_journal: bool,
 }
 
 impl Surroundings {
@@ -33,6 +35,7 @@ impl Surroundings {
             listener: handed_listener(rt, process)?,
             signals: Signals::of_environment(rt),
             manager: NotifySocket::of_environment(rt),
+            is_journal: env::var(rt, "JOURNAL_STREAM").is_ok(),
         })
     }
 }

@@ -4,13 +4,12 @@ use Rattle.std.specs.Prelude.{nat_lt, option_and_then}
 use Rattle.std.specs.Int.{w16, to_be_bytes}
 use Rattle.std.specs.List.{All, flat_map}
 use Rattle.std.specs.Str.{IsUtf8}
-use Rattle.std.specs.FinMap as map
 use Rattle.std.proofs.lemmas.Bool.{ltb-false}
 use Rattle.std.proofs.lemmas.List.Elements.{All-nil, All-cons, All-append}
 use Rattle.mac_hmac.specs.Hmac.{hmac}
 use Rattle.mac_hmac.specs.Chain.{extended}
 use Rattle.mac_hmac.proofs.DigestLemmas.{hmac-length, hmac-bytes}
-use Rattle.mac_keys.specs.Table.{Table, listed}
+use Rattle.mac_keys.specs.Table.{listed}
 use Rattle.mac_keys.specs.declared.keys.Keys.{Keys}
 use Rattle.mac_token.specs.Limits.{is_within, token_or_limit}
 use Rattle.mac_token.specs.RawToken.{TokenParts, IsToken}
@@ -24,14 +23,17 @@ use Rattle.mac_token.proofs.Within.{is_within-Decides}
 use Rattle.mac_token.proofs.WrittenLaws.{written_read}
 use Rattle.mac_wire.specs.Request.{Asked, mint, attenuate, verify, Asks, IsBytes, key_of, payload_of, short_field, long_field, counted_fields}
 use Rattle.mac_wire.specs.declared.arrival.Arrival.TheVariants.{Payload}
+use Rattle.mac_wire.specs.declared.reply.Refusal.TheVariants as refusal
 use Rattle.mac_wire.specs.declared.reply.Reply.{Reply}
 use Rattle.mac_wire.specs.declared.reply.Reply.TheVariants as reply
 use Rattle.mac_wire.specs.declared.request.TokenForm.{TokenForm}
 use Rattle.mac_wire.proofs.Asking.{request_of-asks, key_name_of-asks}
-use Rattle.mac_decide.specs.Answer.{told, form_of, written_reply, token_reply, request_reply, reply_of, answer_of, IsGranted}
+use Rattle.mac_decide.specs.Answer.{refused, told, keyed, form_of, written_reply, token_reply, request_reply, reply_of, keys_of, answer_of, IsGranted}
 use Rattle.mac_decide.specs.Minted.{Minted, minted, add}
+use Rattle.mac_decide.specs.Terms.{Terms}
 use Rattle.mac_decide.specs.Verdict.{Satisfied, Accepts}
 use Rattle.mac_decide.specs.declared.context.Context.{Context}
+use Rattle.mac_decide.specs.declared.job.Basis.{Basis}
 use Rattle.mac_decide.proofs.AnswerLemmas.{answer-granted}
 use Rattle.mac_decide.proofs.NarrowingLemmas.{Accepts-add}
 
@@ -141,36 +143,51 @@ same-token t u e = cc
 same-keys : (keys other : Keys) → Some keys ≡ Some other → keys ≡ other
 same-keys keys other e = cc
 
--- a mint that is answered with bytes had keys
-mint-keys : (form : TokenForm) (name location identifier : List ℕ) (caveats : List (List ℕ)) (bytes : List ℕ) (found : Option Keys) → request_reply (mint form name location identifier caveats) found ≡ reply.Token bytes
-    → (keys : Keys) × (found ≡ Some keys) × (token_reply form (minted keys.first location identifier caveats) ≡ reply.Token bytes)
-mint-keys form name location identifier caveats bytes None e = absurd (cc)
-mint-keys form name location identifier caveats bytes (Some keys) e = (keys, refl, e)
+-- a mint that is answered with bytes had keys, and was allowed
+keyed-bytes : (found : Option Keys) (tell : Keys → Reply) (bytes : List ℕ) → keyed found tell ≡ reply.Token bytes → (keys : Keys) × (found ≡ Some keys) × (tell keys ≡ reply.Token bytes)
+keyed-bytes None tell bytes e = absurd (cc)
+keyed-bytes (Some keys) tell bytes e = (keys, refl, e)
+
+allowed-bytes : (may : Bool) (r : Reply) (bytes : List ℕ) → (if may then r else refused refusal.NotAllowed) ≡ reply.Token bytes → (may ≡ true) × (r ≡ reply.Token bytes)
+allowed-bytes true r bytes e = (refl, e)
+allowed-bytes false r bytes e = absurd (cc)
+
+mint-keys : (form : TokenForm) (name location identifier : List ℕ) (caveats : List (List ℕ)) (bytes : List ℕ) (basis : Basis) → request_reply (mint form name location identifier caveats) basis ≡ reply.Token bytes
+    → (keys : Keys) × (basis.keys ≡ Some keys) × (basis.may_mint ≡ true) × (token_reply form (minted keys.first location identifier caveats) ≡ reply.Token bytes)
+mint-keys form name location identifier caveats bytes basis e =
+    let tell : Keys → Reply = λ keys. token_reply form (minted keys.first location identifier caveats) in
+    let (may, told) = allowed-bytes basis.may_mint (keyed basis.keys tell) bytes e in
+    let (keys, found, made) = keyed-bytes basis.keys tell bytes told in
+    (keys, found, may, made)
+
+-- what a request is answered on
+abbrev pub asked_basis : Terms → Asked → Basis
+asked_basis terms asked = record { keys = option_and_then (keys_of terms) (key_of asked); may_mint = terms.rights.may_mint; moment = terms.moment }
 
 -- the reply to what a payload asks
-answer_of-asked : (table : Table) (payload : List ℕ) (asked : Asked) → Asks payload asked → answer_of table (Payload payload) ≡ request_reply asked (option_and_then (λ name. map.get table name) (key_of asked))
+pub answer_of-asked : (terms : Terms) (payload : List ℕ) (asked : Asked) → Asks payload asked → answer_of terms (Payload payload) ≡ request_reply asked (asked_basis terms asked)
 unfolding answer_of reply_of
-answer_of-asked table payload asked asks = rw (request_of-asks payload asked asks, key_name_of-asks payload asked asks) refl
+answer_of-asked terms payload asked asks = rw (request_of-asks payload asked asks, key_name_of-asks payload asked asks) refl
 
-pub mint-carried : (table : Table) (payload name location identifier bytes : List ℕ) (form : TokenForm) (caveats : List (List ℕ)) → IsBytes payload → Asks payload (mint form name location identifier caveats) → answer_of table (Payload payload) ≡ reply.Token bytes
-    → (keys : Keys) × (map.get table name ≡ Some keys) × (read_of bytes ≡ Ok (minted keys.first location identifier caveats))
-mint-carried table payload name location identifier bytes form caveats are asks e =
+pub mint-carried : (terms : Terms) (payload name location identifier bytes : List ℕ) (form : TokenForm) (caveats : List (List ℕ)) → IsBytes payload → Asks payload (mint form name location identifier caveats) → answer_of terms (Payload payload) ≡ reply.Token bytes
+    → (keys : Keys) × (keys_of terms name ≡ Some keys) × (terms.rights.may_mint ≡ true) × (read_of bytes ≡ Ok (minted keys.first location identifier caveats))
+mint-carried terms payload name location identifier bytes form caveats are asks e =
     let asked = mint form name location identifier caveats in
-    let (keys, found, told) = mint-keys form name location identifier caveats bytes (map.get table name) (sym (answer_of-asked table payload asked asks) ∙ e) in
+    let (keys, found, may, told) = mint-keys form name location identifier caveats bytes (asked_basis terms asked) (sym (answer_of-asked terms payload asked asks) ∙ e) in
     let parts = mint-bytes form name location identifier caveats (subst IsBytes asks.is_payload are) in
     let text : IsUtf8 location = asks.is_request.2 in
-    (keys, found, token_reply-read form (minted keys.first location identifier caveats) bytes (minted-token keys.first location identifier caveats text parts.0 parts.1 parts.2) told)
+    (keys, found, may, token_reply-read form (minted keys.first location identifier caveats) bytes (minted-token keys.first location identifier caveats text parts.0 parts.1 parts.2) told)
 
 -- an attenuate that is answered with bytes was handed a token
-pub attenuate-handed : (table : Table) (payload old bytes : List ℕ) (form : TokenForm) (caveats : List (List ℕ)) → Asks payload (attenuate form old caveats) → answer_of table (Payload payload) ≡ reply.Token bytes
+pub attenuate-handed : (terms : Terms) (payload old bytes : List ℕ) (form : TokenForm) (caveats : List (List ℕ)) → Asks payload (attenuate form old caveats) → answer_of terms (Payload payload) ≡ reply.Token bytes
     → (t : TokenParts) × (read_of old ≡ Ok t) × (token_reply form (add t caveats) ≡ reply.Token bytes)
-attenuate-handed table payload old bytes form caveats asks e =
-    told-bytes (read_of old) (λ t. token_reply form (add t caveats)) bytes (sym (answer_of-asked table payload (attenuate form old caveats) asks) ∙ e)
+attenuate-handed terms payload old bytes form caveats asks e =
+    told-bytes (read_of old) (λ t. token_reply form (add t caveats)) bytes (sym (answer_of-asked terms payload (attenuate form old caveats) asks) ∙ e)
 
-pub attenuate-carried : (table : Table) (payload old bytes : List ℕ) (form : TokenForm) (caveats : List (List ℕ)) (t : TokenParts) → IsToken t → IsBytes payload → Asks payload (attenuate form old caveats) → read_of old ≡ Ok t → answer_of table (Payload payload) ≡ reply.Token bytes
+pub attenuate-carried : (terms : Terms) (payload old bytes : List ℕ) (form : TokenForm) (caveats : List (List ℕ)) (t : TokenParts) → IsToken t → IsBytes payload → Asks payload (attenuate form old caveats) → read_of old ≡ Ok t → answer_of terms (Payload payload) ≡ reply.Token bytes
     → read_of bytes ≡ Ok (add t caveats)
-attenuate-carried table payload old bytes form caveats t is are asks read e =
-    let (u, found, told) = attenuate-handed table payload old bytes form caveats asks e in
+attenuate-carried terms payload old bytes form caveats t is are asks read e =
+    let (u, found, told) = attenuate-handed terms payload old bytes form caveats asks e in
     let same : t ≡ u = same-token t u (sym read ∙ found) in
     let each = attenuate-bytes form old caveats (subst IsBytes asks.is_payload are) in
     token_reply-read form (add t caveats) bytes (added-token t caveats is each) (subst (λ v. token_reply form (add v caveats) ≡ reply.Token bytes) (sym same) told)
@@ -192,15 +209,15 @@ granted-again keys t old new x caveats minted before after g each =
     let accepted : Accepts (listed keys) t x = subst (λ k. Accepts (listed k) t x) (sym named) (subst (λ u. Accepts (listed g.named) u x) (sym token) g.accepted) in
     record { named = keys; has_keys = refl; token = add t caveats; is_read = after; accepted = (Accepts-add (listed keys) t caveats x minted).1 (accepted, each) }
 
-pub granted-carried : (table : Table) (name : List ℕ) (keys : Keys) (t : TokenParts) (old new before after : List ℕ) (moment : ℕ) (facts caveats : List (List ℕ)) → map.get table name ≡ Some keys → Minted (listed keys) t → read_of old ≡ Ok t → read_of new ≡ Ok (add t caveats)
+pub granted-carried : (terms : Terms) (name : List ℕ) (keys : Keys) (t : TokenParts) (old new before after : List ℕ) (moment : ℕ) (facts caveats : List (List ℕ)) → keys_of terms name ≡ Some keys → Minted (listed keys) t → read_of old ≡ Ok t → read_of new ≡ Ok (add t caveats)
     → Asks before (verify name old moment facts) → Asks after (verify name new moment facts)
-    → (answer_of table (Payload after) ≡ reply.Granted) ↔ ((answer_of table (Payload before) ≡ reply.Granted) × All (λ c. Satisfied c (record { moment = moment; facts = facts })) caveats)
-granted-carried table name keys t old new before after moment facts caveats found minted read_before read_after asks_before asks_after =
+    → (answer_of terms (Payload after) ≡ reply.Granted) ↔ ((answer_of terms (Payload before) ≡ reply.Granted) × All (λ c. Satisfied c (record { moment = moment; facts = facts })) caveats)
+granted-carried terms name keys t old new before after moment facts caveats found minted read_before read_after asks_before asks_after =
     let x : Context = record { moment = moment; facts = facts } in
-    let is_before = answer-granted table before name old moment facts asks_before in
-    let is_after = answer-granted table after name new moment facts asks_after in
-    let under : (bytes : List ℕ) → IsGranted (map.get table name) bytes x → IsGranted (Some keys) bytes x = λ bytes g. subst (λ k. IsGranted k bytes x) found g in
-    let back : (bytes : List ℕ) → IsGranted (Some keys) bytes x → IsGranted (map.get table name) bytes x = λ bytes g. subst (λ k. IsGranted k bytes x) (sym found) g in (
+    let is_before = answer-granted terms before name old moment facts asks_before in
+    let is_after = answer-granted terms after name new moment facts asks_after in
+    let under : (bytes : List ℕ) → IsGranted (keys_of terms name) bytes x → IsGranted (Some keys) bytes x = λ bytes g. subst (λ k. IsGranted k bytes x) found g in
+    let back : (bytes : List ℕ) → IsGranted (Some keys) bytes x → IsGranted (keys_of terms name) bytes x = λ bytes g. subst (λ k. IsGranted k bytes x) (sym found) g in (
       (λ granted. let both = granted-both keys t old new x caveats minted read_before read_after (under new (is_after.0 granted)) in (is_before.1 (back old both.0), both.1)),
       (λ (granted, each). is_after.1 (back new (granted-again keys t old new x caveats minted read_before read_after (under old (is_before.0 granted)) each))),
     )

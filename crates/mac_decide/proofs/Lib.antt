@@ -10,6 +10,8 @@ pub mod MintingLemmas
 pub mod AnswerLemmas
 pub mod SendableLemmas
 pub mod CarriedLemmas
+pub mod RightsLemmas
+pub mod NowLemmas
 pub mod WorldLemmas
 pub mod VerifiedLemmas
 pub mod FoldingLemmas

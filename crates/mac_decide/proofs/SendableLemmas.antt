@@ -1,5 +1,5 @@
 -- Each reply of the definition can be sent.
-use Rattle.std.proofs.Common.{◌≡◌, ℕ, ◌<◌, ◌≤◌, ◌^◌, List, length, map, Option, Some, None, IsSomeAnd, Result, Ok, Err, IfOk, Bool, true, false, if◌then◌else◌, arith, refl}
+use Rattle.std.proofs.Common.{◌≡◌, ℕ, ◌+◌, ◌<◌, ◌≤◌, ◌^◌, List, length, map, Option, Some, None, IsSomeAnd, Result, Ok, Err, IfOk, Bool, true, false, if◌then◌else◌, arith, refl}
 use Rattle.std.specs.Prelude.{nat_lt, nat_le}
 use Rattle.std.specs.List.{All, list_all, slice_get, slice_index_or}
 use Rattle.std.proofs.lemmas.Bool.{ltb-false, leb-true}
@@ -18,20 +18,24 @@ use Rattle.mac_token.specs.declared.form.Form.{Form}
 use Rattle.mac_token.specs.declared.limits.TheConstants.{LOCATION_MAX, IDENTIFIER_MAX, CAVEAT_MAX, CAVEATS_MAX, TOKEN_MAX}
 use Rattle.mac_wire.specs.Reading.{request_of}
 use Rattle.mac_wire.specs.Reply.{IsReply}
-use Rattle.mac_wire.specs.Request.{Asked, mint, attenuate, verify}
+use Rattle.mac_wire.specs.Request.{Asked, mint, attenuate, verify, verify_now}
 use Rattle.mac_wire.specs.declared.arrival.Arrival.{Arrival}
 use Rattle.mac_wire.specs.declared.arrival.Arrival.TheVariants.{Payload, Oversize}
 use Rattle.mac_wire.specs.declared.reply.Refusal.{Refusal}
 use Rattle.mac_wire.specs.declared.reply.Refusal.TheVariants as refusal
 use Rattle.mac_wire.specs.declared.reply.Reply.{Reply}
 use Rattle.mac_wire.specs.declared.reply.Reply.TheVariants as reply
+use Rattle.mac_wire.specs.declared.reply.TheConstants.{REPLY_TOKEN_MAX}
+use Rattle.mac_wire.specs.declared.request.Grant.{Grant}
+use Rattle.mac_wire.specs.declared.request.Grant.TheVariants as grant
 use Rattle.mac_wire.specs.declared.request.TokenForm.{TokenForm}
-use Rattle.mac_decide.specs.Answer.{refused, refusal_of, told, form_of, written_reply, token_reply, verdict_reply, request_reply, asked_reply, reply_of}
+use Rattle.mac_decide.specs.Answer.{refused, refusal_of, told, keyed, form_of, written_reply, token_reply, verdict_reply, verify_reply, timed, request_reply, asked_reply, reply_of}
 use Rattle.mac_decide.specs.Minted.{minted, add}
 use Rattle.mac_decide.specs.Prepared.{reply_to_job}
 use Rattle.mac_decide.specs.Reading.{verdict_of}
 use Rattle.mac_decide.specs.Verdict.{Satisfied, IsVerdict}
 use Rattle.mac_decide.specs.declared.context.Context.{Context}
+use Rattle.mac_decide.specs.declared.job.Basis.{Basis}
 use Rattle.mac_decide.specs.declared.job.Job.{Job}
 use Rattle.mac_decide.specs.declared.verdict.Verdict.{Verdict}
 use Rattle.mac_decide.specs.declared.verdict.Verdict.TheVariants.{Granted, BadSignature, Unsatisfied}
@@ -101,39 +105,68 @@ index-small keys t x n fits e =
     let below : n < length t.caveats = index-within (λ c. ¬ (Satisfied c x)) t.caveats n _ refl is.1.here in
     omega (arith, few-caveats t fits)
 
-verdict-sent : (v : Verdict) → ((n : ℕ) → v ≡ Unsatisfied n → n < 2 ^ 16) → IsReply (verdict_reply v)
-verdict-sent Granted small = tt
-verdict-sent BadSignature small = refused-sent refusal.BadSignature
-verdict-sent (Unsatisfied n) small = small n refl
+-- and an identifier and a location that a reply carries
+short-owner : (t : TokenParts) → is_within t ≡ true → length t.identifier + length t.location ≤ REPLY_TOKEN_MAX
+unfolding is_within
+short-owner t e =
+    let each = each_passes (nat_le (length t.location) LOCATION_MAX) (nat_le (length t.identifier) IDENTIFIER_MAX) (nat_le (length t.caveats) CAVEATS_MAX)
+    (list_all (λ caveat. nat_le (length caveat) CAVEAT_MAX) t.caveats) e in
+    omega (arith, leb-true (length t.location) LOCATION_MAX each.0, leb-true (length t.identifier) IDENTIFIER_MAX each.1)
 
-pub request-sent : (request : Asked) (keys : Option Keys) → IsReply (request_reply request keys)
-request-sent (mint form name location identifier caveats) None = refused-sent refusal.UnknownKey
-request-sent (mint form name location identifier caveats) (Some keys) = token-sent form (minted keys.first location identifier caveats)
-request-sent (attenuate form token caveats) keys = told-sent (read_of token) (λ t. token_reply form (add t caveats)) (λ t e. token-sent form (add t caveats))
-request-sent (verify name token moment facts) None = refused-sent refusal.UnknownKey
-request-sent (verify name token moment facts) (Some keys) =
+verdict-sent : (g : Grant) (t : TokenParts) (v : Verdict) → is_within t ≡ true → ((n : ℕ) → v ≡ Unsatisfied n → n < 2 ^ 16) → IsReply (verdict_reply g t v)
+verdict-sent grant.Bare t Granted fits small = tt
+verdict-sent grant.Owner t Granted fits small = short-owner t fits
+verdict-sent g t BadSignature fits small = refused-sent refusal.BadSignature
+verdict-sent g t (Unsatisfied n) fits small = small n refl
+
+verify-sent : (g : Grant) (token : List ℕ) (x : Context) (keys : Keys) → IsReply (verify_reply g token x keys)
+verify-sent g token x keys =
+    told-sent (read_of token) (λ t. verdict_reply g t (verdict_of (listed keys) t x))
+    (λ t e. verdict-sent g t (verdict_of (listed keys) t x) (read_of-within token t e) (λ n told. index-small (listed keys) t x n (read_of-within token t e) told))
+
+timed-sent : (moment : Option ℕ) (tell : ℕ → Reply) → ((second : ℕ) → IsReply (tell second)) → IsReply (timed moment tell)
+timed-sent None tell each = refused-sent refusal.NoClock
+timed-sent (Some second) tell each = each second
+
+keyed-sent : (found : Option Keys) (tell : Keys → Reply) → ((keys : Keys) → IsReply (tell keys)) → IsReply (keyed found tell)
+keyed-sent None tell each = refused-sent refusal.UnknownKey
+keyed-sent (Some keys) tell each = each keys
+
+allowed-sent : (may : Bool) (r : Reply) → IsReply r → IsReply (if may then r else refused refusal.NotAllowed)
+allowed-sent true r sent = sent
+allowed-sent false r sent = refused-sent refusal.NotAllowed
+
+pub request-sent : (request : Asked) (basis : Basis) → IsReply (request_reply request basis)
+request-sent (mint form name location identifier caveats) basis =
+    let tell : Keys → Reply = λ keys. token_reply form (minted keys.first location identifier caveats) in
+    allowed-sent basis.may_mint (keyed basis.keys tell) (keyed-sent basis.keys tell (λ keys. token-sent form (minted keys.first location identifier caveats)))
+request-sent (attenuate form token caveats) basis = told-sent (read_of token) (λ t. token_reply form (add t caveats)) (λ t e. token-sent form (add t caveats))
+request-sent (verify name token moment facts) basis =
     let x : Context = record { moment = moment; facts = facts } in
-    told-sent (read_of token) (λ t. verdict_reply (verdict_of (listed keys) t x))
-    (λ t e. verdict-sent (verdict_of (listed keys) t x) (λ n told. index-small (listed keys) t x n (read_of-within token t e) told))
+    keyed-sent basis.keys (verify_reply grant.Bare token x) (verify-sent grant.Bare token x)
+request-sent (verify_now g name token facts) basis =
+    let tell : Keys → ℕ → Reply = λ keys second. verify_reply g token (record { moment = second; facts = facts }) keys in
+    keyed-sent basis.keys (λ keys. timed basis.moment (tell keys))
+    (λ keys. timed-sent basis.moment (tell keys) (λ second. verify-sent g token (record { moment = second; facts = facts }) keys))
 
-asked-sent : (asked : Option Asked) (keys : Option Keys) → IsReply (asked_reply asked keys)
-asked-sent None keys = refused-sent refusal.BadRequest
-asked-sent (Some request) keys = request-sent request keys
+asked-sent : (asked : Option Asked) (basis : Basis) → IsReply (asked_reply asked basis)
+asked-sent None basis = refused-sent refusal.BadRequest
+asked-sent (Some request) basis = request-sent request basis
 
 -- each reply can be sent
-pub reply-sent : (arrival : Arrival) (keys : Option Keys) → IsReply (reply_of arrival keys)
+pub reply-sent : (arrival : Arrival) (basis : Basis) → IsReply (reply_of arrival basis)
 unfolding reply_of
-reply-sent Oversize keys = refused-sent refusal.FrameTooLong
-reply-sent (Payload payload) keys = asked-sent (request_of payload) keys
+reply-sent Oversize basis = refused-sent refusal.FrameTooLong
+reply-sent (Payload payload) basis = asked-sent (request_of payload) basis
 
 -- the reply that a call gives
-pub result-sent : {E : Type 0} (result : Result Reply E) (arrival : Arrival) (keys : Option Keys) → IfOk result (λ r. r ≡ reply_of arrival keys) → IfOk result IsReply
-result-sent (Ok r) arrival keys is = rw is (reply-sent arrival keys)
-result-sent (Err e) arrival keys is = tt
+pub result-sent : {E : Type 0} (result : Result Reply E) (arrival : Arrival) (basis : Basis) → IfOk result (λ r. r ≡ reply_of arrival basis) → IfOk result IsReply
+result-sent (Ok r) arrival basis is = rw is (reply-sent arrival basis)
+result-sent (Err e) arrival basis is = tt
 
 -- the replies to jobs
 replies-sent : (jobs : List Job) → All IsReply (map reply_to_job jobs)
-replies-sent jobs = All-map IsReply reply_to_job jobs (λ k d within. reply-sent (slice_index_or jobs k d).arrival (slice_index_or jobs k d).key)
+replies-sent jobs = All-map IsReply reply_to_job jobs (λ k d within. reply-sent (slice_index_or jobs k d).arrival (slice_index_or jobs k d).basis)
 
 -- the replies that a call gives to jobs
 pub results-sent : {E : Type 0} (result : Result (ArrayVec Reply) E) (jobs : List Job) → IfOk result (λ replies. replies.items ≡ map reply_to_job jobs)

@@ -28,7 +28,7 @@ use Rattle.mac_decide.specs.declared.verdict.Verdict.TheVariants.{BadSignature}
 
 -- the reply to a job
 abbrev pub reply_to_job : Job → Reply
-reply_to_job job = reply_of job.arrival job.key
+reply_to_job job = reply_of job.arrival job.basis
 
 -- whether the token has this signature, or the one that the second key gives it
 abbrev pub is_given : List ℕ → Option (List ℕ) → TokenParts → Bool
@@ -52,9 +52,13 @@ signed_reply draft signature = told (signed draft signature) TokenReply
 abbrev pub verdict_on : Question → List ℕ → PlainVerdict
 verdict_on q signature = verdict_by signature q.second q.token q.context
 
+-- what a verify is answered, by the same
+abbrev pub question_reply : Question → List ℕ → Reply
+question_reply q signature = verdict_reply q.grant q.token (verdict_on q signature)
+
 -- the reply, once the signature is there
 abbrev pub reply_by : Purpose → List ℕ → Reply
-reply_by (purpose.Verdict q) signature = verdict_reply (verdict_on q signature)
+reply_by (purpose.Verdict q) signature = question_reply q signature
 reply_by (purpose.Draft draft) signature = signed_reply draft signature
 reply_by (purpose.Token form t) signature = written_reply form (with_sig t signature)
 

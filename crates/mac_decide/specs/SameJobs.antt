@@ -6,6 +6,7 @@ use Rattle.std.proofs.lemmas.Bool.{and_parts, false≢true}
 use Rattle.mac_keys.specs.declared.keys.Keys.{Keys}
 use Rattle.mac_wire.specs.declared.arrival.Arrival.{Arrival}
 use Rattle.mac_wire.specs.declared.arrival.Arrival.TheVariants.{Payload, Oversize}
+use Rattle.mac_decide.specs.declared.job.Basis.{Basis}
 use Rattle.mac_decide.specs.declared.job.Job.{Job}
 
 -- a test that tells payloads apart and the two kinds of arrivals
@@ -42,12 +43,26 @@ same_keys test tells k l e =
     let second = same_options test tells k.second l.second both.1 in
     λ i. record { first = first i; second = second i }
 
--- jobs whose arrivals and keys are found equal are the same
-pub same_jobs : (arrivals : Arrival → Arrival → Bool) (keys : Keys → Keys → Bool)
-    → Tells arrivals → TellsApart keys → (a b : Job)
-    → (arrivals a.arrival b.arrival && option_eq keys a.key b.key) ≡ true → a ≡ b
-same_jobs arrivals keys tells keys_tell a b e =
-    let both = and_parts (arrivals a.arrival b.arrival) (option_eq keys a.key b.key) e in
+-- bases whose keys, leave to mint and moment are found equal are the same
+pub same_bases : (keys : Keys → Keys → Bool) (leaves : Bool → Bool → Bool) (times : ℕ → ℕ → Bool)
+    → TellsApart keys → TellsApart leaves → TellsApart times → (a b : Basis)
+    → (option_eq keys a.keys b.keys
+    && (leaves a.may_mint b.may_mint && option_eq times a.moment b.moment)) ≡ true → a ≡ b
+same_bases keys leaves times keys_tell leaves_tell times_tell a b e =
+    let more = and_parts (option_eq keys a.keys b.keys) _ e in
+    let alike = option_eq times a.moment b.moment in
+    let last = and_parts (leaves a.may_mint b.may_mint) alike more.1 in
+    let same = same_options keys keys_tell a.keys b.keys more.0 in
+    let may_mint = leaves_tell a.may_mint b.may_mint last.0 in
+    let moment = same_options times times_tell a.moment b.moment last.1 in
+    λ i. record { keys = same i; may_mint = may_mint i; moment = moment i }
+
+-- jobs whose arrivals and bases are found equal are the same
+pub same_jobs : (arrivals : Arrival → Arrival → Bool) (bases : Basis → Basis → Bool)
+    → Tells arrivals → TellsApart bases → (a b : Job)
+    → (arrivals a.arrival b.arrival && bases a.basis b.basis) ≡ true → a ≡ b
+same_jobs arrivals bases tells bases_tell a b e =
+    let both = and_parts (arrivals a.arrival b.arrival) (bases a.basis b.basis) e in
     let arrival = same_arrivals arrivals tells a.arrival b.arrival both.0 in
-    let key = same_options keys keys_tell a.key b.key both.1 in
-    λ i. record { arrival = arrival i; key = key i }
+    let basis = bases_tell a.basis b.basis both.1 in
+    λ i. record { arrival = arrival i; basis = basis i }

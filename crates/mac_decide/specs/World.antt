@@ -1,9 +1,9 @@
--- The world of macaroons: the core's events, with arrivals under a table for its jobs.
-use Rattle.mac_keys.specs.Table.{Table}
+-- The world of macaroons: the core's events, with arrivals under their terms for its jobs.
 use Rattle.mac_wire.specs.declared.arrival.Arrival.{Arrival}
-use Rattle.mac_decide.specs.Answer.{keys_for}
+use Rattle.mac_decide.specs.Answer.{basis_of}
+use Rattle.mac_decide.specs.Terms.{Terms}
 use Rattle.mac_decide.specs.declared.job.Job.{Job}
 
--- the job of an arrival under a table: the arrival, and the table's keys for the name in its front
-abbrev pub job_under : Table → Arrival → Job
-job_under table arrival = record { arrival = arrival; key = keys_for table arrival }
+-- the job of an arrival under these terms: the arrival, and what it is answered on
+abbrev pub job_under : Terms → Arrival → Job
+job_under terms arrival = record { arrival = arrival; basis = basis_of terms arrival }

@@ -1,45 +1,74 @@
-//! What a worker is handed: an arrival, and the keys that it names.
+//! What a worker is handed: an arrival, and what it is answered on.
 
 ghost use Rattle.std.specs.Option.{option_copied};
 ghost use Rattle.std.specs.Prelude.{◌≡◌};
 ghost use Rattle.mac_wire.specs.declared.arrival.Arrival.TheVariants as arrival;
+ghost use Rattle.mac_decide.specs.Answer as answers;
 ghost use Rattle.mac_decide.specs.Answer.{keys_for};
+ghost use Rattle.mac_decide.specs.Terms.{lent_terms};
 ghost use Rattle.mac_decide.specs.World.{job_under};
 
-use mac_keys::{KeyTable, Keys};
+use crate::rights::Terms;
+use mac_keys::Keys;
 use mac_wire::{Arrival, key_name};
 
-/// An arrival, with the keys that the table has for the name in its front.
+/// What a request is answered on: what of the terms that it came under bears on it.
+#[derive(Clone, Copy, PartialEq, Eq)]
+pub struct Basis {
+    /// The keys of the name in its front; none where it names none, where the table has none for
+    /// the name, and where its connection may not use the name.
+    pub keys: Option<Keys>,
+    /// Whether its connection may mint.
+    pub may_mint: bool,
+    /// The moment when it came, in seconds since 1970, if the clock told one.
+    pub moment: Option<u64>,
+}
+
+/// An arrival, with what it is answered on.
 #[derive(PartialEq, Eq, Drop)]
 pub struct Job {
     pub arrival: Arrival,
-    pub key: Option<Keys>,
+    pub basis: Basis,
 }
 
-/// The job of an arrival under a table. It takes no memory.
-pub fn job_of(table: &KeyTable, arrival: Arrival) -> Job
-    ensures { result ≡ job_under table.now arrival }
+/// The job of an arrival under these terms. It takes no memory.
+pub fn job_of(terms: Terms<'_>, arrival: Arrival) -> Job
+    ensures { result ≡ job_under (lent_terms terms.entry) arrival }
 {
-    let key = named_keys(table, &arrival);
-    Job { arrival, key }
+    let basis = Basis {
+        keys: named_keys(terms, &arrival),
+        may_mint: terms.rights.may_mint,
+        moment: terms.moment,
+    };
+    Job { arrival, basis }
 }
 
-/// The table's keys for the name in the arrival's front, where it has both.
-fn named_keys(table: &KeyTable, arrival: &Arrival) -> Option<Keys>
-    ensures { result ≡ keys_for table.now arrival.now }
+/// The keys of the name in the arrival's front.
+fn named_keys(terms: Terms<'_>, arrival: &Arrival) -> Option<Keys>
+    ensures { result ≡ keys_for (lent_terms terms.entry) arrival.now }
 {
     match arrival {
-        Arrival::Payload(payload) => keys_named(table, payload.as_slice()).copied(),
+        Arrival::Payload(payload) => keys_named(terms, payload.as_slice()).copied(),
         Arrival::Oversize => None,
     }
 }
 
-/// The table's keys for the name in the payload's front, where it has both, lent.
-pub(crate) fn keys_named<'a>(table: &'a KeyTable, payload: &[u8]) -> Option<&'a Keys>
-    ensures { option_copied result ≡ keys_for table.now (arrival.Payload payload.now) }
+/// The keys of the name in the payload's front, lent.
+pub(crate) fn keys_named<'a>(terms: Terms<'a>, payload: &[u8]) -> Option<&'a Keys>
+    ensures { option_copied result
+        ≡ keys_for (lent_terms terms.entry) (arrival.Payload payload.now) }
 {
-    match key_name(payload) {
-        Some(name) => table.find(name),
-        None => None,
+    let name = key_name(payload)?;
+    keys_of(terms, name)
+}
+
+/// The keys of a name, where it may be used.
+fn keys_of<'a>(terms: Terms<'a>, name: &[u8]) -> Option<&'a Keys>
+    ensures { option_copied result ≡ answers.keys_of (lent_terms terms.entry) name.now }
+{
+    if terms.rights.allows(name) {
+        terms.table.find(name)
+    } else {
+        None
     }
 }

@@ -2,11 +2,13 @@
 
 ghost use Rattle.std.specs.Prelude.{◌≡◌};
 ghost use Rattle.mac_wire.specs.declared.arrival.Arrival.TheVariants as arrival;
-ghost use Rattle.mac_decide.specs.Viewed.{arrival_of, viewed};
+ghost use Rattle.mac_decide.specs.Terms.{lent_terms};
+ghost use Rattle.mac_decide.specs.Viewed.{arrival_of, viewed, viewed_basis};
 ghost use Rattle.mac_decide.specs.World.{job_under};
 
-use crate::job::{Job, keys_named};
-use mac_keys::{KeyTable, Keys};
+use crate::job::{Basis, Job, keys_named};
+use crate::rights::Terms;
+use mac_keys::Keys;
 use mac_wire::Arrival;
 
 /// One arrival of a stream, where it lies.
@@ -30,11 +32,13 @@ impl<'a> ArrivalView<'a> {
     }
 }
 
-/// An arrival where it lies, with the keys that the table has for the name in its front, lent.
+/// An arrival where it lies, with what it is answered on: the keys are lent.
 #[derive(Clone, Copy)]
 pub struct JobView<'a> {
     pub arrival: ArrivalView<'a>,
-    pub key: Option<&'a Keys>,
+    pub keys: Option<&'a Keys>,
+    pub may_mint: bool,
+    pub moment: Option<u64>,
 }
 
 impl<'a> JobView<'a> {
@@ -44,7 +48,20 @@ impl<'a> JobView<'a> {
     {
         JobView {
             arrival: ArrivalView::of(&job.arrival),
-            key: job.key.as_ref(),
+            keys: job.basis.keys.as_ref(),
+            may_mint: job.basis.may_mint,
+            moment: job.basis.moment,
+        }
+    }
+
+    /// What it is answered on.
+    pub(crate) fn basis(&self) -> Basis
+        ensures { result ≡ viewed_basis self.now }
+    {
+        Basis {
+            keys: self.keys.copied(),
+            may_mint: self.may_mint,
+            moment: self.moment,
         }
     }
 
@@ -57,22 +74,27 @@ impl<'a> JobView<'a> {
     }
 }
 
-/// A frame of too great a length, without keys: what stands in a place that has no job yet.
+/// A frame of too great a length, without keys, leave to mint or moment: what stands in a place
+/// that has no job yet.
 impl Default for JobView<'_> {
     fn default() -> Self {
         JobView {
             arrival: ArrivalView::Oversize,
-            key: None,
+            keys: None,
+            may_mint: false,
+            moment: None,
         }
     }
 }
 
-/// The job of a payload under a table. It takes no memory, and copies nothing.
-pub fn job_view_of<'a>(table: &'a KeyTable, payload: &'a [u8]) -> JobView<'a>
-    ensures { viewed result ≡ job_under table.now (arrival.Payload payload.now) }
+/// The job of a payload under these terms. It takes no memory, and copies nothing.
+pub fn job_view_of<'a>(terms: Terms<'a>, payload: &'a [u8]) -> JobView<'a>
+    ensures { viewed result ≡ job_under (lent_terms terms.entry) (arrival.Payload payload.now) }
 {
     JobView {
         arrival: ArrivalView::Payload(payload),
-        key: keys_named(table, payload),
+        keys: keys_named(terms, payload),
+        may_mint: terms.rights.may_mint,
+        moment: terms.moment,
     }
 }

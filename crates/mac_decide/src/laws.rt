@@ -1,6 +1,7 @@
 //! Laws of the definitions, as functions whose contracts state them.
 
-ghost use Rattle.std.specs.Prelude.{◌≡◌, ◌↔◌, ℕ, ◌≤◌, ℤ, List, [], ◌∷◌, ◌++◌, Option, All, Contains, map as map_list};
+ghost use Rattle.std.specs.Prelude.{◌≡◌, ◌↔◌, ℕ, ◌≤◌, ℤ, List, [], ◌∷◌, ◌++◌, All, Contains, map as map_list, Some, None, true, false};
+ghost use Rattle.std.specs.FinMap as map;
 ghost use Rattle.mac_order.specs.declared.event.Event as event;
 ghost use Rattle.mac_order.specs.History.{IsBeginningOf, Reaches};
 ghost use Rattle.mac_order.specs.State.{Connection};
@@ -8,25 +9,27 @@ ghost use Rattle.mac_token.specs.RawToken.{TokenParts, IsToken};
 ghost use Rattle.mac_token.specs.Read.{read_of};
 ghost use Rattle.mac_decide.specs.declared.context.Context.{Context as PlainContext};
 ghost use Rattle.mac_decide.specs.declared.verdict.Verdict.{Verdict as PlainVerdict};
-ghost use Rattle.std.specs.FinMap as map;
 ghost use Rattle.mac_keys.specs.Table.{Table, listed};
 ghost use Rattle.mac_keys.specs.declared.keys.Keys.{Keys};
 ghost use Rattle.mac_wire.specs.Reply.{IsReply};
-ghost use Rattle.mac_wire.specs.Request.{Asks, IsBytes, mint, attenuate, verify};
+ghost use Rattle.mac_wire.specs.Request.{Asks, IsBytes, mint, attenuate, verify, verify_now};
+ghost use Rattle.mac_wire.specs.declared.request.Grant.{Grant as PlainGrant};
 ghost use Rattle.mac_wire.specs.declared.request.TokenForm.{TokenForm};
 ghost use Rattle.mac_wire.specs.declared.arrival.Arrival.{Arrival as PlainArrival};
 ghost use Rattle.mac_wire.specs.declared.reply.Reply.{Reply as PlainReply};
+ghost use Rattle.mac_decide.specs.declared.job.Basis.{Basis as PlainBasis};
 ghost use Rattle.mac_decide.specs.declared.job.Job.{Job as PlainJob};
 ghost use Rattle.mac_decide.specs.World.{job_under};
-ghost use Rattle.mac_decide.specs.Answer.{reply_of, answer_of, IsGranted};
+ghost use Rattle.mac_decide.specs.Answer.{reply_of, answer_of, keys_of, refused, with_owner, IsAttenuate, IsGranted};
 ghost use Rattle.mac_decide.specs.Minted.{Signs, Minted, minted, add};
 ghost use Rattle.mac_decide.specs.Reading.{limit_of, since_of, verdict_of};
+ghost use Rattle.mac_decide.specs.Terms.{Terms, with_all_names};
 ghost use Rattle.mac_decide.specs.Time.{IsTimeLimit, IsLowerBound};
 ghost use Rattle.mac_decide.specs.Verdict.{Satisfied, Accepts, IsVerdict};
 
 use crate::macaroons::Macaroons;
 use mac_order::Service;
-use mac_wire::{Arrival, Reply};
+use mac_wire::{Arrival, Grant, Refusal, Reply};
 
 /// Attenuation only narrows: a token minted under one of the keys is accepted with caveats added
 /// exactly where it was accepted and each of those is satisfied.
@@ -94,38 +97,92 @@ pub fn bounds_begin_and_end()
         → Accepts keys t x → Accepts keys t (record x { moment = moment }) }
 {}
 
-/// A verify is granted exactly where the table has its name, its bytes spell a token, and the keys
-/// of that name accept the token at its moment with its facts.
+/// A verify is granted exactly where its name has keys under its terms, its bytes spell a token,
+/// and those keys accept the token at its moment with its facts.
 pub fn verify_is_granted()
-    ensures { (table : Table) (payload name token : List ℕ) (moment : ℕ) (facts : List (List ℕ))
+    ensures { (terms : Terms) (payload name token : List ℕ) (moment : ℕ) (facts : List (List ℕ))
         → Asks payload (verify name token moment facts)
-        → (answer_of table (Arrival.Payload payload) ≡ Reply.Granted)
-        ↔ IsGranted (map.get table name) token (record { moment = moment; facts = facts }) }
+        → (answer_of terms (Arrival.Payload payload) ≡ Reply.Granted)
+        ↔ IsGranted (keys_of terms name) token (record { moment = moment; facts = facts }) }
 {}
 
-/// A mint that is answered with bytes was under a name that the table has, and the bytes read as
-/// the token that it asked for, minted under the first key of that name.
+/// A verify at the clock is answered as one at the moment of its terms, so that each law of the one
+/// is a law of the other. Where the clock tells no moment it is refused, once its name has keys.
+pub fn verify_now_is_verify()
+    ensures same { (terms : Terms) (now then name token : List ℕ) (moment : ℕ)
+        (facts : List (List ℕ)) → terms.moment ≡ Some moment
+        → Asks now (verify_now Grant.Bare name token facts)
+        → Asks then (verify name token moment facts)
+        → answer_of terms (Arrival.Payload now) ≡ answer_of terms (Arrival.Payload then) }
+    ensures no_clock { (terms : Terms) (grant : PlainGrant) (payload name token : List ℕ)
+        (keys : Keys) (facts : List (List ℕ)) → terms.moment ≡ None
+        → keys_of terms name ≡ Some keys → Asks payload (verify_now grant name token facts)
+        → answer_of terms (Arrival.Payload payload) ≡ refused Refusal.NoClock }
+{}
+
+/// Whoever asks whose a token is, is answered as one who doesn't ask, but that a grant tells the
+/// identifier and the location of the token that was granted.
+pub fn owner_is_told()
+    ensures same { (terms : Terms) (bare owner name token : List ℕ) (facts : List (List ℕ))
+        → Asks bare (verify_now Grant.Bare name token facts)
+        → Asks owner (verify_now Grant.Owner name token facts)
+        → answer_of terms (Arrival.Payload owner)
+        ≡ with_owner (read_of token) (answer_of terms (Arrival.Payload bare)) }
+    ensures told { (terms : Terms) (payload name token identifier location : List ℕ) (moment : ℕ)
+        (facts : List (List ℕ)) → terms.moment ≡ Some moment
+        → Asks payload (verify_now Grant.Owner name token facts)
+        → answer_of terms (Arrival.Payload payload) ≡ Reply.GrantedTo identifier location
+        → (g : IsGranted (keys_of terms name) token (record { moment = moment; facts = facts }))
+        × (g.token.identifier ≡ identifier) × (g.token.location ≡ location) }
+{}
+
+/// A mint that is answered with bytes was allowed, under a name that has keys, and the bytes read
+/// as the token that it asked for, minted under the first key of that name.
 pub fn minted_bytes_are_read()
-    ensures { (table : Table) (payload name location identifier bytes : List ℕ)
+    ensures { (terms : Terms) (payload name location identifier bytes : List ℕ)
         (form : TokenForm) (caveats : List (List ℕ))
         → IsBytes payload → Asks payload (mint form name location identifier caveats)
-        → answer_of table (Arrival.Payload payload) ≡ Reply.Token bytes
-        → (keys : Keys) × (map.get table name ≡ Some keys)
+        → answer_of terms (Arrival.Payload payload) ≡ Reply.Token bytes
+        → (keys : Keys) × (keys_of terms name ≡ Some keys) × (terms.rights.may_mint ≡ true)
         × (read_of bytes ≡ Ok (minted keys.first location identifier caveats)) }
+{}
+
+/// Where a connection may not mint, each mint is refused as not allowed, whatever the table has and
+/// whichever names may be used. Each token that is answered there is that of an attenuate, which
+/// asks for no key. `IsBytes` is met by whatever comes over a wire.
+pub fn who_may_not_mint_has_no_token_minted()
+    ensures refused { (terms : Terms) (payload name location identifier : List ℕ)
+        (form : TokenForm) (caveats : List (List ℕ))
+        → Asks payload (mint form name location identifier caveats)
+        → terms.rights.may_mint ≡ false
+        → answer_of terms (Arrival.Payload payload) ≡ refused Refusal.NotAllowed }
+    ensures narrowed { (terms : Terms) (arrival : PlainArrival) (bytes : List ℕ)
+        → ((payload : List ℕ) → arrival ≡ Arrival.Payload payload → IsBytes payload)
+        → terms.rights.may_mint ≡ false → answer_of terms arrival ≡ Reply.Token bytes
+        → IsAttenuate arrival }
+{}
+
+/// Names that a connection may not use are as if no key had them: where a table has the keys of the
+/// others alone, all is answered as under it with no name forbidden. So an answer doesn't tell
+/// whether such a name has a key.
+pub fn other_names_have_no_keys()
+    ensures { (terms : Terms) (few : Table) (arrival : PlainArrival)
+        → ((name : List ℕ) → map.get few name ≡ keys_of terms name)
+        → answer_of terms arrival ≡ answer_of (with_all_names few terms) arrival }
 {}
 
 /// An attenuate that is answered with bytes was handed a token, and the bytes read as that token
 /// with the caveats added. What the second clause asks of the token, each
 /// [`Token`](mac_token::Token) is.
 pub fn attenuated_bytes_are_read()
-    ensures handed { (table : Table) (payload old bytes : List ℕ)
+    ensures handed { (terms : Terms) (payload old bytes : List ℕ)
         (form : TokenForm) (caveats : List (List ℕ)) → Asks payload (attenuate form old caveats)
-        → answer_of table (Arrival.Payload payload) ≡ Reply.Token bytes
+        → answer_of terms (Arrival.Payload payload) ≡ Reply.Token bytes
         → (t : TokenParts) × (read_of old ≡ Ok t) }
-    ensures added { (table : Table) (payload old bytes : List ℕ)
+    ensures added { (terms : Terms) (payload old bytes : List ℕ)
         (form : TokenForm) (caveats : List (List ℕ)) (t : TokenParts)
         → IsToken t → IsBytes payload → Asks payload (attenuate form old caveats)
-        → read_of old ≡ Ok t → answer_of table (Arrival.Payload payload) ≡ Reply.Token bytes
+        → read_of old ≡ Ok t → answer_of terms (Arrival.Payload payload) ≡ Reply.Token bytes
         → read_of bytes ≡ Ok (add t caveats) }
 {}
 
@@ -133,30 +190,30 @@ pub fn attenuated_bytes_are_read()
 /// one of the name's keys, and the new ones as it with caveats added, a verify of the new ones is
 /// granted exactly where one of the old ones is and each of the caveats is satisfied.
 pub fn narrower_bytes_are_granted()
-    ensures { (table : Table) (name : List ℕ) (keys : Keys) (t : TokenParts)
+    ensures { (terms : Terms) (name : List ℕ) (keys : Keys) (t : TokenParts)
         (old new before after : List ℕ) (moment : ℕ) (facts caveats : List (List ℕ))
-        → map.get table name ≡ Some keys → Minted (listed keys) t
+        → keys_of terms name ≡ Some keys → Minted (listed keys) t
         → read_of old ≡ Ok t → read_of new ≡ Ok (add t caveats)
         → Asks before (verify name old moment facts) → Asks after (verify name new moment facts)
-        → (answer_of table (Arrival.Payload after) ≡ Reply.Granted)
-        ↔ ((answer_of table (Arrival.Payload before) ≡ Reply.Granted)
+        → (answer_of terms (Arrival.Payload after) ≡ Reply.Granted)
+        ↔ ((answer_of terms (Arrival.Payload before) ≡ Reply.Granted)
         × All (λ caveat. Satisfied caveat (record { moment = moment; facts = facts })) caveats) }
 {}
 
-/// The world of macaroons: where what arrived on a connection are the jobs of arrivals under a
-/// table, what was sent on it is a beginning of these arrivals' answers, for every list of events.
+/// The world of macaroons: where what arrived on a connection are the jobs of arrivals under their
+/// terms, what was sent on it is a beginning of these arrivals' answers, for every list of events.
 pub fn world_sends_answers()
-    ensures { (table : Table) (connections workers number : ℕ)
+    ensures { (terms : Terms) (connections workers number : ℕ)
         (events : List (event.Event Macaroons PlainJob PlainReply))
         (link : Connection PlainJob PlainReply) (arrivals : List PlainArrival)
         → Reaches ⟦<Macaroons as Service>⟧.reply_to connections workers events number link
-        → link.arrived ≡ map_list (job_under table) arrivals
-        → IsBeginningOf link.sent (map_list (answer_of table) arrivals) }
+        → link.arrived ≡ map_list (job_under terms) arrivals
+        → IsBeginningOf link.sent (map_list (answer_of terms) arrivals) }
 {}
 
 /// Each reply can be sent: a refusal has a number of its own, and a token and an index fit.
 pub fn replies_can_be_sent()
-    ensures { (arrival : PlainArrival) (keys : Option Keys) → IsReply (reply_of arrival keys) }
+    ensures { (arrival : PlainArrival) (basis : PlainBasis) → IsReply (reply_of arrival basis) }
 {}
 
 /// A text is a time limit exactly where it reads as one.

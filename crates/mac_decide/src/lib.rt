@@ -1,8 +1,8 @@
 //! The decision: which caveats are satisfied, which tokens a name's keys grant, and the answer to
 //! each arrival.
 //!
-//! [`job_of`] takes an arrival with the keys that it names, and [`answer`] gives its reply, by
-//! [`mint`], [`attenuate`] and [`verify`].
+//! [`job_of`] takes an arrival with what the [`Terms`] that it came under say of it, and [`answer`]
+//! gives its reply, by [`mint`], [`attenuate`] and [`verify`].
 #![tactic(auto)]
 
 mod choosing;
@@ -18,6 +18,7 @@ mod minting;
 mod prepared;
 mod preparing;
 mod reply;
+mod rights;
 mod rooms;
 mod side_by_side;
 mod time;
@@ -25,11 +26,12 @@ mod verdict;
 mod verdict_view;
 
 pub use context::{Context, satisfied};
-pub use job::{Job, job_of};
+pub use job::{Basis, Job, job_of};
 pub use job_view::{ArrivalView, JobView, job_view_of};
 pub use macaroons::Macaroons;
 pub use minting::{attenuate, mint};
 pub use reply::{answer, refusal_of};
+pub use rights::{Names, Rights, Terms};
 pub use rooms::{RUN, Rooms};
 pub use side_by_side::{answer_all, answer_run};
 pub use time::{time_limit, time_since};

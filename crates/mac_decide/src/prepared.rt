@@ -3,7 +3,7 @@
 ghost use Rattle.std.specs.Prelude.{◌≡◌, ◌⊎◌, ◌∷◌, ℕ, List, [], IfOk, IfSome, MatchOption, None, drop, length, get_or};
 ghost use Rattle.mac_hmac.specs.Chain.{extended};
 ghost use Rattle.mac_decide.specs.Folding.{end_of};
-ghost use Rattle.mac_decide.specs.Prepared.{comes_to, ends_in, left_of, reply_by, signature_of, verdict_on};
+ghost use Rattle.mac_decide.specs.Prepared.{comes_to, ends_in, left_of, question_reply, reply_by, signature_of};
 
 use crate::context::Context;
 use crate::folding::Folding;
@@ -11,12 +11,13 @@ use crate::reply::{signed_reply, verdict_reply, written_reply};
 use crate::verdict_view::verdict_by;
 use mac_hmac::{RootKey, Sig, same};
 use mac_token::{Draft, Token, TokenView};
-use mac_wire::{NoMemory, Reply, TokenForm};
+use mac_wire::{Grant, NoMemory, Reply, TokenForm};
 use std::alloc::Global;
 
 /// What a verify asks, but for the name's first key.
 #[derive(Drop)]
 pub struct Question<'a> {
+    pub grant: Grant,
     pub second: Option<RootKey>,
     pub token: TokenView<'a>,
     pub context: Context<'a>,
@@ -26,8 +27,9 @@ impl<'a> Question<'a> {
     /// The texts that lead to the second key's signature, where this one isn't the token's. A key
     /// is asked once: the question is without it from then on.
     fn take_second(&mut self, signature: Sig) -> Option<Folding<'a>>
-        ensures verdict { MatchOption result (self.new ≡ self.old)
-            (λ folding. verdict_on self.new (end_of folding) ≡ verdict_on self.old signature) }
+        ensures reply { MatchOption result (self.new ≡ self.old)
+            (λ folding. question_reply self.new (end_of folding)
+            ≡ question_reply self.old signature) }
         ensures asked { MatchOption result
             ((self.old.second ≡ None) ⊎ (self.old.token.sig ≡ signature))
             (λ _. self.new.second ≡ None) }
@@ -39,6 +41,16 @@ impl<'a> Question<'a> {
             }
             _ => None,
         }
+    }
+
+    /// The reply, by the signature that the first key gives the token.
+    fn reply(self, alloc: Global, signature: Sig) -> Result<Reply, NoMemory>
+        ensures { IfOk result (λ r. r ≡ question_reply self.entry signature) }
+    {
+        let token = &self.token;
+        let verdict = verdict_by(signature, self.second, token, &self.context);
+        let identifier = token.identifier();
+        verdict_reply(alloc, self.grant, identifier, token.location(), verdict)
     }
 }
 
@@ -70,12 +82,7 @@ impl<'a> Purpose<'a> {
         ensures { IfOk result (λ r. r ≡ reply_by self.entry signature) }
     {
         match self {
-            Purpose::Verdict(question) => Ok(verdict_reply(verdict_by(
-                signature,
-                question.second,
-                &question.token,
-                &question.context,
-            ))),
+            Purpose::Verdict(question) => question.reply(alloc, signature),
             Purpose::Draft(draft) => signed_reply(alloc, draft, signature),
             Purpose::Token { form, token } => {
                 let token = token.signed(signature.bytes());

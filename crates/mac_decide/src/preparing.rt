@@ -19,14 +19,15 @@ ghost use Rattle.mac_decide.specs.Reading.{verdict_of};
 use crate::context::Context;
 use crate::drafting::{draft_narrowed, draft_of_parts, draft_to_sign};
 use crate::folding::{Folding, Texts};
+use crate::job::Basis;
 use crate::minting::token_of_parts;
 use crate::prepared::{Prepared, Purpose, Question, Signing};
 use crate::reply::{form_of, refusal_of, refused, verdict_reply};
-use crate::verdict::{other_key, verify};
+use crate::verdict::{Verdict, other_key, verify};
 use mac_hmac::{RootKey, Sig};
 use mac_keys::Keys;
 use mac_token::{DraftForm, Token, TokenFault, TokenView, bare, read_bare};
-use mac_wire::{FieldList, NoMemory, Refusal, Request, TokenForm, parse_request};
+use mac_wire::{FieldList, Grant, NoMemory, Refusal, Request, TokenForm, parse_request};
 use std::alloc::{AllocError, Global};
 
 fn told(reason: Refusal) -> Prepared<'static>
@@ -40,13 +41,13 @@ pub fn prepare<'a>(
     room: &'a mut Vec<u8>,
     alloc: Global,
     payload: &'a [u8],
-    keys: Option<Keys>,
+    basis: Basis,
 ) -> Result<Prepared<'a>, NoMemory>
     ensures { IfOk result (λ p.
-        comes_to p ≡ answers.asked_reply (request_of payload.now) keys) }
+        comes_to p ≡ answers.asked_reply (request_of payload.now) basis) }
 {
     match parse_request(payload) {
-        Some(request) => prepare_request(room, alloc, request, keys),
+        Some(request) => prepare_request(room, alloc, request, basis),
         None => Ok(told(Refusal::BadRequest)),
     }
 }
@@ -55,10 +56,10 @@ fn prepare_request<'a>(
     room: &'a mut Vec<u8>,
     alloc: Global,
     request: Request<'a>,
-    keys: Option<Keys>,
+    basis: Basis,
 ) -> Result<Prepared<'a>, NoMemory>
     ensures { IfOk result (λ p.
-        comes_to p ≡ answers.request_reply (asked_of request.entry) keys) }
+        comes_to p ≡ answers.request_reply (asked_of request.entry) basis) }
 {
     match request {
         Request::Mint {
@@ -67,9 +68,12 @@ fn prepare_request<'a>(
             identifier,
             caveats,
             ..
-        } => match keys {
-            Some(keys) => prepare_mint(alloc, form, keys.first, location, identifier, caveats),
-            None => Ok(told(Refusal::UnknownKey)),
+        } => match (basis.may_mint, basis.keys) {
+            (false, _) => Ok(told(Refusal::NotAllowed)),
+            (true, None) => Ok(told(Refusal::UnknownKey)),
+            (true, Some(keys)) => {
+                prepare_mint(alloc, form, keys.first, location, identifier, caveats)
+            }
         },
         Request::Attenuate {
             form,
@@ -81,9 +85,25 @@ fn prepare_request<'a>(
             moment,
             facts,
             ..
-        } => match keys {
-            Some(keys) => prepare_verify(room, alloc, keys, token, Context { moment, facts }),
+        } => match basis.keys {
+            Some(keys) => {
+                let context = Context { moment, facts };
+                prepare_verify(room, alloc, Grant::Bare, keys, token, context)
+            }
             None => Ok(told(Refusal::UnknownKey)),
+        },
+        Request::VerifyNow {
+            grant,
+            token,
+            facts,
+            ..
+        } => match (basis.keys, basis.moment) {
+            (None, _) => Ok(told(Refusal::UnknownKey)),
+            (Some(_), None) => Ok(told(Refusal::NoClock)),
+            (Some(keys), Some(moment)) => {
+                let context = Context { moment, facts };
+                prepare_verify(room, alloc, grant, keys, token, context)
+            }
         },
     }
 }
@@ -270,15 +290,16 @@ fn to_sign<'a>(
 fn prepare_verify<'a>(
     room: &'a mut Vec<u8>,
     alloc: Global,
+    grant: Grant,
     keys: Keys,
     token: &'a [u8],
     context: Context<'a>,
 ) -> Result<Prepared<'a>, NoMemory>
-    ensures { IfOk result (λ p. comes_to p ≡ answers.told (read_of token.now)
-        (λ t. answers.verdict_reply (verdict_of (listed keys) t context.entry))) }
+    ensures { IfOk result (λ p.
+        comes_to p ≡ answers.verify_reply grant token.now context.entry keys) }
 {
     match bare(room, token) {
-        Ok(bytes) => prepare_bare(alloc, keys, bytes, context),
+        Ok(bytes) => prepare_bare(alloc, grant, keys, bytes, context),
         Err(TokenFault::Refused(reason)) => Ok(told(refusal_of(reason))),
         Err(TokenFault::Memory) => Err(AllocError),
     }
@@ -287,29 +308,31 @@ fn prepare_verify<'a>(
 /// The same, where these are the bytes that the token carries. Only JSON is read with memory.
 fn prepare_bare<'a>(
     alloc: Global,
+    grant: Grant,
     keys: Keys,
     bytes: &'a [u8],
     context: Context<'a>,
 ) -> Result<Prepared<'a>, NoMemory>
     ensures { IfOk result (λ p. comes_to p
         ≡ answers.told (token_of_read (or_malformed (bare_of bytes.now)))
-        (λ t. answers.verdict_reply (verdict_of (listed keys) t context.entry))) }
+        (λ t. answers.verdict_reply grant t (verdict_of (listed keys) t context.entry))) }
 {
     match bytes {
-        [b'{', ..] => prepare_json(alloc, keys, bytes, &context),
-        _ => Ok(prepare_view(keys, bytes, context)),
+        [b'{', ..] => prepare_json(alloc, grant, keys, bytes, &context),
+        _ => Ok(prepare_view(grant, keys, bytes, context)),
     }
 }
 
-fn prepare_view<'a>(keys: Keys, bytes: &'a [u8], context: Context<'a>) -> Prepared<'a>
+fn prepare_view<'a>(grant: Grant, keys: Keys, bytes: &'a [u8], context: Context<'a>) -> Prepared<'a>
     requires { ¬ BeginsWith 123 bytes.now }
     ensures { comes_to result ≡ answers.told (token_of_read (or_malformed (bare_of bytes.now)))
-        (λ t. answers.verdict_reply (verdict_of (listed keys) t context.entry)) }
+        (λ t. answers.verdict_reply grant t (verdict_of (listed keys) t context.entry)) }
 {
     match TokenView::of(bytes) {
         Ok(token) => {
             let folding = Folding::of_token(keys.first, &token);
             let question = Question {
+                grant,
                 second: other_key(&keys),
                 token,
                 context,
@@ -324,17 +347,32 @@ fn prepare_view<'a>(keys: Keys, bytes: &'a [u8], context: Context<'a>) -> Prepar
 /// A verify of a token in JSON, whose parts lie in no bytes, is answered at once.
 fn prepare_json(
     alloc: Global,
+    grant: Grant,
     keys: Keys,
     bytes: &[u8],
     context: &Context<'_>,
 ) -> Result<Prepared<'static>, NoMemory>
     ensures { IfOk result (λ p. comes_to p
         ≡ answers.told (token_of_read (or_malformed (bare_of bytes.now)))
-        (λ t. answers.verdict_reply (verdict_of (listed keys) t context.now))) }
+        (λ t. answers.verdict_reply grant t (verdict_of (listed keys) t context.now))) }
 {
     match read_bare(alloc, bytes) {
-        Ok(token) => Ok(Prepared::Told(verdict_reply(verify(&keys, &token, context)))),
+        Ok(token) => told_verdict(alloc, grant, &token, verify(&keys, &token, context)),
         Err(TokenFault::Refused(reason)) => Ok(told(refusal_of(reason))),
         Err(TokenFault::Memory) => Err(AllocError),
     }
+}
+
+/// What is told of a token at once.
+fn told_verdict(
+    alloc: Global,
+    grant: Grant,
+    token: &Token,
+    verdict: Verdict,
+) -> Result<Prepared<'static>, NoMemory>
+    ensures { IfOk result (λ p. comes_to p ≡ answers.verdict_reply grant token.now verdict) }
+{
+    let identifier = token.identifier();
+    let reply = verdict_reply(alloc, grant, identifier, token.location(), verdict)?;
+    Ok(Prepared::Told(reply))
 }

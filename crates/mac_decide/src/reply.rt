@@ -2,24 +2,24 @@
 
 ghost use Rattle.std.specs.Prelude.{◌≡◌, ◌↔◌, IfOk, OnErr, List, Result, ℕ};
 ghost use Rattle.mac_token.specs.Answers.{Answers as IsWritten};
+ghost use Rattle.mac_token.specs.RawToken.{TokenParts};
 ghost use Rattle.mac_token.specs.declared.fault.TokenRefusal.{TokenRefusal};
 ghost use Rattle.mac_wire.specs.Reply.{IsReply};
 ghost use Rattle.mac_wire.specs.Request.{Asks, verify};
 ghost use Rattle.mac_decide.specs.Answer as answers;
 ghost use Rattle.mac_decide.specs.Prepared.{signed_reply};
 
-use crate::job::Job;
+use crate::job::{Basis, Job};
 use crate::preparing::prepare;
 use crate::verdict::Verdict;
 use mac_hmac::Sig;
-use mac_keys::Keys;
 use mac_token::{Draft, Form, Token, TokenFault, TokenRefusal, write};
-use mac_wire::{Arrival, Bytes, NoMemory, Refusal, Reply, TokenForm};
+use mac_wire::{Arrival, Bytes, Grant, NoMemory, Refusal, Reply, TokenForm};
 use std::alloc::{AllocError, Global};
 
 /// The reply to a job. Want of memory is an error and never a reply.
 pub fn answer(alloc: Global, job: &Job) -> Result<Reply, NoMemory>
-    ensures reply { IfOk result (λ r. r ≡ answers.reply_of job.now.arrival job.now.key) }
+    ensures reply { IfOk result (λ r. r ≡ answers.reply_of job.now.arrival job.now.basis) }
     ensures sendable { IfOk result IsReply }
     ensures memory { OnErr result (answers.TakesMemory job.now.arrival) }
 
@@ -27,20 +27,20 @@ pub fn answer(alloc: Global, job: &Job) -> Result<Reply, NoMemory>
     ensures granted { (payload name token : List ℕ) (moment : ℕ) (facts : List (List ℕ))
         → job.now.arrival ≡ Arrival.Payload payload → Asks payload (verify name token moment facts)
         → IfOk result (λ r. (r ≡ Reply.Granted)
-        ↔ answers.IsGranted job.now.key token (record { moment = moment; facts = facts })) }
+        ↔ answers.IsGranted job.now.basis.keys token (record { moment = moment; facts = facts })) }
 {
-    arrival_reply(alloc, &job.arrival, job.key)
+    arrival_reply(alloc, &job.arrival, job.basis)
 }
 
 #[tactic(auto, unfolding(crate::specs::Answer::reply_of))]
-fn arrival_reply(alloc: Global, arrival: &Arrival, keys: Option<Keys>) -> Result<Reply, NoMemory>
-    ensures reply { IfOk result (λ r. r ≡ answers.reply_of arrival.now keys) }
+fn arrival_reply(alloc: Global, arrival: &Arrival, basis: Basis) -> Result<Reply, NoMemory>
+    ensures reply { IfOk result (λ r. r ≡ answers.reply_of arrival.now basis) }
     ensures memory { OnErr result (answers.TakesMemory arrival.now) }
 {
     match arrival {
         Arrival::Payload(payload) => {
             let mut room = Vec::new(alloc);
-            prepare(&mut room, alloc, payload.as_slice(), keys)?.into_reply(alloc)
+            prepare(&mut room, alloc, payload.as_slice(), basis)?.into_reply(alloc)
         }
         Arrival::Oversize => Ok(refused(Refusal::FrameTooLong)),
     }
@@ -52,13 +52,41 @@ pub(crate) fn refused(reason: Refusal) -> Reply
     Reply::Refused(reason)
 }
 
-pub(crate) fn verdict_reply(verdict: Verdict) -> Reply
-    ensures { result ≡ answers.verdict_reply verdict }
+/// The reply of a verdict on a token with this identifier and this location. Only what tells whose
+/// the token is takes memory.
+pub(crate) fn verdict_reply(
+    alloc: Global,
+    grant: Grant,
+    identifier: &[u8],
+    location: &str,
+    verdict: Verdict,
+) -> Result<Reply, NoMemory>
+    ensures { (t : TokenParts) → t.identifier ≡ identifier.now → t.location ≡ location.now
+        → IfOk result (λ r. r ≡ answers.verdict_reply grant t verdict) }
 {
     match verdict {
-        Verdict::Granted => Reply::Granted,
-        Verdict::BadSignature => refused(Refusal::BadSignature),
-        Verdict::Unsatisfied(index) => Reply::Unsatisfied(index),
+        Verdict::Granted => grant_reply(alloc, grant, identifier, location),
+        Verdict::BadSignature => Ok(refused(Refusal::BadSignature)),
+        Verdict::Unsatisfied(index) => Ok(Reply::Unsatisfied(index)),
+    }
+}
+
+/// What is told of such a token that is granted.
+fn grant_reply(
+    alloc: Global,
+    grant: Grant,
+    identifier: &[u8],
+    location: &str,
+) -> Result<Reply, NoMemory>
+    ensures { (t : TokenParts) → t.identifier ≡ identifier.now → t.location ≡ location.now
+        → IfOk result (λ r. r ≡ answers.grant_reply grant t) }
+{
+    match grant {
+        Grant::Bare => Ok(Reply::Granted),
+        Grant::Owner => Ok(Reply::GrantedTo {
+            identifier: Bytes::new(Vec::from_slice(alloc, identifier)?),
+            location: Bytes::new(Vec::from_slice(alloc, location.as_bytes())?),
+        }),
     }
 }
 

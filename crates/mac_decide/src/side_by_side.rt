@@ -170,7 +170,7 @@ fn prepare_job<'a>(
     ensures { IfOk result (λ prepared. comes_to prepared ≡ reply_to_job (viewed job.now)) }
 {
     match job.arrival {
-        ArrivalView::Payload(payload) => prepare(room, alloc, payload, job.key.copied()),
+        ArrivalView::Payload(payload) => prepare(room, alloc, payload, job.basis()),
         ArrivalView::Oversize => Ok(Prepared::Told(refused(Refusal::FrameTooLong))),
     }
 }

@@ -1,29 +1,56 @@
 -- What a peer is answered, over a reader and a writer that state their bytes.
-use Rattle.std.specs.Prelude.{◌≡◌, ℕ, List, ◌++◌, Option}
+use Rattle.std.specs.Prelude.{◌≡◌, ◌⊎◌, ℕ, Bool, List, [], ◌∷◌, ◌++◌, map, codes, Option, Some, None}
 use Rattle.std.specs.Io.KnownBytes.{Appends, Consumes}
 use Rattle.std.specs.List.{AllZip}
 use Rattle.http.specs.Request.{head_of}
+use Rattle.http.specs.declared.request.Parts.{Parts}
 use Rattle.http_server.specs.Exchange.{Call}
 use Rattle.http_server.specs.History.{History, IsServed}
+use Rattle.http_server.specs.Response.{fields_of}
+use Rattle.http_server.specs.declared.response.Response.{Response}
+use Rattle.http_uri.specs.Uri.{uri_path}
+use Rattle.mac_board.specs.Follows.{Known, Takes}
 use Rattle.mac_keys.specs.Table.{Table}
 use Rattle.mac_http.specs.declared.attending.TheConstants.{CONFIG}
+use Rattle.mac_http.specs.declared.page.Page.{Page}
 use Rattle.mac_http.specs.declared.rules.Rules.{Rules}
 use Rattle.mac_http.specs.Found.{found_of}
+use Rattle.mac_http.specs.Page.{TellsPage, page_in}
 use Rattle.mac_http.specs.Saying.{Responds}
 
--- the response is the one that comes of the request under the keys at the moment
-abbrev pub IsRight : Table → Rules → Option ℕ → Call → Type 0
-IsRight table rules moment c =
-    Responds rules.granted (found_of table rules.sources moment (head_of c.0)) c.1
+-- the response to a request whose path names this page, or none
+abbrev pub IsAnswerTo : Option Page → Table → Rules → Option ℕ → Parts → Response → Type 0
+IsAnswerTo (Some page) table rules moment head response = TellsPage response
+IsAnswerTo None table rules moment head response =
+    Responds rules.granted (found_of table rules.sources moment head) response
 
--- What was written are HTTP's answers to the requests that were read, in order. The clock told one
--- moment for each call of the service, and the response is right at it.
-pub record IsFaced (table : Table) (rules : Rules) (unread left before after : Option (List ℕ))
-    (told tells : List (Option ℕ)) : Type 0 where
+-- the response is the one that comes of the request under the keys at the moment
+abbrev pub IsAnswer : Table → Rules → Option ℕ → Parts → Response → Type 0
+IsAnswer table rules moment head =
+    IsAnswerTo (page_in (uri_path head.uri)) table rules moment head
+
+-- the response is the first one, and may tell besides that the connection is closed
+pub record MayClose (plain response : Response) : Type 0 where
+  pub status : response.status ≡ plain.status
+  pub body : response.body ≡ plain.body
+  pub fields : (fields_of response ≡ fields_of plain)
+      ⊎ (fields_of response ≡ fields_of plain ++ (codes "connection", codes "close") ∷ [])
+
+-- the same, where the connection may be closed behind it
+abbrev pub IsRight : Rules → Table × Option ℕ → Call → Type 0
+IsRight rules under c = (plain : Response)
+    × IsAnswer under.0 rules under.1 (head_of c.0) plain × MayClose plain c.1
+
+-- What was written are HTTP's answers to the requests that were read, in order. For each call of
+-- the service there was one look at the tables and one at the clock, and the response is right under
+-- the table that was up then and at the moment that was told.
+pub record IsFaced (tells : Bool) (first last : Known) (rules : Rules)
+    (unread left before after : Option (List ℕ)) (told tells_now : List (Option ℕ)) : Type 0 where
   pub history : History
   pub read : Consumes unread left history.received
   pub written : Appends before after history.sent
   pub served : ∥ IsServed CONFIG history ∥₁
-  pub moments : List (Option ℕ)
-  pub told_more : tells ≡ told ++ moments
-  pub right : AllZip (IsRight table rules) moments history.calls
+  pub under : List (Table × Option ℕ)
+  pub taken : Takes tells first last (map (λ u. u.0) under)
+  pub told_more : tells_now ≡ told ++ map (λ u. u.1) under
+  pub right : AllZip (IsRight rules) under history.calls

@@ -3,6 +3,7 @@ pub mod Escaped
 pub mod Faced
 pub mod Facts
 pub mod Found
+pub mod Page
 pub mod Path
 pub mod Saying
 pub mod Target

@@ -8,9 +8,10 @@ ghost use Rattle.http_server.specs.History.{IsDone};
 ghost use Rattle.mac_http.specs.Faced.{IsFaced};
 
 use crate::face::Face;
-use crate::moments::Moments;
+use crate::page::Steward;
 use http_server::{Config, Connection, Service};
 use http1::Limits;
+use mac_board::{Moments, Tables};
 use std::alloc::Global;
 use std::hash::RandomState;
 use std::io;
@@ -39,15 +40,15 @@ pub trait Watch {
 
 /// Answers the requests of a peer until its connection is done, a device fails or the watch drops
 /// it.
-pub fn attend<M: Moments, V: Watch, R: Read, W: Write>(
+pub fn attend<K: Tables, M: Moments, S: Steward, V: Watch, R: Read, W: Write>(
     alloc: Global,
     secrets: RandomState,
-    face: &mut Face<'_, M>,
+    face: &mut Face<K, M, S>,
     watch: &mut V,
     reader: &mut R,
     writer: &mut W,
 ) -> io::Result<()>
-    ensures { IsFaced face.old.keys.now face.old.rules
+    ensures { IsFaced K.tells (K.known face.old.keys) (K.known face.new.keys) face.old.rules
         (R.remaining reader.old) (R.remaining reader.new)
         (W.contents writer.old) (W.contents writer.new)
         (M.told face.old.moments) (M.told face.new.moments) }

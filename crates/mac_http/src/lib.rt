@@ -2,8 +2,9 @@
 //! response.
 //!
 //! [`Face`] is a [`Service`](http_server::Service): the path names a key, `Authorization` brings
-//! the token, the [`Sources`] that are named bring facts, and [`Moments`] the moment. [`attend`]
-//! serves it over a reader and a writer. No sockets are opened here.
+//! the token, the [`Sources`] that are named bring facts, and [`Moments`](mac_board::Moments) the
+//! moment. A [`Steward`] fills the pages that tell of the daemon. [`attend`] serves it all over a
+//! reader and a writer. No sockets are opened here.
 #![tactic(auto)]
 
 mod attending;
@@ -14,7 +15,7 @@ mod face;
 mod facts;
 mod finding;
 pub mod laws;
-mod moments;
+mod page;
 mod path;
 mod rules;
 mod saying;
@@ -25,7 +26,7 @@ pub use authorization::Scheme;
 pub use counted::FACT_MAX;
 pub use face::Face;
 pub use finding::{Finding, find};
-pub use moments::{Moments, SystemMoments};
+pub use page::{Page, Steward, Told};
 pub use path::{PATH_MAX, SEGMENTS_MAX};
 pub use rules::{Granted, Rules, Sources};
 pub use saying::respond;

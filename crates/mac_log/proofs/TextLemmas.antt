@@ -107,6 +107,8 @@ safe-key key.Cause = refl
 safe-key key.Asks = refl
 safe-key key.Name = refl
 safe-key key.Verdict = refl
+safe-key key.Unsent = refl
+safe-key key.Form = refl
 
 pub printed-kind_bytes : (k : Kind) → ArePrinted (kind_text k)
 printed-kind_bytes kind.Start = refl

@@ -46,6 +46,10 @@ pub enum Key {
     Name,
     /// What a request was answered.
     Verdict,
+    /// How many bytes a peer hasn't taken.
+    Unsent,
+    /// Which of several ways something has.
+    Form,
 }
 
 impl Key {
@@ -74,6 +78,8 @@ impl Key {
             Key::Asks => "asks",
             Key::Name => "name",
             Key::Verdict => "verdict",
+            Key::Unsent => "unsent",
+            Key::Form => "form",
         }
     }
 }

@@ -17,9 +17,9 @@ mod port;
 mod watch;
 
 pub use fault::LoopFault;
-pub use handover::Handover;
+pub use handover::{Badge, Handover, Life};
 pub use inbox::Loops;
 pub use looping::{Loop, make_loops};
 pub use meter::microseconds;
-pub use port::SocketPort;
-pub use watch::{PlainFault, Watch};
+pub use port::{SocketPort, Traffic};
+pub use watch::{PlainFault, Turn, Watch};

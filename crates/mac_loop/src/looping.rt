@@ -1,13 +1,15 @@
 //! A loop: a thread's turns over its clients.
 
+mod sharing;
+
 use crate::fault::LoopFault;
 use crate::handover::Handover;
 use crate::inbox::{Inbox, Loops};
 use crate::members::{Members, Progress};
 use crate::meter::{Shares, microseconds};
-use crate::port::SocketPort;
-use crate::watch::{PlainFault, Watch};
-use mac_board::Tables;
+use crate::port::{SocketPort, Traffic};
+use crate::watch::{PlainFault, Turn, Watch};
+use mac_board::Outlook;
 use mac_plain::{Client, Course, Round};
 use mio::{Events, Poll, Token, Waker};
 use std::alloc::Global;
@@ -33,20 +35,18 @@ const TURN_LONG: u64 = 2_000;
 /// A turn that took less may have more parts.
 const TURN_SHORT: u64 = 500;
 
-/// How many microseconds pass between two looks at who makes progress.
+/// How many microseconds pass between two looks at who makes progress, where seconds were asked
+/// for.
 const SWEEP: u64 = 1_000_000;
+
+/// How many pass where none were.
+const SWEEP_SELDOM: u64 = 10_000_000;
+
+/// After how many seconds a client is ended then that has sent nothing whole.
+const QUIET: u64 = 300;
 
 /// The microseconds of a second.
 const SECOND: u64 = 1_000_000;
-
-/// A loop that worked a greater share of the time, in thousandths, gives clients away.
-const SHARE_HIGH: u64 = 900;
-
-/// A loop that worked no more may take them.
-const SHARE_LOW: u64 = 500;
-
-/// Two loops that together worked no more become one.
-const SHARE_ONE: u64 = 600;
 
 /// A loop, with the clients of its slots.
 #[derive(Drop)]
@@ -61,7 +61,7 @@ pub struct Loop {
     round: Round,
     parts: usize,
     shares: Shares,
-    // The seconds after which a client that makes no progress is ended.
+    // The seconds after which a client that makes no progress is ended, where they were asked for.
     idle: Option<u64>,
     // Whether its clients are read no further than what has come.
     is_draining: bool,
@@ -71,6 +71,7 @@ pub struct Loop {
 }
 
 /// As many loops as are asked for, which end a client that makes no progress for so many seconds.
+/// Where none are asked for, they end one that has sent nothing whole for five minutes.
 pub fn make_loops<R: Net>(
     rt: &R,
     alloc: Global,
@@ -104,11 +105,11 @@ pub fn make_loops<R: Net>(
 
 impl Loop {
     /// Serves clients until the loops are closed and this one has none, what they send in each turn
-    /// under the key table that is up once it is read.
-    pub fn run<R, K, W>(mut self, rt: &R, loops: &Loops, keys: &mut K, watch: &W)
+    /// under the key table that is up once it is read, and at the moment of then.
+    pub fn run<R, K, W>(mut self, rt: &R, loops: &Loops, outlook: &mut K, watch: &W)
     where
         R: Wait + Clock,
-        K: Tables,
+        K: Outlook,
         W: Watch,
     {
         for _ in rt.forever() {
@@ -117,9 +118,9 @@ impl Loop {
             self.take_events();
             self.welcome(rt, loops, watch);
             self.drain(loops);
-            self.serve_ready(rt, loops, keys, watch);
+            self.serve_ready(rt, loops, outlook, watch);
             self.sweep(rt, loops, watch);
-            self.keep_time(rt, loops);
+            self.keep_time(rt, loops, watch);
             if self.members.count() == 0 && loops.is_closed() {
                 return;
             }
@@ -130,8 +131,8 @@ impl Loop {
     fn wait(&mut self) {
         let patience = if self.members.has_ready() {
             Some(Duration::from_millis(0))
-        } else if self.idle.is_some() && self.members.count() > 0 {
-            Some(Duration::from_micros(SWEEP))
+        } else if self.members.count() > 0 {
+            Some(Duration::from_micros(self.sweep_span()))
         } else {
             None
         };
@@ -149,14 +150,26 @@ impl Loop {
     }
 
     /// Takes in the clients that were handed over.
-    fn welcome<R: Wait, W: Watch>(&mut self, rt: &R, loops: &Loops, watch: &W) {
+    fn welcome<R: Wait + Clock, W: Watch>(&mut self, rt: &R, loops: &Loops, watch: &W) {
         for _ in rt.forever() {
             let Some(client) = loops.take(rt, self.number) else {
                 return;
             };
-            if !self.take_in(client, loops) {
-                watch.end(rt, Some(PlainFault::NoMemory));
-            }
+            self.receive(rt, client, loops, watch);
+        }
+    }
+
+    /// Takes a client in, or ends it where there is no memory for that.
+    fn receive<R: Wait + Clock, W: Watch>(
+        &mut self,
+        rt: &R,
+        client: Handover,
+        loops: &Loops,
+        watch: &W,
+    ) {
+        let life = client.life();
+        if !self.take_in(client, loops) {
+            watch.end(rt, life, Some(PlainFault::NoMemory));
         }
     }
 
@@ -176,7 +189,9 @@ impl Loop {
         let Handover {
             port,
             session,
+            rights,
             since,
+            badge,
         } = client;
         let Ok(slot) = self.members.free_slot() else {
             return false;
@@ -185,11 +200,11 @@ impl Loop {
             self.members.free(slot);
             return false;
         }
-        let client = Client::new(port, session);
+        let client = Client::new(port, session, rights);
         // Who has to go on wide waits for bytes first.
         let is_ready = client.course() == Course::Open || client.unsent() > 0;
         loops.count_unsent(0, client.unsent());
-        self.members.begin(slot, client, since);
+        self.members.begin(slot, client, since, badge);
         if self.is_draining {
             self.members.end_reading(slot);
         } else if is_ready {
@@ -199,24 +214,30 @@ impl Loop {
     }
 
     /// Answers what clients that are ready have sent.
-    fn serve_ready<R: Wait, K: Tables, W: Watch>(
+    fn serve_ready<R: Wait + Clock, K: Outlook, W: Watch>(
         &mut self,
         rt: &R,
         loops: &Loops,
-        keys: &mut K,
+        outlook: &mut K,
         watch: &W,
     ) {
         self.pick(rt, loops);
         let unsent_max = loops.unsent_max();
         self.round
-            .serve(keys, self.batch.as_mut_slice(), unsent_max);
+            .serve(outlook, self.batch.as_mut_slice(), unsent_max);
+        let mut traffic = Traffic::NONE;
         for _ in rt.forever() {
             let (Some(client), Some(slot)) = (self.batch.pop(), self.turn.pop()) else {
-                return;
+                break;
             };
             loops.count_unsent(0, client.unsent());
+            traffic = traffic.plus(self.members.count_traffic(slot, &client));
             self.look_after(rt, slot, client, unsent_max, loops, watch);
         }
+        watch.count(&Turn {
+            requests: self.round.take_counts(),
+            traffic,
+        });
     }
 
     /// Takes the clients of a turn out of their slots.
@@ -250,7 +271,7 @@ impl Loop {
     }
 
     /// Does what a client's turn has left to do.
-    fn look_after<R: Wait, W: Watch>(
+    fn look_after<R: Wait + Clock, W: Watch>(
         &mut self,
         rt: &R,
         slot: usize,
@@ -261,8 +282,9 @@ impl Loop {
     ) {
         if client.is_over() {
             loops.count_unsent(client.unsent(), 0);
+            let life = self.members.life(slot, &client);
             self.members.end(slot);
-            watch.end(rt, PlainFault::of(&client));
+            watch.end(rt, life, PlainFault::of(&client));
             return;
         }
         if client.course() == Course::Wide {
@@ -271,6 +293,7 @@ impl Loop {
             watch.widen(rt, client);
             return;
         }
+        watch.see(self.members.life(slot, &client), client.unsent());
         self.note_turn(slot, &mut client, unsent_max);
         self.members.put(slot, client);
     }
@@ -279,13 +302,16 @@ impl Loop {
     fn part(&mut self, slot: usize, client: Client<SocketPort>) -> Handover {
         let progress = Progress::of(&client);
         let since = self.members.note_progress(slot, progress, self.now);
+        let badge = self.members.badge(slot);
         self.members.end(slot);
-        let (port, session) = client.into_parts();
+        let (port, session, rights) = client.into_parts();
         let _ = port.leave(self.poll.registry());
         Handover {
             port,
             session,
+            rights,
             since,
+            badge,
         }
     }
 
@@ -313,42 +339,62 @@ impl Loop {
     }
 
     /// Ends the clients that have made no progress for as long as they may.
-    fn sweep<R: Wait, W: Watch>(&mut self, rt: &R, loops: &Loops, watch: &W) {
-        let Some(idle) = self.idle else {
-            return;
-        };
-        if self.now.saturating_sub(self.swept) < SWEEP {
+    fn sweep<R: Wait + Clock, W: Watch>(&mut self, rt: &R, loops: &Loops, watch: &W) {
+        if self.now.saturating_sub(self.swept) < self.sweep_span() {
             return;
         }
         self.swept = self.now;
         for slot in 0..self.members.slots() {
-            if self.is_idle(slot, idle) {
+            if self.is_idle(slot) {
                 if let Some(client) = self.members.take(slot) {
                     loops.count_unsent(client.unsent(), 0);
+                    let life = self.members.life(slot, &client);
                     self.members.end(slot);
-                    watch.end(rt, Some(PlainFault::Idle));
+                    watch.end(rt, life, Some(PlainFault::Idle));
                 }
             }
         }
     }
 
-    /// Notes a client's progress. Whether it has made none for so many seconds, and no turn of the
-    /// loop is owed to it. A request that has begun has to be whole in that time, also of who sends
-    /// a byte for each turn.
-    fn is_idle(&mut self, slot: usize, idle: u64) -> bool {
+    /// How many microseconds pass between two looks at who makes progress.
+    fn sweep_span(&self) -> u64 {
+        if self.idle.is_some() {
+            SWEEP
+        } else {
+            SWEEP_SELDOM
+        }
+    }
+
+    /// How many seconds a client may make no progress. Where none were asked for, one may rest that
+    /// was answered and has begun nothing since, and one that is owed replies.
+    fn patience(&self, progress: Progress) -> Option<u64> {
+        let is_quiet = progress.answered == 0 || progress.has_begun;
+        match self.idle {
+            Some(idle) => Some(idle),
+            None if is_quiet && progress.unsent == 0 => Some(QUIET),
+            None => None,
+        }
+    }
+
+    /// Notes a client's progress. Whether it has made none for as long as it may, and no turn of
+    /// the loop is owed to it. A request that has begun has to be whole in that time, also of who
+    /// sends a byte for each turn.
+    fn is_idle(&mut self, slot: usize) -> bool {
         let Some(client) = self.members.client(slot) else {
             return false;
         };
         let progress = Progress::of(client);
+        let patience = self.patience(progress);
         let has_begun = progress.has_begun;
         let since = self.members.note_progress(slot, progress, self.now);
         let is_listed = self.members.note(slot).map_or(false, |note| note.is_listed);
         let is_owed = is_listed && !has_begun;
-        !is_owed && self.now.saturating_sub(since) >= idle.saturating_mul(SECOND)
+        let waited = self.now.saturating_sub(since);
+        !is_owed && patience.is_some_and(|seconds| waited >= seconds.saturating_mul(SECOND))
     }
 
     /// Counts what a turn took, fits the next one to it, and shares clients with other loops.
-    fn keep_time<R: Wait + Clock>(&mut self, rt: &R, loops: &Loops) {
+    fn keep_time<R: Wait + Clock, W: Watch>(&mut self, rt: &R, loops: &Loops, watch: &W) {
         let now = microseconds(rt);
         let spent = now.saturating_sub(self.now);
         if spent > TURN_LONG {
@@ -359,58 +405,7 @@ impl Loop {
         loops.add_work(self.number, spent);
         if self.shares.is_due(now) {
             loops.look(&mut self.shares, now);
-            self.spread(rt, loops);
-        }
-    }
-
-    /// Gives clients to another loop: half of those that are active where this one can't keep up,
-    /// all of them where one before it has time for them.
-    fn spread<R: Wait>(&mut self, rt: &R, loops: &Loops) {
-        let own = self.shares.of(self.number);
-        let least = self.shares.least();
-        if own >= SHARE_HIGH && self.shares.of(least) <= SHARE_LOW {
-            self.give(rt, loops, least, 2);
-        } else if own <= SHARE_ONE {
-            if let Some(before) = self.shares.first_below(SHARE_ONE - own) {
-                if before < self.number {
-                    self.give(rt, loops, before, 1);
-                }
-            }
-        }
-        self.rest();
-    }
-
-    /// Gives one of so many active clients to another loop.
-    fn give<R: Wait>(&mut self, rt: &R, loops: &Loops, number: usize, of: usize) {
-        let mut seen = 0usize;
-        for slot in 0..self.members.slots() {
-            let is_active = self.members.note(slot).map_or(false, |note| note.is_active);
-            if is_active && self.members.client(slot).is_some() {
-                seen = seen.saturating_add(1);
-                if seen % of.max(1) == 0 {
-                    self.move_to(rt, loops, number, slot);
-                }
-            }
-        }
-    }
-
-    fn move_to<R: Wait>(&mut self, rt: &R, loops: &Loops, number: usize, slot: usize) {
-        let Some(client) = self.members.take(slot) else {
-            return;
-        };
-        loops.count_unsent(client.unsent(), 0);
-        let client = self.part(slot, client);
-        if let Err(client) = loops.hand(rt, number, client) {
-            let _ = self.take_in(client, loops);
-        }
-    }
-
-    /// Forgets which clients were active.
-    fn rest(&mut self) {
-        for slot in 0..self.members.slots() {
-            if let Some(note) = self.members.note(slot) {
-                note.is_active = false;
-            }
+            self.spread(rt, loops, watch);
         }
     }
 }

@@ -1,6 +1,7 @@
 //! The clients of a loop, each in a slot, and which of them are ready.
 
-use crate::port::SocketPort;
+use crate::handover::{Badge, Life};
+use crate::port::{SocketPort, Traffic};
 use mac_plain::Client;
 use std::alloc::{AllocError, Global};
 use std::collections::VecDeque;
@@ -30,6 +31,10 @@ pub struct Note {
     pub progress: Progress,
     /// When it was last seen to have made any, in microseconds.
     pub since: u64,
+    /// What it is known by.
+    pub badge: Badge,
+    /// What had come and gone when that was last counted.
+    pub traffic: Traffic,
 }
 
 impl Progress {
@@ -51,15 +56,31 @@ impl Progress {
 }
 
 impl Note {
-    fn fresh(is_listed: bool, progress: Progress, since: u64) -> Note {
+    /// That of a slot which never had a client.
+    const NONE: Note = Note {
+        is_listed: false,
+        is_closing: false,
+        awaits_room: false,
+        is_deep: false,
+        is_active: false,
+        progress: Progress::NONE,
+        since: 0,
+        badge: Badge::NONE,
+        traffic: Traffic::NONE,
+    };
+
+    /// That of a client which begins.
+    fn of(client: &Client<SocketPort>, is_listed: bool, since: u64, badge: Badge) -> Note {
         Note {
             is_listed,
             is_closing: false,
             awaits_room: false,
             is_deep: false,
             is_active: true,
-            progress,
+            progress: Progress::of(client),
             since,
+            badge,
+            traffic: client.port().traffic(),
         }
     }
 }
@@ -104,7 +125,7 @@ impl Members {
         let slot = self.clients.len();
         self.free.reserve(slot.saturating_add(1))?;
         self.ready.reserve(slot.saturating_add(1))?;
-        self.notes.push(Note::fresh(false, Progress::NONE, 0))?;
+        self.notes.push(Note::NONE)?;
         self.clients.push(None)?;
         Ok(slot)
     }
@@ -115,10 +136,9 @@ impl Members {
     }
 
     /// A new client, which made its last progress then, takes a free slot.
-    pub fn begin(&mut self, slot: usize, client: Client<SocketPort>, since: u64) {
-        let progress = Progress::of(&client);
+    pub fn begin(&mut self, slot: usize, client: Client<SocketPort>, since: u64, badge: Badge) {
         if let Some(note) = self.notes.get_mut(slot) {
-            *note = Note::fresh(note.is_listed, progress, since);
+            *note = Note::of(&client, note.is_listed, since, badge);
         }
         self.count = self.count.saturating_add(1);
         self.put(slot, client);
@@ -151,6 +171,30 @@ impl Members {
             Some(Some(client)) => Some(client),
             _ => None,
         }
+    }
+
+    /// What the client of a slot is known by.
+    pub fn badge(&self, slot: usize) -> Badge {
+        self.notes.get(slot).map_or(Badge::NONE, |note| note.badge)
+    }
+
+    /// What the client of a slot, which was taken out of it, has come to.
+    pub fn life(&self, slot: usize, client: &Client<SocketPort>) -> Life {
+        Life {
+            badge: self.badge(slot),
+            answered: client.answered(),
+        }
+    }
+
+    /// What has come and gone on a slot's client since that was last counted.
+    pub fn count_traffic(&mut self, slot: usize, client: &Client<SocketPort>) -> Traffic {
+        let traffic = client.port().traffic();
+        let Some(note) = self.notes.get_mut(slot) else {
+            return Traffic::NONE;
+        };
+        let counted = traffic.since(note.traffic);
+        note.traffic = traffic;
+        counted
     }
 
     /// What is known of a slot's client.

@@ -1,7 +1,7 @@
 //! A connection's socket as a loop has it: reads and writes don't wait.
 
 ghost use Rattle.std.specs.Prelude.{length};
-ghost use Rattle.mac_plain.specs.Port.{FitsCame};
+ghost use Rattle.mac_plain.specs.Port.{FitsCame, FitsWent};
 
 use mac_plain::{Came, Port, Went};
 use mio::net::UnixStream;
@@ -13,12 +13,43 @@ use std::net::Shutdown;
 use std::os::fd::AsRawFd;
 use std::os::unix::net;
 
+/// How many bytes came from a peer, and how many went to it.
+#[derive(Clone, Copy, Debug, PartialEq, Eq)]
+pub struct Traffic {
+    /// Those that were read.
+    pub came: u64,
+    /// Those that were written.
+    pub went: u64,
+}
+
+impl Traffic {
+    /// None.
+    pub const NONE: Traffic = Traffic { came: 0, went: 0 };
+
+    /// What has come and gone since an earlier count.
+    pub fn since(self, before: Traffic) -> Traffic {
+        Traffic {
+            came: self.came.saturating_sub(before.came),
+            went: self.went.saturating_sub(before.went),
+        }
+    }
+
+    /// Both together.
+    pub fn plus(self, other: Traffic) -> Traffic {
+        Traffic {
+            came: self.came.saturating_add(other.came),
+            went: self.went.saturating_add(other.went),
+        }
+    }
+}
+
 /// A socket that a loop reads and writes.
 #[derive(Drop)]
 pub struct SocketPort {
     stream: UnixStream,
     // Whether the last read gave bytes.
     has_read: bool,
+    traffic: Traffic,
 }
 
 impl SocketPort {
@@ -28,6 +59,7 @@ impl SocketPort {
         Ok(SocketPort {
             stream: UnixStream::from_std(stream),
             has_read: false,
+            traffic: Traffic::NONE,
         })
     }
 
@@ -36,6 +68,7 @@ impl SocketPort {
         let SocketPort {
             stream,
             has_read: _,
+            traffic: _,
         } = self;
         let stream = net::UnixStream::from(stream);
         stream.set_nonblocking(false)?;
@@ -45,6 +78,11 @@ impl SocketPort {
     /// Whether the last read gave bytes.
     pub fn has_read(&self) -> bool {
         self.has_read
+    }
+
+    /// What has come and gone through this port.
+    pub fn traffic(&self) -> Traffic {
+        self.traffic
     }
 
     /// Takes nothing more from the peer: behind what has come its stream ends.
@@ -89,19 +127,18 @@ impl Port for SocketPort {
     fn read(&mut self, buf: &mut [u8]) -> Came {
         let came = read_past_signals(&mut self.stream, buf);
         self.has_read = matches!(came, Came::Bytes(_));
+        if let Came::Bytes(count) = came {
+            self.traffic.came = self.traffic.came.saturating_add(count as u64);
+        }
         came
     }
 
     fn write(&mut self, buf: &[u8]) -> Went {
-        for _ in 0..u64::MAX {
-            match self.stream.write(buf) {
-                Ok(count) => return Went::Bytes(count),
-                Err(fault) if fault.kind() == ErrorKind::WouldBlock => return Went::Later,
-                Err(fault) if fault.kind() == ErrorKind::Interrupted => {}
-                Err(_) => return Went::Fault,
-            }
+        let went = write_past_signals(&mut self.stream, buf);
+        if let Went::Bytes(count) = went {
+            self.traffic.went = self.traffic.went.saturating_add(count as u64);
         }
-        Went::Fault
+        went
     }
 }
 
@@ -119,4 +156,19 @@ fn read_past_signals(stream: &mut UnixStream, buf: &mut [u8]) -> Came
         }
     }
     Came::Fault
+}
+
+/// Writes, and writes again where a signal broke that off.
+fn write_past_signals(stream: &mut UnixStream, buf: &[u8]) -> Went
+    ensures { FitsWent result (length buf.now) }
+{
+    for _ in 0..u64::MAX {
+        match stream.write(buf) {
+            Ok(count) => return Went::Bytes(count),
+            Err(fault) if fault.kind() == ErrorKind::WouldBlock => return Went::Later,
+            Err(fault) if fault.kind() == ErrorKind::Interrupted => {}
+            Err(_) => return Went::Fault,
+        }
+    }
+    Went::Fault
 }

@@ -1,9 +1,11 @@
 //! What loops ask of the daemon around them.
 
-use crate::handover::Handover;
-use crate::port::SocketPort;
+use crate::handover::{Handover, Life};
+use crate::port::{SocketPort, Traffic};
+use mac_count::REQUESTS;
 use mac_plain::{Client, Course, Ended, Fall};
 use std::sync::Wait;
+use std::time::Clock;
 use thiserror::Error;
 
 /// How a client ended that is served no more.
@@ -44,11 +46,26 @@ impl PlainFault {
     }
 }
 
+/// What a turn of a loop came to.
+#[derive(Clone, Copy)]
+pub struct Turn {
+    /// How many requests were answered, each kind at its place.
+    pub requests: [u64; REQUESTS],
+    /// What came from its clients, and went to them.
+    pub traffic: Traffic,
+}
+
 /// Who is told what becomes of the clients of loops.
 pub trait Watch: Send + Sync {
     /// A client has ended, well or in a fault.
-    fn end<R: Wait>(&self, rt: &R, fault: Option<PlainFault>);
+    fn end<R: Wait + Clock>(&self, rt: &R, life: Life, fault: Option<PlainFault>);
+
+    /// A turn has ended.
+    fn count(&self, turn: &Turn);
+
+    /// A client that stays has had a turn, and so many bytes are unsent.
+    fn see(&self, life: Life, unsent: usize);
 
     /// A client asks for what a loop must not do: it goes on in threads of its own.
-    fn widen<R: Wait>(&self, rt: &R, client: Handover);
+    fn widen<R: Wait + Clock>(&self, rt: &R, client: Handover);
 }

@@ -8,3 +8,4 @@ abbrev pub put_code : PutFault → ℕ
 put_code put.Full = 1
 put_code put.Closed = 2
 put_code put.NoMemory = 3
+put_code put.Spent = 4

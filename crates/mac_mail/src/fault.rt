@@ -8,7 +8,7 @@ use thiserror::Error;
 /// Why a ticket or a post was not put.
 #[derive(Clone, Copy, Debug, PartialEq, Eq, Error)]
 pub enum PutFault {
-    /// The queue or the mailbox holds as many as it can, or the pass has put as many as it may.
+    /// The queue or the mailbox holds as many as it can: there is room later.
     #[error("the queue is full")]
     Full,
     /// The queue or the mailbox is closed.
@@ -17,10 +17,13 @@ pub enum PutFault {
     /// There was no further handle on the mailbox.
     #[error("memory ran out for a handle on the mailbox")]
     NoMemory,
+    /// The pass has put as many as it ever may.
+    #[error("the pass has put as many tickets as it may")]
+    Spent,
 }
 
 impl PutFault {
-    /// The fault's number: 1 to 3.
+    /// The fault's number: 1 to 4.
     pub fn code(&self) -> u8
         ensures { result ≡ put_code self.now }
     {
@@ -28,6 +31,7 @@ impl PutFault {
             PutFault::Full => 1,
             PutFault::Closed => 2,
             PutFault::NoMemory => 3,
+            PutFault::Spent => 4,
         }
     }
 }

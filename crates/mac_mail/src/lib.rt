@@ -3,14 +3,20 @@
 #![tactic(auto)]
 
 mod bell;
+mod closing;
 mod fault;
+mod history;
 pub mod laws;
 mod mailbox;
 mod post;
+mod receipt;
 mod taker;
 
 pub use bell::{Bell, Notice};
+pub use closing::{Closed, Closing};
 pub use fault::PutFault;
+pub use history::History;
 pub use mailbox::{MAIL_MAX, Mailbox};
 pub use post::Post;
+pub use receipt::{Delivery, Receipt};
 pub use taker::Taker;

@@ -1,12 +1,14 @@
 //! A mailbox: posts wait here for the one who takes them.
 
 ghost use Rattle.std.specs.Prelude.{◌≡◌, Option, [], ◌∷◌, ◌++◌, IfErr, IfOk, IfSome, IfNone};
-ghost use Rattle.mac_mail.specs.Post.{entry_of};
+ghost use Rattle.mac_mail.specs.Post.{entry_of, handled, receipt_of, IsDelivered};
 ghost use Rattle.crossbeam_queue.specs.Passes.{view, IsSamePass};
 
 use crate::bell::{Bell, Notice};
+use crate::closing::Closing;
 use crate::fault::PutFault;
 use crate::post::Post;
+use crate::receipt::{Delivery, Receipt};
 use crossbeam_queue::protocol::{Free, Lesson, Outcome, Protocol};
 use crossbeam_queue::{Pass, RuledArrayQueue};
 use crossbeam_utils::CachePadded;
@@ -15,45 +17,60 @@ use std::alloc::Global;
 use std::collections::LinkedList;
 use std::marker::Model;
 use std::sync::Wait;
+use std::sync::atomic::AtomicU64;
 use std::sync::atomic::Ordering::SeqCst;
-use std::sync::atomic::{AtomicBool, AtomicU64};
 
 /// The most posts that a mailbox holds.
 pub const MAIL_MAX: usize = 128;
 
-/// What a taker has taken, for contracts: places, each with its answer's job, if any. No value is
-/// made.
-type Taken<S> = LinkedList<(u64, Option<<S as Service>::Job>)>;
+/// What a pass has put in and what it has taken, for contracts: places, each with its answer's job,
+/// if any. No value is made.
+pub struct Handled<J> {
+    pub posted: LinkedList<(u64, Option<J>)>,
+    pub taken: LinkedList<(u64, Option<J>)>,
+}
 
-/// Anybody may push and pop at any time; a pop is told to the pass that made it.
+/// Anybody may push and pop at any time; each is told to the pass that made it.
 pub struct Told;
 
-impl<S: Service> Protocol<Post<S>, Taken<S>> for Told {
+impl<S: Service> Protocol<Post<S>, Handled<S::Job>> for Told {
     ghost use Rattle.std.specs.Prelude.{⊤, []};
 
     ghost holds = { λ items views. ⊤ };
 
-    ghost first = { [] };
+    ghost first = { handled [] [] };
 }
 
-pub struct Takes;
+pub struct Puts;
 
-impl<S: Service> Outcome<Post<S>, Taken<S>> for Takes {
-    ghost then = { λ v post w. w ≡ v ++ entry_of post ∷ [] };
+impl<S: Service> Outcome<Post<S>, Handled<S::Job>> for Puts {
+    ghost then = { λ v post w. w ≡ handled (v.posted ++ entry_of post ∷ []) v.taken };
 }
 
-impl<S: Service> Lesson<Post<S>, Taken<S>> for Takes {
+impl<S: Service> Lesson<Post<S>, Handled<S::Job>> for Puts {
     ghost use Rattle.std.specs.Prelude.{⊤};
 
     ghost fact = { λ v items. ⊤ };
 }
 
-pub(crate) type MailPass<S> = Pass<Post<S>, Taken<S>>;
+pub struct Takes;
+
+impl<S: Service> Outcome<Post<S>, Handled<S::Job>> for Takes {
+    ghost then = { λ v post w. w ≡ handled v.posted (v.taken ++ entry_of post ∷ []) };
+}
+
+impl<S: Service> Lesson<Post<S>, Handled<S::Job>> for Takes {
+    ghost use Rattle.std.specs.Prelude.{⊤};
+
+    ghost fact = { λ v items. ⊤ };
+}
+
+pub(crate) type MailPass<S> = Pass<Post<S>, Handled<<S as Service>::Job>>;
 
 /// Posts wait here, at most 128, for the one who takes them.
 #[derive(Drop)]
 pub struct Mailbox<S: Service> {
-    queue: RuledArrayQueue<Post<S>, Taken<S>, Told>,
+    queue: RuledArrayQueue<Post<S>, Handled<S::Job>, Told>,
     // Who waits for posts sleeps on it.
     pub(crate) posts: Bell,
     // Who waits for posts waits for the one at this place, or for one before it.
@@ -64,23 +81,24 @@ pub struct Mailbox<S: Service> {
     // Who puts jobs and waits for their posts waits until so many have come.
     awaited: CachePadded<AtomicU64>,
     answers: Bell,
-    pub(crate) is_closed: AtomicBool,
+    pub(crate) closing: Closing,
 }
 
 impl<S: Service> Model for Mailbox<S> {
-    ghost use Rattle.atomic_table.specs.Seated.{TableId, table_id_coded};
+    ghost use Rattle.mac_mail.specs.Post.{Mail, mail_code};
 
-    ghost Value = { TableId };
+    ghost Value = { Mail };
 
-    ghost coded = { table_id_coded };
+    ghost coded = { mail_code };
 
-    ghost view = { λ m. m.queue.table.shared.table_id };
+    ghost view = { λ m. record { posts = m.queue.table.shared.table_id; closing = m.closing } };
 }
 
 impl<S: Service> Mailbox<S> {
     /// An open, empty mailbox, with the pass of the one who takes from it.
     pub(crate) fn new(alloc: Global) -> Result<(Mailbox<S>, MailPass<S>), NoMemory>
-        ensures { IfOk result (λ m. (m.1.table_id ≡ m.0) × (m.1.me.1 ≡ []) × (view m.1 ≡ [])) }
+        ensures { IfOk result (λ m. (m.1.table_id ≡ m.0.posts) × (m.1.me.1 ≡ [])
+            × (view m.1 ≡ handled [] [])) }
     {
         let (queue, pass) = RuledArrayQueue::ruled(alloc, MAIL_MAX)?;
         let mail = Mailbox {
@@ -91,39 +109,37 @@ impl<S: Service> Mailbox<S> {
             came: CachePadded::new(AtomicU64::new(0)),
             awaited: CachePadded::new(AtomicU64::new(0)),
             answers: Bell::new(),
-            is_closed: AtomicBool::new(false),
+            closing: Closing::new(),
         };
         Ok((mail, pass))
     }
 
     /// Puts the post in, and wakes who waits for posts.
-    pub fn push<R: Wait>(&self, rt: &R, post: Post<S>) -> Result<(), (PutFault, Post<S>)>
-        ensures { IfErr result (λ e. e.1 ≡ post) }
+    pub fn push<R: Wait>(&self, rt: &R, post: Post<S>) -> Result<Receipt<S>, (PutFault, Post<S>)>
+        ensures posted { IfOk result (λ receipt. receipt ≡ receipt_of self.now post) }
+        ensures back { IfErr result (λ e. e.1 ≡ post) }
     {
-        self.push_quietly(rt, post)?;
-        self.posts.ring();
-        Ok(())
-    }
-
-    /// Puts the post in and wakes nobody: the caller rings later.
-    pub(crate) fn push_quietly<R: Wait>(
-        &self,
-        rt: &R,
-        post: Post<S>,
-    ) -> Result<(), (PutFault, Post<S>)>
-        ensures { IfErr result (λ e. e.1 ≡ post) }
-    {
-        if self.is_closed.load(SeqCst) {
+        if self.closing.look().is_some() {
             return Err((PutFault::Closed, post));
         }
-        let mut pass = self.queue.pass();
-        match self.queue.push_as::<Free, R>(rt, &mut pass, post) {
-            Ok(()) => {
-                self.tell_came();
-                Ok(())
+        match self.put_in(rt, post) {
+            Ok(receipt) => {
+                self.posts.ring();
+                Ok(receipt)
             }
             Err(post) => Err((PutFault::Full, post)),
         }
+    }
+
+    /// Puts the post in, where there is room, and wakes nobody.
+    fn put_in<R: Wait>(&self, rt: &R, post: Post<S>) -> Result<Receipt<S>, Post<S>>
+        ensures posted { IfOk result (λ receipt. receipt ≡ receipt_of self.now post) }
+        ensures back { IfErr result (λ back. back ≡ post) }
+    {
+        let mut pass = self.queue.pass();
+        self.queue.push_as::<Puts, R>(rt, &mut pass, post)?;
+        self.tell_came();
+        Ok(Receipt { pass })
     }
 
     /// One more post has come: wakes who puts jobs, where that one waits for no more.
@@ -162,10 +178,11 @@ impl<S: Service> Mailbox<S> {
 
     /// Takes the oldest post, by this pass.
     pub(crate) fn take_as<R: Wait>(&self, rt: &R, pass: &mut MailPass<S>) -> Option<Post<S>>
-        requires { (pass.old.table_id ≡ self.now) × (pass.old.me.1 ≡ []) }
+        requires { (pass.old.table_id ≡ self.now.posts) × (pass.old.me.1 ≡ []) }
         ensures same { IsSamePass pass.old pass.new }
-        ensures some { IfSome result (λ post. view pass.new ≡ view pass.old ++ entry_of post ∷ []) }
-        ensures none { IfNone result (view pass.new ≡ view pass.old) }
+        ensures some { IfSome result (λ post.
+            (view pass.new).taken ≡ (view pass.old).taken ++ entry_of post ∷ []) }
+        ensures none { IfNone result ((view pass.new).taken ≡ (view pass.old).taken) }
     {
         let post = self.queue.pop_as::<Takes, R>(rt, pass);
         // A worker that waits for room is woken once half of the mailbox is free, and not for
@@ -176,39 +193,42 @@ impl<S: Service> Mailbox<S> {
         post
     }
 
-    /// Takes the oldest post, if there is one, past the desk's taker.
-    pub fn take<R: Wait>(&self, rt: &R) -> Option<Post<S>> {
-        let mut pass = self.queue.pass();
-        self.take_as(rt, &mut pass)
-    }
-
     /// Puts the post in, and waits while there is no room. At a closed mailbox the post is
     /// dropped. It wakes who takes posts only where it waits: the caller rings later.
-    pub fn deliver<R: Wait>(&self, rt: &R, mut post: Post<S>) {
+    pub fn deliver<R: Wait>(&self, rt: &R, mut post: Post<S>) -> Delivery<S>
+        ensures { IsDelivered self.now post result }
+    {
         for _ in rt.forever() {
-            let Some(back) = self.refused(rt, post) else {
-                return;
+            post = match self.try_deliver(rt, post) {
+                Ok(delivery) => return delivery,
+                Err(back) => back,
             };
             // Who takes the posts must not sleep while somebody waits for room.
             self.posts.ring();
             let notice = self.room.announce();
-            let Some(back) = self.refused(rt, back) else {
-                self.room.withdraw(notice);
-                return;
+            post = match self.try_deliver(rt, post) {
+                Ok(delivery) => {
+                    self.room.withdraw(notice);
+                    return delivery;
+                }
+                Err(back) => back,
             };
             self.room.sleep(rt, notice);
-            post = back;
         }
+        unreachable!()
     }
 
-    /// The post, where there is no room for it; else it is in, or dropped at a closed mailbox.
-    fn refused<R: Wait>(&self, rt: &R, post: Post<S>) -> Option<Post<S>>
-        ensures { IfSome result (λ back. back ≡ post) }
+    /// Puts the post in, or hands it back where there is no room. At a closed mailbox it is
+    /// dropped. It wakes nobody.
+    pub fn try_deliver<R: Wait>(&self, rt: &R, post: Post<S>) -> Result<Delivery<S>, Post<S>>
+        ensures delivered { IfOk result (λ delivery. IsDelivered self.now post delivery) }
+        ensures back { IfErr result (λ back. back ≡ post) }
     {
-        match self.push_quietly(rt, post) {
-            Err((PutFault::Full, back)) => Some(back),
-            _ => None,
+        if let Some(closed) = self.closing.look() {
+            return Ok(Delivery::Closed(closed));
         }
+        let receipt = self.put_in(rt, post)?;
+        Ok(Delivery::Posted(receipt))
     }
 
     /// Wakes who waits for posts.
@@ -218,7 +238,7 @@ impl<S: Service> Mailbox<S> {
 
     /// Closes the mailbox to further posts, and wakes all who wait at it.
     pub fn close(&self) {
-        self.is_closed.store(true, SeqCst);
+        self.closing.close();
         self.posts.ring_all();
         self.room.ring_all();
     }

@@ -10,7 +10,6 @@ use crate::post::Post;
 use mac_order::{NoMemory, Service};
 use std::alloc::Global;
 use std::marker::Model;
-use std::sync::atomic::Ordering::SeqCst;
 use std::sync::{Arc, Wait};
 
 /// Takes the posts of a mailbox. Contracts see those that it has taken, each as its place with its
@@ -31,9 +30,9 @@ impl<S: Service> Model for Taker<S> {
 
     ghost coded = { coded_list (coded× coded_ℕ (coded_option S.Job.code)) };
 
-    ghost view = { λ t. what t.pass };
+    ghost view = { λ t. (what t.pass).taken };
 
-    ghost invariant = { λ t. (t.pass.table_id ≡ arc_value t.mail) × (t.pass.me.1 ≡ []) };
+    ghost invariant = { λ t. (t.pass.table_id ≡ (arc_value t.mail).posts) × (t.pass.me.1 ≡ []) };
 }
 
 impl<S: Service> Taker<S> {
@@ -67,7 +66,7 @@ impl<S: Service> Taker<S> {
                 return Some(post);
             }
             let notice = self.announce();
-            let is_closed = self.mail.is_closed.load(SeqCst);
+            let is_closed = self.mail.closing.look().is_some();
             match self.take(rt) {
                 None if !is_closed => self.sleep(rt, notice),
                 post => {

@@ -1,21 +1,24 @@
 -- Clients at their places, step by step.
-use Rattle.std.proofs.Common.{◌≡◌, ◌≢◌, ℕ, zero, suc, ◌+◌, ◌-◌, ◌≤◌, ◌<◌, List, [], ◌∷◌, ◌++◌, length, map, take, drop, set, get_or, refl, sym, ap, subst, ◌∙◌, append_assoc, arith, inl, inr, eqb}
+use Rattle.std.proofs.Common.{◌≡◌, ◌≢◌, ℕ, zero, suc, ◌+◌, ◌-◌, ◌≤◌, ◌<◌, List, [], ◌∷◌, ◌++◌, length, map, take, drop, set, get_or, refl, sym, ap, subst, ◌∙◌, append_assoc, arith, inl, inr}
 use Rattle.std.proofs.Math.Seq.{take-add}
-use Rattle.std.specs.Prelude.{IfSome, Bool, true, false, Option, Some, None, ◌==◌, slice_get, slice_set, slice_range, All, if◌then◌else◌}
+use Rattle.std.specs.Prelude.{IfSome, Bool, Option, Some, None, ◌==◌, slice_get}
+use Rattle.std.specs.Arc.{arc_value}
 use Rattle.std.specs.List.{filter, AllByRecursion}
 use Rattle.std.proofs.lemmas.Option.{slice_get-get_or}
 use Rattle.std.proofs.lemmas.Bool.{cases_eq, eq-eqb, ne_eqb}
 use Rattle.std.proofs.lemmas.List.{append-nil, length-append, take-append-le, drop-append-le, length-drop, map-append}
 use Rattle.std.proofs.lemmas.List.Elements.{All-append, filter-append, recursion_from_All}
-use Rattle.mac_keys.specs.Table.{Table}
+use Rattle.mac_board.specs.Noticed.{Current}
 use Rattle.mac_wire.specs.declared.arrival.Arrival.TheVariants as arrival
 use Rattle.mac_wire.specs.declared.reply.Reply.{Reply}
 use Rattle.mac_decide.specs.Prepared.{reply_to_job}
+use Rattle.mac_decide.specs.Terms.{Terms}
 use Rattle.mac_decide.specs.World.{job_under}
+use Rattle.mac_decide.specs.declared.rights.Rights.{Rights}
 use Rattle.mac_decide.specs.declared.job.Job.{Job}
-use Rattle.mac_plain.specs.Client.{Answers, HasAnswered, Passed, Serves, answer_under, jobs_of}
+use Rattle.mac_plain.specs.Client.{Serves, jobs_of, terms_for}
 use Rattle.mac_plain.specs.Goes.{AreAnswered, AreRead, Goes, OwesSo}
-use Rattle.mac_plain.specs.Requests.{Adds, AreOwned, AreWithin, asked_of, jobs_at, payload_at}
+use Rattle.mac_plain.specs.Requests.{Adds, AreOwned, AreWithin, asked_of, job_at, jobs_at, payload_at}
 use Rattle.mac_plain.specs.Receiving.{Receives}
 use Rattle.mac_plain.specs.Pairs.{EachPair}
 use Rattle.mac_plain.specs.declared.client.Client.{Client}
@@ -59,12 +62,20 @@ asked_kept owner arena part rs within = asked_kept_by owner arena part rs (recur
 
 -- ---- two steps of one client
 
+abbrev under : Current → Rights → Terms
+under current rights = record { table = current.table; rights = rights; moment = current.moment }
+
+-- rights that stay give the same terms
+terms_kept : {P : Type 0} (current : Current) (a b : Client P) → b.rights ≡ a.rights → terms_for current b ≡ terms_for current a
+terms_kept current a b kept = ap (λ rights. under current (arc_value rights)) kept
+
 -- more is owed, and more again
-pub owes_more : {P : Type 0} (tells : Bool) (taken written : P → List ℕ) (table : Table) (a b c : Client P) (first second : List (List ℕ))
-    → Goes tells taken written table a b [] first → Goes tells taken written table b c [] second → Goes tells taken written table a c [] (first ++ second)
-owes_more {P} tells taken written table a b c first second x y = record {
+pub owes_more : {P : Type 0} (tells : Bool) (taken written : P → List ℕ) (current : Current) (a b c : Client P) (first second : List (List ℕ))
+    → Goes tells taken written current a b [] first → Goes tells taken written current b c [] second → Goes tells taken written current a c [] (first ++ second)
+owes_more {P} tells taken written current a b c first second x y = record {
   came = x.came ++ y.came;
   gone = x.gone ++ y.gone;
+  rights_kept = y.rights_kept ∙ x.rights_kept;
   took = λ told. y.took told ∙ ap (λ (l : List ℕ). l ++ y.came) (x.took told) ∙ append_assoc (taken a.port) x.came y.came;
   wrote = λ told. y.wrote told ∙ ap (λ (l : List ℕ). l ++ y.gone) (x.wrote told) ∙ append_assoc (written a.port) x.gone y.gone;
   goes_on = λ read sent done owed o. joined read sent done owed
@@ -76,56 +87,63 @@ owes_more {P} tells taken written table a b c first second x y = record {
       rw (← append_assoc read x.came y.came, ← append_assoc sent x.gone y.gone, ← append_assoc owed first second) (subst (λ (l : List Job). OwesSo c.course c.session ((read ++ x.came) ++ y.came) ((sent ++ x.gone) ++ y.gone) l ((owed ++ first) ++ second)) (append-nil (done ++ [])) o)
 
 -- some are answered, and others after them
-pub answers_more : {P : Type 0} (tells : Bool) (taken written : P → List ℕ) (table : Table) (a b c : Client P) (first second : List (List ℕ))
-    → Goes tells taken written table a b first [] → Goes tells taken written table b c second [] → Goes tells taken written table a c (first ++ second) []
-answers_more {P} tells taken written table a b c first second x y = record {
+pub answers_more : {P : Type 0} (tells : Bool) (taken written : P → List ℕ) (current : Current) (a b c : Client P) (first second : List (List ℕ))
+    → Goes tells taken written current a b first [] → Goes tells taken written current b c second [] → Goes tells taken written current a c (first ++ second) []
+answers_more {P} tells taken written current a b c first second x y = record {
   came = x.came ++ y.came;
   gone = x.gone ++ y.gone;
+  rights_kept = y.rights_kept ∙ x.rights_kept;
   took = λ told. y.took told ∙ ap (λ (l : List ℕ). l ++ y.came) (x.took told) ∙ append_assoc (taken a.port) x.came y.came;
   wrote = λ told. y.wrote told ∙ ap (λ (l : List ℕ). l ++ y.gone) (x.wrote told) ∙ append_assoc (written a.port) x.gone y.gone;
   goes_on = λ read sent done owed o. joined read sent done owed
-      (y.goes_on (read ++ x.came) (sent ++ x.gone) (done ++ jobs_of table first) owed
-      (subst (λ (l : List (List ℕ)). OwesSo b.course b.session (read ++ x.came) (sent ++ x.gone) (done ++ jobs_of table first) l) (append-nil (second ++ owed))
-      (x.goes_on read sent done (second ++ owed) (subst (λ (l : List (List ℕ)). OwesSo a.course a.session read sent done l) (append_assoc first second owed) o))));
+      (subst (λ (t : Terms). OwesSo c.course c.session ((read ++ x.came) ++ y.came) ((sent ++ x.gone) ++ y.gone) ((done ++ jobs_of (terms_for current a) first) ++ jobs_of t second) (owed ++ [])) (terms_kept current a b x.rights_kept)
+      (y.goes_on (read ++ x.came) (sent ++ x.gone) (done ++ jobs_of (terms_for current a) first) owed
+      (subst (λ (l : List (List ℕ)). OwesSo b.course b.session (read ++ x.came) (sent ++ x.gone) (done ++ jobs_of (terms_for current a) first) l) (append-nil (second ++ owed))
+      (x.goes_on read sent done (second ++ owed) (subst (λ (l : List (List ℕ)). OwesSo a.course a.session read sent done l) (append_assoc first second owed) o)))));
 } where
-  joined : (read sent : List ℕ) (done : List Job) (owed : List (List ℕ)) → OwesSo c.course c.session ((read ++ x.came) ++ y.came) ((sent ++ x.gone) ++ y.gone) ((done ++ jobs_of table first) ++ jobs_of table second) (owed ++ [])
-      → OwesSo c.course c.session (read ++ (x.came ++ y.came)) (sent ++ (x.gone ++ y.gone)) (done ++ jobs_of table (first ++ second)) (owed ++ [])
+  joined : (read sent : List ℕ) (done : List Job) (owed : List (List ℕ)) → OwesSo c.course c.session ((read ++ x.came) ++ y.came) ((sent ++ x.gone) ++ y.gone) ((done ++ jobs_of (terms_for current a) first) ++ jobs_of (terms_for current a) second) (owed ++ [])
+      → OwesSo c.course c.session (read ++ (x.came ++ y.came)) (sent ++ (x.gone ++ y.gone)) (done ++ jobs_of (terms_for current a) (first ++ second)) (owed ++ [])
   joined read sent done owed o =
-      rw (← append_assoc read x.came y.came, ← append_assoc sent x.gone y.gone, map-append (λ (p : List ℕ). job_under table (arrival.Payload p)) first second, ← append_assoc done (jobs_of table first) (jobs_of table second)) o
+      rw (← append_assoc read x.came y.came, ← append_assoc sent x.gone y.gone, map-append (λ (p : List ℕ). job_under (terms_for current a) (arrival.Payload p)) first second, ← append_assoc done (jobs_of (terms_for current a) first) (jobs_of (terms_for current a) second)) o
 
 -- a whole round of one client: it is read, all that it owes is answered, and it is written to
-pub serves : {P : Type 0} (tells : Bool) (taken written : P → List ℕ) (table : Table) (a b c d : Client P) (payloads : List (List ℕ))
-    → Goes tells taken written table a b [] payloads → Goes tells taken written table b c payloads [] → Goes tells taken written table c d [] []
-    → Serves tells taken written table a d
-serves {P} tells taken written table a b c d payloads x y z = record {
+pub serves : {P : Type 0} (tells : Bool) (taken written : P → List ℕ) (current : Current) (a b c d : Client P) (payloads : List (List ℕ))
+    → Goes tells taken written current a b [] payloads → Goes tells taken written current b c payloads [] → Goes tells taken written current c d [] []
+    → Serves tells taken written current a d
+serves {P} tells taken written current a b c d payloads x y z = record {
+  rights_kept = z.rights_kept ∙ (y.rights_kept ∙ x.rights_kept);
   payloads = payloads;
   answers = record {
     came = x.came ++ (y.came ++ z.came);
     gone = x.gone ++ (y.gone ++ z.gone);
     took = λ told. z.took told ∙ ap (λ (l : List ℕ). l ++ z.came) (y.took told ∙ ap (λ (l : List ℕ). l ++ y.came) (x.took told)) ∙ three (taken a.port) x.came y.came z.came;
     wrote = λ told. z.wrote told ∙ ap (λ (l : List ℕ). l ++ z.gone) (y.wrote told ∙ ap (λ (l : List ℕ). l ++ y.gone) (x.wrote told)) ∙ three (written a.port) x.gone y.gone z.gone;
-    goes_on = λ read sent done h. ends_so d.course d.session (read ++ (x.came ++ (y.came ++ z.came))) (sent ++ (x.gone ++ (y.gone ++ z.gone))) (done ++ jobs_of table payloads)
-        (joined read sent done (z.goes_on ((read ++ x.came) ++ y.came) ((sent ++ x.gone) ++ y.gone) ((done ++ []) ++ jobs_of table payloads) []
+    goes_on = λ read sent done h. ends_so d.course d.session (read ++ (x.came ++ (y.came ++ z.came))) (sent ++ (x.gone ++ (y.gone ++ z.gone))) (done ++ jobs_of (terms_for current a) payloads)
+        (joined read sent done (z.goes_on ((read ++ x.came) ++ y.came) ((sent ++ x.gone) ++ y.gone) ((done ++ []) ++ jobs_of (terms_for current a) payloads) []
+        (subst (λ (t : Terms). OwesSo c.course c.session ((read ++ x.came) ++ y.came) ((sent ++ x.gone) ++ y.gone) ((done ++ []) ++ jobs_of t payloads) []) (terms_kept current a b x.rights_kept)
         (y.goes_on (read ++ x.came) (sent ++ x.gone) (done ++ []) []
         (subst (λ (l : List (List ℕ)). OwesSo b.course b.session (read ++ x.came) (sent ++ x.gone) (done ++ []) l) (sym (append-nil payloads))
-        (x.goes_on read sent done [] (begins_so a.course a.session read sent done h))))));
+        (x.goes_on read sent done [] (begins_so a.course a.session read sent done h)))))));
   };
 } where
   three : (p q r s : List ℕ) → ((p ++ q) ++ r) ++ s ≡ p ++ (q ++ (r ++ s))
   three p q r s = append_assoc (p ++ q) r s ∙ append_assoc p q (r ++ s)
 
-  joined : (read sent : List ℕ) (done : List Job) → OwesSo d.course d.session (((read ++ x.came) ++ y.came) ++ z.came) (((sent ++ x.gone) ++ y.gone) ++ z.gone) (((done ++ []) ++ jobs_of table payloads) ++ []) []
-      → OwesSo d.course d.session (read ++ (x.came ++ (y.came ++ z.came))) (sent ++ (x.gone ++ (y.gone ++ z.gone))) (done ++ jobs_of table payloads) []
+  joined : (read sent : List ℕ) (done : List Job) → OwesSo d.course d.session (((read ++ x.came) ++ y.came) ++ z.came) (((sent ++ x.gone) ++ y.gone) ++ z.gone) (((done ++ []) ++ jobs_of (terms_for current a) payloads) ++ []) []
+      → OwesSo d.course d.session (read ++ (x.came ++ (y.came ++ z.came))) (sent ++ (x.gone ++ (y.gone ++ z.gone))) (done ++ jobs_of (terms_for current a) payloads) []
   joined read sent done o =
-      subst (λ (l : List ℕ). OwesSo d.course d.session l (sent ++ (x.gone ++ (y.gone ++ z.gone))) (done ++ jobs_of table payloads) []) (three read x.came y.came z.came)
-      (subst (λ (l : List ℕ). OwesSo d.course d.session (((read ++ x.came) ++ y.came) ++ z.came) l (done ++ jobs_of table payloads) []) (three sent x.gone y.gone z.gone)
+      subst (λ (l : List ℕ). OwesSo d.course d.session l (sent ++ (x.gone ++ (y.gone ++ z.gone))) (done ++ jobs_of (terms_for current a) payloads) []) (three read x.came y.came z.came)
+      (subst (λ (l : List ℕ). OwesSo d.course d.session (((read ++ x.came) ++ y.came) ++ z.came) l (done ++ jobs_of (terms_for current a) payloads) []) (three sent x.gone y.gone z.gone)
       (subst (λ (l : List Job). OwesSo d.course d.session (((read ++ x.came) ++ y.came) ++ z.came) (((sent ++ x.gone) ++ y.gone) ++ z.gone) l [])
-      (append-nil ((done ++ []) ++ jobs_of table payloads) ∙ ap (λ (l : List Job). l ++ jobs_of table payloads) (append-nil done)) o))
+      (append-nil ((done ++ []) ++ jobs_of (terms_for current a) payloads) ∙ ap (λ (l : List Job). l ++ jobs_of (terms_for current a) payloads) (append-nil done)) o))
 
 -- ---- many clients
 
 some_is : {A : Type 0} (x y : A) → Some x ≡ Some y → x ≡ y
 some_is x y e = cc
+
+none_is : {A : Type 0} (x : A) → Some x ≡ None → ⊥
+none_is x e = absurd cc
 
 pub below : {A : Type 0} (xs : List A) (k : ℕ) (x : A) → slice_get xs k ≡ Some x → k < length xs
 below [] k x e = absurd cc
@@ -177,28 +195,28 @@ each_set R Q xs ys i now next are there step others k x z first last = elim (cas
 -- ---- a round's steps over all clients
 
 -- nothing is done, and nothing owed
-pub nothing_goes : {P : Type 0} (tells : Bool) (taken written : P → List ℕ) (table : Table) (x : Client P) → Goes tells taken written table x x [] []
-nothing_goes tells taken written table x =
-    goes_still tells taken written table x x [] refl (λ read sent done owed o. none_done x.course x.session read sent done owed o)
+pub nothing_goes : {P : Type 0} (tells : Bool) (taken written : P → List ℕ) (current : Current) (x : Client P) → Goes tells taken written current x x [] []
+nothing_goes tells taken written current x =
+    goes_still tells taken written current x x [] refl refl (λ read sent done owed o. none_done x.course x.session read sent done owed o)
 
-pub still_read : {P : Type 0} (tells : Bool) (taken written : P → List ℕ) (table : Table) (arena : List ℕ) (requests : List Request) (xs : List (Client P)) → requests ≡ []
-    → AreRead tells taken written table (λ k. asked_of k arena requests) xs xs
-still_read {P} tells taken written table arena requests xs none =
-    each_same (λ k (b a : Client P). Goes tells taken written table b a [] (asked_of k arena requests)) xs
-    (λ k x there. subst (λ (l : List Request). Goes tells taken written table x x [] (asked_of k arena l)) (sym none) (nothing_goes tells taken written table x))
+pub still_read : {P : Type 0} (tells : Bool) (taken written : P → List ℕ) (current : Current) (arena : List ℕ) (requests : List Request) (xs : List (Client P)) → requests ≡ []
+    → AreRead tells taken written current (λ k. asked_of k arena requests) xs xs
+still_read {P} tells taken written current arena requests xs none =
+    each_same (λ k (b a : Client P). Goes tells taken written current b a [] (asked_of k arena requests)) xs
+    (λ k x there. subst (λ (l : List Request). Goes tells taken written current x x [] (asked_of k arena l)) (sym none) (nothing_goes tells taken written current x))
 
 -- one more client was read
-pub one_read : {P : Type 0} (tells : Bool) (taken written : P → List ℕ) (table : Table) (olds news : List (Client P)) (i : ℕ) (now next : Client P) (arena arena' : List ℕ) (requests requests' : List Request)
-    → slice_get news i ≡ Some now → AreWithin (length arena) requests → Receives tells taken written table i now next arena arena' requests requests'
-    → AreRead tells taken written table (λ k. asked_of k arena requests) olds news
-    → AreRead tells taken written table (λ k. asked_of k arena' requests') olds (set news i next)
-one_read {P} tells taken written table olds news i now next arena arena' requests requests' there within r are =
-    each_set (λ k (b a : Client P). Goes tells taken written table b a [] (asked_of k arena requests)) (λ k (b a : Client P). Goes tells taken written table b a [] (asked_of k arena' requests'))
+pub one_read : {P : Type 0} (tells : Bool) (taken written : P → List ℕ) (current : Current) (olds news : List (Client P)) (i : ℕ) (now next : Client P) (arena arena' : List ℕ) (requests requests' : List Request)
+    → slice_get news i ≡ Some now → AreWithin (length arena) requests → Receives tells taken written current i now next arena arena' requests requests'
+    → AreRead tells taken written current (λ k. asked_of k arena requests) olds news
+    → AreRead tells taken written current (λ k. asked_of k arena' requests') olds (set news i next)
+one_read {P} tells taken written current olds news i now next arena arena' requests requests' there within r are =
+    each_set (λ k (b a : Client P). Goes tells taken written current b a [] (asked_of k arena requests)) (λ k (b a : Client P). Goes tells taken written current b a [] (asked_of k arena' requests'))
     olds news i now next are there
-    (λ x g. subst (λ (l : List (List ℕ)). Goes tells taken written table x next [] l)
+    (λ x g. subst (λ (l : List (List ℕ)). Goes tells taken written current x next [] l)
     (ap (λ (l : List (List ℕ)). asked_of i arena requests ++ l) (sym (asked_own i arena' r.own r.adds.owned)) ∙ sym (parts i))
-    (owes_more tells taken written table x now next (asked_of i arena requests) (map (payload_at arena') r.own) g r.goes))
-    (λ k x y differ g. subst (λ (l : List (List ℕ)). Goes tells taken written table x y [] l)
+    (owes_more tells taken written current x now next (asked_of i arena requests) (map (payload_at arena') r.own) g r.goes))
+    (λ k x y differ g. subst (λ (l : List (List ℕ)). Goes tells taken written current x y [] l)
     (sym (append-nil (asked_of k arena requests)) ∙ ap (λ (l : List (List ℕ)). asked_of k arena requests ++ l) (sym (asked_other i k arena' r.own r.adds.owned differ)) ∙ sym (parts k)) g)
   where
     parts : (k : ℕ) → asked_of k arena' requests' ≡ asked_of k arena requests ++ asked_of k arena' r.own
@@ -207,59 +225,59 @@ one_read {P} tells taken written table olds news i now next arena arena' request
         ∙ ap (λ (l : List (List ℕ)). l ++ asked_of k arena' r.own) (ap (λ (l : List ℕ). asked_of k l requests) r.arena_is ∙ asked_kept k arena r.part requests within)
 
 -- some requests were answered, and others after them
-pub more_answered : {P : Type 0} (tells : Bool) (taken written : P → List ℕ) (table : Table) (arena : List ℕ) (first second : List Request) (xs ys zs : List (Client P)) → length ys ≡ length zs
-    → AreAnswered tells taken written table (λ k. asked_of k arena first) xs ys → AreAnswered tells taken written table (λ k. asked_of k arena second) ys zs
-    → AreAnswered tells taken written table (λ k. asked_of k arena (first ++ second)) xs zs
-more_answered {P} tells taken written table arena first second xs ys zs same one two =
-    each_then (λ k (b a : Client P). Goes tells taken written table b a (asked_of k arena first) []) (λ k (b a : Client P). Goes tells taken written table b a (asked_of k arena second) [])
-    (λ k (b a : Client P). Goes tells taken written table b a (asked_of k arena (first ++ second)) []) xs ys zs same one two
-    (λ k x y z f s. subst (λ (l : List (List ℕ)). Goes tells taken written table x z l []) (sym (asked-append k arena first second))
-    (answers_more tells taken written table x y z (asked_of k arena first) (asked_of k arena second) f s))
+pub more_answered : {P : Type 0} (tells : Bool) (taken written : P → List ℕ) (current : Current) (arena : List ℕ) (first second : List Request) (xs ys zs : List (Client P)) → length ys ≡ length zs
+    → AreAnswered tells taken written current (λ k. asked_of k arena first) xs ys → AreAnswered tells taken written current (λ k. asked_of k arena second) ys zs
+    → AreAnswered tells taken written current (λ k. asked_of k arena (first ++ second)) xs zs
+more_answered {P} tells taken written current arena first second xs ys zs same one two =
+    each_then (λ k (b a : Client P). Goes tells taken written current b a (asked_of k arena first) []) (λ k (b a : Client P). Goes tells taken written current b a (asked_of k arena second) [])
+    (λ k (b a : Client P). Goes tells taken written current b a (asked_of k arena (first ++ second)) []) xs ys zs same one two
+    (λ k x y z f s. subst (λ (l : List (List ℕ)). Goes tells taken written current x z l []) (sym (asked-append k arena first second))
+    (answers_more tells taken written current x y z (asked_of k arena first) (asked_of k arena second) f s))
 
 -- no request is answered
-pub none_answered : {P : Type 0} (tells : Bool) (taken written : P → List ℕ) (table : Table) (arena : List ℕ) (xs : List (Client P))
-    → AreAnswered tells taken written table (λ k. asked_of k arena []) xs xs
-none_answered {P} tells taken written table arena xs =
-    each_same (λ k (b a : Client P). Goes tells taken written table b a (asked_of k arena []) []) xs (λ k x there. nothing_goes tells taken written table x)
+pub none_answered : {P : Type 0} (tells : Bool) (taken written : P → List ℕ) (current : Current) (arena : List ℕ) (xs : List (Client P))
+    → AreAnswered tells taken written current (λ k. asked_of k arena []) xs xs
+none_answered {P} tells taken written current arena xs =
+    each_same (λ k (b a : Client P). Goes tells taken written current b a (asked_of k arena []) []) xs (λ k x there. nothing_goes tells taken written current x)
 
 -- the request of a client that isn't there
-pub nobody_answered : {P : Type 0} (tells : Bool) (taken written : P → List ℕ) (table : Table) (arena : List ℕ) (r : Request) (xs : List (Client P)) → length xs ≤ r.owner
-    → AreAnswered tells taken written table (λ k. asked_of k arena (r ∷ [])) xs xs
-nobody_answered {P} tells taken written table arena r xs out =
-    each_same (λ k (b a : Client P). Goes tells taken written table b a (asked_of k arena (r ∷ [])) []) xs
-    (λ k x there. subst (λ (l : List (List ℕ)). Goes tells taken written table x x l [])
+pub nobody_answered : {P : Type 0} (tells : Bool) (taken written : P → List ℕ) (current : Current) (arena : List ℕ) (r : Request) (xs : List (Client P)) → length xs ≤ r.owner
+    → AreAnswered tells taken written current (λ k. asked_of k arena (r ∷ [])) xs xs
+nobody_answered {P} tells taken written current arena r xs out =
+    each_same (λ k (b a : Client P). Goes tells taken written current b a (asked_of k arena (r ∷ [])) []) xs
+    (λ k x there. subst (λ (l : List (List ℕ)). Goes tells taken written current x x l [])
     (sym (asked_other r.owner k arena (r ∷ []) (refl, tt) (λ e. let less = below xs k x there in absurd (omega (arith, less, out, e)))))
-    (nothing_goes tells taken written table x))
+    (nothing_goes tells taken written current x))
 
 -- one client took the reply to its request
-pub one_answered : {P : Type 0} (tells : Bool) (taken written : P → List ℕ) (table : Table) (arena : List ℕ) (r : Request) (xs : List (Client P)) (now next : Client P) → slice_get xs r.owner ≡ Some now
-    → Goes tells taken written table now next (payload_at arena r ∷ []) []
-    → AreAnswered tells taken written table (λ k. asked_of k arena (r ∷ [])) xs (set xs r.owner next)
-one_answered {P} tells taken written table arena r xs now next there g =
-    each_set (λ k (b a : Client P). b ≡ a) (λ k (b a : Client P). Goes tells taken written table b a (asked_of k arena (r ∷ [])) [])
+pub one_answered : {P : Type 0} (tells : Bool) (taken written : P → List ℕ) (current : Current) (arena : List ℕ) (r : Request) (xs : List (Client P)) (now next : Client P) → slice_get xs r.owner ≡ Some now
+    → Goes tells taken written current now next (payload_at arena r ∷ []) []
+    → AreAnswered tells taken written current (λ k. asked_of k arena (r ∷ [])) xs (set xs r.owner next)
+one_answered {P} tells taken written current arena r xs now next there g =
+    each_set (λ k (b a : Client P). b ≡ a) (λ k (b a : Client P). Goes tells taken written current b a (asked_of k arena (r ∷ [])) [])
     xs xs r.owner now next (each_same (λ k (b a : Client P). b ≡ a) xs (λ k x there. refl)) there
-    (λ x same. subst (λ (b : Client P). Goes tells taken written table b next (asked_of r.owner arena (r ∷ [])) []) (sym same)
-    (subst (λ (l : List (List ℕ)). Goes tells taken written table now next l []) (sym (asked_own r.owner arena (r ∷ []) (refl, tt))) g))
-    (λ k x y differ same. subst (λ (l : List (List ℕ)). Goes tells taken written table x y l []) (sym (asked_other r.owner k arena (r ∷ []) (refl, tt) differ))
-    (subst (λ (a : Client P). Goes tells taken written table x a [] []) same (nothing_goes tells taken written table x)))
+    (λ x same. subst (λ (b : Client P). Goes tells taken written current b next (asked_of r.owner arena (r ∷ [])) []) (sym same)
+    (subst (λ (l : List (List ℕ)). Goes tells taken written current now next l []) (sym (asked_own r.owner arena (r ∷ []) (refl, tt))) g))
+    (λ k x y differ same. subst (λ (l : List (List ℕ)). Goes tells taken written current x y l []) (sym (asked_other r.owner k arena (r ∷ []) (refl, tt) differ))
+    (subst (λ (a : Client P). Goes tells taken written current x a [] []) same (nothing_goes tells taken written current x)))
 
 -- one more client was written to
-pub one_flushed : {P : Type 0} (tells : Bool) (taken written : P → List ℕ) (table : Table) (xs ys : List (Client P)) (i : ℕ) (now next : Client P) → slice_get ys i ≡ Some now
-    → Goes tells taken written table now next [] [] → AreRead tells taken written table (λ _. []) xs ys → AreRead tells taken written table (λ _. []) xs (set ys i next)
-one_flushed {P} tells taken written table xs ys i now next there g are =
-    each_set (λ k (b a : Client P). Goes tells taken written table b a [] []) (λ k (b a : Client P). Goes tells taken written table b a [] []) xs ys i now next are there
-    (λ x first. answers_more tells taken written table x now next [] [] first g) (λ k x y differ first. first)
+pub one_flushed : {P : Type 0} (tells : Bool) (taken written : P → List ℕ) (current : Current) (xs ys : List (Client P)) (i : ℕ) (now next : Client P) → slice_get ys i ≡ Some now
+    → Goes tells taken written current now next [] [] → AreRead tells taken written current (λ _. []) xs ys → AreRead tells taken written current (λ _. []) xs (set ys i next)
+one_flushed {P} tells taken written current xs ys i now next there g are =
+    each_set (λ k (b a : Client P). Goes tells taken written current b a [] []) (λ k (b a : Client P). Goes tells taken written current b a [] []) xs ys i now next are there
+    (λ x first. answers_more tells taken written current x now next [] [] first g) (λ k x y differ first. first)
 
 -- all three steps of a round
-pub all_served : {P : Type 0} (tells : Bool) (taken written : P → List ℕ) (table : Table) (owed : ℕ → List (List ℕ)) (xs bs cs ds : List (Client P)) → length bs ≡ length cs → length cs ≡ length ds
-    → AreRead tells taken written table owed xs bs → AreAnswered tells taken written table owed bs cs → AreRead tells taken written table (λ _. []) cs ds
-    → EachPair (λ k (b a : Client P). Serves tells taken written table b a) xs ds
-all_served {P} tells taken written table owed xs bs cs ds first second one two three =
-    each_then (λ k (a c : Client P). (b : Client P) × Goes tells taken written table a b [] (owed k) × Goes tells taken written table b c (owed k) [])
-    (λ k (c d : Client P). Goes tells taken written table c d [] []) (λ k (a d : Client P). Serves tells taken written table a d) xs cs ds second
-    (each_then (λ k (a b : Client P). Goes tells taken written table a b [] (owed k)) (λ k (b c : Client P). Goes tells taken written table b c (owed k) [])
-    (λ k (a c : Client P). (b : Client P) × Goes tells taken written table a b [] (owed k) × Goes tells taken written table b c (owed k) []) xs bs cs first one two (λ k a b c x y. (b, x, y)))
-    three (λ k a c d x z. serves tells taken written table a x.0 c d (owed k) x.1 x.2 z)
+pub all_served : {P : Type 0} (tells : Bool) (taken written : P → List ℕ) (current : Current) (owed : ℕ → List (List ℕ)) (xs bs cs ds : List (Client P)) → length bs ≡ length cs → length cs ≡ length ds
+    → AreRead tells taken written current owed xs bs → AreAnswered tells taken written current owed bs cs → AreRead tells taken written current (λ _. []) cs ds
+    → EachPair (λ k (b a : Client P). Serves tells taken written current b a) xs ds
+all_served {P} tells taken written current owed xs bs cs ds first second one two three =
+    each_then (λ k (a c : Client P). (b : Client P) × Goes tells taken written current a b [] (owed k) × Goes tells taken written current b c (owed k) [])
+    (λ k (c d : Client P). Goes tells taken written current c d [] []) (λ k (a d : Client P). Serves tells taken written current a d) xs cs ds second
+    (each_then (λ k (a b : Client P). Goes tells taken written current a b [] (owed k)) (λ k (b c : Client P). Goes tells taken written current b c (owed k) [])
+    (λ k (a c : Client P). (b : Client P) × Goes tells taken written current a b [] (owed k) × Goes tells taken written current b c (owed k) []) xs bs cs first one two (λ k a b c x y. (b, x, y)))
+    three (λ k a c d x z. serves tells taken written current a x.0 c d (owed k) x.1 x.2 z)
 
 pub within_more : (room more : ℕ) (rs : List Request) → room ≤ more → AreWithin room rs → AreWithin more rs
 within_more room more rs less within k d there = let w = within k d there in (w.0, omega (arith, w.1, less))
@@ -277,14 +295,14 @@ pub read_at : {A : Type 0} (xs : List A) (i : ℕ) (x : A) → i < length xs →
 read_at {A} xs i x there is = slice_get-get_or xs i x there ∙ ap (λ (y : A). Some y) (sym is)
 
 -- a client that isn't read
-pub nothing_received : {P : Type 0} (tells : Bool) (taken written : P → List ℕ) (table : Table) (owner : ℕ) (x : Client P) (arena : List ℕ) (requests : List Request)
-    → Receives tells taken written table owner x x arena arena requests requests
-nothing_received tells taken written table owner x arena requests = record {
+pub nothing_received : {P : Type 0} (tells : Bool) (taken written : P → List ℕ) (current : Current) (owner : ℕ) (x : Client P) (arena : List ℕ) (requests : List Request)
+    → Receives tells taken written current owner x x arena arena requests requests
+nothing_received tells taken written current owner x arena requests = record {
   part = [];
   arena_is = sym (append-nil arena);
   own = [];
   adds = none_added owner (length arena) requests;
-  goes = nothing_goes tells taken written table x;
+  goes = nothing_goes tells taken written current x;
 }
 
 -- ---- the requests of a run
@@ -303,11 +321,23 @@ pub run_one : (i : ℕ) (xs : List Request) (d : Request) → i < length xs → 
 run_one i xs d there = ap (λ (n : ℕ). take n (drop i xs)) (let e : (i + 1) - i ≡ 1 = omega arith in e) ∙ first_of_rest i xs d there
 
 -- the reply at a place is that to the request there
-pub answered_at : (table : Table) (arena : List ℕ) (run : List Request) (i : ℕ) (d : Request) (reply : Reply) → slice_get (map reply_to_job (jobs_at table arena run)) i ≡ Some reply
-    → reply ≡ answer_under table (payload_at arena (get_or run i d))
-answered_at table arena [] i d reply e = absurd cc
-answered_at table arena (r ∷ rs) zero d reply e = sym (some_is (answer_under table (payload_at arena r)) reply e)
-answered_at table arena (r ∷ rs) (suc i) d reply e = answered_at table arena rs i d reply e
+pub answered_at : {P : Type 0} (current : Current) (clients : List (Client P)) (arena : List ℕ) (run : List Request) (i : ℕ) (d : Request) (reply : Reply) → slice_get (map reply_to_job (jobs_at current clients arena run)) i ≡ Some reply
+    → reply ≡ reply_to_job (job_at current arena (get_or run i d) (slice_get clients (get_or run i d).owner))
+answered_at current clients arena [] i d reply e = absurd cc
+answered_at current clients arena (r ∷ rs) zero d reply e = sym (some_is (reply_to_job (job_at current arena r (slice_get clients r.owner))) reply e)
+answered_at current clients arena (r ∷ rs) (suc i) d reply e = answered_at current clients arena rs i d reply e
+
+-- clients that were answered keep their rights, so that the job of a request is the same under them
+pub job_kept : {P : Type 0} (tells : Bool) (taken written : P → List ℕ) (current : Current) (owed : ℕ → List (List ℕ)) (arena : List ℕ) (r : Request) (xs ys : List (Client P)) → length xs ≡ length ys
+    → AreAnswered tells taken written current owed xs ys → job_at current arena r (slice_get xs r.owner) ≡ job_at current arena r (slice_get ys r.owner)
+job_kept {P} tells taken written current owed arena r xs ys same are = by_both (slice_get xs r.owner) (slice_get ys r.owner) refl refl
+  where
+    by_both : (o p : Option (Client P)) → slice_get xs r.owner ≡ o → slice_get ys r.owner ≡ p → job_at current arena r o ≡ job_at current arena r p
+    by_both None None e f = refl
+    by_both (Some x) None e f = let m = get-length ys xs r.owner x (sym same) e in absurd (none_is m.0 (sym m.1 ∙ f))
+    by_both None (Some y) e f = let m = get-length xs ys r.owner y same f in absurd (none_is m.0 (sym m.1 ∙ e))
+    by_both (Some x) (Some y) e f =
+        ap (λ (t : Terms). job_under t (arrival.Payload (payload_at arena r))) (sym (terms_kept current x y (are r.owner x y e f).rights_kept))
 
 pub some_then : {A : Type 0} (P Q : A → Type 0) (o : Option A) → ((x : A) → P x → Q x) → IfSome o P → IfSome o Q
 some_then P Q (Some x) f h = f x h

@@ -1,22 +1,19 @@
 -- A piece that comes on a session.
-use Rattle.std.proofs.Common.{◌≡◌, ℕ, ◌+◌, ◌≤◌, List, [], ◌∷◌, ◌++◌, length, map, drop, refl, sym, ap, subst, ◌∙◌, append_assoc, arith}
+use Rattle.std.proofs.Common.{◌≡◌, ℕ, ◌≤◌, List, [], ◌∷◌, ◌++◌, map, drop, refl, sym, ap, subst, ◌∙◌, append_assoc, arith}
 use Rattle.std.specs.Prelude.{Option, Some, None}
 use Rattle.std.proofs.lemmas.List.{append-nil, length-drop, map-append}
 use Rattle.std.proofs.lemmas.List.Elements.{All-nil}
-use Rattle.mac_keys.specs.Table.{Table}
 use Rattle.mac_wire.specs.declared.arrival.Arrival.{Arrival}
 use Rattle.mac_wire.specs.declared.arrival.Arrival.TheVariants as arrival
 use Rattle.mac_wire.specs.declared.session.Session.{Session}
 use Rattle.mac_wire.specs.declared.version.Version.{Version}
-use Rattle.mac_wire.specs.declared.version.Version.TheVariants as version
-use Rattle.mac_wire.specs.Frame.{IsUnfinished}
 use Rattle.mac_wire.specs.Reply.{reply_text, payloads_from}
 use Rattle.mac_wire.specs.Session.{HasCome}
 use Rattle.mac_wire.specs.Steps.{told_after, frames_after}
 use Rattle.mac_wire.specs.Stream.{version_or_one}
 use Rattle.mac_wire.proofs.Sessions.{come_more, come_cut, come_fronts}
 use Rattle.mac_decide.specs.declared.job.Job.{Job}
-use Rattle.mac_plain.specs.Client.{HasFallen, arrivals, jobs_of, replies}
+use Rattle.mac_plain.specs.Client.{HasFallen, arrivals, replies}
 use Rattle.mac_plain.specs.Goes.{Owes, OwesSo, asked}
 use Rattle.mac_plain.specs.Requests.{Adds, payload_at}
 use Rattle.mac_plain.specs.Receiving.{CutsTo, Leaves}

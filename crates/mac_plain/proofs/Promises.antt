@@ -1,8 +1,9 @@
 -- What several rounds come to.
 use Rattle.std.proofs.Common.{◌≡◌, ℕ, List, [], ◌∷◌, ◌++◌, refl, sym, ap, subst, ◌∙◌, append_assoc}
 use Rattle.std.specs.Prelude.{Bool, Option}
+use Rattle.std.specs.Arc.{arc_value}
 use Rattle.std.proofs.lemmas.List.{append-nil}
-use Rattle.mac_keys.specs.Table.{Table}
+use Rattle.mac_board.specs.Noticed.{Current}
 use Rattle.mac_wire.specs.declared.arrival.Arrival.{Arrival}
 use Rattle.mac_wire.specs.declared.session.Session.{Session}
 use Rattle.mac_wire.specs.declared.version.Version.{Version}
@@ -12,7 +13,8 @@ use Rattle.mac_wire.specs.Stream.{arrivals_of, version_or_one, version_told}
 use Rattle.mac_wire.proofs.Opening.{told_is}
 use Rattle.mac_wire.proofs.Sessions.{come_fronts}
 use Rattle.mac_decide.specs.declared.job.Job.{Job}
-use Rattle.mac_plain.specs.Client.{Answers, HasAnswered, HasFallen, IsPromised, StandsSo, arrivals, jobs_of, replies}
+use Rattle.mac_decide.specs.declared.rights.Rights.{Rights}
+use Rattle.mac_plain.specs.Client.{Answers, HasAnswered, HasFallen, IsPromised, StandsSo, arrivals, jobs_of, replies, terms_for}
 use Rattle.mac_plain.specs.Rounds.{AnswersUnder, ServesUnder, jobs_under}
 use Rattle.mac_plain.specs.declared.client.Client.{Client}
 use Rattle.mac_plain.specs.declared.course.Course.{Course}
@@ -47,19 +49,20 @@ answers-none {P} tells taken written a = record {
       (subst (λ (l : List Job). HasAnswered a read sent l) (sym (append-nil done)) h));
 }
 
-pub keeps-tables : {P : Type 0} (tells : Bool) (taken written : P → List ℕ) (tables : List Table) (a b : Client P) → ServesUnder tells taken written tables a b
+pub keeps-tables : {P : Type 0} (tells : Bool) (taken written : P → List ℕ) (tables : List Current) (a b : Client P) → ServesUnder tells taken written tables a b
     → AnswersUnder tells taken written tables a b
 keeps-tables {P} tells taken written [] a b is = record {
   rounds = [];
-  tables_are = refl;
+  currents_are = refl;
   answers = subst (λ (c : Client P). Answers tells taken written a c []) (sym is) (answers-none tells taken written a);
 }
 keeps-tables {P} tells taken written (t ∷ tables) a b (now, served, rest) =
     let h = keeps-tables tells taken written tables now b rest in
     record {
       rounds = (t, served.payloads) ∷ h.rounds;
-      tables_are = ap (λ (l : List Table). t ∷ l) h.tables_are;
-      answers = composes tells taken written a now b (jobs_of t served.payloads) (jobs_under h.rounds) served.answers h.answers;
+      currents_are = ap (λ (l : List Current). t ∷ l) h.currents_are;
+      answers = composes tells taken written a now b (jobs_of (terms_for t a) served.payloads) (jobs_under a.rights.value h.rounds) served.answers
+          (subst (λ (rights : Rights). Answers tells taken written now b (jobs_under rights h.rounds)) (ap (λ rights. arc_value rights) served.rights_kept) h.answers);
     }
 
 told_version : (v : Option Version) (read : List ℕ) → v ≡ version_told read → version_or_one v ≡ (arrivals_of read).version

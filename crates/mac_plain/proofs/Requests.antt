@@ -1,16 +1,14 @@
 -- Requests, where they lie, and whose they are.
-use Rattle.std.proofs.Common.{◌≡◌, ℕ, ◌+◌, ◌-◌, ◌≤◌, List, [], ◌∷◌, ◌++◌, length, map, take, drop, refl, sym, ap, subst, ◌∙◌, append_assoc, arith, inl, inr}
-use Rattle.std.specs.Prelude.{All, slice_range, ◌==◌}
-use Rattle.std.specs.List.{filter, AllByRecursion}
-use Rattle.std.proofs.lemmas.List.{append-nil, length-append, length-drop, length-take, drop-drop, take-append-le, drop-append-le, map-append, take_all, drop_all}
-use Rattle.std.proofs.lemmas.List.Elements.{All-append, All-nil, filter-append, recursion_from_All}
+use Rattle.std.proofs.Common.{◌≡◌, ℕ, ◌+◌, ◌-◌, ◌≤◌, List, [], ◌∷◌, ◌++◌, length, map, take, drop, refl, sym, ap, subst, ◌∙◌, append_assoc, arith}
+use Rattle.std.proofs.lemmas.List.{append-nil, length-drop, length-take, drop-drop, map-append}
+use Rattle.std.proofs.lemmas.List.Elements.{All-append, All-nil}
 use Rattle.mac_wire.specs.declared.arrival.Arrival.{Arrival}
 use Rattle.mac_wire.specs.declared.arrival.Arrival.TheVariants as arrival
 use Rattle.mac_wire.specs.Frame.{Arrive, told_length}
 use Rattle.mac_wire.specs.Cut.{IsFront}
 use Rattle.mac_wire.proofs.Sessions.{arrive_both, front_arrives}
 use Rattle.mac_plain.specs.Goes.{asked}
-use Rattle.mac_plain.specs.Requests.{Adds, AreOwned, AreWithin, asked_of, payload_at}
+use Rattle.mac_plain.specs.Requests.{AreOwned, AreWithin, payload_at}
 use Rattle.mac_plain.specs.Receiving.{CutsTo}
 use Rattle.mac_plain.specs.declared.request.Request.{Request}
 use Rattle.mac_plain.specs.declared.client.TheConstants.{PLAIN_MAX}

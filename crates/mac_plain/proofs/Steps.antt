@@ -1,24 +1,25 @@
 -- What each step of a round does to a session.
-use Rattle.std.proofs.Common.{◌≡◌, ℕ, ◌+◌, suc, List, [], ◌∷◌, ◌++◌, length, map, take, drop, refl, sym, ap, subst, ◌∙◌, append_assoc, arith}
-use Rattle.std.specs.Prelude.{Option, Some, None, Bool, IsTrue}
+use Rattle.std.proofs.Common.{◌≡◌, ℕ, ◌+◌, List, [], ◌∷◌, ◌++◌, length, take, drop, refl, sym, ap, subst, ◌∙◌, append_assoc, arith}
+use Rattle.std.specs.Prelude.{Bool}
 use Rattle.std.proofs.lemmas.List.{append-nil, length-append, map-append, length-map, take-append-drop}
 use Rattle.std.proofs.lemmas.List.Concat.{flat_map-append}
-use Rattle.mac_keys.specs.Table.{Table}
+use Rattle.mac_board.specs.Noticed.{Current}
 use Rattle.mac_wire.specs.declared.arrival.Arrival.{Arrival}
 use Rattle.mac_wire.specs.declared.arrival.Arrival.TheVariants as arrival
 use Rattle.mac_wire.specs.declared.reply.Reply.{Reply}
 use Rattle.mac_wire.specs.declared.session.Session.{Session}
 use Rattle.mac_wire.specs.declared.version.Version.{Version}
-use Rattle.mac_wire.specs.Frame.{frame, framed, frames_of}
+use Rattle.mac_wire.specs.Frame.{frame, framed}
 use Rattle.mac_wire.specs.Reply.{reply_text, reply_frame, payloads_from, placed_payload}
 use Rattle.mac_wire.specs.Session.{HasCome, Stands}
-use Rattle.mac_wire.specs.Stream.{Arrivals, arrivals_of, version_told, version_or_one}
+use Rattle.mac_wire.specs.Stream.{version_or_one}
 use Rattle.mac_wire.proofs.ReplyText.{payloads-append}
 use Rattle.mac_wire.proofs.Sessions.{come_fronts}
 use Rattle.mac_decide.specs.declared.job.Job.{Job}
 use Rattle.mac_decide.specs.Prepared.{reply_to_job}
+use Rattle.mac_decide.specs.Terms.{Terms}
 use Rattle.mac_decide.specs.World.{job_under}
-use Rattle.mac_plain.specs.Client.{HasFallen, Passed, StandsSo, answer_under, arrivals, jobs_of, replies}
+use Rattle.mac_plain.specs.Client.{HasFallen, Passed, StandsSo, answer_under, arrivals, jobs_of, replies, terms_for}
 use Rattle.mac_plain.specs.Goes.{Goes, Owes, OwesSo, after_reply, asked}
 use Rattle.mac_plain.specs.declared.client.Client.{Client}
 use Rattle.mac_plain.specs.declared.course.Course.{Course}
@@ -36,11 +37,11 @@ text-snoc v rs r =
     ∙ ap (λ (n : ℕ). framed (payloads_from v 0 rs) ++ reply_frame v n r) (omega arith)
 
 -- the next payload that is owed has its reply
-pub owes_reply : (session : Session) (read sent : List ℕ) (done : List Job) (table : Table) (payload : List ℕ) (owed : List (List ℕ)) (reply : Reply)
-    → reply ≡ answer_under table payload → Owes session read sent done (payload ∷ owed)
-    → Owes (after_reply session reply) read sent (done ++ job_under table (arrival.Payload payload) ∷ []) owed
-owes_reply session read sent done table payload owed reply is o =
-    let job : Job = job_under table (arrival.Payload payload) in
+pub owes_reply : (session : Session) (read sent : List ℕ) (done : List Job) (terms : Terms) (payload : List ℕ) (owed : List (List ℕ)) (reply : Reply)
+    → reply ≡ answer_under terms payload → Owes session read sent done (payload ∷ owed)
+    → Owes (after_reply session reply) read sent (done ++ job_under terms (arrival.Payload payload) ∷ []) owed
+owes_reply session read sent done terms payload owed reply is o =
+    let job : Job = job_under terms (arrival.Payload payload) in
     let v = version_or_one session.version in
     record {
       came = subst (λ (l : List Arrival). HasCome session.version read l session.carried.items)
@@ -108,13 +109,13 @@ abbrev pub IsUp : Course → Type 0
 IsUp c = (why : Fall) → c ≡ course.Fallen why → ⊥
 
 -- the next payload that is owed has its reply, and the client goes on as before
-pub reply_so : (c : Course) → IsUp c → (session : Session) (read sent : List ℕ) (done : List Job) (table : Table) (payload : List ℕ) (owed : List (List ℕ)) (reply : Reply)
-    → reply ≡ answer_under table payload → OwesSo c session read sent done (payload ∷ owed)
-    → OwesSo c (after_reply session reply) read sent (done ++ job_under table (arrival.Payload payload) ∷ []) owed
-reply_so course.Open up session read sent done table payload owed reply is o = (owes_reply session read sent done table payload owed reply is o.0, o.1)
-reply_so course.Wide up session read sent done table payload owed reply is o = owes_reply session read sent done table payload owed reply is o
-reply_so (course.Ended why) up session read sent done table payload owed reply is o = (owes_reply session read sent done table payload owed reply is o.0, o.1)
-reply_so (course.Fallen why) up session read sent done table payload owed reply is o = absurd (up why refl)
+pub reply_so : (c : Course) → IsUp c → (session : Session) (read sent : List ℕ) (done : List Job) (terms : Terms) (payload : List ℕ) (owed : List (List ℕ)) (reply : Reply)
+    → reply ≡ answer_under terms payload → OwesSo c session read sent done (payload ∷ owed)
+    → OwesSo c (after_reply session reply) read sent (done ++ job_under terms (arrival.Payload payload) ∷ []) owed
+reply_so course.Open up session read sent done terms payload owed reply is o = (owes_reply session read sent done terms payload owed reply is o.0, o.1)
+reply_so course.Wide up session read sent done terms payload owed reply is o = owes_reply session read sent done terms payload owed reply is o
+reply_so (course.Ended why) up session read sent done terms payload owed reply is o = (owes_reply session read sent done terms payload owed reply is o.0, o.1)
+reply_so (course.Fallen why) up session read sent done terms payload owed reply is o = absurd (up why refl)
 
 -- a session stands where nothing is owed
 pub stands_owes : (session : Session) (read sent : List ℕ) (done : List Job) → Stands session read sent (arrivals done) (replies done) → Owes session read sent done []
@@ -166,16 +167,17 @@ falls_so (course.Ended w) why s read sent done more owed rest o = owes_falls s r
 falls_so (course.Fallen w) why s read sent done more owed rest o = fallen_more s read sent done more o
 
 -- a step of which nothing came and nothing went
-pub goes_still : {P : Type 0} (tells : Bool) (taken written : P → List ℕ) (table : Table) (before after : Client P) (answered : List (List ℕ)) → after.port ≡ before.port
+pub goes_still : {P : Type 0} (tells : Bool) (taken written : P → List ℕ) (current : Current) (before after : Client P) (answered : List (List ℕ)) → after.port ≡ before.port → after.rights ≡ before.rights
     → ((read sent : List ℕ) (done : List Job) (owed : List (List ℕ)) → OwesSo before.course before.session read sent done (answered ++ owed)
-    → OwesSo after.course after.session read sent (done ++ jobs_of table answered) owed)
-    → Goes tells taken written table before after answered []
-goes_still tells taken written table before after answered same step = record {
+    → OwesSo after.course after.session read sent (done ++ jobs_of (terms_for current before) answered) owed)
+    → Goes tells taken written current before after answered []
+goes_still tells taken written current before after answered same kept step = record {
   came = [];
   gone = [];
+  rights_kept = kept;
   took = still tells (taken before.port) (taken after.port) (ap taken same);
   wrote = still tells (written before.port) (written after.port) (ap written same);
-  goes_on = λ read sent done owed. steps_still before.course after.course before.session after.session read sent done (jobs_of table answered) answered owed (step read sent done owed);
+  goes_on = λ read sent done owed. steps_still before.course after.course before.session after.session read sent done (jobs_of (terms_for current before) answered) answered owed (step read sent done owed);
 }
 
 -- nothing is answered of nothing

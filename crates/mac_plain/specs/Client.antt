@@ -1,6 +1,6 @@
 -- A plain connection: how it stands, and what came and went meanwhile.
-use Rattle.std.specs.Prelude.{◌≡◌, ℕ, Bool, IsTrue, List, [], ◌++◌, length, map}
-use Rattle.mac_keys.specs.Table.{Table}
+use Rattle.std.specs.Prelude.{◌≡◌, ℕ, Bool, IsTrue, List, ◌++◌, map}
+use Rattle.mac_board.specs.Noticed.{Current}
 use Rattle.mac_wire.specs.declared.arrival.Arrival.{Arrival}
 use Rattle.mac_wire.specs.declared.arrival.Arrival.TheVariants as arrival
 use Rattle.mac_wire.specs.declared.reply.Reply.{Reply}
@@ -8,9 +8,10 @@ use Rattle.mac_wire.specs.declared.session.Session.{Session}
 use Rattle.mac_wire.specs.Frame.{IsUnfinished}
 use Rattle.mac_wire.specs.Stream.{arrivals_of, version_told, version_or_one}
 use Rattle.mac_wire.specs.Reply.{reply_text}
-use Rattle.mac_wire.specs.Session.{HasCome, Stands}
+use Rattle.mac_wire.specs.Session.{Stands}
 use Rattle.mac_decide.specs.declared.job.Job.{Job}
 use Rattle.mac_decide.specs.Prepared.{reply_to_job}
+use Rattle.mac_decide.specs.Terms.{Terms}
 use Rattle.mac_decide.specs.World.{job_under}
 use Rattle.mac_plain.specs.declared.client.Client.{Client}
 use Rattle.mac_plain.specs.declared.course.Course.{Course}
@@ -23,13 +24,18 @@ arrivals jobs = map (λ (job : Job). job.arrival) jobs
 abbrev pub replies : List Job → List Reply
 replies jobs = map reply_to_job jobs
 
--- the reply to a payload under a table
-abbrev pub answer_under : Table → List ℕ → Reply
-answer_under table payload = reply_to_job (job_under table (arrival.Payload payload))
+-- what the requests of a client are answered under, at this table and this moment
+abbrev pub terms_for : {P : Type 0} → Current → Client P → Terms
+terms_for current client =
+    record { table = current.table; rights = client.rights.value; moment = current.moment }
 
--- the jobs of payloads under a table
-abbrev pub jobs_of : Table → List (List ℕ) → List Job
-jobs_of table payloads = map (λ p. job_under table (arrival.Payload p)) payloads
+-- the reply to a payload under its terms
+abbrev pub answer_under : Terms → List ℕ → Reply
+answer_under terms payload = reply_to_job (job_under terms (arrival.Payload payload))
+
+-- the jobs of payloads under their terms
+abbrev pub jobs_of : Terms → List (List ℕ) → List Job
+jobs_of terms payloads = map (λ p. job_under terms (arrival.Payload p)) payloads
 
 -- Of these jobs the first ones are answered, the others and what else was read are lost; what was
 -- written and what is unsent are together the frames of their replies.
@@ -75,11 +81,14 @@ pub record Answers {P : Type 0} (tells : Bool) (taken written : P → List ℕ)
   pub goes_on : (read sent : List ℕ) (done : List Job) → HasAnswered before read sent done
       → HasAnswered after (read ++ came) (sent ++ gone) (done ++ jobs)
 
--- from the one to the other, some requests were answered, each under this table
-pub record Serves {P : Type 0} (tells : Bool) (taken written : P → List ℕ) (table : Table)
+-- from the one to the other, some requests were answered, each under this table, at this moment and
+-- under the client's rights, which stay
+pub record Serves {P : Type 0} (tells : Bool) (taken written : P → List ℕ) (current : Current)
     (before after : Client P) : Type 0 where
+  pub rights_kept : after.rights ≡ before.rights
   pub payloads : List (List ℕ)
-  pub answers : Answers tells taken written before after (jobs_of table payloads)
+  pub answers : Answers tells taken written before after
+      (jobs_of (terms_for current before) payloads)
 
 -- What is promised of so much that was read and written: the first of these jobs are those of what
 -- arrived first, in order, and what was written begins the frames of their replies.

@@ -1,6 +1,6 @@
 -- What one step of a round did on one client.
-use Rattle.std.specs.Prelude.{◌≡◌, ℕ, ◌+◌, Bool, List, [], ◌∷◌, ◌++◌, length, map}
-use Rattle.mac_keys.specs.Table.{Table}
+use Rattle.std.specs.Prelude.{◌≡◌, ℕ, ◌+◌, Bool, List, [], ◌++◌, length, map}
+use Rattle.mac_board.specs.Noticed.{Current}
 use Rattle.mac_wire.specs.declared.arrival.Arrival.{Arrival}
 use Rattle.mac_wire.specs.declared.arrival.Arrival.TheVariants as arrival
 use Rattle.mac_wire.specs.declared.reply.Reply.{Reply}
@@ -11,7 +11,7 @@ use Rattle.mac_wire.specs.Reply.{reply_text, reply_frame}
 use Rattle.mac_wire.specs.Session.{HasCome}
 use Rattle.mac_decide.specs.declared.job.Job.{Job}
 use Rattle.mac_plain.specs.Pairs.{EachPair}
-use Rattle.mac_plain.specs.Client.{HasFallen, Passed, arrivals, jobs_of, replies}
+use Rattle.mac_plain.specs.Client.{HasFallen, Passed, arrivals, jobs_of, replies, terms_for}
 use Rattle.mac_plain.specs.declared.client.Client.{Client}
 use Rattle.mac_plain.specs.declared.course.Course.{Course}
 use Rattle.mac_plain.specs.declared.course.Course.TheVariants as course
@@ -46,28 +46,30 @@ after_reply session reply = record session {
 }
 
 -- from the one to the other, of the payloads that were owed these were answered, the first ones,
--- and these are owed besides
-pub record Goes {P : Type 0} (tells : Bool) (taken written : P → List ℕ) (table : Table)
+-- under this table, at this moment and under the client's rights, which stay, and these are owed
+-- besides
+pub record Goes {P : Type 0} (tells : Bool) (taken written : P → List ℕ) (current : Current)
     (before after : Client P) (answered more : List (List ℕ)) : Type 0 where
   pub came : List ℕ
   pub gone : List ℕ
   pub took : Passed tells (taken before.port) (taken after.port) came
   pub wrote : Passed tells (written before.port) (written after.port) gone
+  pub rights_kept : after.rights ≡ before.rights
   pub goes_on : (read sent : List ℕ) (done : List Job) (owed : List (List ℕ))
       → OwesSo before.course before.session read sent done (answered ++ owed)
       → OwesSo after.course after.session (read ++ came) (sent ++ gone)
-      (done ++ jobs_of table answered) (owed ++ more)
+      (done ++ jobs_of (terms_for current before) answered) (owed ++ more)
 
 -- of each client what it owed was answered, the payloads of its place
-abbrev pub AreAnswered : {P : Type 0} → Bool → (taken written : P → List ℕ) → Table
+abbrev pub AreAnswered : {P : Type 0} → Bool → (taken written : P → List ℕ) → Current
     → (ℕ → List (List ℕ)) → List (Client P) → List (Client P) → Type 0
-AreAnswered tells taken written table owed olds news =
-    EachPair (λ k before after. Goes tells taken written table before after (owed k) [])
+AreAnswered tells taken written current owed olds news =
+    EachPair (λ k before after. Goes tells taken written current before after (owed k) [])
     olds news
 
 -- each client owes besides what came on it, the payloads of its place
-abbrev pub AreRead : {P : Type 0} → Bool → (taken written : P → List ℕ) → Table
+abbrev pub AreRead : {P : Type 0} → Bool → (taken written : P → List ℕ) → Current
     → (ℕ → List (List ℕ)) → List (Client P) → List (Client P) → Type 0
-AreRead tells taken written table owed olds news =
-    EachPair (λ k before after. Goes tells taken written table before after [] (owed k))
+AreRead tells taken written current owed olds news =
+    EachPair (λ k before after. Goes tells taken written current before after [] (owed k))
     olds news

@@ -6,3 +6,4 @@ pub mod Goes
 pub mod Requests
 pub mod Receiving
 pub mod Rounds
+pub mod Tally

@@ -1,11 +1,11 @@
 -- What comes on one client, and what requests it is cut into.
 use Rattle.std.specs.Prelude.{◌≡◌, ℕ, ◌≤◌, Bool, List, [], ◌++◌, length, drop, map, Result, Ok, Err}
-use Rattle.mac_keys.specs.Table.{Table}
+use Rattle.mac_board.specs.Noticed.{Current}
 use Rattle.mac_wire.specs.declared.session.Session.{Session}
 use Rattle.mac_wire.specs.Frame.{Arrive, IsUnfinished}
 use Rattle.mac_decide.specs.declared.job.Job.{Job}
 use Rattle.mac_plain.specs.Goes.{Goes, OwesSo, asked}
-use Rattle.mac_plain.specs.Requests.{Adds, AreWithin, payload_at}
+use Rattle.mac_plain.specs.Requests.{Adds, payload_at}
 use Rattle.mac_plain.specs.declared.client.Client.{Client}
 use Rattle.mac_plain.specs.declared.course.Course.{Course}
 use Rattle.mac_plain.specs.declared.course.Course.TheVariants as course
@@ -57,11 +57,11 @@ pub record TakesIn (owner : ℕ) (piece : List ℕ) (before after : Session) (ar
 
 -- From the one to the other, a client was read: what came lies behind what lay there, and its
 -- requests are behind those that were there.
-pub record Receives {P : Type 0} (tells : Bool) (taken written : P → List ℕ) (table : Table)
+pub record Receives {P : Type 0} (tells : Bool) (taken written : P → List ℕ) (current : Current)
     (owner : ℕ) (before after : Client P) (arena arena' : List ℕ)
     (requests requests' : List Request) : Type 0 where
   pub part : List ℕ
   pub arena_is : arena' ≡ arena ++ part
   pub own : List Request
   pub adds : Adds owner (length arena') requests requests' own
-  pub goes : Goes tells taken written table before after [] (map (payload_at arena') own)
+  pub goes : Goes tells taken written current before after [] (map (payload_at arena') own)

@@ -1,13 +1,13 @@
 -- The requests of a round, where they lie in what was read.
-use Rattle.std.specs.Prelude.{◌≡◌, ℕ, ◌≤◌, Bool, List, [], ◌∷◌, ◌++◌, All, Some, Option, ◌==◌, length, map, slice_get, slice_range}
+use Rattle.std.specs.Prelude.{◌≡◌, ℕ, ◌≤◌, List, [], ◌∷◌, ◌++◌, All, Some, None, Option, false, ◌==◌, map, slice_get, slice_range}
 use Rattle.std.specs.List.{filter}
-use Rattle.mac_keys.specs.Table.{Table}
+use Rattle.mac_board.specs.Noticed.{Current}
+use Rattle.mac_wire.specs.declared.arrival.Arrival.TheVariants as arrival
 use Rattle.mac_wire.specs.declared.reply.Reply.{Reply}
-use Rattle.mac_wire.specs.Reply.{IsReply}
 use Rattle.mac_decide.specs.declared.job.Job.{Job}
 use Rattle.mac_decide.specs.Prepared.{reply_to_job}
-use Rattle.mac_plain.specs.Client.{jobs_of}
-use Rattle.mac_plain.specs.Goes.{Goes}
+use Rattle.mac_decide.specs.World.{job_under}
+use Rattle.mac_plain.specs.Client.{terms_for}
 use Rattle.mac_plain.specs.declared.client.Client.{Client}
 use Rattle.mac_plain.specs.declared.request.Request.{Request}
 
@@ -19,9 +19,21 @@ payload_at arena request = slice_range arena request.start request.end
 abbrev pub asked_of : ℕ → List ℕ → List Request → List (List ℕ)
 asked_of owner arena requests = map (payload_at arena) (filter (λ r. r.owner == owner) requests)
 
--- the jobs of requests under a table
-abbrev pub jobs_at : Table → List ℕ → List Request → List Job
-jobs_at table arena requests = jobs_of table (map (payload_at arena) requests)
+-- the job of a request, under a table, at a moment and under the rights of its client; where there
+-- is no such client it asks nothing
+abbrev pub job_at : {P : Type 0} → Current → List ℕ → Request → Option (Client P) → Job
+job_at current arena request (Some client) =
+    job_under (terms_for current client) (arrival.Payload (payload_at arena request))
+job_at current arena request None =
+    record {
+      arrival = arrival.Oversize;
+      basis = record { keys = None; may_mint = false; moment = None };
+    }
+
+-- the jobs of requests under a table and at a moment, each under the rights of its own client
+abbrev pub jobs_at : {P : Type 0} → Current → List (Client P) → List ℕ → List Request → List Job
+jobs_at current clients arena requests =
+    map (λ r. job_at current arena r (slice_get clients r.owner)) requests
 
 -- each reply is that to the job at its place; some at the end may be missing
 abbrev pub AreReplies : List Job → List Reply → Type 0

@@ -1,134 +1,178 @@
 //! The replies to all requests of a round, and whose they are.
 
 ghost use Rattle.std.specs.Prelude.{◌≡◌, ◌≤◌, ℕ, List, [], ◌∷◌, length, map, slice_get, All, IfOk, IfSome, Some};
-ghost use Rattle.mac_keys.specs.Table.{Table};
+ghost use Rattle.mac_board.specs.Noticed.{Current as PlainCurrent, lent_current};
 ghost use Rattle.mac_wire.specs.Reply.{IsReply};
+ghost use Rattle.mac_decide.specs.Prepared.{reply_to_job};
 ghost use Rattle.mac_decide.specs.Viewed.{viewed};
 ghost use Rattle.mac_plain.specs.declared.request.Request.{Request};
-ghost use Rattle.mac_plain.specs.Client.{answer_under};
 ghost use Rattle.mac_plain.specs.Goes.{AreAnswered};
-ghost use Rattle.mac_plain.specs.Requests.{AreReplies, AreWithin, asked_of, jobs_at, payload_at};
+ghost use Rattle.mac_plain.specs.Requests.{AreReplies, AreWithin, asked_of, job_at, jobs_at};
 
 use crate::NoMemory;
 use crate::client::Client;
 use crate::port::Port;
 use crate::request::Request;
+use crate::tally::Tally;
 use arrayvec::ArrayVec;
-use mac_decide::{JobView, RUN, Rooms, answer_run, job_view_of};
-use mac_keys::KeyTable;
+use mac_board::Current;
+use mac_decide::{ArrivalView, JobView, RUN, Rooms, Terms, answer_run, job_view_of};
 use mac_wire::Reply;
 use std::alloc::Global;
 
+/// What answering keeps from run to run: rooms for tokens, and a tally of what was answered.
+#[derive(Drop)]
+pub struct Bench {
+    pub rooms: Rooms,
+    pub tally: Tally,
+}
+
 /// Answers the requests in runs, and gives each client the replies to its own.
 pub fn answer_requests<P: Port>(
-    rooms: &mut Rooms,
+    bench: &mut Bench,
     alloc: Global,
-    keys: &KeyTable,
+    current: Current<'_>,
     arena: &[u8],
     requests: &[Request],
     clients: &mut [Client<P>],
 )
     requires { AreWithin (length arena.now) requests.now }
-    ensures { AreAnswered P.tells P.taken P.written keys.now
+    ensures { AreAnswered P.tells P.taken P.written (lent_current current.entry)
         (λ k. asked_of k arena.now requests.now) clients.old clients.new }
 {
     let mut at = 0;
     while at < requests.len() {
         let end = requests.len().min(at + RUN);
-        answer_some(rooms, alloc, keys, arena, &requests[at..end], clients);
+        answer_some(bench, alloc, current, arena, &requests[at..end], clients);
         at = end;
     }
 }
 
 /// Answers a run of requests together, or each by itself where memory is refused for all.
 fn answer_some<P: Port>(
-    rooms: &mut Rooms,
+    bench: &mut Bench,
     alloc: Global,
-    keys: &KeyTable,
+    current: Current<'_>,
     arena: &[u8],
     run: &[Request],
     clients: &mut [Client<P>],
 )
     requires count { length run.now ≤ RUN }
     requires within { AreWithin (length arena.now) run.now }
-    ensures { AreAnswered P.tells P.taken P.written keys.now
+    ensures { AreAnswered P.tells P.taken P.written (lent_current current.entry)
         (λ k. asked_of k arena.now run.now) clients.old clients.new }
 {
-    match replies_to(rooms, alloc, keys, arena, run) {
+    match replies_to(bench, alloc, current, arena, run, clients) {
         Ok(replies) => hand_out(run, replies.as_slice(), clients),
-        Err(_) => answer_apart(rooms, alloc, keys, arena, run, clients),
+        Err(_) => answer_apart(bench, alloc, current, arena, run, clients),
     }
 }
 
-/// The replies to a run of requests.
-fn replies_to(
-    rooms: &mut Rooms,
+/// The replies to a run of requests, each under the rights of its client.
+fn replies_to<P: Port>(
+    bench: &mut Bench,
     alloc: Global,
-    keys: &KeyTable,
+    current: Current<'_>,
     arena: &[u8],
     run: &[Request],
+    clients: &[Client<P>],
 ) -> Result<ArrayVec<Reply, RUN>, NoMemory>
     requires count { length run.now ≤ RUN }
     requires within { AreWithin (length arena.now) run.now }
-    ensures replies { IfOk result (λ replies.
-        AreReplies (jobs_at keys.now arena.now run.now) replies.items) }
+    ensures replies { IfOk result (λ replies. AreReplies
+        (jobs_at (lent_current current.entry) clients.now arena.now run.now) replies.items) }
     ensures sendable { IfOk result (λ replies. All IsReply replies.items) }
 {
-    let jobs = jobs_of_run(keys, arena, run);
-    answer_run(rooms, alloc, jobs.as_slice())
+    let jobs = jobs_of_run(current, arena, run, clients);
+    let replies = answer_run(&mut bench.rooms, alloc, jobs.as_slice())?;
+    bench.tally.count(jobs.as_slice(), replies.as_slice());
+    Ok(replies)
 }
 
-/// The requests of a run, with the keys that they name, where they lie.
-fn jobs_of_run<'a>(
-    keys: &'a KeyTable,
+/// The requests of a run, where they lie, with what each is answered on.
+fn jobs_of_run<'a, P: Port>(
+    current: Current<'a>,
     arena: &'a [u8],
     run: &[Request],
+    clients: &'a [Client<P>],
 ) -> ArrayVec<JobView<'a>, RUN>
     requires count { length run.now ≤ RUN }
     requires within { AreWithin (length arena.now) run.now }
-    ensures { map viewed result.items ≡ jobs_at keys.now arena.now run.now }
+    ensures { map viewed result.items
+        ≡ jobs_at (lent_current current.entry) clients.now arena.now run.now }
 {
     let mut jobs = ArrayVec::new();
     for request in run {
-        jobs.push(job_view_of(keys, &arena[request.start..request.end]));
+        jobs.push(job_of_request(current, arena, request, clients));
     }
     jobs
 }
 
+/// The job of a request, under the rights of its client; without a client it asks nothing.
+fn job_of_request<'a, P: Port>(
+    current: Current<'a>,
+    arena: &'a [u8],
+    request: &Request,
+    clients: &'a [Client<P>],
+) -> JobView<'a>
+    requires within { (request.now.start ≤ request.now.end)
+        × (request.now.end ≤ length arena.now) }
+    ensures { viewed result ≡ job_at (lent_current current.entry) arena.now request.now
+        (slice_get clients.now request.now.owner) }
+{
+    match clients.get(request.owner) {
+        Some(client) => {
+            let rights = &client.rights;
+            let terms = Terms {
+                table: current.table,
+                rights,
+                moment: current.moment,
+            };
+            job_view_of(terms, &arena[request.start..request.end])
+        }
+        None => JobView {
+            arrival: ArrivalView::Oversize,
+            keys: None,
+            may_mint: false,
+            moment: None,
+        },
+    }
+}
+
 /// Answers each request of a run by itself.
 fn answer_apart<P: Port>(
-    rooms: &mut Rooms,
+    bench: &mut Bench,
     alloc: Global,
-    keys: &KeyTable,
+    current: Current<'_>,
     arena: &[u8],
     run: &[Request],
     clients: &mut [Client<P>],
 )
     requires { AreWithin (length arena.now) run.now }
-    ensures { AreAnswered P.tells P.taken P.written keys.now
+    ensures { AreAnswered P.tells P.taken P.written (lent_current current.entry)
         (λ k. asked_of k arena.now run.now) clients.old clients.new }
 {
     for index in 0..run.len() {
         let one = &run[index..index + 1];
-        answer_alone(rooms, alloc, keys, arena, one, clients);
+        answer_alone(bench, alloc, current, arena, one, clients);
     }
 }
 
 /// Answers one request, or lets its client fall where memory is refused for it.
 fn answer_alone<P: Port>(
-    rooms: &mut Rooms,
+    bench: &mut Bench,
     alloc: Global,
-    keys: &KeyTable,
+    current: Current<'_>,
     arena: &[u8],
     one: &[Request],
     clients: &mut [Client<P>],
 )
     requires count { length one.now ≤ RUN }
     requires within { AreWithin (length arena.now) one.now }
-    ensures { AreAnswered P.tells P.taken P.written keys.now
+    ensures { AreAnswered P.tells P.taken P.written (lent_current current.entry)
         (λ k. asked_of k arena.now one.now) clients.old clients.new }
 {
-    match replies_to(rooms, alloc, keys, arena, one) {
+    match replies_to(bench, alloc, current, arena, one, clients) {
         Ok(replies) => hand_out(one, replies.as_slice(), clients),
         Err(_) => hand_out(one, &[], clients),
     }
@@ -138,9 +182,9 @@ fn answer_alone<P: Port>(
 /// fallen.
 fn hand_out<P: Port>(run: &[Request], replies: &[Reply], clients: &mut [Client<P>])
     requires { All IsReply replies.now }
-    ensures { (table : Table) (arena : List ℕ)
-        → AreReplies (jobs_at table arena run.now) replies.now
-        → AreAnswered P.tells P.taken P.written table
+    ensures { (current : PlainCurrent) (arena : List ℕ)
+        → AreReplies (jobs_at current clients.old arena run.now) replies.now
+        → AreAnswered P.tells P.taken P.written current
         (λ k. asked_of k arena run.now) clients.old clients.new }
 {
     for index in 0..run.len() {
@@ -161,9 +205,10 @@ fn reply_at(replies: &[Reply], index: usize) -> Option<&Reply>
 fn give<P: Port>(one: &[Request], reply: Option<&Reply>, clients: &mut [Client<P>])
     requires reply { IfSome reply (λ r. IsReply r.now) }
     requires one { length one.now ≡ 1 }
-    ensures { (table : Table) (arena : List ℕ) (request : Request) → one.now ≡ request ∷ []
-        → IfSome reply.entry (λ r. r.now ≡ answer_under table (payload_at arena request))
-        → AreAnswered P.tells P.taken P.written table
+    ensures { (current : PlainCurrent) (arena : List ℕ) (request : Request) → one.now ≡ request ∷ []
+        → IfSome reply.entry (λ r. r.now
+        ≡ reply_to_job (job_at current arena request (slice_get clients.old request.owner)))
+        → AreAnswered P.tells P.taken P.written current
         (λ k. asked_of k arena one.now) clients.old clients.new }
 {
     let owner = one[0].owner;

@@ -1,18 +1,21 @@
 //! A plain connection.
 
 ghost use Rattle.std.specs.Prelude.{◌≡◌, ◌⊎◌, ◌↔◌, ℕ, List, [], ◌∷◌, ◌<◌, length, IsTrue, IfSome, OnOk, OnErr};
-ghost use Rattle.mac_keys.specs.Table.{Table};
+ghost use Rattle.mac_board.specs.Noticed.{Current};
 ghost use Rattle.mac_wire.specs.declared.arrival.Arrival.TheVariants as arrival;
 ghost use Rattle.mac_wire.specs.Reply.{IsReply};
 ghost use Rattle.mac_wire.specs.Session.{Stands};
 ghost use Rattle.mac_decide.specs.declared.job.Job.{Job};
-ghost use Rattle.mac_plain.specs.Client.{HasAnswered, answer_under, arrivals, replies};
+ghost use Rattle.mac_plain.specs.Client.{HasAnswered, answer_under, arrivals, replies, terms_for};
 ghost use Rattle.mac_plain.specs.Goes.{Goes, after_reply};
 ghost use Rattle.mac_wire.specs.Stream.{version_or_one as version_so_far};
 
 use crate::course::{Course, Fall};
 use crate::port::{Port, Went};
+use mac_decide::Rights;
 use mac_wire::{Cut, Reply, Session, Version, next_frame};
+use std::alloc::Global;
+use std::sync::Arc;
 
 /// How many bytes of replies a connection may have unsent and still be read: what 1 MiB of the
 /// smallest mints is answered.
@@ -33,12 +36,15 @@ pub struct Client<P> {
     is_writable: bool,
     /// Whether a write has failed, so that nothing more goes out.
     is_mute: bool,
+    /// What its requests may do.
+    pub(crate) rights: Arc<Rights, Global>,
 }
 
 impl<P: Port> Client<P> {
-    /// A connection that goes on from a session. Where more than the beginning of a small request is
-    /// carried it goes on wide.
-    pub fn new(port: P, session: Session) -> Client<P>
+    /// A connection that goes on from a session, with these rights. Where more than the beginning
+    /// of a small request is carried it goes on wide.
+    pub fn new(port: P, session: Session, rights: Arc<Rights, Global>) -> Client<P>
+        ensures rights { result.rights ≡ rights }
         ensures stands { (read written : List ℕ) (done : List Job)
             → Stands session read written (arrivals done) (replies done)
             → HasAnswered result read written done }
@@ -54,11 +60,14 @@ impl<P: Port> Client<P> {
             is_readable: true,
             is_writable: true,
             is_mute: false,
+            rights,
         }
     }
 
-    /// The device and the session, for who answers it from now on.
-    pub fn into_parts(self) -> (P, Session) {
+    /// The device, the session and the rights, for who answers it from now on.
+    pub fn into_parts(self) -> (P, Session, Arc<Rights, Global>)
+        ensures { result ≡ (self.port, self.session, self.rights) }
+    {
         let Client {
             port,
             session,
@@ -66,8 +75,9 @@ impl<P: Port> Client<P> {
             is_readable: _,
             is_writable: _,
             is_mute: _,
+            rights,
         } = self;
-        (port, session)
+        (port, session, rights)
     }
 
     /// The device.
@@ -138,9 +148,10 @@ impl<P: Port> Client<P> {
     /// Takes the reply to its next request; where there is none it has fallen, and takes no more.
     pub(crate) fn answer(&mut self, reply: Option<&Reply>)
         requires { IfSome reply (λ r. IsReply r.now) }
-        ensures { (table : Table) (payload : List ℕ)
-            → IfSome reply.entry (λ r. r.now ≡ answer_under table payload)
-            → Goes P.tells P.taken P.written table self.old self.new (payload ∷ []) [] }
+        ensures { (current : Current) (payload : List ℕ)
+            → IfSome reply.entry (λ r.
+            r.now ≡ answer_under (terms_for current self.old) payload)
+            → Goes P.tells P.taken P.written current self.old self.new (payload ∷ []) [] }
     {
         if let Course::Fallen(_) = self.course {
             return;
@@ -175,7 +186,8 @@ impl<P: Port> Client<P> {
 
     /// Writes once, where something is unsent.
     pub(crate) fn flush(&mut self)
-        ensures { (table : Table) → Goes P.tells P.taken P.written table self.old self.new [] [] }
+        ensures { (current : Current)
+            → Goes P.tells P.taken P.written current self.old self.new [] [] }
     {
         if !self.may_write() {
             return;

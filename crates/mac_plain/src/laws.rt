@@ -6,7 +6,7 @@ ghost use Rattle.mac_order.specs.History.{IsReached};
 ghost use Rattle.mac_decide.specs.Prepared.{reply_to_job};
 ghost use Rattle.mac_decide.specs.declared.job.Job.{Job};
 ghost use Rattle.mac_decide.specs.declared.macaroons.Macaroons.{Macaroons};
-ghost use Rattle.mac_keys.specs.Table.{Table};
+ghost use Rattle.mac_board.specs.Noticed.{Current};
 ghost use Rattle.mac_plain.specs.Client.{Answers, HasAnswered, IsPromised, replies};
 ghost use Rattle.mac_plain.specs.Rounds.{AnswersUnder, ServesUnder};
 ghost use Rattle.mac_plain.specs.declared.client.Client.{Client};
@@ -14,7 +14,7 @@ ghost use Rattle.mac_plain.specs.declared.client.Client.{Client};
 use crate::port::Port;
 
 /// One round and the next are as one: what the first answered, and then what the second did,
-/// whatever table each had.
+/// whatever table and moment each had.
 pub fn rounds_compose<P: Port>()
     ensures { (first second third : Client P) (jobs more : List Job)
         → Answers P.tells P.taken P.written first second jobs
@@ -22,12 +22,12 @@ pub fn rounds_compose<P: Port>()
         → Answers P.tells P.taken P.written first third (jobs ++ more) }
 {}
 
-/// Rounds, each under its own table, answer in their order, each request under the table of its
-/// round.
+/// Rounds, each under its own table and at its own moment, answer in their order, each request
+/// under the table of its round and at the moment of that.
 pub fn rounds_keep_their_tables<P: Port>()
-    ensures { (tables : List Table) (before after : Client P)
-        → ServesUnder P.tells P.taken P.written tables before after
-        → AnswersUnder P.tells P.taken P.written tables before after }
+    ensures { (currents : List Current) (before after : Client P)
+        → ServesUnder P.tells P.taken P.written currents before after
+        → AnswersUnder P.tells P.taken P.written currents before after }
 {}
 
 /// What was written on a client begins the framed answers to what was read, in order, each once.

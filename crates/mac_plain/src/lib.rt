@@ -1,8 +1,8 @@
 //! A connection that is answered by the thread that reads it: *plain*. Many stand in one loop, and
 //! in each [`Round`] what has come on all of them is read, answered together, and written.
 //!
-//! A [`Client`] is a connection over a [`Port`], a device that never waits. What it takes along when
-//! it is answered elsewhere is its `Session`.
+//! A [`Client`] is a connection over a [`Port`], a device that never waits. What it takes along
+//! when it is answered elsewhere is its `Session`.
 #![tactic(auto)]
 
 mod answering;
@@ -13,6 +13,7 @@ mod port;
 mod receiving;
 mod request;
 mod round;
+mod tally;
 
 pub use client::{Client, PLAIN_MAX, UNSENT_MAX};
 pub use course::{Course, Ended, Fall};

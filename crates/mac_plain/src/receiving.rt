@@ -1,7 +1,7 @@
 //! What comes on a plain connection.
 
 ghost use Rattle.std.specs.Prelude.{◌≡◌, ◌≤◌, ℕ, List, length, IfOk};
-ghost use Rattle.mac_keys.specs.Table.{Table};
+ghost use Rattle.mac_board.specs.Noticed.{Current};
 ghost use Rattle.mac_plain.specs.Receiving.{Cuts, Joins, Receives, TakesIn};
 ghost use Rattle.mac_plain.specs.Requests.{AreWithin};
 
@@ -22,7 +22,7 @@ pub fn receive<P: Port>(
 )
     requires { AreWithin (length arena.old.items) requests.old.items }
     ensures within { AreWithin (length arena.new.items) requests.new.items }
-    ensures receives { (table : Table) → Receives P.tells P.taken P.written table
+    ensures receives { (current : Current) → Receives P.tells P.taken P.written current
         owner client.old client.new arena.old.items arena.new.items
         requests.old.items requests.new.items }
 {

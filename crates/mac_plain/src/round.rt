@@ -1,20 +1,21 @@
 //! A round of a loop: what has come on many connections is answered together.
 
 ghost use Rattle.std.specs.Prelude.{◌≡◌, ◌≤◌, [], length, vec_len};
-ghost use Rattle.mac_board.specs.Follows.{Looks};
-ghost use Rattle.mac_keys.specs.Table.{Table};
+ghost use Rattle.mac_board.specs.Noticed.{Current, Notices};
 ghost use Rattle.mac_plain.specs.Rounds.{ServesEach};
 ghost use Rattle.mac_plain.specs.Goes.{AreAnswered, AreRead};
 ghost use Rattle.mac_plain.specs.Receiving.{Receives};
 ghost use Rattle.mac_plain.specs.Requests.{AreWithin, asked_of};
 
 use crate::NoMemory;
-use crate::answering::answer_requests;
+use crate::answering::{Bench, answer_requests};
 use crate::client::Client;
 use crate::port::Port;
 use crate::receiving::receive;
 use crate::request::Request;
-use mac_board::Tables;
+use crate::tally::Tally;
+use mac_board::Outlook;
+use mac_count::REQUESTS;
 use mac_decide::Rooms;
 use std::alloc::Global;
 
@@ -31,7 +32,7 @@ pub struct Round {
     piece: Vec<u8>,
     arena: Vec<u8>,
     requests: Vec<Request>,
-    rooms: Rooms,
+    bench: Bench,
 }
 
 impl Round {
@@ -44,21 +45,24 @@ impl Round {
             piece,
             arena: Vec::with_capacity(alloc, ROUND_MAX + PIECE)?,
             requests: Vec::new(alloc),
-            rooms: Rooms::new(alloc),
+            bench: Bench {
+                rooms: Rooms::new(alloc),
+                tally: Tally::new(),
+            },
         })
     }
 
-    /// Serves each of the clients once: reads it, looks at the tables, answers all requests of all
-    /// clients together under the one that is up, and writes. A client with `unsent_max` bytes
-    /// unsent isn't read.
-    pub fn serve<P: Port, K: Tables>(
+    /// Serves each of the clients once: reads it, looks at the tables and the clock, answers all
+    /// requests of all clients together under the table that is up and at the moment that is told,
+    /// and writes. A client with `unsent_max` bytes unsent isn't read.
+    pub fn serve<P: Port, K: Outlook>(
         &mut self,
-        keys: &mut K,
+        outlook: &mut K,
         clients: &mut [Client<P>],
         unsent_max: usize,
     )
-        ensures looks { Looks K.tells (K.known keys.old) (K.known keys.new) }
-        ensures serves { ServesEach P.tells P.taken P.written (K.known keys.new)
+        ensures looks { Notices K.tells (K.known outlook.old) (K.known outlook.new) }
+        ensures serves { ServesEach P.tells P.taken P.written (K.known outlook.new)
             clients.old clients.new }
     {
         self.arena.clear();
@@ -70,16 +74,21 @@ impl Round {
             clients,
             unsent_max,
         );
-        keys.look();
+        outlook.look();
         answer_requests(
-            &mut self.rooms,
+            &mut self.bench,
             self.alloc,
-            keys.table(),
+            outlook.current(),
             self.arena.as_slice(),
             self.requests.as_slice(),
             clients,
         );
         flush_all(clients);
+    }
+
+    /// How many requests were answered since the last call, each kind at its place.
+    pub fn take_counts(&mut self) -> [u64; REQUESTS] {
+        self.bench.tally.take()
     }
 }
 
@@ -93,7 +102,7 @@ fn receive_all<P: Port>(
 )
     requires { requests.old.items ≡ [] }
     ensures within { AreWithin (length arena.new.items) requests.new.items }
-    ensures read { (table : Table) → AreRead P.tells P.taken P.written table
+    ensures read { (current : Current) → AreRead P.tells P.taken P.written current
         (λ k. asked_of k arena.new.items requests.new.items) clients.old clients.new }
 {
     for index in 0..clients.len() {
@@ -118,7 +127,7 @@ fn visit<P: Port>(
     unsent_max: usize,
 )
     requires { AreWithin (length arena.old.items) requests.old.items }
-    ensures receives { (table : Table) → Receives P.tells P.taken P.written table
+    ensures receives { (current : Current) → Receives P.tells P.taken P.written current
         owner client.old client.new arena.old.items arena.new.items
         requests.old.items requests.new.items }
     ensures within { AreWithin (length arena.new.items) requests.new.items }
@@ -135,7 +144,7 @@ fn visit<P: Port>(
 
 /// Writes to each client that has something unsent.
 fn flush_all<P: Port>(clients: &mut [Client<P>])
-    ensures { (table : Table) → AreRead P.tells P.taken P.written table
+    ensures { (current : Current) → AreRead P.tells P.taken P.written current
         (λ _. []) clients.old clients.new }
 {
     for index in 0..clients.len() {

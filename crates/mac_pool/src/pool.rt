@@ -4,7 +4,7 @@ ghost use Rattle.std.specs.Prelude.{◌≡◌, ◌≢◌, ◌+◌, ◌≤◌, �
 ghost use Rattle.mac_pool.specs.Pool.{IsStarted, IsStopped, IsGiven, IsHome, IsBrought, AreOut, AreWorkers, at_home, with_home};
 ghost use Rattle.std.specs.Arc.{arc_value};
 ghost use Rattle.std.specs.Vec.{vec_capacity};
-ghost use Rattle.mac_queue.specs.Pass.{HasClaimed};
+ghost use Rattle.mac_worker.specs.Working.{HasWorked};
 
 use crate::fault::{DeskFault, HandFault, PoolFault};
 use crate::hand::Hand;
@@ -31,9 +31,10 @@ const STACK: usize = 1_048_576;
 pub struct FromPass<S: Service>(Snapshot<QueuePass<S>>);
 
 impl<S: Service> Promise<Worked<S>> for FromPass<S> {
-    ghost use Rattle.mac_queue.specs.Pass.{HasClaimed};
+    ghost use Rattle.mac_worker.specs.Working.{HasWorked};
 
-    ghost kept_by = { λ p worked. HasClaimed p.0.value worked.claimed worked.pass };
+    ghost kept_by = { λ p worked.
+        HasWorked p.0.value worked.claimed worked.pass worked.deliveries };
 }
 
 type Thread<S> = PromisedHandle<Worked<S>, FromPass<S>>;
@@ -300,7 +301,7 @@ where
     let promise = FromPass(Snapshot::of(&pass));
     let work = move || -> Worked<S>
         requires { pass.queue ≡ arc_value queue }
-        ensures { HasClaimed pass result.claimed result.pass }
+        ensures { HasWorked pass result.claimed result.pass result.deliveries }
     { worker(&rt, alloc, &queue, pass, &*gate) };
     Builder::new()
         .stack_size(STACK)

@@ -9,7 +9,8 @@ use Rattle.crossbeam_queue.proofs.Lists.{at_set, at_snoc}
 use Rattle.mac_queue.specs.declared.queue.account.Account.{Account}
 use Rattle.mac_queue.specs.declared.queue.TheConstants.{PASSES, PUTS_MAX}
 use Rattle.mac_queue.specs.declared.ticket.Ticket.{Ticket}
-use Rattle.mac_queue.specs.Balance.{account, entry_of, IsWithin, IsBalanced, IsAll}
+use Rattle.mac_mail.specs.Post.{Mail}
+use Rattle.mac_queue.specs.Balance.{account, entry_of, claim_of, claimed_weight, IsWithin, IsBalanced, IsAll}
 use Rattle.mac_queue.proofs.Totals.{total_set, part_of_total, total_within, total_nothing, ones}
 
 pub empty_list : {A : Type 0} (xs : List A) → length xs ≤ 0 → xs ≡ []
@@ -17,32 +18,29 @@ empty_list [] none = refl
 empty_list (x ∷ xs) none = absurd (omega arith)
 
 module _ {Job : Type 0} where
-  abbrev parts_of : Account Job → ℕ
+  abbrev parts_of : Account Job Mail → ℕ
   parts_of a = a.parts
 
-  abbrev put_weight : (ℕ × Job → ℕ) → Account Job → ℕ
+  abbrev put_weight : (ℕ × Job → ℕ) → Account Job Mail → ℕ
   put_weight h a = sum_by h a.put
 
-  abbrev claimed_weight : (ℕ × Job → ℕ) → Account Job → ℕ
-  claimed_weight h a = sum_by h a.claimed
+  abbrev AllWithin : List (Account Job Mail) → Type 0
+  AllWithin accounts = (seat : ℕ) (a : Account Job Mail) → get_elem? accounts seat ≡ some a → IsWithin a
 
-  abbrev AllWithin : List (Account Job) → Type 0
-  AllWithin accounts = (seat : ℕ) (a : Account Job) → get_elem? accounts seat ≡ some a → IsWithin a
-
-  within_set : (accounts : List (Account Job)) (seat : ℕ) (b : Account Job) → IsWithin b → AllWithin accounts → AllWithin (set accounts seat b)
+  within_set : (accounts : List (Account Job Mail)) (seat : ℕ) (b : Account Job Mail) → IsWithin b → AllWithin accounts → AllWithin (set accounts seat b)
   within_set accounts seat b mine all j u at =
-      ⊎_elim (λ (x : (j ≡ seat) × (b ≡ u)). subst (λ (y : Account Job). IsWithin y) x.1 mine)
+      ⊎_elim (λ (x : (j ≡ seat) × (b ≡ u)). subst (λ (y : Account Job Mail). IsWithin y) x.1 mine)
       (λ (x : (j ≢ seat) × (get_elem? accounts j ≡ some u)). all j u x.1) (at_set accounts seat j b u at)
 
-  within_snoc : (accounts : List (Account Job)) (b : Account Job) → IsWithin b → AllWithin accounts → AllWithin (accounts ++ b ∷ [])
+  within_snoc : (accounts : List (Account Job Mail)) (b : Account Job Mail) → IsWithin b → AllWithin accounts → AllWithin (accounts ++ b ∷ [])
   within_snoc accounts b mine all j u at =
-      ⊎_elim (λ (x : get_elem? accounts j ≡ some u). all j u x) (λ (is : b ≡ u). subst (λ (y : Account Job). IsWithin y) is mine) (at_snoc accounts b u j at)
+      ⊎_elim (λ (x : get_elem? accounts j ≡ some u). all j u x) (λ (is : b ≡ u). subst (λ (y : Account Job Mail). IsWithin y) is mine) (at_snoc accounts b u j at)
 
   -- the pass with every part has put and claimed all
-  whole : (accounts : List (Account Job)) (seat : ℕ) (a : Account Job) (f : Account Job → ℕ) → AllWithin accounts → get_elem? accounts seat ≡ some a → sum_by parts_of accounts ≡ a.parts
-      → ((v : Account Job) → IsWithin v → v.parts ≡ 0 → f v ≡ 0) → f (account 0 [] []) ≡ 0 → sum_by f accounts ≡ f a
+  whole : (accounts : List (Account Job Mail)) (seat : ℕ) (a : Account Job Mail) (f : Account Job Mail → ℕ) → AllWithin accounts → get_elem? accounts seat ≡ some a → sum_by parts_of accounts ≡ a.parts
+      → ((v : Account Job Mail) → IsWithin v → v.parts ≡ 0 → f v ≡ 0) → f (account 0 [] []) ≡ 0 → sum_by f accounts ≡ f a
   whole accounts seat a f all at every nothing zero' =
-      let spent : Account Job = account 0 [] [] in
+      let spent : Account Job Mail = account 0 [] [] in
       let s = total_set parts_of accounts seat a spent at in
       let t = total_set f accounts seat a spent at in
       let others = total_nothing f parts_of (set accounts seat spent) (λ i v e none. nothing v (within_set accounts seat spent (omega arith, λ _. refl) all i v e) none) (omega arith) in
@@ -59,10 +57,10 @@ module _ {S Job Reply : Type 0} where
     weights = λ weight. refl;
   }
 
-  pub puts : (n seat : ℕ) (a : Account Job) (t : Ticket S Job Reply) → a.parts ≡ 1 → length a.put < PUTS_MAX
+  pub puts : (n seat : ℕ) (a : Account Job Mail) (t : Ticket S Job Reply) → a.parts ≡ 1 → length a.put < PUTS_MAX
       → Pushes (IsBalanced {S = S} {Job = Job} {Reply = Reply}) n seat a t (λ b. b ≡ account a.parts (a.put ++ entry_of t ∷ []) a.claimed)
   puts n seat a t one room tickets accounts _ was at =
-      let b : Account Job = account a.parts (a.put ++ entry_of t ∷ []) a.claimed in
+      let b : Account Job Mail = account a.parts (a.put ++ entry_of t ∷ []) a.claimed in
       let mine = was.within seat a at in (
         b,
         record {
@@ -78,7 +76,7 @@ module _ {S Job Reply : Type 0} where
       )
 
   -- what one pass has claimed is at most what all passes may put
-  few : (tickets : List (Ticket S Job Reply)) (accounts : List (Account Job)) (seat : ℕ) (a : Account Job) → IsBalanced tickets accounts → get_elem? accounts seat ≡ some a → length a.claimed ≤ PASSES * PUTS_MAX
+  few : (tickets : List (Ticket S Job Reply)) (accounts : List (Account Job Mail)) (seat : ℕ) (a : Account Job Mail) → IsBalanced tickets accounts → get_elem? accounts seat ≡ some a → length a.claimed ≤ PASSES * PUTS_MAX
   few tickets accounts seat a was at =
       let all_put = total_within (put_weight (λ _. 1)) parts_of PUTS_MAX accounts (λ i v e. subst (λ (n : ℕ). n ≤ v.parts * PUTS_MAX) (sym (ones v.put)) (was.within i v e).0) in
       let mine = part_of_total (claimed_weight (λ _. 1)) accounts seat a at in
@@ -88,10 +86,10 @@ module _ {S Job Reply : Type 0} where
       let most : sum_by parts_of accounts * PUTS_MAX ≡ PASSES * PUTS_MAX = ap (λ (k : ℕ). k * PUTS_MAX) p in
       omega arith
 
-  pub claims : (seat : ℕ) (a : Account Job) → a.parts ≡ 1
-      → Pops (IsBalanced {S = S} {Job = Job} {Reply = Reply}) seat a (λ t b. (b ≡ account a.parts a.put (a.claimed ++ entry_of t ∷ [])) × (length b.claimed < 2 ^ 62))
+  pub claims : (seat : ℕ) (a : Account Job Mail) → a.parts ≡ 1
+      → Pops (IsBalanced {S = S} {Job = Job} {Reply = Reply}) seat a (λ t b. (b ≡ account a.parts a.put (a.claimed ++ claim_of t ∷ [])) × (length b.claimed < 2 ^ 62))
   claims seat a one t tickets accounts was at =
-      let b : Account Job = account a.parts a.put (a.claimed ++ entry_of t ∷ []) in
+      let b : Account Job Mail = account a.parts a.put (a.claimed ++ claim_of t ∷ []) in
       let mine = was.within seat a at in
       let old = few (t ∷ tickets) accounts seat a was at in (
         b,
@@ -102,16 +100,16 @@ module _ {S Job Reply : Type 0} where
               let s = total_set (put_weight h) accounts seat a b at in
               let c = total_set (claimed_weight h) accounts seat a b at in
               let w = was.weights h in
-              omega (arith, sum_by_push h a.claimed (entry_of t), sum_by-cons (waiting_weight h) t tickets);
+              omega (arith, sum_by_push (λ (c : Mail × (ℕ × Job)). h c.1) a.claimed (claim_of t), sum_by-cons (waiting_weight h) t tickets);
         },
-        (refl, omega (arith, length-append a.claimed (entry_of t ∷ []))),
+        (refl, omega (arith, length-append a.claimed (claim_of t ∷ []))),
       )
 
-  pub cuts : (seat : ℕ) (a : Account Job) → 0 < a.parts → a.put ≡ [] → a.claimed ≡ []
+  pub cuts : (seat : ℕ) (a : Account Job Mail) → 0 < a.parts → a.put ≡ [] → a.claimed ≡ []
       → Forks (IsBalanced {S = S} {Job = Job} {Reply = Reply}) seat a (account (a.parts - 1) [] []) (account 1 [] [])
   cuts seat a some_part nothing none tickets accounts was at =
-      let left : Account Job = account (a.parts - 1) [] [] in
-      let right : Account Job = account 1 [] [] in
+      let left : Account Job Mail = account (a.parts - 1) [] [] in
+      let right : Account Job Mail = account 1 [] [] in
       let rest = set accounts seat left in
       record {
         parts = (let s = total_set parts_of accounts seat a left at in let p = was.parts in omega (arith, sum_by_push parts_of rest right));
@@ -120,14 +118,14 @@ module _ {S Job Reply : Type 0} where
             let s = total_set (put_weight h) accounts seat a left at in
             let c = total_set (claimed_weight h) accounts seat a left at in
             let w = was.weights h in
-            omega (arith, sum_by_push (put_weight h) rest right, sum_by_push (claimed_weight h) rest right, ap (sum_by h) nothing, ap (sum_by h) none);
+            omega (arith, sum_by_push (put_weight h) rest right, sum_by_push (claimed_weight h) rest right, ap (sum_by h) nothing, ap (sum_by (λ (c : Mail × (ℕ × Job)). h c.1)) none);
       }
 
-  pub merges : (seat : ℕ) (a : Account Job) (other : ℕ) (b : Account Job)
+  pub merges : (seat : ℕ) (a : Account Job Mail) (other : ℕ) (b : Account Job Mail)
       → Merges (IsBalanced {S = S} {Job = Job} {Reply = Reply}) seat a other b (account (a.parts + b.parts) (a.put ++ b.put) (a.claimed ++ b.claimed)) (account 0 [] [])
   merges seat a other b tickets accounts was at apart at' =
-      let both : Account Job = account (a.parts + b.parts) (a.put ++ b.put) (a.claimed ++ b.claimed) in
-      let spent : Account Job = account 0 [] [] in
+      let both : Account Job Mail = account (a.parts + b.parts) (a.put ++ b.put) (a.claimed ++ b.claimed) in
+      let spent : Account Job Mail = account 0 [] [] in
       let rest = set accounts seat both in
       let there : get_elem? accounts other ≡ some b =
       ⊎_elim (λ (x : (other ≡ seat) × (both ≡ b)). absurd (apart x.0)) (λ (x : (other ≢ seat) × (get_elem? accounts other ≡ some b)). x.1) (at_set accounts seat other both b at') in
@@ -144,15 +142,15 @@ module _ {S Job Reply : Type 0} where
             let s' = total_set (put_weight h) rest other b spent at' in
             let c' = total_set (claimed_weight h) rest other b spent at' in
             let w = was.weights h in
-            omega (arith, sum_by-append h a.put b.put, sum_by-append h a.claimed b.claimed);
+            omega (arith, sum_by-append h a.put b.put, sum_by-append (λ (c : Mail × (ℕ × Job)). h c.1) a.claimed b.claimed);
       }
 
-  pub learns : (seat : ℕ) (a : Account Job) → a.parts ≡ PASSES
+  pub learns : (seat : ℕ) (a : Account Job Mail) → a.parts ≡ PASSES
       → Learns (IsBalanced {S = S} {Job = Job} {Reply = Reply}) seat a
       (IsAll {S = S} {Job = Job} {Reply = Reply} a)
   learns seat a every tickets accounts was at weight =
       let p = was.parts in
       let w = was.weights weight in
       let put = whole accounts seat a (put_weight weight) was.within at (omega arith) (λ v in' none. ap (sum_by weight) (empty_list v.put (let q = in'.0 in let m : v.parts * PUTS_MAX ≡ 0 = ap (λ (k : ℕ). k * PUTS_MAX) none in omega arith))) refl in
-      let claimed = whole accounts seat a (claimed_weight weight) was.within at (omega arith) (λ v in' none. ap (sum_by weight) (in'.1 none)) refl in
+      let claimed = whole accounts seat a (claimed_weight weight) was.within at (omega arith) (λ v in' none. ap (sum_by (λ (c : Mail × (ℕ × Job)). weight c.1)) (in'.1 none)) refl in
       omega arith

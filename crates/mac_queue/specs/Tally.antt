@@ -1,5 +1,5 @@
 -- What a tally tells.
-use Rattle.std.specs.Prelude.{◌≡◌, ℕ, List, length}
+use Rattle.std.specs.Prelude.{◌≡◌, ℕ, List, length, map}
 use Rattle.mac_queue.specs.Lists.{IsSplitInto}
 use Rattle.mac_queue.specs.Pass.{Pass, all_put, all_claimed}
 use Rattle.mac_queue.specs.declared.queue.tally.Tally.{Tally}
@@ -8,7 +8,7 @@ use Rattle.mac_queue.specs.declared.queue.tally.Tally.{Tally}
 -- are these lists' lengths
 pub record IsTally {Job : Type 0} (passes : List (Pass Job)) (tally : Tally) : Type 0 where
   pub left : List (ℕ × Job)
-  pub each : IsSplitInto (all_put passes) (all_claimed passes) left
+  pub each : IsSplitInto (all_put passes) (map (λ claim. claim.1) (all_claimed passes)) left
   pub put_is : tally.put ≡ length (all_put passes)
   pub claimed_is : tally.claimed ≡ length (all_claimed passes)
   pub left_is : tally.left ≡ length left

@@ -1,10 +1,10 @@
 //! A desk: one connection's place at a pool, with an end for each of its two threads.
 
-ghost use Rattle.std.specs.Prelude.{◌≡◌, [], IfOk, IfErr, OnOk, OnErr};
+ghost use Rattle.std.specs.Prelude.{◌≡◌, [], length, IfOk, IfErr, OnOk, OnErr};
 ghost use Rattle.std.specs.Arc.{arc_value};
 ghost use Rattle.mac_queue.specs.Pass.{with_put};
 
-use crate::queue::{Queue, QueuePass};
+use crate::queue::{PUTS_MAX, Queue, QueuePass};
 use crate::ticket::Ticket;
 use mac_mail::{Mailbox, Notice, PutFault, Taker};
 use mac_order::Service;
@@ -62,7 +62,8 @@ impl<S: Service> Desk<S> {
         Ok(Desk { putter, taker })
     }
 
-    /// The pass of the desk, which ends with it.
+    /// The pass of the desk, which ends with it: its mailbox is closed, so that no worker waits for
+    /// room there.
     pub fn into_pass(self) -> QueuePass<S>
         ensures { result ≡ self.putter }
     {
@@ -70,8 +71,9 @@ impl<S: Service> Desk<S> {
         let Putter {
             queue: _,
             pass,
-            mail: _,
+            mail,
         } = putter;
+        mail.close();
         pass
     }
 }
@@ -88,6 +90,8 @@ impl<S: Service> Putter<S> {
         ensures put { OnOk result (self.new ≡ with_put self.old (place, job)) }
         ensures same { OnErr result (self.new ≡ self.old) }
         ensures back { IfErr result (λ e. e.1 ≡ job) }
+        ensures spent { IfErr result (λ e. e.0 ≡ PutFault.Spent
+            → length self.old.put ≡ PUTS_MAX) }
     {
         let Ok(mail) = Arc::try_clone(&self.mail) else {
             return Err((PutFault::NoMemory, job));

@@ -1,12 +1,12 @@
 //! The queue: tickets wait here for workers, and each that was put is claimed once or still there.
 
-ghost use Rattle.std.specs.Prelude.{◌≡◌, ◌+◌, ◌-◌, ◌≤◌, ◌<◌, ◌^◌, [], length, IfErr, IfOk, OnOk, OnErr};
+ghost use Rattle.std.specs.Prelude.{◌≡◌, ◌≢◌, ◌+◌, ◌-◌, ◌≤◌, ◌<◌, ◌^◌, [], length, IfErr, IfOk, OnOk, OnErr};
 ghost use Rattle.mac_queue.specs.Balance.{account, entry_of};
 ghost use Rattle.mac_queue.specs.Claim.{after_claim};
 ghost use Rattle.mac_queue.specs.Pass.{with_put, AreFresh};
 ghost use Rattle.crossbeam_queue.specs.Passes.{view as what, IsPassOf};
 
-use self::account::{Account, Balance, Claims, Cut, Puts};
+use self::account::{Balance, Books, Claims, Cut, Puts};
 use crate::ticket::Ticket;
 use crossbeam_queue::protocol::Free;
 use crossbeam_queue::{Pass, RuledArrayQueue};
@@ -32,9 +32,9 @@ pub const PASSES: usize = 80;
 /// The most tickets that one pass puts.
 pub const PUTS_MAX: u64 = 1 << 55;
 
-pub type Cells<S> = RuledArrayQueue<Ticket<S>, Account<<S as Service>::Job>, Balance>;
+pub type Cells<S> = RuledArrayQueue<Ticket<S>, Books<S>, Balance>;
 
-pub type Seat<S> = Pass<Ticket<S>, Account<<S as Service>::Job>>;
+pub type Seat<S> = Pass<Ticket<S>, Books<S>>;
 
 /// Tickets wait here, at most 8,192, for the workers. Contracts see its name.
 #[derive(Drop)]
@@ -145,12 +145,15 @@ impl<S: Service> Queue<S> {
         ensures put { OnOk result (pass.new ≡ with_put pass.old (entry_of ticket)) }
         ensures same { OnErr result (pass.new ≡ pass.old) }
         ensures back { IfErr result (λ e. e.1 ≡ ticket) }
+        ensures fault { IfErr result (λ e. e.0 ≢ PutFault.NoMemory) }
+        ensures spent { IfErr result (λ e. e.0 ≡ PutFault.Spent
+            → length pass.old.put ≡ PUTS_MAX) }
     {
         if self.is_closed.load(SeqCst) {
             return Err((PutFault::Closed, ticket));
         }
         if pass.puts >= PUTS_MAX {
-            return Err((PutFault::Full, ticket));
+            return Err((PutFault::Spent, ticket));
         }
         if let Err(ticket) = self.cells.push_as::<Puts, R>(rt, &mut pass.seat, ticket) {
             return Err((PutFault::Full, ticket));

@@ -5,7 +5,6 @@ use mathlib.Core.List.{IsPrefix}
 use Rattle.rtrb.specs.Ring as ring
 use Rattle.rtrb.specs.declared.producer.Producer.{Producer}
 use Rattle.rtrb.specs.declared.consumer.Consumer.{Consumer}
-use Rattle.rtrb.specs.declared.finished.Finished.{Finished}
 use Rattle.mac_order.specs.Buffer.{Buffer, opened}
 use Rattle.mac_order.specs.declared.next.Next.{Next}
 use Rattle.mac_order.specs.declared.next.Next.TheVariants.{Reply, Stranger, Closed, Waiting}
@@ -25,10 +24,6 @@ module _ {Job A P : Type 0} where
   abbrev pub free_slips : Producer Job A P → ℕ
   free_slips intake = ring.known_free intake
 
-  -- all that an intake had admitted when it finished
-  abbrev pub all_admitted : Finished Job A P → List Job
-  all_admitted mark = ring.all_sent mark
-
   -- the jobs that an outlet has taken out of the ring, in order
   abbrev pub received : Exit Job A P → List Job
   received outlet = ring.received outlet.ring
@@ -45,14 +40,6 @@ module _ {Job A P : Type 0} where
   -- the two ends of one ring
   abbrev pub IsRing : Producer Job A P → Exit Job A P → Type 0
   IsRing intake outlet = ring.IsPair intake outlet.ring
-
-  -- the mark of the intake of an outlet's ring
-  abbrev pub IsMarkOf : Finished Job A P → Exit Job A P → Type 0
-  IsMarkOf mark outlet = ring.IsFinishedOf mark outlet.ring
-
-  -- the mark that an intake leaves
-  abbrev pub Finishes : Producer Job A P → Finished Job A P → Type 0
-  Finishes intake mark = ring.Finishes intake mark
 
   -- the intake of the same ring, at two times
   abbrev pub IsSameIntake : Producer Job A P → Producer Job A P → Type 0

@@ -1,12 +1,11 @@
 //! The end of a ring that admits jobs.
 
-ghost use Rattle.std.specs.Prelude.{◌≡◌, ◌+◌, ◌-◌, ◌^◌, ◌<◌, ◌≤◌, [], ◌∷◌, ◌++◌, length, IsOk, OnOk, OnErr, IfOk, IfErr, IfSome, MatchResult, None, Some};
+ghost use Rattle.std.specs.Prelude.{◌≡◌, ◌+◌, ◌-◌, ◌^◌, ◌<◌, ◌≤◌, [], ◌∷◌, ◌++◌, length, IsOk, OnOk, OnErr, IfOk, IfErr, MatchResult, None, Some};
 ghost use Rattle.rtrb.specs.Ring.{sent, producer_capacity};
 ghost use Rattle.mac_ring.specs.Fault.{admit_fault};
-ghost use Rattle.mac_ring.specs.Ring.{admitted, free_slips, IsSameIntake, Knows, all_admitted, Finishes};
+ghost use Rattle.mac_ring.specs.Ring.{admitted, free_slips, IsSameIntake, Knows};
 
 use crate::fault::AdmitFault;
-use crate::mark::Finished;
 use crate::numbered::Numbered;
 use crate::ring::RING_SLIPS_MAX;
 use mac_order::Service;
@@ -88,15 +87,5 @@ impl<S: Service> Intake<S> {
         ensures { Knows self.old self.new }
     {
         self.producer.is_abandoned()
-    }
-
-    /// Drops the intake, and shows what it admitted. `None` if the outlet was dropped before.
-    pub fn finish(self) -> Option<Finished<S>>
-        ensures mark { IfSome result (λ mark. Finishes self mark) }
-        ensures admitted { IfSome result (λ mark. all_admitted mark ≡ admitted self) }
-    {
-        let Intake { producer, place } = self;
-        let mark = producer.finish()?;
-        Some(Finished::new(mark, place))
     }
 }

@@ -6,7 +6,6 @@
 mod fault;
 mod intake;
 pub mod laws;
-mod mark;
 mod numbered;
 mod outlet;
 mod ring;
@@ -14,7 +13,6 @@ mod totals;
 
 pub use fault::AdmitFault;
 pub use intake::Intake;
-pub use mark::Finished;
 pub use outlet::{OPEN_SLIPS_MAX, Outlet};
 pub use ring::{RING_SLIPS_MAX, make_ring};
 pub use totals::{Totals, meet};

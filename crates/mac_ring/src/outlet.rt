@@ -3,9 +3,8 @@
 ghost use Rattle.std.specs.Prelude.{◌≡◌, ◌<◌, ◌++◌, ◌↔◌, true, [], length, map, IsTrue, IsFalse, OnOk, OnErr, IfErr, MatchResult, None, Some};
 ghost use Rattle.rtrb.specs.Ring as ring;
 ghost use Rattle.mac_order.specs.Buffer.{fresh_buffer, settle_fault, settled, next_of, closed_off};
-ghost use Rattle.mac_ring.specs.Ring.{received, waiting, released, may_look, Takes, Rests, Looks, IsKept, Releases, replied, all_admitted, IsMarkOf};
+ghost use Rattle.mac_ring.specs.Ring.{received, waiting, released, may_look, Takes, Rests, Looks, IsKept, Releases, replied};
 
-use crate::mark::Finished;
 use crate::numbered::Numbered;
 use mac_order::{Answer, Next, Reorder, Service, SettleFault};
 use rtrb::Consumer;
@@ -112,33 +111,7 @@ impl<S: Service> Outlet<S> {
         self.buffer.close();
     }
 
-    /// How many jobs the ring's intake has admitted in all, now that it has finished. What the ring
-    /// still holds is known from then on.
-    pub fn drain(&mut self, mark: &mut Finished<S>) -> u64
-        requires mark { IsMarkOf mark.old self.old }
-        ensures outlet { Looks self.old self.new }
-        ensures mark { IsMarkOf mark.new self.new ×
-            (all_admitted mark.new ≡ all_admitted mark.old) }
-        ensures rest { received self.new ++ waiting self.new ≡ all_admitted mark.old }
-        ensures total { result ≡ length (all_admitted mark.old) }
-        ensures all { self.new.buffer.next ≡ result →
-            released S.reply_to self.new ≡ map S.reply_to (all_admitted mark.old) }
-        ensures kept { IsKept self.new }
-    {
-        self.consumer.slots_after(&mut mark.mark);
-        mark.admitted
-    }
-
-    /// Whether the ring may hold a slip, which costs no hand-over. The intake may put one in at any
-    /// time.
-    pub fn may_hold_slip(&mut self) -> bool
-        ensures outlet { Looks self.old self.new }
-        ensures holds { IsTrue result ↔ (0 < length (waiting self.new)) }
-    {
-        !self.consumer.is_empty()
-    }
-
-    /// Whether the intake was dropped, or has finished. No contract speaks of the answer.
+    /// Whether the intake was dropped. No contract speaks of the answer.
     pub fn is_abandoned(&mut self) -> bool
         ensures { Looks self.old self.new }
     {

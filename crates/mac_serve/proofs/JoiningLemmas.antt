@@ -4,7 +4,6 @@ use Rattle.std.specs.Prelude.{Option, Some, None, IfSome, ◌⊎◌}
 use Rattle.std.proofs.lemmas.List.{take-append-drop, length-append, length-map, nil_from_length}
 use Rattle.std.proofs.lemmas.List.Concat.{flat_map-append}
 use Rattle.mac_queue.specs.Pass.{Pass}
-use Rattle.mac_keys.specs.Table.{Table}
 use Rattle.mac_wire.specs.declared.arrival.Arrival.{Arrival}
 use Rattle.mac_wire.specs.declared.reply.Reply.{Reply}
 use Rattle.mac_wire.specs.declared.session.Session.{Session}
@@ -17,6 +16,7 @@ use Rattle.mac_wire.specs.Session.{HasCome, Stands}
 use Rattle.mac_wire.proofs.Opening.{told_is, told_some}
 use Rattle.mac_wire.proofs.ReplyText.{payloads-append}
 use Rattle.mac_decide.specs.Answer.{answer_of}
+use Rattle.mac_decide.specs.Terms.{Terms}
 use Rattle.mac_decide.specs.declared.job.Job.{Job}
 use Rattle.mac_serve.specs.declared.connection.Served.{Served}
 use Rattle.mac_serve.specs.declared.fault.ServeFault.{ServeFault}
@@ -120,11 +120,11 @@ onward-stands (Some next) stream written arrived replies answered why all each c
 }
 
 -- the reply to one arrival under its table
-abbrev answer_to_reading : Table × Arrival → Reply
+abbrev answer_to_reading : Terms × Arrival → Reply
 answer_to_reading r = answer_of r.0 r.1
 
 pub serving-joins : ServingJoins
-serving-joins tells_in tells_out tells known known' session read written arrived replies given given' wrote wrote' pass taken why served s h =
+serving-joins rights tells_in tells_out tells known known' session read written arrived replies given given' wrote wrote' pass taken why served s h =
     let stream : List ℕ = read ++ h.stream in
     let v : Version = (arrivals_of stream).version in
     let more : List Reply = answers h.readings in
@@ -143,7 +143,7 @@ serving-joins tells_in tells_out tells known known' session read written arrived
       begins = begins_by h.ahead h.left h.output text (reply_text v (replies ++ more)) h.behind whole (row-begins (arrivals_of stream) session.answered h.readings h.unread pass h.output h.left why served h.sent);
       all = λ told. ((sent told).none_unread, all told);
       onward = onward-stands served.session stream (written ++ (h.ahead ++ h.output)) (arrived ++ read_of h.readings) (replies ++ more) (session.answered + length h.readings) why
-          (λ is. all (inr (inr is))) (omega (arith, s.each, length-append replies more, length-append arrived (read_of h.readings), length-map h.readings answer_to_reading, length-map h.readings (λ (r : Table × Arrival). r.1)))
+          (λ is. all (inr (inr is))) (omega (arith, s.each, length-append replies more, length-append arrived (read_of h.readings), length-map h.readings answer_to_reading, length-map h.readings (λ (r : Terms × Arrival). r.1)))
           (omega (arith, s.counted, length-append replies more, length-map h.readings answer_to_reading)) h.back;
     }
   where

@@ -3,6 +3,7 @@ pub mod Comes
 pub mod Gathered
 pub mod JoiningLemmas
 pub mod OneTable
+pub mod ToldMoments
 pub mod ReceivingLemmas
 pub mod SendingLemmas
 pub mod ServingLemmas

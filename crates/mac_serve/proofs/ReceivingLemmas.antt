@@ -8,9 +8,7 @@ use Rattle.std.proofs.lemmas.List.{take-append-le}
 use Rattle.std.proofs.lemmas.List.{map-append}
 use Rattle.mac_ring.specs.Ring.{admitted, IsSameIntake}
 use Rattle.mac_queue.specs.Pass.{Pass, IsSamePass, with_put}
-use Rattle.mac_board.specs.Follows.{Known, IsUp, Looks, Takes}
-use Rattle.mac_board.proofs.Taking.{takes-more, takes-next}
-use Rattle.mac_keys.specs.Table.{Table}
+use Rattle.mac_board.specs.Noticed.{Current, IsCurrent, Noticed, Notices}
 use Rattle.mac_wire.specs.declared.arrival.Arrival.{Arrival}
 use Rattle.mac_wire.specs.declared.arrival.Ending.{Ending}
 use Rattle.mac_wire.specs.declared.arrival.Ending.TheVariants as ending
@@ -19,12 +17,14 @@ use Rattle.mac_wire.specs.declared.version.Version.{Version}
 use Rattle.mac_wire.specs.Stream.{Arrivals, arrivals_of, version_or_one, version_told}
 use Rattle.mac_wire.specs.FrameReader.{HasRead, HasEnded, version_of}
 use Rattle.mac_wire.proofs.Opening.{arrived_longer, has_arrived_in, told_is, told_more, told_some, version_tells}
+use Rattle.mac_decide.specs.Terms.{Terms}
 use Rattle.mac_decide.specs.World.{job_under}
+use Rattle.mac_decide.specs.declared.rights.Rights.{Rights}
 use Rattle.mac_decide.specs.declared.job.Job.{Job}
 use Rattle.mac_serve.specs.declared.incoming.InboundFault.{InboundFault}
 use Rattle.mac_serve.specs.declared.incoming.InboundFault.TheVariants as fault
 use Rattle.mac_serve.specs.declared.inbound.Inbound.{Inbound}
-use Rattle.mac_serve.specs.Receiving.{Gave, IsSameHalf, HasTold, IsTold, Past, IsPast, Reads, Readings, tables_of, read_of, jobs_of, placed, IsBehind, TakesIn, TakesSome, Receives, ReceivesUnder, HasRun, GoesOn, Continues, Ran}
+use Rattle.mac_serve.specs.Receiving.{Gave, IsSameHalf, HasTold, IsTold, Past, IsPast, Reads, Readings, TakesUnder, terms_of, read_of, jobs_of, placed, IsBehind, TakesIn, TakesSome, Receives, ReceivesUnder, HasRun, GoesOn, Continues, Ran}
 
 placed-append : (place : ℕ) (jobs more : List Job) → placed place (jobs ++ more) ≡ placed place jobs ++ placed (place + length jobs) more
 unfolding placed
@@ -183,55 +183,65 @@ receives-residual jobs (Err e) why a b is other some = (λ read. other (sym is �
 
 -- the jobs of arrivals and of more
 jobs-append : (readings more : Readings) → jobs_of (readings ++ more) ≡ jobs_of readings ++ jobs_of more
-jobs-append readings more = map-append (λ (r : Table × Arrival). job_under r.0 r.1) readings more
+jobs-append readings more = map-append (λ (r : Terms × Arrival). job_under r.0 r.1) readings more
 
 pub read-append : (readings more : Readings) → read_of (readings ++ more) ≡ read_of readings ++ read_of more
-read-append readings more = map-append (λ (r : Table × Arrival). r.1) readings more
+read-append readings more = map-append (λ (r : Terms × Arrival). r.1) readings more
 
-tables-append : (readings more : Readings) → tables_of (readings ++ more) ≡ tables_of readings ++ tables_of more
-tables-append readings more = map-append (λ (r : Table × Arrival). r.0) readings more
+terms-append : (readings more : Readings) → terms_of (readings ++ more) ≡ terms_of readings ++ terms_of more
+terms-append readings more = map-append (λ (r : Terms × Arrival). r.0) readings more
 
 -- arrivals that were taken in, each under the table that a look came to
-pub record HasTaken (AreTaken : List Table → Type 0) (arrivals : List Arrival) (before after : Inbound) : Type 0 where
+pub record HasTaken (AreTaken : List Terms → Type 0) (arrivals : List Arrival) (before after : Inbound) : Type 0 where
   pub readings : Readings
   pub are : read_of readings ≡ arrivals
-  pub taken : AreTaken (tables_of readings)
+  pub taken : AreTaken (terms_of readings)
   pub took : TakesIn (jobs_of readings) before after
 
-pub has-taken-none : (tells : Bool) (known : Known) (a : Inbound) → HasTaken (Takes tells known known) [] a a
-has-taken-none tells known a = record { readings = []; are = refl; taken = refl; took = took-nothing a }
+pub has-taken-none : (rights : Rights) (tells : Bool) (known : Noticed) (a : Inbound) → HasTaken (TakesUnder rights tells known known) [] a a
+has-taken-none rights tells known a = record { readings = []; are = refl; taken = refl; took = took-nothing a }
 
--- a look at the tables, and the arrival that was read then
-looked-next : (tells : Bool) (begun known now : Known) (readings : Readings) (table : Table) (arrival : Arrival) → Takes tells begun known (tables_of readings) → Looks tells known now → IsUp now table
-    → Takes tells begun now (tables_of (readings ++ (table, arrival) ∷ []))
-looked-next tells begun known now readings table arrival taken looks up =
-    subst (Takes tells begun now) (sym (tables-append readings ((table, arrival) ∷ []))) (takes-next tells begun known now (tables_of readings) table taken looks up)
+-- terms that were taken, and others after them
+under-more : (rights : Rights) (tells : Bool) (a b c : Noticed) (terms more : List Terms) → TakesUnder rights tells a b terms → TakesUnder rights tells b c more → TakesUnder rights tells a c (terms ++ more)
+under-more rights tells a b c [] more first then = subst (λ (k : Noticed). TakesUnder rights tells k c more) first then
+under-more rights tells a b c (t ∷ terms) more (now, looks, up, right, first) then = (now, looks, up, right, under-more rights tells now b c terms more first then)
+
+-- what is answered under a table and at a moment, with these rights
+abbrev pub under : Rights → Current → Terms
+under rights current = record { table = current.table; rights = rights; moment = current.moment }
+
+-- a look at the tables and the clock, and the arrival that was read then
+looked-next : (rights : Rights) (tells : Bool) (begun known now : Noticed) (readings : Readings) (current : Current) (arrival : Arrival) → TakesUnder rights tells begun known (terms_of readings) → Notices tells known now → IsCurrent now current
+    → TakesUnder rights tells begun now (terms_of (readings ++ (under rights current, arrival) ∷ []))
+looked-next rights tells begun known now readings current arrival taken looks up =
+    subst (TakesUnder rights tells begun now) (sym (terms-append readings ((under rights current, arrival) ∷ [])))
+    (under-more rights tells begun known now (terms_of readings) (under rights current ∷ []) taken (now, looks, up, refl, refl))
 
 -- one more arrival
-pub takes-in-next : (tells : Bool) (begun known now : Known) (table : Table) (front : List Arrival) (arrival : Arrival) (a b c : Inbound)
-    → HasTaken (Takes tells begun known) front a b → Looks tells known now → IsUp now table → TakesIn (job_under table arrival ∷ []) b c → HasTaken (Takes tells begun now) (front ++ arrival ∷ []) a c
-takes-in-next tells begun known now table front arrival a b c first looks up then = record {
-  readings = first.readings ++ (table, arrival) ∷ [];
-  are = read-append first.readings ((table, arrival) ∷ []) ∙ ap (λ (l : List Arrival). l ++ arrival ∷ []) first.are;
-  taken = looked-next tells begun known now first.readings table arrival first.taken looks up;
-  took = subst (λ (jobs : List Job). TakesIn jobs a c) (sym (jobs-append first.readings ((table, arrival) ∷ [])))
-      (takes-in-more (jobs_of first.readings) (job_under table arrival ∷ []) a b c first.took then);
+pub takes-in-next : (rights : Rights) (tells : Bool) (begun known now : Noticed) (current : Current) (front : List Arrival) (arrival : Arrival) (a b c : Inbound)
+    → HasTaken (TakesUnder rights tells begun known) front a b → Notices tells known now → IsCurrent now current → TakesIn (job_under (under rights current) arrival ∷ []) b c → HasTaken (TakesUnder rights tells begun now) (front ++ arrival ∷ []) a c
+takes-in-next rights tells begun known now current front arrival a b c first looks up then = record {
+  readings = first.readings ++ (under rights current, arrival) ∷ [];
+  are = read-append first.readings ((under rights current, arrival) ∷ []) ∙ ap (λ (l : List Arrival). l ++ arrival ∷ []) first.are;
+  taken = looked-next rights tells begun known now first.readings current arrival first.taken looks up;
+  took = subst (λ (jobs : List Job). TakesIn jobs a c) (sym (jobs-append first.readings ((under rights current, arrival) ∷ [])))
+      (takes-in-more (jobs_of first.readings) (job_under (under rights current) arrival ∷ []) a b c first.took then);
 }
 
 -- one more arrival, that was not taken in whole
-pub takes-some-next : {T : Type 0} (tells : Bool) (begun known now : Known) (table : Table) (front : List Arrival) (arrival : Arrival) (rest all : List Arrival) (r : Result T InboundFault) (why : InboundFault) (a b c : Inbound)
+pub takes-some-next : {T : Type 0} (rights : Rights) (tells : Bool) (begun known now : Noticed) (current : Current) (front : List Arrival) (arrival : Arrival) (rest all : List Arrival) (r : Result T InboundFault) (why : InboundFault) (a b c : Inbound)
     → front ++ arrival ∷ rest ≡ all → IsErrAnd r (λ e. e ≡ why)
-    → HasTaken (Takes tells begun known) front a b → Looks tells known now → IsUp now table → why ≢ fault.Read → TakesSome (job_under table arrival ∷ []) b c
-    → ReceivesUnder (Takes tells begun now) all r a c
-takes-some-next {T} tells begun known now table front arrival rest all r why a b c is err first looks up no_read then =
-    let next : Readings = (table, arrival) ∷ [] in
-    let some = takes-some-more (jobs_of first.readings) (job_under table arrival ∷ []) a b c first.took then in
+    → HasTaken (TakesUnder rights tells begun known) front a b → Notices tells known now → IsCurrent now current → why ≢ fault.Read → TakesSome (job_under (under rights current) arrival ∷ []) b c
+    → ReceivesUnder (TakesUnder rights tells begun now) all r a c
+takes-some-next {T} rights tells begun known now current front arrival rest all r why a b c is err first looks up no_read then =
+    let next : Readings = (under rights current, arrival) ∷ [] in
+    let some = takes-some-more (jobs_of first.readings) (job_under (under rights current) arrival ∷ []) a b c first.took then in
     record {
       readings = first.readings ++ next;
       unread = rest;
       are = sym is ∙ sym (append_assoc front (arrival ∷ []) rest)
           ∙ ap (λ (l : List Arrival). l ++ rest) (ap (λ (l : List Arrival). l ++ arrival ∷ []) (sym first.are) ∙ sym (read-append first.readings next));
-      taken = looked-next tells begun known now first.readings table arrival first.taken looks up;
+      taken = looked-next rights tells begun known now first.readings current arrival first.taken looks up;
       all = err-not-ok r why (rest ≡ []) err;
       receives = receives-residual (jobs_of (first.readings ++ next)) r why a c err no_read (subst (λ (jobs : List Job). TakesSome jobs a c) (sym (jobs-append first.readings next)) some);
     }
@@ -240,7 +250,7 @@ abbrev pub done : {T : Type 0} → T → Result T InboundFault
 done x = Ok x
 
 -- all arrivals were taken in
-pub takes-all : {T : Type 0} (AreTaken : List Table → Type 0) (arrivals : List Arrival) (x : T) (a b : Inbound) → HasTaken AreTaken arrivals a b
+pub takes-all : {T : Type 0} (AreTaken : List Terms → Type 0) (arrivals : List Arrival) (x : T) (a b : Inbound) → HasTaken AreTaken arrivals a b
     → ReceivesUnder AreTaken arrivals (done x) a b
 takes-all {T} AreTaken arrivals x a b h = record {
   readings = h.readings;
@@ -258,7 +268,7 @@ gave-nothing : (tells : Bool) (a b c bytes : List ℕ) → Gave tells a b bytes 
 gave-nothing tells a b c bytes one two told = two told ∙ ap (λ (l : List ℕ). l ++ []) (one told) ∙ search rules
 
 -- what a reader handed out of which all was taken in
-all-read : (tells : Bool) (AreTaken : List Table → Type 0) (version : Version) (past : Past) (given given' : List ℕ) (reader : FrameReader) (a b : Inbound)
+all-read : (tells : Bool) (AreTaken : List Terms → Type 0) (version : Version) (past : Past) (given given' : List ℕ) (reader : FrameReader) (a b : Inbound)
     → (on : GoesOn tells AreTaken version past given given' reader [] a b) → HasRead reader (past.read ++ on.stream) (past.arrived ++ read_of on.readings)
 all-read tells AreTaken version past given given' reader a b on =
     subst (λ (l : List Arrival). HasRead reader (past.read ++ on.stream) (past.arrived ++ l)) (append-nil (read_of on.readings)) on.read
@@ -289,7 +299,7 @@ same-fault : (why other : InboundFault) → failed why ≡ failed other → why 
 same-fault why other is = cc
 
 -- a run that is given up where nothing more came
-gives-up-there : (tells : Bool) (AreTaken : List Table → Type 0) (version : Version) (past : Past) (given mid given' : List ℕ) (reader reader' : FrameReader) (a b : Inbound) (why : InboundFault)
+gives-up-there : (tells : Bool) (AreTaken : List Terms → Type 0) (version : Version) (past : Past) (given mid given' : List ℕ) (reader reader' : FrameReader) (a b : Inbound) (why : InboundFault)
     → (on : GoesOn tells AreTaken version past given mid reader [] a b) → Gave tells mid given' []
     → (why ≡ fault.Read → HasRead reader' (past.read ++ on.stream) (past.arrived ++ read_of on.readings) × (HasEnded reader' → ⊥)) → HasRun tells AreTaken version past given given' reader' (Err why) a b
 gives-up-there tells AreTaken version past given mid given' reader reader' a b why on nothing left =
@@ -306,13 +316,13 @@ gives-up-there tells AreTaken version past given mid given' reader reader' a b w
     }
 
 -- the outbound half had ended
-pub gives-up : (tells : Bool) (AreTaken : List Table → Type 0) (version : Version) (past : Past) (given given' : List ℕ) (reader : FrameReader) (a b : Inbound) (why : InboundFault)
+pub gives-up : (tells : Bool) (AreTaken : List Terms → Type 0) (version : Version) (past : Past) (given given' : List ℕ) (reader : FrameReader) (a b : Inbound) (why : InboundFault)
     → GoesOn tells AreTaken version past given given' reader [] a b → (why ≢ fault.Read) → HasRun tells AreTaken version past given given' reader (Err why) a b
 gives-up tells AreTaken version past given given' reader a b why on no_read =
     gives-up-there tells AreTaken version past given given' given' reader reader a b why on (λ told. sym (append-nil given')) (λ is. absurd (no_read is))
 
 -- how a read of a run ended
-pub goes-further : (tells : Bool) (AreTaken : List Table → Type 0) (version : Version) (past : Past) (given mid given' : List ℕ) (reader reader' : FrameReader) (a b : Inbound)
+pub goes-further : (tells : Bool) (AreTaken : List Terms → Type 0) (version : Version) (past : Past) (given mid given' : List ℕ) (reader reader' : FrameReader) (a b : Inbound)
     (result : Result (Option (Vec Arrival Global)) InboundFault) → GoesOn tells AreTaken version past given mid reader [] a b
     → ((stream : List ℕ) (handed : List Arrival) → HasRead reader stream handed → Reads tells mid given' stream handed result reader')
     → Continues tells AreTaken version past given given' result reader' a b
@@ -369,9 +379,9 @@ receives-more readings more (Err why) a b c first (no_read, some) =
     (no_read, subst (λ (jobs : List Job). TakesSome jobs a c) (sym (jobs-append readings more)) (takes-some-more (jobs_of readings) (jobs_of more) a b c first some))
 
 -- what was handed out was read, all of it or some, and its jobs were taken in
-goes-by : {T : Type 0} (tells : Bool) (AreTaken : List Table → Type 0) (version : Version) (past : Past) (given given' : List ℕ) (reader : FrameReader) (a c : Inbound) (stream : List ℕ)
+goes-by : {T : Type 0} (tells : Bool) (AreTaken : List Terms → Type 0) (version : Version) (past : Past) (given given' : List ℕ) (reader : FrameReader) (a c : Inbound) (stream : List ℕ)
     (readings : Readings) (unread : List Arrival) (r : Result T InboundFault)
-    → Gave tells given given' stream → version_told (past.read ++ stream) ≡ Some version → AreTaken (tables_of readings)
+    → Gave tells given given' stream → version_told (past.read ++ stream) ≡ Some version → AreTaken (terms_of readings)
     → HasRead reader (past.read ++ stream) (past.arrived ++ (read_of readings ++ unread)) → OnOk r (unread ≡ []) → Receives (jobs_of readings) r a c
     → MatchResult r (λ _. GoesOn tells AreTaken version past given given' reader [] a c) (λ why. HasRun tells AreTaken version past given given' reader (Err why) a c)
 goes-by {T} tells AreTaken version past given given' reader a c stream readings unread (Ok x) gave told taken read all took =
@@ -398,21 +408,21 @@ goes-by {T} tells AreTaken version past given given' reader a c stream readings 
     }
 
 -- the arrivals that were pending are taken in, all or some, by more looks
-pub goes-received : {T : Type 0} (tells told : Bool) (begun known now : Known) (version : Version) (past : Past) (given given' : List ℕ) (reader : FrameReader) (pending : List Arrival) (a b c : Inbound) (r : Result T InboundFault)
-    → GoesOn tells (Takes told begun known) version past given given' reader pending a b → ReceivesUnder (Takes told known now) pending r b c
-    → MatchResult r (λ _. GoesOn tells (Takes told begun now) version past given given' reader [] a c) (λ why. HasRun tells (Takes told begun now) version past given given' reader (Err why) a c)
-goes-received {T} tells told begun known now version past given given' reader pending a b c r on got =
-    let taken : Takes told begun now (tables_of (on.readings ++ got.readings)) =
-    subst (Takes told begun now) (sym (tables-append on.readings got.readings)) (takes-more told begun known now (tables_of on.readings) (tables_of got.readings) on.taken got.taken) in
+pub goes-received : {T : Type 0} (rights : Rights) (tells told : Bool) (begun known now : Noticed) (version : Version) (past : Past) (given given' : List ℕ) (reader : FrameReader) (pending : List Arrival) (a b c : Inbound) (r : Result T InboundFault)
+    → GoesOn tells (TakesUnder rights told begun known) version past given given' reader pending a b → ReceivesUnder (TakesUnder rights told known now) pending r b c
+    → MatchResult r (λ _. GoesOn tells (TakesUnder rights told begun now) version past given given' reader [] a c) (λ why. HasRun tells (TakesUnder rights told begun now) version past given given' reader (Err why) a c)
+goes-received {T} rights tells told begun known now version past given given' reader pending a b c r on got =
+    let taken : TakesUnder rights told begun now (terms_of (on.readings ++ got.readings)) =
+    subst (TakesUnder rights told begun now) (sym (terms-append on.readings got.readings)) (under-more rights told begun known now (terms_of on.readings) (terms_of got.readings) on.taken got.taken) in
     let parts : (read_of on.readings ++ pending) ≡ read_of (on.readings ++ got.readings) ++ got.unread =
     ap (λ (l : List Arrival). read_of on.readings ++ l) got.are ∙ sym (append_assoc (read_of on.readings) (read_of got.readings) got.unread)
     ∙ ap (λ (l : List Arrival). l ++ got.unread) (sym (read-append on.readings got.readings)) in
-    goes-by tells (Takes told begun now) version past given given' reader a c on.stream (on.readings ++ got.readings) got.unread r on.gave on.told taken
+    goes-by tells (TakesUnder rights told begun now) version past given given' reader a c on.stream (on.readings ++ got.readings) got.unread r on.gave on.told taken
     (subst (λ (l : List Arrival). HasRead reader (past.read ++ on.stream) (past.arrived ++ l)) parts on.read) got.all
     (receives-more on.readings got.readings r a b c on.took got.receives)
 
 -- a run whose stream has ended
-pub has-finished : (tells : Bool) (AreTaken : List Table → Type 0) (version : Version) (past : Past) (given given' : List ℕ) (reader reader' : FrameReader) (a b : Inbound) (end : Ending)
+pub has-finished : (tells : Bool) (AreTaken : List Terms → Type 0) (version : Version) (past : Past) (given given' : List ℕ) (reader reader' : FrameReader) (a b : Inbound) (end : Ending)
     → GoesOn tells AreTaken version past given given' reader [] a b
     → ((stream : List ℕ) (handed : List Arrival) → HasRead reader stream handed
     → arrivals_of stream ≡ record { version = version_or_one reader.version; arrived = handed; ending = end })
@@ -446,9 +456,9 @@ is-told [] (b ∷ bytes) some = ((arrivals_of (b ∷ bytes)).version, refl)
 is-told (first ∷ rest) bytes some = ((arrivals_of (first ∷ (rest ++ bytes))).version, refl)
 
 -- a first piece came
-pub begins : (tells told_keys : Bool) (known : Known) (past : Past) (given given' : List ℕ) (reader : FrameReader) (a : Inbound) (more : Vec Arrival Global)
-    → Reads tells given given' past.read past.arrived (Ok (Some more)) reader → GoesOn tells (Takes told_keys known known) (version_or_one (version_of reader)) past given given' reader more.items a a
-begins tells told_keys known past given given' reader a more (bytes, gave, (version, told), read) =
+pub begins : (rights : Rights) (tells told_keys : Bool) (known : Noticed) (past : Past) (given given' : List ℕ) (reader : FrameReader) (a : Inbound) (more : Vec Arrival Global)
+    → Reads tells given given' past.read past.arrived (Ok (Some more)) reader → GoesOn tells (TakesUnder rights told_keys known known) (version_or_one (version_of reader)) past given given' reader more.items a a
+begins rights tells told_keys known past given given' reader a more (bytes, gave, (version, told), read) =
     let is : reader.version ≡ Some version = version_tells reader.version reader.stage (past.read ++ bytes) (past.arrived ++ more.items) read ∙ told in
     record {
       stream = bytes;
@@ -461,9 +471,9 @@ begins tells told_keys known past given given' reader a more (bytes, gave, (vers
     }
 
 -- a run that took nothing in of what came
-took-none-of : (tells told_keys : Bool) (known : Known) (past : Past) (given given' : List ℕ) (reader reader' : FrameReader) (a : Inbound) (why : InboundFault) (bytes : List ℕ) → IsPast past
-    → Gave tells given given' bytes → HasTold reader (past.read ++ bytes) → why ≢ fault.Read → HasRun tells (Takes told_keys known known) (version_or_one (version_of reader)) past given given' reader' (Err why) a a
-took-none-of tells told_keys known past given given' reader reader' a why bytes is_past gave told no_read =
+took-none-of : (rights : Rights) (tells told_keys : Bool) (known : Noticed) (past : Past) (given given' : List ℕ) (reader reader' : FrameReader) (a : Inbound) (why : InboundFault) (bytes : List ℕ) → IsPast past
+    → Gave tells given given' bytes → HasTold reader (past.read ++ bytes) → why ≢ fault.Read → HasRun tells (TakesUnder rights told_keys known known) (version_or_one (version_of reader)) past given given' reader' (Err why) a a
+took-none-of rights tells told_keys known past given given' reader reader' a why bytes is_past gave told no_read =
     let more = is_past bytes in
     record {
       stream = bytes;
@@ -481,9 +491,9 @@ told-nil : (reader : FrameReader) (stream : List ℕ) → HasTold reader stream 
 told-nil reader stream told = subst (λ (l : List ℕ). HasTold reader l) (sym (append-nil stream)) told
 
 -- the first read failed
-pub began-badly : (tells told_keys : Bool) (known : Known) (past : Past) (given given' : List ℕ) (reader : FrameReader) (a : Inbound) (why : InboundFault) → IsPast past
-    → Reads tells given given' past.read past.arrived (Err why) reader → HasRun tells (Takes told_keys known known) (version_or_one (version_of reader)) past given given' reader (Err why) a a
-began-badly tells told_keys known past given given' reader a fault.Read is_past (nothing, read, goes_on) =
+pub began-badly : (rights : Rights) (tells told_keys : Bool) (known : Noticed) (past : Past) (given given' : List ℕ) (reader : FrameReader) (a : Inbound) (why : InboundFault) → IsPast past
+    → Reads tells given given' past.read past.arrived (Err why) reader → HasRun tells (TakesUnder rights told_keys known known) (version_or_one (version_of reader)) past given given' reader (Err why) a a
+began-badly rights tells told_keys known past given given' reader a fault.Read is_past (nothing, read, goes_on) =
     let here : HasRead reader (past.read ++ []) (past.arrived ++ []) =
     subst (λ (l : List Arrival). HasRead reader (past.read ++ []) l) (sym (append-nil past.arrived)) (subst (λ (l : List ℕ). HasRead reader l past.arrived) (sym (append-nil past.read)) read) in
     record {
@@ -497,28 +507,28 @@ began-badly tells told_keys known past given given' reader a fault.Read is_past 
       ran = (took-nothing a, refl);
       left = λ is. (here, goes_on);
     }
-began-badly tells told_keys known past given given' reader a fault.NoMemory is_past (bytes, gave, told) =
-    took-none-of tells told_keys known past given given' reader reader a fault.NoMemory bytes is_past gave told (λ is. absurd cc)
-began-badly tells told_keys known past given given' reader a fault.Exhausted is_past (nothing, told) =
-    took-none-of tells told_keys known past given given' reader reader a fault.Exhausted [] is_past nothing (told-nil reader past.read told) (λ is. absurd cc)
-began-badly tells told_keys known past given given' reader a fault.Stopped is_past reads = absurd reads
+began-badly rights tells told_keys known past given given' reader a fault.NoMemory is_past (bytes, gave, told) =
+    took-none-of rights tells told_keys known past given given' reader reader a fault.NoMemory bytes is_past gave told (λ is. absurd cc)
+began-badly rights tells told_keys known past given given' reader a fault.Exhausted is_past (nothing, told) =
+    took-none-of rights tells told_keys known past given given' reader reader a fault.Exhausted [] is_past nothing (told-nil reader past.read told) (λ is. absurd cc)
+began-badly rights tells told_keys known past given given' reader a fault.Stopped is_past reads = absurd reads
 
 -- a run that did not begin, whatever the first read gave
-pub not-begun : (tells told_keys : Bool) (known : Known) (past : Past) (given given' : List ℕ) (reader : FrameReader) (a : Inbound) (first : Option (Vec Arrival Global)) → IsPast past
-    → Reads tells given given' past.read past.arrived (Ok first) reader → HasRun tells (Takes told_keys known known) (version_or_one (version_of reader)) past given given' reader (Err fault.NoMemory) a a
-not-begun tells told_keys known past given given' reader a (Some more) is_past (bytes, gave, some, read) =
-    took-none-of tells told_keys known past given given' reader reader a fault.NoMemory bytes is_past gave (version_tells reader.version reader.stage (past.read ++ bytes) (past.arrived ++ more.items) read) (λ is. absurd cc)
-not-begun tells told_keys known past given given' reader a None is_past (nothing, read) =
-    took-none-of tells told_keys known past given given' reader reader a fault.NoMemory [] is_past nothing (told-nil reader past.read (version_tells reader.version reader.stage past.read past.arrived read)) (λ is. absurd cc)
+pub not-begun : (rights : Rights) (tells told_keys : Bool) (known : Noticed) (past : Past) (given given' : List ℕ) (reader : FrameReader) (a : Inbound) (first : Option (Vec Arrival Global)) → IsPast past
+    → Reads tells given given' past.read past.arrived (Ok first) reader → HasRun tells (TakesUnder rights told_keys known known) (version_or_one (version_of reader)) past given given' reader (Err fault.NoMemory) a a
+not-begun rights tells told_keys known past given given' reader a (Some more) is_past (bytes, gave, some, read) =
+    took-none-of rights tells told_keys known past given given' reader reader a fault.NoMemory bytes is_past gave (version_tells reader.version reader.stage (past.read ++ bytes) (past.arrived ++ more.items) read) (λ is. absurd cc)
+not-begun rights tells told_keys known past given given' reader a None is_past (nothing, read) =
+    took-none-of rights tells told_keys known past given given' reader reader a fault.NoMemory [] is_past nothing (told-nil reader past.read (version_tells reader.version reader.stage past.read past.arrived read)) (λ is. absurd cc)
 
 -- a stream of nothing more
-pub ended-at-once : (tells told_keys : Bool) (known : Known) (past : Past) (given given' : List ℕ) (reader reader' : FrameReader) (a : Inbound) (end : Ending)
+pub ended-at-once : (rights : Rights) (tells told_keys : Bool) (known : Noticed) (past : Past) (given given' : List ℕ) (reader reader' : FrameReader) (a : Inbound) (end : Ending)
     → Reads tells given given' past.read past.arrived (Ok None) reader
     → ((stream : List ℕ) (handed : List Arrival) → HasRead reader stream handed
     → arrivals_of stream ≡ record { version = version_or_one reader.version; arrived = handed; ending = end })
     → ((stream : List ℕ) (handed : List Arrival) → HasRead reader stream handed → end ≢ ending.Broken)
-    → HasRun tells (Takes told_keys known known) (version_or_one (version_of reader)) past given given' reader' (Ok end) a a
-ended-at-once tells told_keys known past given given' reader reader' a end (nothing, read) ends whole =
+    → HasRun tells (TakesUnder rights told_keys known known) (version_or_one (version_of reader)) past given given' reader' (Ok end) a a
+ended-at-once rights tells told_keys known past given given' reader reader' a end (nothing, read) ends whole =
     let is : arrivals_of (past.read ++ []) ≡ record { version = version_or_one reader.version; arrived = past.arrived; ending = end } =
     ap arrivals_of (append-nil past.read) ∙ ends past.read past.arrived read in
     record {
@@ -534,7 +544,7 @@ ended-at-once tells told_keys known past given given' reader reader' a end (noth
     }
 
 -- a fault that is passed on
-pub run-residual : (tells : Bool) (AreTaken : List Table → Type 0) (version : Version) (past : Past) (given given' : List ℕ) (reader : FrameReader) (r : Result Ending InboundFault) (why : InboundFault) (a b : Inbound)
+pub run-residual : (tells : Bool) (AreTaken : List Terms → Type 0) (version : Version) (past : Past) (given given' : List ℕ) (reader : FrameReader) (r : Result Ending InboundFault) (why : InboundFault) (a b : Inbound)
     → IsErrAnd r (λ e. e ≡ why) → HasRun tells AreTaken version past given given' reader (Err why) a b → HasRun tells AreTaken version past given given' reader r a b
 run-residual tells AreTaken version past given given' reader (Ok x) why a b is run = absurd is
 run-residual tells AreTaken version past given given' reader (Err e) why a b is run = subst (λ (f : InboundFault). HasRun tells AreTaken version past given given' reader (Err f) a b) (sym is) run

@@ -5,8 +5,7 @@ use Rattle.std.proofs.lemmas.List.{map-append, take_all, take-append-le, take-ap
 use Rattle.std.proofs.lemmas.List.Concat.{flat_map-append}
 use Rattle.mac_ring.specs.Ring.{admitted, received}
 use Rattle.mac_queue.specs.Pass.{Pass, IsSamePass}
-use Rattle.mac_board.specs.Follows.{Known, Takes}
-use Rattle.mac_keys.specs.Table.{Table}
+use Rattle.mac_board.specs.Noticed.{Noticed}
 use Rattle.mac_wire.specs.declared.arrival.Arrival.{Arrival}
 use Rattle.mac_wire.specs.declared.arrival.Ending.{Ending}
 use Rattle.mac_wire.specs.declared.arrival.Ending.TheVariants as ending
@@ -22,7 +21,9 @@ use Rattle.mac_wire.specs.Reply.{payloads_from}
 use Rattle.mac_wire.proofs.ReplyText.{length-payloads, payloads-append, payloads-take}
 use Rattle.mac_wire.specs.Whole.{HasWhole}
 use Rattle.mac_decide.specs.Answer.{answer_of}
+use Rattle.mac_decide.specs.Terms.{Terms}
 use Rattle.mac_decide.specs.World.{job_under}
+use Rattle.mac_decide.specs.declared.rights.Rights.{Rights}
 use Rattle.mac_decide.specs.declared.job.Job.{Job}
 use Rattle.mac_serve.specs.declared.connection.Served.{Served}
 use Rattle.mac_serve.specs.declared.fault.ServeFault.{ServeFault}
@@ -34,7 +35,7 @@ use Rattle.mac_serve.specs.declared.outbound.Outbound.{Outbound}
 use Rattle.mac_serve.specs.declared.outbound.OutboundFault.{OutboundFault}
 use Rattle.mac_serve.specs.declared.outbound.OutboundFault.TheVariants as sending
 use Rattle.mac_serve.specs.Posts.{AreAnswered, TookForeign}
-use Rattle.mac_serve.specs.Receiving.{Gave, CountsRead, Past, IsPast, Ran, TakesIn, TakesSome, IsBehind, Readings, tables_of, read_of, jobs_of, placed}
+use Rattle.mac_serve.specs.Receiving.{Gave, CountsRead, Past, IsPast, Ran, TakesIn, TakesSome, IsBehind, Readings, TakesUnder, terms_of, read_of, jobs_of, placed}
 use Rattle.mac_serve.specs.Sending.{answer_to, replies, payloads, next, out_text, CountsWrite, Stands, Fell, Sends}
 use Rattle.mac_serve.specs.Serving.{answers, text_from, SentAll, SentSome, SentBeginning, Sent, IsLeft, HasServed, MayCount, CountsServed, GoesOnWith, GivesBack, outcome_of}
 use Rattle.mac_serve.proofs.Answered.{none-answered, answered-longer, took-longer}
@@ -115,10 +116,10 @@ module _ (version : Version) (base : ℕ) (readings : Readings) (o : Outbound) (
 -- What two halves did that ran over one ring, from its beginning: behind what had come before the
 -- source gave more of a stream, the sink took what was unsent before and what went out, and the ends
 -- met.
-module _ (tells_in tells_out : Bool) (AreTaken : List Table → Type 0) (session : Session) (past : Past) (given given' wrote wrote' stream : List ℕ) (readings : Readings) (unread : List Arrival) (ahead left : List ℕ)
+module _ (tells_in tells_out : Bool) (AreTaken : List Terms → Type 0) (session : Session) (past : Past) (given given' wrote wrote' stream : List ℕ) (readings : Readings) (unread : List Arrival) (ahead left : List ℕ)
     (pass : Pass Job) (taken : List Entry) (start i : Inbound) (o : Outbound) (rest : List Job) (count : ℕ) (reader : FrameReader)
     (gave : Gave tells_in given given' stream)
-    (taken_are : AreTaken (tables_of readings))
+    (taken_are : AreTaken (terms_of readings))
     (came : (arrivals_of (past.read ++ stream)).arrived ≡ past.arrived ++ (read_of readings ++ unread))
     (parts : session.unsent ≡ ahead ++ left)
     (first_out : (left ≡ []) ⊎ (out_text o ≡ []))
@@ -156,7 +157,7 @@ module _ (tells_in tells_out : Bool) (AreTaken : List Table → Type 0) (session
   few t =
       let size = ap length (first t) in
       let pieces = ap length (take-append-drop t.count jobs) in
-      omega (arith, counted, size, pieces, length-append (take t.count jobs) (drop t.count jobs), length-map readings (λ (r : Table × Arrival). job_under r.0 r.1))
+      omega (arith, counted, size, pieces, length-append (take t.count jobs) (drop t.count jobs), length-map readings (λ (r : Terms × Arrival). job_under r.0 r.1))
 
   -- what is put into an empty ring stands at the places from 0 on
   put-first : (js : List Job) → record start.putter { put = start.putter.put ++ placed (length (admitted start.ring)) js }
@@ -227,7 +228,7 @@ module _ (tells_in tells_out : Bool) (AreTaken : List Table → Type 0) (session
   all-counted : TakesIn jobs start i → count ≡ length readings
   all-counted t =
       let size = ap length (t.admitted_is ∙ ap (λ (l : List Job). l ++ jobs) empty) in
-      omega (arith, counted, size, length-map readings (λ (r : Table × Arrival). job_under r.0 r.1))
+      omega (arith, counted, size, length-map readings (λ (r : Terms × Arrival). job_under r.0 r.1))
 
   -- all went out, where all jobs were taken in and each reply was released
   sent-all : (end : Ending) (onward : Option Session) → Fell taken sending.Exhausted o → unread ≡ [] → left ≡ [] → TakesIn jobs start i → o.sent ≡ count
@@ -237,7 +238,7 @@ module _ (tells_in tells_out : Bool) (AreTaken : List Table → Type 0) (session
       let has : count ≡ length readings = all-counted t in
       record {
         output_is = some version session.answered readings o (rest ++ drop s.count jobs) (goes-on s) same at fell.frames.there (fell.whole (λ is. absurd cc))
-            ∙ ap (text_from version session.answered) (take_all o.sent (answers readings) (omega (arith, sent, has, length-map readings (λ (r : Table × Arrival). answer_of r.0 r.1))));
+            ∙ ap (text_from version session.answered) (take_all o.sent (answers readings) (omega (arith, sent, has, length-map readings (λ (r : Terms × Arrival). answer_of r.0 r.1))));
         none_unread = read;
         none_left = none;
         arrived_is = has;
@@ -371,16 +372,16 @@ nothing-out before after left none (inl is) = inl is
 nothing-out before after left none (inr is) = inr (ap (λ (n : ℕ). take n (framed (payloads after))) (is.0 ∙ none))
 
 -- a connection that was not served
-pub nothing-served : (tells_in tells_out : Bool) (told_keys : Bool) (known : Known) (session : Session) (past : Past) (given wrote : List ℕ) (pass : Pass Job) (taken : List Entry) (served : Served) → IsPast past
+pub nothing-served : (rights : Rights) (tells_in tells_out : Bool) (told_keys : Bool) (known : Noticed) (session : Session) (past : Past) (given wrote : List ℕ) (pass : Pass Job) (taken : List Entry) (served : Served) → IsPast past
     → served ≡ record { arrived = 0; sent = 0; written = 0; ending = ending.Broken; desk = record { putter = pass; taker = taken }; session = None }
-    → HasServed tells_in tells_out (Takes told_keys known known) session past given given wrote wrote pass taken (Some fault.NoMemory) served
+    → HasServed tells_in tells_out (TakesUnder rights told_keys known known) session past given given wrote wrote pass taken (Some fault.NoMemory) served
 unfolding placed
-nothing-served tells_in tells_out told_keys known session past given wrote pass taken served is_past is =
+nothing-served rights tells_in tells_out told_keys known session past given wrote pass taken served is_past is =
     let none : Served = record { arrived = 0; sent = 0; written = 0; ending = ending.Broken; desk = record { putter = pass; taker = taken }; session = None } in
     let more = is_past [] in
     let version : Version = (arrivals_of (past.read ++ [])).version in
     let ps : List (List ℕ) = payloads_from version session.answered (answers []) in
-    let has : HasServed tells_in tells_out (Takes told_keys known known) session past given given wrote wrote pass taken (Some fault.NoMemory) none = record {
+    let has : HasServed tells_in tells_out (TakesUnder rights told_keys known known) session past given given wrote wrote pass taken (Some fault.NoMemory) none = record {
       stream = [];
       gave = λ _. sym (append-nil given);
       readings = [];
@@ -409,7 +410,7 @@ nothing-served tells_in tells_out told_keys known session past given wrote pass 
       kept = λ no. absurd cc;
       back = tt;
     } in
-    subst (λ (s : Served). HasServed tells_in tells_out (Takes told_keys known known) session past given given wrote wrote pass taken (Some fault.NoMemory) s) (sym is) has
+    subst (λ (s : Served). HasServed tells_in tells_out (TakesUnder rights told_keys known known) session past given given wrote wrote pass taken (Some fault.NoMemory) s) (sym is) has
 
 -- what the devices counted, where a session is given back or not
 pub counts-back : (IsNext : Session → Type 0) (told why : Option ServeFault) (onward : Option Session) (r r' w w' : ℕ) → GivesBack IsNext told why onward → CountsServed told r r' w w' → CountsServed why r r' w w'

@@ -1,7 +1,7 @@
 -- A connection that was answered elsewhere before, and then served.
 use Rattle.std.specs.Prelude.{◌≡◌, ◌⊎◌, ℕ, Bool, List, [], ◌++◌, Option, Some, None, IfSome}
 use Rattle.mac_queue.specs.Pass.{Pass}
-use Rattle.mac_board.specs.Follows.{Known, Takes}
+use Rattle.mac_board.specs.Noticed.{Noticed}
 use Rattle.mac_wire.specs.declared.arrival.Arrival.{Arrival}
 use Rattle.mac_wire.specs.declared.reply.Reply.{Reply}
 use Rattle.mac_wire.specs.declared.session.Session.{Session}
@@ -9,10 +9,11 @@ use Rattle.mac_wire.specs.Stream.{arrivals_of}
 use Rattle.mac_wire.specs.Reply.{reply_text}
 use Rattle.mac_wire.specs.Session.{Stands}
 use Rattle.mac_decide.specs.declared.job.Job.{Job}
+use Rattle.mac_decide.specs.declared.rights.Rights.{Rights}
 use Rattle.mac_serve.specs.declared.connection.Served.{Served}
 use Rattle.mac_serve.specs.declared.fault.ServeFault.{ServeFault}
 use Rattle.mac_serve.specs.declared.fault.ServeFault.TheVariants as fault
-use Rattle.mac_serve.specs.Receiving.{Readings, read_of}
+use Rattle.mac_serve.specs.Receiving.{Readings, TakesUnder, read_of}
 use Rattle.mac_serve.specs.Serving.{answers, HasServed}
 
 -- What was written of a stream, before and then, is a beginning of the framed replies to all that
@@ -33,12 +34,12 @@ pub record Joins (stream written : List ℕ) (arrived : List Arrival) (readings 
 -- whatever `serve` does with a session that stands
 abbrev pub ServingJoins : Type 0
 ServingJoins =
-    (tells_in tells_out tells : Bool) (known known' : Known) (session : Session)
+    (rights : Rights) (tells_in tells_out tells : Bool) (known known' : Noticed) (session : Session)
     (read written : List ℕ) (arrived : List Arrival) (replies : List Reply)
     (given given' wrote wrote' : List ℕ) (pass : Pass Job) (taken : List (ℕ × Option Job))
     (why : Option ServeFault) (served : Served)
     → Stands session read written arrived replies
-    → (h : HasServed tells_in tells_out (Takes tells known known') session
+    → (h : HasServed tells_in tells_out (TakesUnder rights tells known known') session
     (record { read = read; arrived = arrived }) given given' wrote wrote' pass taken why served)
     → Joins (read ++ h.stream) (written ++ (h.ahead ++ h.output)) arrived h.readings h.unread
     replies why served

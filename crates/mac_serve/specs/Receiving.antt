@@ -4,7 +4,7 @@ use Rattle.std.specs.declared.alloc.Global.{Global}
 use Rattle.std.specs.declared.vec.Vec.{Vec}
 use Rattle.mac_ring.specs.Ring.{admitted, IsSameIntake}
 use Rattle.mac_queue.specs.Pass.{IsSamePass}
-use Rattle.mac_keys.specs.Table.{Table}
+use Rattle.mac_board.specs.Noticed.{Current, IsCurrent, Noticed, Notices}
 use Rattle.mac_wire.specs.declared.arrival.Arrival.{Arrival}
 use Rattle.mac_wire.specs.declared.arrival.Ending.{Ending}
 use Rattle.mac_wire.specs.declared.arrival.Ending.TheVariants as ending
@@ -13,7 +13,9 @@ use Rattle.mac_wire.specs.declared.version.Version.{Version}
 use Rattle.mac_wire.specs.Stream.{arrivals_of, version_told, version_or_one}
 use Rattle.mac_wire.specs.FrameReader.{HasRead, HasEnded, version_of}
 use Rattle.mac_decide.specs.declared.job.Job.{Job}
+use Rattle.mac_decide.specs.Terms.{Terms}
 use Rattle.mac_decide.specs.World.{job_under}
+use Rattle.mac_decide.specs.declared.rights.Rights.{Rights}
 use Rattle.mac_serve.specs.declared.incoming.InboundFault.{InboundFault}
 use Rattle.mac_serve.specs.declared.incoming.InboundFault.TheVariants as fault
 use Rattle.mac_serve.specs.declared.inbound.Inbound.{Inbound}
@@ -56,17 +58,29 @@ CountsRead (Err fault.NoMemory) old new = new ≡ old
 CountsRead (Err fault.Exhausted) old new = new ≡ old
 CountsRead (Err fault.Stopped) old new = new ≡ old
 
--- arrivals in order, each with the table that its job was made under
+-- arrivals in order, each with the terms that its job was made under
 abbrev pub Readings : Type 0
-Readings = List (Table × Arrival)
+Readings = List (Terms × Arrival)
 
-abbrev pub tables_of : Readings → List Table
-tables_of readings = map (λ reading. reading.0) readings
+abbrev pub terms_of : Readings → List Terms
+terms_of readings = map (λ reading. reading.0) readings
+
+-- the table and the moment of terms
+abbrev pub current_of : Terms → Current
+current_of terms = record { table = terms.table; moment = terms.moment }
+
+-- for each of these terms there was one look at the tables and the clock, in their order, which
+-- came to its table and its moment, and no other; and each has these rights
+abbrev pub TakesUnder : Rights → Bool → Noticed → Noticed → List Terms → Type 0
+TakesUnder rights tells before after [] = after ≡ before
+TakesUnder rights tells before after (terms ∷ more) =
+    (now : Noticed) × Notices tells before now × IsCurrent now (current_of terms)
+    × (terms.rights ≡ rights) × TakesUnder rights tells now after more
 
 abbrev pub read_of : Readings → List Arrival
 read_of readings = map (λ reading. reading.1) readings
 
--- the jobs of arrivals, each under its table
+-- the jobs of arrivals, each under its terms
 abbrev pub jobs_of : Readings → List Job
 jobs_of readings = map (λ reading. job_under reading.0 reading.1) readings
 
@@ -110,13 +124,13 @@ Receives jobs (Ok x) before after = TakesIn jobs before after
 Receives jobs (Err why) before after = (why ≢ fault.Read) × TakesSome jobs before after
 
 -- What a step did with arrivals: it read all of them, or the first ones where it failed, each under
--- one of the tables that were taken, and received their jobs.
-pub record ReceivesUnder {T : Type 0} (AreTaken : List Table → Type 0) (arrivals : List Arrival)
+-- one of the terms that were taken, and received their jobs.
+pub record ReceivesUnder {T : Type 0} (AreTaken : List Terms → Type 0) (arrivals : List Arrival)
     (result : Result T InboundFault) (before after : Inbound) : Type 0 where
   pub readings : Readings
   pub unread : List Arrival
   pub are : arrivals ≡ read_of readings ++ unread
-  pub taken : AreTaken (tables_of readings)
+  pub taken : AreTaken (terms_of readings)
   pub all : OnOk result (unread ≡ [])
   pub receives : Receives (jobs_of readings) result before after
 
@@ -148,15 +162,15 @@ IsPast past =
     → (more : List Arrival) × ((arrivals_of (past.read ++ bytes)).arrived ≡ past.arrived ++ more)
 
 -- A run over the bytes that the source gave, behind what came before it, a stream of this version,
--- under tables that were taken. Where the source failed the reader can go on.
-pub record HasRun (tells : Bool) (AreTaken : List Table → Type 0) (version : Version) (past : Past)
+-- under terms that were taken. Where the source failed the reader can go on.
+pub record HasRun (tells : Bool) (AreTaken : List Terms → Type 0) (version : Version) (past : Past)
     (given given' : List ℕ) (reader : FrameReader) (result : Result Ending InboundFault)
     (before after : Inbound) : Type 0 where
   pub stream : List ℕ
   pub gave : Gave tells given given' stream
   pub version_is : (arrivals_of (past.read ++ stream)).version ≡ version
   pub readings : Readings
-  pub taken : AreTaken (tables_of readings)
+  pub taken : AreTaken (terms_of readings)
   pub unread : List Arrival
   pub came : (arrivals_of (past.read ++ stream)).arrived
       ≡ past.arrived ++ (read_of readings ++ unread)
@@ -166,20 +180,20 @@ pub record HasRun (tells : Bool) (AreTaken : List Table → Type 0) (version : V
       × (¬ HasEnded reader)
 
 -- A run that goes on: the reader was fed a stream of this version, and of what it handed out behind
--- what came before, the jobs of all but these arrivals were taken in, under tables that were taken.
-pub record GoesOn (tells : Bool) (AreTaken : List Table → Type 0) (version : Version) (past : Past)
+-- what came before, the jobs of all but these arrivals were taken in, under terms that were taken.
+pub record GoesOn (tells : Bool) (AreTaken : List Terms → Type 0) (version : Version) (past : Past)
     (given given' : List ℕ) (reader : FrameReader) (pending : List Arrival)
     (before after : Inbound) : Type 0 where
   pub stream : List ℕ
   pub gave : Gave tells given given' stream
   pub told : version_told (past.read ++ stream) ≡ Some version
   pub readings : Readings
-  pub taken : AreTaken (tables_of readings)
+  pub taken : AreTaken (terms_of readings)
   pub read : HasRead reader (past.read ++ stream) (past.arrived ++ (read_of readings ++ pending))
   pub took : TakesIn (jobs_of readings) before after
 
 -- how a read of a run that goes on ended: more arrivals came or none, or the run ends by a fault
-abbrev pub Continues : Bool → (AreTaken : List Table → Type 0) → Version → Past → List ℕ → List ℕ
+abbrev pub Continues : Bool → (AreTaken : List Terms → Type 0) → Version → Past → List ℕ → List ℕ
     → Result (Option (Vec Arrival Global)) InboundFault → FrameReader → Inbound → Inbound → Type 0
 Continues tells AreTaken version past given given' (Ok (Some more)) reader before after =
     GoesOn tells AreTaken version past given given' reader more.items before after
@@ -192,7 +206,7 @@ Continues tells AreTaken version past given given' (Err why) reader before after
 -- the reader to the other, while its source went from these bytes, this end and this count of
 -- failures to those: it ran over the bytes, told an end where the source had one, and the source's
 -- failure is counted.
-pub record Runs (tells : Bool) (AreTaken : List Table → Type 0) (given given' : List ℕ) (ended ended' : Bool)
+pub record Runs (tells : Bool) (AreTaken : List Terms → Type 0) (given given' : List ℕ) (ended ended' : Bool)
     (faults faults' : ℕ) (first : Result (Option (Vec Arrival Global)) InboundFault)
     (reader reader' : FrameReader) (result : Result Ending InboundFault)
     (before after : Inbound) : Type 0 where

@@ -18,7 +18,7 @@ use Rattle.mac_serve.specs.Posts.{AreAnswered, TookForeign}
 
 -- the reply to a job
 abbrev pub answer_to : Job → Reply
-answer_to job = reply_of job.arrival job.key
+answer_to job = reply_of job.arrival job.basis
 
 -- the replies to the jobs that came through the ring
 abbrev pub replies : Outbound → List Reply

@@ -1,7 +1,6 @@
 -- What a run of `serve` did, for its callers.
 use Rattle.std.specs.Prelude.{◌≡◌, ◌⊎◌, ℕ, ◌+◌, ◌≤◌, Bool, if◌then◌else◌, List, [], ◌++◌, length, map, take, Option, Some, None, Result, Ok, Err, IfSome, IsSome}
 use Rattle.mac_queue.specs.Pass.{Pass, IsSamePass}
-use Rattle.mac_keys.specs.Table.{Table}
 use Rattle.mac_wire.specs.declared.arrival.Arrival.{Arrival}
 use Rattle.mac_wire.specs.declared.arrival.Ending.{Ending}
 use Rattle.mac_wire.specs.declared.arrival.Ending.TheVariants as ending
@@ -16,8 +15,11 @@ use Rattle.mac_wire.specs.declared.frame.FrameReader.{FrameReader}
 use Rattle.mac_wire.specs.declared.session.Session.{Session}
 use Rattle.mac_wire.specs.Whole.{HasWhole}
 use Rattle.mac_decide.specs.Answer.{answer_of}
+use Rattle.mac_decide.specs.Terms.{Terms}
 use Rattle.mac_decide.specs.declared.job.Job.{Job}
-use Rattle.mac_serve.specs.Receiving.{Gave, Past, Readings, tables_of, read_of, jobs_of, placed, IsBehind}
+use Rattle.mac_decide.specs.declared.rights.Rights.{Rights}
+use Rattle.mac_keys.specs.Table.{Table}
+use Rattle.mac_serve.specs.Receiving.{Gave, Past, Readings, terms_of, read_of, jobs_of, placed, IsBehind}
 use Rattle.mac_serve.specs.Posts.{AreAnswered, TookForeign}
 use Rattle.mac_serve.specs.declared.fault.ServeFault.{ServeFault}
 use Rattle.mac_serve.specs.declared.fault.ServeFault.TheVariants as fault
@@ -27,9 +29,13 @@ use Rattle.mac_serve.specs.declared.outbound.OutboundFault.TheVariants as sendin
 use Rattle.mac_serve.specs.declared.incoming.InboundFault.{InboundFault}
 use Rattle.mac_serve.specs.declared.incoming.InboundFault.TheVariants as reading
 
--- the replies to arrivals, each under its table
+-- the replies to arrivals, each under its terms
 abbrev pub answers : Readings → List Reply
 answers readings = map (λ reading. answer_of reading.0 reading.1) readings
+
+-- terms with this table and these rights, at the moment that they have
+abbrev pub under_table : Table → Rights → Terms → Terms
+under_table table rights terms = record { table = table; rights = rights; moment = terms.moment }
 
 -- the frames of replies, the first of which is at this place
 abbrev pub text_from : Version → ℕ → List Reply → List ℕ
@@ -90,19 +96,19 @@ pub record IsLeft (stream : List ℕ) (arrived : List Arrival) (answered : ℕ)
   pub answered_is : session.answered ≡ answered
 
 -- What a run did: it read more of a stream, behind what had come of it before, and wrote bytes,
--- those that were unsent before first of all. Its arrivals were read in order, each under a table of
+-- those that were unsent before first of all. Its arrivals were read in order, each under terms of
 -- its own among those that were taken. So many jobs of these were admitted, so many
 -- bytes of their replies written, and so many replies went out whole. The admitted jobs were put
 -- into the queue at their places, or all but the last. For each reply that went out the desk took a
 -- post with that place's job. A stranger is told only where a post was foreign. Where the source
 -- failed, and only there, the connection can go on.
-pub record HasServed (tells_in tells_out : Bool) (AreTaken : List Table → Type 0)
+pub record HasServed (tells_in tells_out : Bool) (AreTaken : List Terms → Type 0)
     (session : Session) (past : Past) (given given' wrote wrote' : List ℕ) (pass : Pass Job) (taken : List (ℕ × Option Job))
     (why : Option ServeFault) (served : Served) : Type 0 where
   pub stream : List ℕ
   pub gave : Gave tells_in given given' stream
   pub readings : Readings
-  pub taken_are : AreTaken (tables_of readings)
+  pub taken_are : AreTaken (terms_of readings)
   pub unread : List Arrival
   pub came : (arrivals_of (past.read ++ stream)).arrived
       ≡ past.arrived ++ (read_of readings ++ unread)

@@ -1,11 +1,10 @@
 //! A connection, from a session on to its last byte, or to the next session.
 
 ghost use Rattle.std.specs.Prelude.{◌≡◌, ◌≢◌, ◌⊎◌, ◌+◌, ℕ, Bool, List, [], IsTrue, IsSome, IfOk, OnErr};
-ghost use Rattle.mac_board.specs.Follows.{Takes};
 ghost use Rattle.mac_queue.specs.Pass.{IsSamePass};
 ghost use Rattle.mac_wire.specs.FrameReader.{HasEnded};
 ghost use Rattle.mac_wire.specs.Session.{HasCome};
-ghost use Rattle.mac_serve.specs.Receiving.{Past, Reads, CountsRead, Runs};
+ghost use Rattle.mac_serve.specs.Receiving.{Past, Reads, CountsRead, Runs, TakesUnder};
 ghost use Rattle.mac_serve.specs.Sending.{SendsBoth};
 ghost use Rattle.mac_serve.specs.Serving.{HasServed, CountsServed, GoesOnWith, GivesBack, fault_of, served_of, outcome_of};
 
@@ -14,8 +13,8 @@ use crate::inbound::Inbound;
 use crate::incoming::{InboundFault, Incoming};
 use crate::outbound::{Outbound, OutboundFault};
 use crate::signals::Signals;
-use mac_board::Tables;
-use mac_decide::Macaroons;
+use mac_board::Outlook;
+use mac_decide::{Macaroons, Rights};
 use mac_queue::Desk;
 use mac_ring::{Totals, make_ring, meet};
 use mac_wire::{Ending, FrameReader, NoMemory, Session, Sink, Source, Unsent, Version};
@@ -43,21 +42,25 @@ pub struct Served {
 
 /// Serves a connection that is between two requests: writes what is unsent, reads requests from the
 /// source to its end, those that are carried first, and lets the workers of the desk's pool answer
-/// them, each under the key table that is up once it is read. The replies go into the sink in order,
-/// as the stream's version has them, at the places that follow. Requests are read in this thread,
-/// and replies sent from a thread of their own, which begins once the stream's version is known.
-pub fn serve<R: Threads + Wait + Sync, In: Source, Out: Sink, K: Tables>(
+/// them, each under the key table that is up once it is read, at the moment of then and under these
+/// rights. The replies
+/// go into the sink in order, as the stream's version has them, at the places that follow. Requests
+/// are read in this thread, and replies sent from a thread of their own, which begins once the
+/// stream's version is known.
+pub fn serve<R: Threads + Wait + Sync, In: Source, Out: Sink, K: Outlook>(
     rt: &R,
     alloc: Global,
     source: &mut In,
     sink: &mut Out,
-    keys: &mut K,
+    outlook: &mut K,
+    rights: &Rights,
     desk: Desk<Macaroons>,
     session: Session,
 ) -> Result<Served, (ServeFault, Served)>
     ensures serves { (past : Past)
         → HasCome session.version past.read past.arrived session.carried.items
-        → HasServed In.tells Out.tells (Takes K.tells (K.known keys.old) (K.known keys.new))
+        → HasServed In.tells Out.tells
+        (TakesUnder rights.now K.tells (K.known outlook.old) (K.known outlook.new))
         session past (In.taken source.old) (In.taken source.new)
         (Out.written sink.old) (Out.written sink.new) desk.putter desk.taker (fault_of result)
         (served_of result) }
@@ -89,7 +92,8 @@ pub fn serve<R: Threads + Wait + Sync, In: Source, Out: Sink, K: Tables>(
         alloc,
         source,
         sink,
-        keys,
+        outlook,
+        rights,
         &mut incoming,
         &mut inbound,
         &mut outbound,
@@ -145,12 +149,13 @@ fn begun<In: Source>(
 }
 
 /// Runs both halves at once.
-fn run_both<R: Threads + Wait + Sync, In: Source, Out: Sink, K: Tables>(
+fn run_both<R: Threads + Wait + Sync, In: Source, Out: Sink, K: Outlook>(
     rt: &R,
     alloc: Global,
     source: &mut In,
     sink: &mut Out,
-    keys: &mut K,
+    outlook: &mut K,
+    rights: &Rights,
     incoming: &mut Incoming,
     inbound: &mut Inbound,
     outbound: &mut Outbound,
@@ -159,7 +164,8 @@ fn run_both<R: Threads + Wait + Sync, In: Source, Out: Sink, K: Tables>(
     ensures sends { SendsBoth Out.tells unsent.old unsent.new (Out.written sink.old)
         (Out.written sink.new) (Out.faults sink.old) (Out.faults sink.new) result.0 outbound.old
         outbound.new }
-    ensures runs { Runs In.tells (Takes K.tells (K.known keys.old) (K.known keys.new))
+    ensures runs { Runs In.tells
+        (TakesUnder rights.now K.tells (K.known outlook.old) (K.known outlook.new))
         (In.taken source.old) (In.taken source.new) (In.ended source.old) (In.ended source.new)
         (In.faults source.old) (In.faults source.new) incoming.old.first incoming.old.reader
         incoming.new.reader result.1 inbound.old inbound.new }
@@ -168,7 +174,7 @@ fn run_both<R: Threads + Wait + Sync, In: Source, Out: Sink, K: Tables>(
     join_mut(
         rt,
         &mut || outbound.run(rt, sink, unsent, &signals),
-        &mut || inbound.run(rt, alloc, source, incoming, keys, &signals),
+        &mut || inbound.run(rt, alloc, source, incoming, outlook, rights, &signals),
     )
 }
 

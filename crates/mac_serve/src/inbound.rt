@@ -1,14 +1,15 @@
 //! The half of a connection that reads requests.
 
 ghost use Rattle.std.specs.Prelude.{◌≡◌, ◌≢◌, ◌<◌, ◌++◌, ◌∷◌, ℕ, Bool, List, [], length, map, IsTrue, None, IfOk, OnOk, OnErr, MatchResult, Ok, Err, false, ◌⊎◌, IfErr};
+ghost use Rattle.mac_decide.specs.Terms.{lent_terms};
+ghost use Rattle.mac_decide.specs.declared.rights.Rights.{Rights as PlainRights};
 ghost use Rattle.mac_decide.specs.World.{job_under};
 
 use crate::incoming::{InboundFault, Incoming};
 use crate::outstanding::Outstanding;
 use crate::signals::Signals;
-use mac_board::Tables;
-use mac_decide::{Job, Macaroons, job_of};
-use mac_keys::KeyTable;
+use mac_board::Outlook;
+use mac_decide::{Job, Macaroons, Rights, Terms, job_of};
 use mac_mail::PutFault;
 use mac_order::Service;
 use mac_queue::Putter;
@@ -40,9 +41,9 @@ pub struct Inbound {
 impl Inbound {
     ghost use Rattle.mac_ring.specs.Ring.{admitted, IsSameIntake, Knows};
     ghost use Rattle.mac_queue.specs.Pass.{with_put, IsSamePass};
-    ghost use Rattle.mac_serve.specs.Receiving.{CountsRead, IsSameHalf, Receives, ReceivesUnder, HasRun, Past, GoesOn, Continues, Runs};
+    ghost use Rattle.mac_serve.specs.Receiving.{CountsRead, IsSameHalf, Receives, ReceivesUnder, TakesUnder, HasRun, Past, GoesOn, Continues, Runs};
     ghost use Rattle.mac_wire.specs.FrameReader.{HasEnded};
-    ghost use Rattle.mac_board.specs.Follows.{Known, Takes};
+    ghost use Rattle.mac_board.specs.Noticed.{Noticed};
     ghost use Rattle.mac_wire.specs.declared.version.Version.{Version};
 
     /// A half that has read nothing.
@@ -162,6 +163,7 @@ impl Inbound {
             match self.putter.put(rt, place, job) {
                 Ok(()) => return Ok(()),
                 Err((PutFault::Closed, _)) => return Err(InboundFault::Exhausted),
+                Err((PutFault::Spent, _)) => return Err(InboundFault::Exhausted),
                 Err((PutFault::NoMemory, _)) => return Err(InboundFault::NoMemory),
                 Err((PutFault::Full, back)) => job = back,
             }
@@ -179,33 +181,43 @@ impl Inbound {
         rt: &R,
         alloc: Global,
         arrival: Arrival,
-        keys: &KeyTable,
+        terms: Terms<'_>,
         signals: &Signals,
     ) -> Result<(), InboundFault>
-        ensures { Receives (job_under keys.now arrival ∷ []) result self.old self.new }
+        ensures { Receives (job_under (lent_terms terms.entry) arrival ∷ []) result self.old
+            self.new }
     {
-        let job = job_of(keys, arrival);
+        let job = job_of(terms, arrival);
         let copy = Macaroons::copy(alloc, &job)?;
         let place = self.admit(rt, copy, signals)?;
         self.put(rt, place, job, signals)
     }
 
-    /// Admits the jobs of arrivals, and puts them into the queue. It looks at the tables before
-    /// each: one that waited for those before it is answered under the table that is up then.
-    fn take_arrivals<R: Wait, K: Tables>(
+    /// Admits the jobs of arrivals, and puts them into the queue. It looks at the tables and the
+    /// clock before each: one that waited for those before it is answered under the table that is
+    /// up then, and at the moment of then.
+    fn take_arrivals<R: Wait, K: Outlook>(
         &mut self,
         rt: &R,
         alloc: Global,
         arrivals: Vec<Arrival>,
-        keys: &mut K,
+        outlook: &mut K,
+        rights: &Rights,
         signals: &Signals,
     ) -> Result<(), InboundFault>
-        ensures { ReceivesUnder (Takes K.tells (K.known keys.old) (K.known keys.new))
+        ensures { ReceivesUnder
+            (TakesUnder rights.now K.tells (K.known outlook.old) (K.known outlook.new))
             arrivals.items result self.old self.new }
     {
         for arrival in arrivals {
-            keys.look();
-            self.take_arrival(rt, alloc, arrival, keys.table(), signals)?;
+            outlook.look();
+            let current = outlook.current();
+            let terms = Terms {
+                table: current.table,
+                rights,
+                moment: current.moment,
+            };
+            self.take_arrival(rt, alloc, arrival, terms, signals)?;
         }
         Ok(())
     }
@@ -217,11 +229,11 @@ impl Inbound {
         incoming: &mut Incoming,
         signals: &Signals,
     ) -> Result<Option<Vec<Arrival>>, InboundFault>
-        ensures goes_on { (tells : Bool) (begun known : Known) (version : Version) (past : Past)
-            (given : List ℕ) (start now : Inbound)
-            → GoesOn In.tells (Takes tells begun known) version past given (In.taken source.old)
-            incoming.old.reader [] start now
-            → Continues In.tells (Takes tells begun known) version past given
+        ensures goes_on { (rights : PlainRights) (tells : Bool) (begun known : Noticed)
+            (version : Version) (past : Past) (given : List ℕ) (start now : Inbound)
+            → GoesOn In.tells (TakesUnder rights tells begun known) version past given
+            (In.taken source.old) incoming.old.reader [] start now
+            → Continues In.tells (TakesUnder rights tells begun known) version past given
             (In.taken source.new) result incoming.new.reader start now }
         ensures end { result ≡ Ok None
             → IsTrue (In.ended source.new) ⊎ HasEnded incoming.new.reader }
@@ -235,33 +247,34 @@ impl Inbound {
 
     /// Puts the job of each of these arrivals and of those that follow them, to the end of the
     /// source, or as many as it can.
-    fn take_all<R: Wait, In: Source, K: Tables>(
+    fn take_all<R: Wait, In: Source, K: Outlook>(
         &mut self,
         rt: &R,
         alloc: Global,
         source: &mut In,
         incoming: &mut Incoming,
         first: Vec<Arrival>,
-        keys: &mut K,
+        outlook: &mut K,
+        rights: &Rights,
         signals: &Signals,
     ) -> Result<(), InboundFault>
         ensures same { IsSameHalf self.old self.new }
-        ensures goes_on { (begun : Known) (version : Version) (past : Past) (given : List ℕ)
+        ensures goes_on { (begun : Noticed) (version : Version) (past : Past) (given : List ℕ)
             (start : Inbound)
-            → GoesOn In.tells (Takes K.tells begun (K.known keys.old)) version past given
-            (In.taken source.old) incoming.old.reader first.items start self.old
+            → GoesOn In.tells (TakesUnder rights.now K.tells begun (K.known outlook.old))
+            version past given (In.taken source.old) incoming.old.reader first.items start self.old
             → MatchResult result
-            (λ _. GoesOn In.tells (Takes K.tells begun (K.known keys.new)) version past given
-            (In.taken source.new) incoming.new.reader [] start self.new)
-            (λ why. HasRun In.tells (Takes K.tells begun (K.known keys.new)) version past given
-            (In.taken source.new) incoming.new.reader (Err why) start self.new) }
+            (λ _. GoesOn In.tells (TakesUnder rights.now K.tells begun (K.known outlook.new))
+            version past given (In.taken source.new) incoming.new.reader [] start self.new)
+            (λ why. HasRun In.tells (TakesUnder rights.now K.tells begun (K.known outlook.new))
+            version past given (In.taken source.new) incoming.new.reader (Err why) start self.new) }
         ensures end { OnOk result
             (IsTrue (In.ended source.new) ⊎ HasEnded incoming.new.reader) }
         ensures faults { CountsRead result (In.faults source.old) (In.faults source.new) }
     {
         let mut arrivals = first;
         for _ in rt.forever() {
-            self.take_arrivals(rt, alloc, arrivals, keys, signals)?;
+            self.take_arrivals(rt, alloc, arrivals, outlook, rights, signals)?;
             match Inbound::read_next(source, incoming, signals)? {
                 Some(more) => arrivals = more,
                 None => return Ok(()),
@@ -271,16 +284,18 @@ impl Inbound {
     }
 
     /// Reads the source to its end, once replies are being sent.
-    fn read_to_end<R: Wait, In: Source, K: Tables>(
+    fn read_to_end<R: Wait, In: Source, K: Outlook>(
         &mut self,
         rt: &R,
         alloc: Global,
         source: &mut In,
         incoming: &mut Incoming,
-        keys: &mut K,
+        outlook: &mut K,
+        rights: &Rights,
         signals: &Signals,
     ) -> Result<Ending, InboundFault>
-        ensures { Runs In.tells (Takes K.tells (K.known keys.old) (K.known keys.new))
+        ensures { Runs In.tells
+            (TakesUnder rights.now K.tells (K.known outlook.old) (K.known outlook.new))
             (In.taken source.old) (In.taken source.new) (In.ended source.old) (In.ended source.new)
             (In.faults source.old) (In.faults source.new) incoming.old.first incoming.old.reader
             incoming.new.reader result self.old self.new }
@@ -292,27 +307,31 @@ impl Inbound {
         let Some(arrivals) = first else {
             return Ok(incoming.finish(alloc));
         };
-        self.take_all(rt, alloc, source, incoming, arrivals, keys, signals)?;
+        self.take_all(
+            rt, alloc, source, incoming, arrivals, outlook, rights, signals,
+        )?;
         Ok(incoming.finish(alloc))
     }
 
     /// Reads requests until the source has ended, or until a fault. The outbound half hears of its
     /// end.
-    pub fn run<R: Wait, In: Source, K: Tables>(
+    pub fn run<R: Wait, In: Source, K: Outlook>(
         &mut self,
         rt: &R,
         alloc: Global,
         source: &mut In,
         incoming: &mut Incoming,
-        keys: &mut K,
+        outlook: &mut K,
+        rights: &Rights,
         signals: &Signals,
     ) -> Result<Ending, InboundFault>
-        ensures { Runs In.tells (Takes K.tells (K.known keys.old) (K.known keys.new))
+        ensures { Runs In.tells
+            (TakesUnder rights.now K.tells (K.known outlook.old) (K.known outlook.new))
             (In.taken source.old) (In.taken source.new) (In.ended source.old) (In.ended source.new)
             (In.faults source.old) (In.faults source.new) incoming.old.first incoming.old.reader
             incoming.new.reader result self.old self.new }
     {
-        let ended = self.read_to_end(rt, alloc, source, incoming, keys, signals);
+        let ended = self.read_to_end(rt, alloc, source, incoming, outlook, rights, signals);
         signals.end_inbound(has_lost_jobs(&ended));
         self.putter.ring();
         ended

@@ -1,12 +1,14 @@
 //! What follows from the definitions alone.
 
-ghost use Rattle.std.specs.Prelude.{◌≡◌, ◌+◌, [], ◌∷◌, Bool, map};
-ghost use Rattle.mac_board.specs.Follows.{Known, Takes};
+ghost use Rattle.std.specs.Prelude.{◌≡◌, ◌+◌, [], ◌∷◌, ◌++◌, Bool, List, map};
+ghost use Rattle.mac_board.specs.Noticed.{Noticed};
 ghost use Rattle.mac_keys.specs.Table.{Table};
 ghost use Rattle.mac_decide.specs.Answer.{answer_of};
+ghost use Rattle.mac_decide.specs.Terms.{Terms};
 ghost use Rattle.mac_decide.specs.World.{job_under};
-ghost use Rattle.mac_serve.specs.Receiving.{Readings, tables_of, read_of, jobs_of};
-ghost use Rattle.mac_serve.specs.Serving.{answers};
+ghost use Rattle.mac_decide.specs.declared.rights.Rights.{Rights};
+ghost use Rattle.mac_serve.specs.Receiving.{Readings, TakesUnder, terms_of, jobs_of};
+ghost use Rattle.mac_serve.specs.Serving.{answers, under_table};
 ghost use Rattle.mac_serve.specs.Joining.{ServingJoins};
 
 use mac_mail::MAIL_MAX;
@@ -24,13 +26,25 @@ pub fn serving_joins_what_came_before()
     ensures { ServingJoins }
 {}
 
-/// Where one table alone is published, the jobs of all readings are made under it, and so are the
-/// replies.
+/// The moments at which the requests of a connection are answered are those that its clock told
+/// meanwhile, one for each of them, in their order, and no others.
+pub fn each_moment_was_told()
+    ensures { (rights : Rights) (tells : Bool) (known last : Noticed) (terms : List Terms)
+        → TakesUnder rights tells known last terms
+        → last.told ≡ known.told ++ map (λ (t : Terms). t.moment) terms }
+{}
+
+/// Where one table alone is published, the jobs of all readings are made under it and the rights of
+/// the connection, each at its own moment, and so are the replies.
 pub fn one_table_answers_all()
-    ensures jobs { (tells : Bool) (known last : Known) (table : Table) (readings : Readings)
-        → last.published ≡ table ∷ [] → Takes tells known last (tables_of readings)
-        → jobs_of readings ≡ map (job_under table) (read_of readings) }
-    ensures replies { (tells : Bool) (known last : Known) (table : Table) (readings : Readings)
-        → last.published ≡ table ∷ [] → Takes tells known last (tables_of readings)
-        → answers readings ≡ map (answer_of table) (read_of readings) }
+    ensures jobs { (rights : Rights) (tells : Bool) (known last : Noticed) (table : Table)
+        (readings : Readings) → last.tables.published ≡ table ∷ []
+        → TakesUnder rights tells known last (terms_of readings)
+        → jobs_of readings
+        ≡ map (λ r. job_under (under_table table rights r.0) r.1) readings }
+    ensures replies { (rights : Rights) (tells : Bool) (known last : Noticed) (table : Table)
+        (readings : Readings) → last.tables.published ≡ table ∷ []
+        → TakesUnder rights tells known last (terms_of readings)
+        → answers readings
+        ≡ map (λ r. answer_of (under_table table rights r.0) r.1) readings }
 {}

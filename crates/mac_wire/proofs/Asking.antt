@@ -6,11 +6,13 @@ use Rattle.std.specs.Int.{w64, to_be_bytes}
 use Rattle.std.proofs.lemmas.Bool.{eqb-true}
 use Rattle.std.proofs.lemmas.List.{append-nil}
 use Rattle.std.proofs.lemmas.List.Elements.{All-from_recursion, recursion_from_All}
+use Rattle.mac_wire.specs.declared.request.Grant.{Grant}
+use Rattle.mac_wire.specs.declared.request.Grant.TheVariants as grant
 use Rattle.mac_wire.specs.declared.request.TokenForm.{TokenForm}
 use Rattle.mac_wire.specs.declared.request.Request.{Request}
 use Rattle.mac_wire.specs.declared.request.TheConstants.{FACTS_MAX}
-use Rattle.mac_wire.specs.Request.{Asked, mint, attenuate, verify, IsBytes, form_code, short_field, long_field, counted_fields, payload_of, IsRequest, Asks, asked, key_of}
-use Rattle.mac_wire.specs.Reading.{number_at, short_field_at, long_field_at, text_field_at, counted_list_at, form_at, mint_of, attenuate_of, verify_of, request_of, name_at, mint_name_at, key_name_of}
+use Rattle.mac_wire.specs.Request.{Asked, mint, attenuate, verify, verify_now, IsBytes, form_code, grant_kind, short_field, long_field, counted_fields, payload_of, IsRequest, Asks, asked, key_of}
+use Rattle.mac_wire.specs.Reading.{number_at, short_field_at, long_field_at, text_field_at, counted_list_at, form_at, mint_of, attenuate_of, verify_of, verify_now_of, request_of, name_at, mint_name_at, key_name_of}
 use Rattle.mac_wire.proofs.Spelling.{bind_some, chosen, Takes, Takes-then, Takes-all, wide64, number_takes, number_again, short_takes, short_again, long_takes, long_again, text_takes, text_again, counted_take, counted_again, form_takes, form_again, some_is}
 
 -- what was taken is all, behind the number of the kind
@@ -78,6 +80,22 @@ verify_takes bytes q fits e =
       is_payload = whole 3 bytes (short_field k.0.0 ++ (long_field t.0.0 ++ tail)) all;
     })
 
+verify_now_takes : (g : Grant) (bytes : List ℕ) (q : Asked) → IsBytes bytes → verify_now_of g bytes ≡ Some q → Asks (grant_kind g ∷ bytes) q
+unfolding verify_now_of
+verify_now_takes g bytes q fits e =
+    let k = bind_some (short_field_at bytes) _ q e in
+    let t = bind_some (long_field_at k.0.1) _ q k.2 in
+    let f = bind_some (counted_list_at FACTS_MAX t.0.1) _ q t.2 in
+    let kt = short_takes bytes k.0.0 k.0.1 fits k.1 in
+    let tt = long_takes k.0.1 t.0.0 t.0.1 kt.0.rest_fits t.1 in
+    let ft = counted_take FACTS_MAX t.0.1 f.0 tt.0.rest_fits f.1 in
+    let from_t = Takes-then k.0.1 (long_field t.0.0) t.0.1 (counted_fields f.0) [] tt.0 (Takes-all _ _ ft.0) in
+    let all = Takes-then bytes (short_field k.0.0) k.0.1 (long_field t.0.0 ++ counted_fields f.0) [] kt.0 from_t in
+    subst (Asks (grant_kind g ∷ bytes)) (some_is (verify_now g k.0.0 t.0.0 f.0) q f.2) (record {
+      is_request = (kt.1, tt.1, ft.1, All-from_recursion _ f.0 ft.3);
+      is_payload = whole (grant_kind g) bytes (short_field k.0.0 ++ (long_field t.0.0 ++ counted_fields f.0)) all;
+    })
+
 IsBytes-rest : (b : ℕ) (bytes : List ℕ) → IsBytes (b ∷ bytes) → IsBytes bytes
 IsBytes-rest b bytes h i = h (suc i)
 
@@ -90,9 +108,15 @@ asks-request_of (kind ∷ bytes) q fits e =
       | inl a ↦ subst (λ (k : ℕ). Asks (k ∷ bytes) q) (sym (eqb-true kind 1 a.0)) (mint_takes bytes q rest a.1)
       | inr b ↦ elim (chosen (eqb kind 2) (attenuate_of bytes) _ (Some q) b.1) [
         | inl a ↦ subst (λ (k : ℕ). Asks (k ∷ bytes) q) (sym (eqb-true kind 2 a.0)) (attenuate_takes bytes q rest a.1)
-        | inr c ↦ elim (chosen (eqb kind 3) (verify_of bytes) None (Some q) c.1) [
+        | inr c ↦ elim (chosen (eqb kind 3) (verify_of bytes) _ (Some q) c.1) [
           | inl a ↦ subst (λ (k : ℕ). Asks (k ∷ bytes) q) (sym (eqb-true kind 3 a.0)) (verify_takes bytes q rest a.1)
-          | inr d ↦ absurd cc
+          | inr d ↦ elim (chosen (eqb kind 4) (verify_now_of grant.Bare bytes) _ (Some q) d.1) [
+            | inl a ↦ subst (λ (k : ℕ). Asks (k ∷ bytes) q) (sym (eqb-true kind 4 a.0)) (verify_now_takes grant.Bare bytes q rest a.1)
+            | inr g ↦ elim (chosen (eqb kind 5) (verify_now_of grant.Owner bytes) None (Some q) g.1) [
+              | inl a ↦ subst (λ (k : ℕ). Asks (k ∷ bytes) q) (sym (eqb-true kind 5 a.0)) (verify_now_takes grant.Owner bytes q rest a.1)
+              | inr h ↦ absurd cc
+            ]
+          ]
         ]
       ]
     ]
@@ -122,10 +146,24 @@ verify_again key token moment facts h =
     let r1 : List ℕ = long_field token ++ r2 in
     rw (short_again key r1, long_again token r2 h.1, number_again w64 (2 ^ 64) wide64 moment (counted_fields facts) h.2, counted_again FACTS_MAX facts h.3 (recursion_from_All _ facts h.4)) refl
 
+verify_now_again : (g : Grant) (key token : List ℕ) (facts : List (List ℕ)) → IsRequest (verify_now g key token facts)
+    → verify_now_of g (short_field key ++ (long_field token ++ counted_fields facts)) ≡ Some (verify_now g key token facts)
+unfolding verify_now_of
+verify_now_again g key token facts h =
+    let r1 : List ℕ = long_field token ++ counted_fields facts in
+    rw (short_again key r1, long_again token (counted_fields facts) h.1, counted_again FACTS_MAX facts h.2 (recursion_from_All _ facts h.3)) refl
+
+now_again : (g : Grant) (key token : List ℕ) (facts : List (List ℕ)) → IsRequest (verify_now g key token facts)
+    → request_of (payload_of (verify_now g key token facts)) ≡ Some (verify_now g key token facts)
+unfolding request_of
+now_again grant.Bare key token facts h = verify_now_again grant.Bare key token facts h
+now_again grant.Owner key token facts h = verify_now_again grant.Owner key token facts h
+
 again : (q : Asked) → IsRequest q → request_of (payload_of q) ≡ Some q
 again (mint f key location identifier caveats) h = mint_again f key location identifier caveats h
 again (attenuate f token caveats) h = attenuate_again f token caveats h
 again (verify key token moment facts) h = verify_again key token moment facts h
+again (verify_now g key token facts) h = now_again g key token facts h
 
 pub request_of-asks : (payload : List ℕ) (q : Asked) → Asks payload q → request_of payload ≡ Some q
 request_of-asks payload q h = ap request_of h.is_payload ∙ again q h.is_request
@@ -140,6 +178,8 @@ unfolding key_name_of mint_name_at name_at
 front_name (mint f key location identifier caveats) = rw (short_again key (long_field location ++ (long_field identifier ++ counted_fields caveats))) refl
 front_name (attenuate f token caveats) = refl
 front_name (verify key token moment facts) = rw (short_again key (long_field token ++ (to_be_bytes w64 moment ++ counted_fields facts))) refl
+front_name (verify_now grant.Bare key token facts) = rw (short_again key (long_field token ++ counted_fields facts)) refl
+front_name (verify_now grant.Owner key token facts) = rw (short_again key (long_field token ++ counted_fields facts)) refl
 
 -- the front of what is asked names the key
 pub key_name_of-asks : (payload : List ℕ) (q : Asked) → Asks payload q → key_name_of payload ≡ key_of q

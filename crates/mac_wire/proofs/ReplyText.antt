@@ -1,6 +1,6 @@
 -- The frames of replies as a stream of payloads.
 use Rattle.std.proofs.Common.{◌≡◌, ℕ, ◌+◌, ◌^◌, ◌<◌, ◌≤◌, zero, suc, List, [], ◌∷◌, ◌++◌, length, map, take, drop, refl, sym, ap, ◌∙◌, arith, length-append}
-use Rattle.std.specs.Int.{w64, from_be_bytes, to_be_bytes}
+use Rattle.std.specs.Int.{w16, w64, from_be_bytes, to_be_bytes}
 use Rattle.std.specs.List.{AllByRecursion}
 use Rattle.std.specs.Prelude.{Some, slice_get}
 use Rattle.std.specs.Option.{option_map}
@@ -15,6 +15,7 @@ use Rattle.mac_wire.specs.declared.reply.Reply.{Reply}
 use Rattle.mac_wire.specs.declared.reply.Reply.TheVariants as reply
 use Rattle.mac_wire.specs.declared.version.Version.{Version}
 use Rattle.mac_wire.specs.declared.version.Version.TheVariants as version
+use Rattle.mac_wire.specs.Request.{long_field}
 use Rattle.mac_wire.specs.Frame.{frame, framed, followed_by, frames_of}
 use Rattle.mac_wire.specs.Reply.{IsReply, reply_payload, placed_payload, payloads_from}
 use Rattle.mac_wire.proofs.Frames.{frames_of-nothing, frames_of-whole, IsWhole-frame}
@@ -51,6 +52,8 @@ payload-at v place (suc n) (r ∷ rs) = payload-at v (place + 1) n rs ∙ ap (λ
 
 pub short_reply : (r : Reply) → IsReply r → 8 + length (reply_payload r) ≤ FRAME_MAX
 short_reply reply.Granted h = omega arith
+short_reply (reply.GrantedTo n l) h =
+    omega (arith, h, length-append (long_field n) (long_field l), length-append (to_be_bytes w16 (length n)) n, length-append (to_be_bytes w16 (length l)) l)
 short_reply (reply.Token t) h = omega arith
 short_reply (reply.Refused n) h = omega arith
 short_reply (reply.Unsatisfied i) h = omega arith

@@ -41,7 +41,7 @@ when_some : {A : Type 0} (b : Bool) (r : Option A) (y : A) → cond b r None ≡
 when_some true r y e = (refl, e)
 when_some false r y e = absurd cc
 
-abbrev found : {A : Type 0} → A → Option A
+abbrev pub found : {A : Type 0} → A → Option A
 found x = Some x
 
 pub some_is : {A : Type 0} (x y : A) → found x ≡ found y → x ≡ y

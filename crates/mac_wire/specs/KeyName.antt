@@ -2,6 +2,10 @@
 use Rattle.std.specs.Prelude.{◌≡◌, ◌⊎◌, ℕ, List, ◌∷◌, ◌++◌}
 use Rattle.mac_wire.specs.Request.{short_field}
 
+-- the numbers of verifies: at a moment, at the clock, and at the clock with whose the token is
+abbrev pub IsVerifyKind : ℕ → Type 0
+IsVerifyKind kind = (kind ≡ 3) ⊎ ((kind ≡ 4) ⊎ (kind ≡ 5))
+
 -- behind a mint's number and any one byte stands the name, and then anything
 pub record HasMintName (payload name : List ℕ) : Type 0 where
   pub form : ℕ
@@ -10,8 +14,10 @@ pub record HasMintName (payload name : List ℕ) : Type 0 where
 
 -- behind a verify's number stands the name, and then anything
 pub record HasVerifyName (payload name : List ℕ) : Type 0 where
+  pub kind : ℕ
+  pub is_kind : IsVerifyKind kind
   pub rest : List ℕ
-  pub parts : payload ≡ 3 ∷ (short_field name ++ rest)
+  pub parts : payload ≡ kind ∷ (short_field name ++ rest)
 
 -- this name is in the payload's front
 abbrev pub HasName : (payload name : List ℕ) → Type 0

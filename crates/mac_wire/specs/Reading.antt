@@ -3,10 +3,12 @@
 use Rattle.std.specs.Prelude.{ℕ, zero, suc, List, [], ◌∷◌, length, take, drop, Option, Some, None, nat_lt, nat_le, ◌==◌, if◌then◌else◌}
 use Rattle.std.specs.Int.{Width, w16, w64, byte_len, from_be_bytes}
 use Rattle.std.specs.Str.{is_utf8}
+use Rattle.mac_wire.specs.declared.request.Grant.{Grant}
+use Rattle.mac_wire.specs.declared.request.Grant.TheVariants as grant
 use Rattle.mac_wire.specs.declared.request.TokenForm.{TokenForm}
 use Rattle.mac_wire.specs.declared.request.TokenForm.TheVariants as form
 use Rattle.mac_wire.specs.declared.request.TheConstants.{FACTS_MAX}
-use Rattle.mac_wire.specs.Request.{Asked, mint, attenuate, verify}
+use Rattle.mac_wire.specs.Request.{Asked, mint, attenuate, verify, verify_now}
 
 -- a step, and then the next on what it found
 infixl 10 ◌>>=◌
@@ -106,6 +108,14 @@ verify_of bytes = do
   facts ← counted_list_at FACTS_MAX moment.1
   Some (verify key.0 token.0 moment.0 facts)
 
+-- what follows the number of a verify at the clock
+unfoldable pub verify_now_of : Grant → List ℕ → Option Asked
+verify_now_of grant bytes = do
+  key ← short_field_at bytes
+  token ← long_field_at key.1
+  facts ← counted_list_at FACTS_MAX token.1
+  Some (verify_now grant key.0 token.0 facts)
+
 -- the request that a whole payload asks, if there is one
 unfoldable pub request_of : List ℕ → Option Asked
 request_of payload = do
@@ -113,6 +123,8 @@ request_of payload = do
   if kind.0 == 1 then mint_of kind.1
       else if kind.0 == 2 then attenuate_of kind.1
       else if kind.0 == 3 then verify_of kind.1
+      else if kind.0 == 4 then verify_now_of grant.Bare kind.1
+      else if kind.0 == 5 then verify_now_of grant.Owner kind.1
       else None
 
 -- a field behind a length of one byte, without what follows it
@@ -127,10 +139,13 @@ mint_name_at bytes = do
   form ← byte_at bytes
   name_at form.1
 
--- the key name in a payload's front: behind a mint's number and form, or behind a verify's number
+-- the key name in a payload's front: behind a mint's number and form, or behind the number of one
+-- of the three verifies
 unfoldable pub key_name_of : List ℕ → Option (List ℕ)
 key_name_of payload = do
   kind ← byte_at payload
   if kind.0 == 1 then mint_name_at kind.1
       else if kind.0 == 3 then name_at kind.1
+      else if kind.0 == 4 then name_at kind.1
+      else if kind.0 == 5 then name_at kind.1
       else None

@@ -11,6 +11,7 @@ use Rattle.mac_wire.specs.declared.reply.TheConstants.{REPLY_TOKEN_MAX}
 use Rattle.mac_wire.specs.declared.version.Version.{Version}
 use Rattle.mac_wire.specs.declared.version.Version.TheVariants as version
 use Rattle.mac_wire.specs.Frame.{frame, framed}
+use Rattle.mac_wire.specs.Request.{long_field}
 
 -- the number of a refusal
 abbrev pub refusal_code : Refusal → ℕ
@@ -23,17 +24,25 @@ refusal_code refusal.ThirdParty = 21
 refusal_code refusal.Limit = 22
 refusal_code refusal.BadSignature = 23
 refusal_code refusal.CaveatLocation = 26
+refusal_code refusal.NotAllowed = 27
+refusal_code refusal.NoClock = 28
 
--- what can be sent: a token isn't longer than a reply carries, and an index fits two bytes
+-- what can be sent: a token isn't longer than a reply carries, nor are an identifier and a location
+-- together, and an index fits two bytes
 abbrev pub IsReply : Reply → Type 0
 IsReply reply.Granted = Unit {0}
+IsReply (reply.GrantedTo identifier location) =
+    length identifier + length location ≤ REPLY_TOKEN_MAX
 IsReply (reply.Token bytes) = length bytes ≤ REPLY_TOKEN_MAX
 IsReply (reply.Refused reason) = Unit {0}
 IsReply (reply.Unsatisfied index) = index < 2 ^ 16
 
--- the payload of a reply: its number, and then the token's bytes or the index in two bytes
+-- the payload of a reply: its number, and then the token's bytes, its identifier and location, or
+-- the index in two bytes
 abbrev pub reply_payload : Reply → List ℕ
 reply_payload reply.Granted = 0 ∷ []
+reply_payload (reply.GrantedTo identifier location) =
+    3 ∷ (long_field identifier ++ long_field location)
 reply_payload (reply.Token bytes) = 1 ∷ bytes
 reply_payload (reply.Refused reason) = refusal_code reason ∷ []
 reply_payload (reply.Unsatisfied index) = 24 ∷ to_be_bytes w16 index

@@ -3,6 +3,8 @@ use Rattle.std.specs.Prelude.{◌≡◌, ℕ, ◌<◌, ◌≤◌, ◌^◌, List,
 use Rattle.std.specs.Int.{w16, w64, to_be_bytes}
 use Rattle.std.specs.List.{flat_map}
 use Rattle.std.specs.Str.{IsUtf8}
+use Rattle.mac_wire.specs.declared.request.Grant.{Grant}
+use Rattle.mac_wire.specs.declared.request.Grant.TheVariants as grant
 use Rattle.mac_wire.specs.declared.request.TokenForm.{TokenForm}
 use Rattle.mac_wire.specs.declared.request.TokenForm.TheVariants as form
 use Rattle.mac_wire.specs.declared.request.Request.{Request}
@@ -14,6 +16,7 @@ pub data Asked : Type 0 where
   mint : (form : TokenForm) (key location identifier : List ℕ) (caveats : List (List ℕ)) → Asked
   attenuate : (form : TokenForm) (token : List ℕ) (caveats : List (List ℕ)) → Asked
   verify : (key token : List ℕ) (moment : ℕ) (facts : List (List ℕ)) → Asked
+  verify_now : (grant : Grant) (key token : List ℕ) (facts : List (List ℕ)) → Asked
 
 -- what a value of the program asks
 abbrev pub asked : Request → Asked
@@ -21,12 +24,14 @@ asked (request.Mint form key location identifier caveats) =
     mint form key.now location.now identifier.now caveats
 asked (request.Attenuate form token caveats) = attenuate form token.now caveats
 asked (request.Verify key token moment facts) = verify key.now token.now moment facts
+asked (request.VerifyNow grant key token facts) = verify_now grant key.now token.now facts
 
 -- the name of the key that a request is about; an attenuate names none
 abbrev pub key_of : Asked → Option (List ℕ)
 key_of (mint form key location identifier caveats) = Some key
 key_of (attenuate form token caveats) = None
 key_of (verify key token moment facts) = Some key
+key_of (verify_now grant key token facts) = Some key
 
 -- the byte of a form
 abbrev pub form_code : TokenForm → ℕ
@@ -34,6 +39,11 @@ form_code form.V1Text = 1
 form_code form.V2Binary = 2
 form_code form.V2Json = 3
 form_code form.V2Text = 4
+
+-- the number of the verify at the clock that asks to be told so
+abbrev pub grant_kind : Grant → ℕ
+grant_kind grant.Bare = 4
+grant_kind grant.Owner = 5
 
 -- a length of one byte, and that many bytes
 abbrev pub short_field : List ℕ → List ℕ
@@ -56,6 +66,8 @@ payload_of (attenuate form token caveats) =
     2 ∷ form_code form ∷ (long_field token ++ counted_fields caveats)
 payload_of (verify key token moment facts) =
     3 ∷ (short_field key ++ (long_field token ++ (to_be_bytes w64 moment ++ counted_fields facts)))
+payload_of (verify_now grant key token facts) =
+    grant_kind grant ∷ (short_field key ++ (long_field token ++ counted_fields facts))
 
 -- each field's length fits its two bytes
 abbrev pub AreFields : List (List ℕ) → Type 0
@@ -72,6 +84,8 @@ IsRequest (attenuate form token caveats) =
 IsRequest (verify key token moment facts) =
     (length key < 2 ^ 8) × (length token < 2 ^ 16) × (moment < 2 ^ 64)
     × (length facts ≤ FACTS_MAX) × AreFields facts
+IsRequest (verify_now grant key token facts) =
+    (length key < 2 ^ 8) × (length token < 2 ^ 16) × (length facts ≤ FACTS_MAX) × AreFields facts
 
 -- each number of the list is a byte
 abbrev pub IsBytes : List ℕ → Type 0

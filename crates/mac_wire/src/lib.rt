@@ -39,7 +39,7 @@ pub use mem_source::MemSource;
 pub use parse::{key_name, parse_request};
 pub use reader_source::ReaderSource;
 pub use reply::{REPLY_TOKEN_MAX, Refusal, Reply, append_reply, reply_bytes};
-pub use request::{FACTS_MAX, Request, TokenForm};
+pub use request::{FACTS_MAX, Grant, Request, TokenForm};
 pub use send::{GATHERED, send_all};
 pub use session::Session;
 pub use unsent::Unsent;

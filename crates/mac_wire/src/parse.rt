@@ -3,11 +3,11 @@
 ghost use Rattle.std.specs.Prelude.{◌≡◌, Some, IfSome};
 ghost use Rattle.std.specs.Option.{option_copied, option_map};
 ghost use Rattle.mac_wire.specs.Request.{Asked, asked, Asks};
-ghost use Rattle.mac_wire.specs.Reading.{key_name_of, name_at, request_of, mint_of, attenuate_of, verify_of};
+ghost use Rattle.mac_wire.specs.Reading.{key_name_of, name_at, request_of, mint_of, attenuate_of, verify_of, verify_now_of};
 
 use crate::field_list::FieldList;
 use crate::fields::{byte, form, long_field, number_64, short_field, text_field};
-use crate::request::{FACTS_MAX, Request};
+use crate::request::{FACTS_MAX, Grant, Request};
 
 /// The first byte of each kind of request.
 const MINT: u8 = 1;
@@ -16,9 +16,13 @@ const ATTENUATE: u8 = 2;
 
 const VERIFY: u8 = 3;
 
-/// The key name in a payload's front: after a mint's number and any byte for a form, or after a
-/// verify's number. There is none where the name isn't whole. What follows the name isn't looked
-/// at, and no memory is taken.
+const VERIFY_NOW: u8 = 4;
+
+const VERIFY_OWNER: u8 = 5;
+
+/// The key name in a payload's front: after a mint's number and any byte for a form, or after the
+/// number of one of the three verifies. There is none where the name isn't whole. What follows the
+/// name isn't looked at, and no memory is taken.
 #[tactic(auto, unfolding(crate::specs::Reading::key_name_of, crate::specs::Reading::mint_name_at))]
 pub fn key_name(payload: &[u8]) -> Option<&[u8]>
     ensures { option_copied result ≡ key_name_of payload.now }
@@ -29,7 +33,7 @@ pub fn key_name(payload: &[u8]) -> Option<&[u8]>
             let (_form, rest) = byte(rest)?;
             name(rest)
         }
-        VERIFY => name(rest),
+        VERIFY | VERIFY_NOW | VERIFY_OWNER => name(rest),
         _ => None,
     }
 }
@@ -66,6 +70,8 @@ fn request(payload: &[u8]) -> Option<Request<'_>>
         MINT => parse_mint(rest),
         ATTENUATE => parse_attenuate(rest),
         VERIFY => parse_verify(rest),
+        VERIFY_NOW => parse_verify_now(Grant::Bare, rest),
+        VERIFY_OWNER => parse_verify_now(Grant::Owner, rest),
         _ => None,
     }
 }
@@ -117,6 +123,22 @@ fn parse_verify(bytes: &[u8]) -> Option<Request<'_>>
         key,
         token,
         moment,
+        facts,
+    })
+}
+
+/// Key name, token, facts.
+#[tactic(auto, unfolding(crate::specs::Reading::verify_now_of))]
+fn parse_verify_now(grant: Grant, bytes: &[u8]) -> Option<Request<'_>>
+    ensures { option_map asked result ≡ verify_now_of grant bytes.now }
+{
+    let (key, rest) = short_field(bytes)?;
+    let (token, rest) = long_field(rest)?;
+    let facts = FieldList::counted(FACTS_MAX, rest)?;
+    Some(Request::VerifyNow {
+        grant,
+        key,
+        token,
         facts,
     })
 }

@@ -1,6 +1,7 @@
 //! What a client is answered.
 
-ghost use Rattle.std.specs.Prelude.{◌≡◌, ℕ, ◌<◌, ◌≤◌, ◌+◌, ◌++◌, length, vec_len, vec_capacity, IfOk, OnOk, OnErr};
+ghost use Rattle.std.specs.Prelude.{◌≡◌, ℕ, ◌<◌, ◌≤◌, ◌+◌, ◌^◌, ◌++◌, length, vec_len, vec_capacity, IfOk, OnOk, OnErr};
+ghost use Rattle.mac_wire.specs.Request.{long_field};
 ghost use Rattle.mac_wire.specs.Reply.{refusal_code, IsReply, place_bytes, placed_payload, reply_payload, reply_frame};
 
 use crate::NoMemory;
@@ -32,6 +33,10 @@ pub enum Refusal {
     BadSignature,
     /// A first-party caveat has a location.
     CaveatLocation,
+    /// The connection's socket doesn't allow the request.
+    NotAllowed,
+    /// The clock tells no moment.
+    NoClock,
 }
 
 impl Refusal {
@@ -49,6 +54,8 @@ impl Refusal {
             Refusal::Limit => 22,
             Refusal::BadSignature => 23,
             Refusal::CaveatLocation => 26,
+            Refusal::NotAllowed => 27,
+            Refusal::NoClock => 28,
         }
     }
 }
@@ -58,6 +65,8 @@ impl Refusal {
 pub enum Reply {
     /// The token is granted.
     Granted,
+    /// The token is granted, and it is of this identifier and location.
+    GrantedTo { identifier: Bytes, location: Bytes },
     /// A token, in the form that was asked for.
     Token(Bytes),
     /// The request is refused, for this reason.
@@ -136,6 +145,10 @@ fn payload_length(reply: &Reply) -> u32
 {
     match reply {
         Reply::Token(token) => 1 + token.as_slice().len() as u32,
+        Reply::GrantedTo {
+            identifier,
+            location,
+        } => 5 + identifier.as_slice().len() as u32 + location.as_slice().len() as u32,
         Reply::Unsatisfied(_) => 3,
         Reply::Granted | Reply::Refused(_) => 1,
     }
@@ -155,11 +168,20 @@ fn append_place(frames: &mut Vec<u8>, version: Version, place: u64)
 
 /// Appends a reply's payload, for which there is room.
 fn append_payload(frames: &mut Vec<u8>, reply: &Reply)
-    requires { vec_len frames.old + length (reply_payload reply.now) ≤ vec_capacity frames.old }
+    requires sendable { IsReply reply.now }
+    requires fit { vec_len frames.old + length (reply_payload reply.now) ≤ vec_capacity frames.old }
     ensures { frames.new.items ≡ frames.old.items ++ reply_payload reply.now }
 {
     match reply {
         Reply::Granted => append_within(frames, &[0]),
+        Reply::GrantedTo {
+            identifier,
+            location,
+        } => {
+            append_within(frames, &[3]);
+            append_field(frames, identifier.as_slice());
+            append_field(frames, location.as_slice());
+        }
         Reply::Token(token) => {
             append_within(frames, &[1]);
             append_within(frames, token.as_slice());
@@ -170,6 +192,17 @@ fn append_payload(frames: &mut Vec<u8>, reply: &Reply)
             append_within(frames, &index.to_be_bytes());
         }
     }
+}
+
+/// Appends a length of two bytes and that many bytes, for which there is room.
+fn append_field(frames: &mut Vec<u8>, bytes: &[u8])
+    requires short { length bytes.now < 2 ^ 16 }
+    requires room { vec_len frames.old + length (long_field bytes.now) ≤ vec_capacity frames.old }
+    ensures items { frames.new.items ≡ frames.old.items ++ long_field bytes.now }
+    ensures capacity { vec_capacity frames.old ≤ vec_capacity frames.new }
+{
+    append_within(frames, &(bytes.len() as u16).to_be_bytes());
+    append_within(frames, bytes);
 }
 
 /// Appends bytes for which there is room.

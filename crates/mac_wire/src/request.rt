@@ -1,7 +1,7 @@
 //! What a client asks.
 
 ghost use Rattle.std.specs.Prelude.{◌≡◌};
-ghost use Rattle.mac_wire.specs.Request.{form_code};
+ghost use Rattle.mac_wire.specs.Request.{form_code, grant_kind};
 
 use crate::field_list::FieldList;
 
@@ -35,6 +35,27 @@ impl TokenForm {
     }
 }
 
+/// What a verify at the daemon's clock asks to be told where it is granted.
+#[derive(Clone, Copy, PartialEq, Eq)]
+pub enum Grant {
+    /// That it is.
+    Bare,
+    /// Whose the token is besides: its identifier and its location.
+    Owner,
+}
+
+impl Grant {
+    /// The number of the kind of request that asks it.
+    pub fn kind(self) -> u8
+        ensures { result ≡ grant_kind self }
+    {
+        match self {
+            Grant::Bare => 4,
+            Grant::Owner => 5,
+        }
+    }
+}
+
 /// A request, lent from the payload that asks it.
 #[derive(PartialEq, Eq, Drop)]
 pub enum Request<'a> {
@@ -58,6 +79,13 @@ pub enum Request<'a> {
         key: &'a [u8],
         token: &'a [u8],
         moment: u64,
+        facts: FieldList<'a>,
+    },
+    /// The same at the moment of who answers.
+    VerifyNow {
+        grant: Grant,
+        key: &'a [u8],
+        token: &'a [u8],
         facts: FieldList<'a>,
     },
 }

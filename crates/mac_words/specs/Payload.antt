@@ -5,7 +5,7 @@ use Rattle.std.specs.Option.{option_or}
 use Rattle.std.specs.declared.alloc.Global.{Global}
 use Rattle.std.specs.declared.string.String.{String}
 use Rattle.std.specs.declared.vec.Vec.{Vec}
-use Rattle.mac_wire.specs.Request.{Asked, Asks, mint, attenuate, verify, payload_of}
+use Rattle.mac_wire.specs.Request.{Asked, Asks, mint, attenuate, verify, verify_now, payload_of}
 use Rattle.mac_wire.specs.declared.arrival.TheConstants.{FRAME_MAX}
 use Rattle.mac_wire.specs.declared.request.TheConstants.{FACTS_MAX}
 use Rattle.mac_words.specs.declared.fault.FieldFault.{FieldFault}
@@ -37,6 +37,8 @@ field_fault (mint form key location identifier caveats) = option_or (name_fault 
 field_fault (attenuate form token caveats) =
     option_or (text_fault token) (list_fault CAVEATS_TOLD_MAX fault.ManyCaveats caveats)
 field_fault (verify key token moment facts) = option_or (name_fault key)
+    (option_or (text_fault token) (list_fault FACTS_MAX fault.ManyFacts facts))
+field_fault (verify_now grant key token facts) = option_or (name_fault key)
     (option_or (text_fault token) (list_fault FACTS_MAX fault.ManyFacts facts))
 
 -- why there is no payload: a field, or the whole is longer than a frame carries

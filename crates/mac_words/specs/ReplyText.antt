@@ -23,6 +23,8 @@ reason refusal.ThirdParty = codes "a caveat of the token is third-party"
 reason refusal.Limit = codes "a limit is passed"
 reason refusal.BadSignature = codes "the key does not give the signature of the token"
 reason refusal.CaveatLocation = codes "a first-party caveat of the token has a location"
+reason refusal.NotAllowed = codes "the socket does not allow this request"
+reason refusal.NoClock = codes "the clock tells no moment"
 
 -- the refusal with its number
 abbrev pub refusal_text : Refusal → List ℕ
@@ -41,6 +43,8 @@ caveat_at (Err why) index = []
 -- the reply to a request about these bytes of a token, which a mint has none of
 abbrev pub reply_text : List ℕ → Reply → List ℕ
 reply_text token reply.Granted = codes "granted"
+reply_text token (reply.GrantedTo identifier location) =
+    codes "granted to " ++ (escaped identifier ++ (codes " at " ++ escaped location))
 reply_text token (reply.Token made) = token_text made
 reply_text token (reply.Refused why) = refusal_text why
 reply_text token (reply.Unsatisfied index) = codes "refused 24: caveat " ++ (decimal index

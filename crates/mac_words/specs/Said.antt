@@ -1,6 +1,6 @@
 -- What is said to a person who asks a request in words.
 use Rattle.std.specs.Prelude.{◌≡◌, ◌⊎◌, ℕ, Bool, true, false, List, [], ◌∷◌, ◌++◌, Option, Some, None, Result, Ok, Err}
-use Rattle.mac_decide.specs.Answer.{answer_of, refusal_of}
+use Rattle.mac_decide.specs.Answer.{full_answer, refusal_of}
 use Rattle.mac_keys.specs.Table.{Table, table_of}
 use Rattle.mac_token.specs.RawToken.{RawParts}
 use Rattle.mac_token.specs.Read.{raw_read_of}
@@ -21,6 +21,7 @@ use Rattle.mac_words.specs.declared.saying.Said.{Said}
 
 abbrev pub is_refusal : Reply → Bool
 is_refusal reply.Granted = false
+is_refusal (reply.GrantedTo identifier location) = false
 is_refusal (reply.Token made) = false
 is_refusal (reply.Refused why) = true
 is_refusal (reply.Unsatisfied index) = true
@@ -44,7 +45,7 @@ IsSaid token reply said =
 -- table, or the first fault of its words, or memory ran out
 abbrev pub Says : Table → List ℕ → Asked → Result Said FieldFault → Type 0
 Says table token request (Ok said) = (first_fault request ≡ None)
-    × IsSaid token (answer_of table (arrival.Payload (payload_of request))) said
+    × IsSaid token (full_answer None table (arrival.Payload (payload_of request))) said
 Says table token request (Err why) =
     (why ≡ fault.Memory) ⊎ (first_fault request ≡ Some why)
 

@@ -2,7 +2,7 @@
 
 ghost use Rattle.std.specs.Prelude.{◌≡◌, ◌<◌, ◌^◌, ◌++◌, IfOk, ℕ, nat_lt, length, string_bytes, OnOk};
 ghost use Rattle.std.specs.List.{flat_map, list_any};
-ghost use Rattle.mac_decide.specs.Answer.{answer_of};
+ghost use Rattle.mac_decide.specs.Answer.{full_answer};
 ghost use Rattle.mac_wire.specs.Reply.{IsReply};
 ghost use Rattle.mac_wire.specs.Request.{AreFields, IsRequest, mint, attenuate, verify};
 ghost use Rattle.mac_wire.specs.Request.{short_field, long_field, counted_fields, payload_of};
@@ -11,7 +11,7 @@ ghost use Rattle.mac_words.specs.Payload.{GivesPayload, texts_of, name_fault, te
 ghost use Rattle.mac_words.specs.Payload.{list_fault, field_fault, IsFramed};
 
 use crate::fault::FieldFault;
-use mac_decide::{answer, job_of};
+use mac_decide::{Rights, Terms, answer, job_of};
 use mac_keys::KeyTable;
 use mac_wire::{Arrival, Bytes, FACTS_MAX, FRAME_MAX, NoMemory, Reply, TokenForm};
 use std::alloc::Global;
@@ -75,13 +75,21 @@ pub fn verify_payload(
     }
 }
 
-/// The reply to a payload, as a worker gives it. Want of memory is an error and never a reply.
+/// The reply to a payload, as a worker gives it where everything is allowed and no clock is asked.
+/// Want of memory is an error and never a reply.
 pub fn reply_to(alloc: Global, table: &KeyTable, payload: Vec<u8>) -> Result<Reply, NoMemory>
     ensures reply { IfOk result (λ reply.
-        reply ≡ answer_of table.now (Arrival.Payload payload.items)) }
+        reply ≡ full_answer None table.now (Arrival.Payload payload.items)) }
     ensures sendable { IfOk result IsReply }
 {
-    answer(alloc, &job_of(table, Arrival::Payload(Bytes::new(payload))))
+    let rights = &Rights::all();
+    let arrival = Arrival::Payload(Bytes::new(payload));
+    let terms = Terms {
+        table,
+        rights,
+        moment: None,
+    };
+    answer(alloc, &job_of(terms, arrival))
 }
 
 /// The payload of a mint whose words a request carries.

@@ -19,5 +19,7 @@ pub fn reason(refusal: Refusal) -> &'static str
         Refusal::Limit => "a limit is passed",
         Refusal::BadSignature => "the key does not give the signature of the token",
         Refusal::CaveatLocation => "a first-party caveat of the token has a location",
+        Refusal::NotAllowed => "the socket does not allow this request",
+        Refusal::NoClock => "the clock tells no moment",
     }
 }

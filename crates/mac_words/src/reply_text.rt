@@ -1,6 +1,6 @@
 //! Replies as people are told them.
 
-ghost use Rattle.std.specs.Prelude.{◌≡◌, ◌++◌, OnOk, slice_get};
+ghost use Rattle.std.specs.Prelude.{◌≡◌, ◌++◌, OnOk, codes, slice_get};
 ghost use Rattle.std.specs.Fmt.{decimal};
 ghost use Rattle.mac_token.specs.Read.{read_of};
 ghost use Rattle.mac_words.specs.Escaped.{escaped};
@@ -25,10 +25,25 @@ pub fn append_reply_text(
 {
     match reply {
         Reply::Granted => out.extend_from_slice(b"granted"),
+        Reply::GrantedTo {
+            identifier,
+            location,
+        } => append_owner(identifier.as_slice(), location.as_slice(), out),
         Reply::Token(made) => append_token_text(alloc, made.as_slice(), out),
         Reply::Refused(why) => append_refusal(alloc, *why, out),
         Reply::Unsatisfied(index) => append_unsatisfied(alloc, token, *index, out),
     }
+}
+
+/// Appends that a token of this identifier and this location is granted.
+fn append_owner(identifier: &[u8], location: &[u8], out: &mut Vec<u8>) -> Result<(), NoMemory>
+    ensures { OnOk result (out.new.items ≡ out.old.items ++ (codes "granted to "
+        ++ (escaped identifier.now ++ (codes " at " ++ escaped location.now)))) }
+{
+    out.extend_from_slice(b"granted to ")?;
+    append_escaped(identifier, out)?;
+    out.extend_from_slice(b" at ")?;
+    append_escaped(location, out)
 }
 
 /// Appends a refusal with its number.

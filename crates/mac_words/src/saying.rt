@@ -1,7 +1,7 @@
 //! What is said to a person who asks a request in words.
 
 ghost use Rattle.std.specs.Prelude.{◌≡◌, [], IfOk};
-ghost use Rattle.mac_decide.specs.Answer.{answer_of};
+ghost use Rattle.mac_decide.specs.Answer.{full_answer};
 ghost use Rattle.mac_keys.specs.Table.{table_of};
 ghost use Rattle.mac_wire.specs.Request.{mint, attenuate, verify};
 ghost use Rattle.mac_wire.specs.declared.arrival.Arrival.TheVariants as arrival;
@@ -122,7 +122,7 @@ fn said_of(
     payload: Vec<u8>,
 ) -> Result<Said, NoMemory>
     ensures { IfOk result
-        (IsSaid token.now (answer_of table.now (arrival.Payload payload.items))) }
+        (IsSaid token.now (full_answer None table.now (arrival.Payload payload.items))) }
 {
     let reply = reply_to(alloc, table, payload)?;
     reply_said(alloc, token, &reply)
@@ -146,7 +146,7 @@ fn is_refusal(reply: &Reply) -> bool
     ensures { result ≡ is_refusal reply.now }
 {
     match reply {
-        Reply::Granted | Reply::Token(_) => false,
+        Reply::Granted | Reply::GrantedTo { .. } | Reply::Token(_) => false,
         Reply::Refused(_) | Reply::Unsatisfied(_) => true,
     }
 }

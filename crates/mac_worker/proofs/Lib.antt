@@ -1,2 +1,3 @@
-pub mod Claims
 pub mod Parcels
+pub mod Posts
+pub mod Claims

@@ -3,15 +3,20 @@ use Rattle.std.proofs.Common.{◌≡◌, ◌+◌, ◌≤◌, List, [], ◌∷◌
 use Rattle.mac_queue.specs.declared.ticket.Ticket.{Ticket}
 use Rattle.mac_worker.specs.declared.work.Label.{Label}
 use Rattle.mac_worker.specs.declared.work.Parcel.{Parcel}
-use Rattle.mac_worker.specs.Parcel.{IsAnswerTo, AnswerEach, joined}
+use Rattle.mac_worker.specs.Parcel.{Pairwise, IsAnswerTo, AnswerEach, joined}
+
+module _ {A B : Type 0} (R : A → B → Type 0) where
+  pub pairwise_append : (xs more : List A) (ys others : List B) → Pairwise R xs ys → Pairwise R more others → Pairwise R (xs ++ more) (ys ++ others)
+  pairwise_append [] more [] others each then = then
+  pairwise_append [] more (y ∷ ys) others each then = absurd each
+  pairwise_append (x ∷ xs) more [] others each then = absurd each
+  pairwise_append (x ∷ xs) more (y ∷ ys) others each then = (each.0, pairwise_append xs more ys others each.1 then)
 
 module _ {S Job Reply : Type 0} where
   pub answer_push : (tickets : List (Ticket S Job Reply)) (parcels : List (Parcel S Job Reply)) (ticket : Ticket S Job Reply) (parcel : Parcel S Job Reply)
       → AnswerEach tickets parcels → IsAnswerTo ticket parcel → AnswerEach (tickets ++ ticket ∷ []) (parcels ++ parcel ∷ [])
-  answer_push [] [] ticket parcel each one = (one, tt)
-  answer_push [] (p ∷ parcels) ticket parcel each one = absurd each
-  answer_push (t ∷ tickets) [] ticket parcel each one = absurd each
-  answer_push (t ∷ tickets) (p ∷ parcels) ticket parcel each one = (each.0, answer_push tickets parcels ticket parcel each.1 one)
+  answer_push tickets parcels ticket parcel each one =
+      pairwise_append (λ (t : Ticket S Job Reply) (p : Parcel S Job Reply). IsAnswerTo t p) tickets (ticket ∷ []) parcels (parcel ∷ []) each (one, tt)
 
   -- there are as many parcels as tickets
   pub answers_long : (tickets : List (Ticket S Job Reply)) (parcels : List (Parcel S Job Reply)) → AnswerEach tickets parcels → length parcels ≡ length tickets

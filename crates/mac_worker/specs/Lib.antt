@@ -1,1 +1,2 @@
 pub mod Parcel
+pub mod Working

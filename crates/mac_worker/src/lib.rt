@@ -4,6 +4,7 @@
 
 mod gate;
 pub mod laws;
+mod posting;
 mod work;
 
 pub use gate::{Gate, NoGate, TURN_MAX};

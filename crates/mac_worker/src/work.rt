@@ -1,14 +1,16 @@
 //! A worker: it claims tickets, works on them, and posts the answers.
 
-ghost use Rattle.std.specs.Prelude.{◌≡◌, ◌+◌, ◌≤◌, ◌<◌, ◌^◌, [], length, IfOk, IfSome, IfNone, OnOk, OnErr, OnSome};
+ghost use Rattle.std.specs.Prelude.{◌≡◌, ◌+◌, ◌++◌, ◌≤◌, ◌<◌, ◌^◌, List, [], length, IfOk, IfSome, IfNone, OnOk, OnErr, OnSome};
 ghost use Rattle.std.specs.VecDeque.{deque_len, deque_capacity};
-ghost use Rattle.mac_queue.specs.Balance.{entry_of};
-ghost use Rattle.mac_queue.specs.Pass.{with_claimed, HasClaimed};
+ghost use Rattle.mac_queue.specs.Balance.{claim_of};
+ghost use Rattle.mac_queue.specs.Pass.{with_claimed};
 ghost use Rattle.mac_worker.specs.Parcel.{IsAnswerTo, AnswerEach, joined};
+ghost use Rattle.mac_worker.specs.Working.{with_tickets, HasTurned, HasWorked};
 ghost use Rattle.mac_worker.specs.declared.gate.TheConstants.{TURN_MAX};
 
 use crate::gate::{Gate, TURN_MAX};
-use mac_mail::{Mailbox, Post};
+use crate::posting::{give_up, post_all, ring_all};
+use mac_mail::{Delivery, History, Mailbox, Post};
 use mac_order::{Answer, NoMemory, Service};
 use mac_queue::{Claim, Queue, QueuePass, Ticket};
 use std::alloc::Global;
@@ -22,6 +24,8 @@ pub struct Worked<S: Service> {
     pub pass: QueuePass<S>,
     /// How many tickets it claimed.
     pub claimed: u64,
+    /// What became of its posts, one for each of these. For contracts: it takes no room.
+    pub deliveries: History<Delivery<S>>,
 }
 
 /// What stays of a ticket while its job is worked on.
@@ -40,9 +44,9 @@ pub struct Parcel<S: Service> {
 
 type Tickets<S> = VecDeque<Ticket<S>>;
 
-type Parcels<S> = VecDeque<Parcel<S>>;
+pub type Parcels<S> = VecDeque<Parcel<S>>;
 
-type Mails<S> = VecDeque<Arc<Mailbox<S>, Global>>;
+pub type Mails<S> = VecDeque<Arc<Mailbox<S>, Global>>;
 
 /// The room of a turn: what is claimed, what is to be posted, and the mailboxes that are to be
 /// rung.
@@ -80,24 +84,32 @@ pub fn worker<S: Service, G: Gate, R: Wait>(
     gate: &G,
 ) -> Worked<S>
     requires { pass.queue ≡ queue.now }
-    ensures { HasClaimed pass result.claimed result.pass }
+    ensures { HasWorked pass result.claimed result.pass result.deliveries }
 {
     queue.enter();
     let mut claimed = 0;
+    let mut deliveries = History::new();
     let mut room = Turn::new(alloc).ok();
     for _ in rt.forever() {
         let ticket = match next_ticket(rt, queue, &mut pass) {
             Some(ticket) => ticket,
             None => {
                 queue.leave();
-                return Worked { pass, claimed };
+                return Worked {
+                    pass,
+                    claimed,
+                    deliveries,
+                };
             }
         };
         claimed += 1;
         match &mut room {
-            Some(turn) => claimed += turn_from(rt, alloc, queue, &mut pass, gate, turn, ticket),
+            Some(turn) => {
+                let book = &mut deliveries;
+                claimed += turn_from(rt, alloc, queue, &mut pass, gate, turn, ticket, book);
+            }
             None => {
-                give_up(rt, gate, ticket);
+                deliveries.add(&give_up(rt, gate, ticket));
                 room = Turn::new(alloc).ok();
             }
         }
@@ -114,7 +126,7 @@ fn next_ticket<S: Service, R: Wait>(
 ) -> Option<Ticket<S>>
     requires { pass.old.queue ≡ queue.now }
     ensures claimed { IfSome result (λ ticket.
-        pass.new ≡ with_claimed pass.old (entry_of ticket)) }
+        pass.new ≡ with_claimed pass.old (claim_of ticket)) }
     ensures few { OnSome result (length pass.new.claimed < 2 ^ 62) }
     ensures same { IfNone result (pass.new ≡ pass.old) }
 {
@@ -140,14 +152,6 @@ fn next_ticket<S: Service, R: Wait>(
     unreachable!()
 }
 
-/// Posts that there was no memory for the ticket.
-fn give_up<S: Service, G: Gate, R: Wait>(rt: &R, gate: &G, ticket: Ticket<S>) {
-    gate.before(ticket.place);
-    ticket.mail.deliver(rt, Post::Failed(ticket.place));
-    ticket.mail.ring();
-    gate.after(ticket.place);
-}
-
 /// Works on the ticket, and on others that wait, so many that no other worker idles for it.
 /// Answers how many others.
 fn turn_from<S: Service, G: Gate, R: Wait>(
@@ -158,9 +162,10 @@ fn turn_from<S: Service, G: Gate, R: Wait>(
     gate: &G,
     turn: &mut Turn<S>,
     ticket: Ticket<S>,
+    book: &mut History<Delivery<S>>,
 ) -> u64
     requires { pass.old.queue ≡ queue.now }
-    ensures claimed { HasClaimed pass.old result pass.new }
+    ensures answered { HasTurned ticket pass.old result pass.new book.old book.new }
     ensures few { result ≤ TURN_MAX }
 {
     turn.tickets.push_back_reserved(ticket);
@@ -171,7 +176,7 @@ fn turn_from<S: Service, G: Gate, R: Wait>(
         queue.ring();
     }
     answer_all(alloc, gate, &mut turn.tickets, &mut turn.parcels);
-    post_all(rt, gate, &mut turn.parcels, &mut turn.owed);
+    post_all(rt, gate, &mut turn.parcels, &mut turn.owed, book);
     ring_all(&mut turn.owed);
     claimed
 }
@@ -200,7 +205,9 @@ fn claim_more<S: Service, R: Wait>(
 ) -> u64
     requires queue { pass.old.queue ≡ queue.now }
     requires room { deque_len tickets.old + most ≤ deque_capacity tickets.old }
-    ensures claimed { HasClaimed pass.old result pass.new }
+    ensures claimed { (got : List (Ticket S S.Job S.Reply)) × (length got ≡ result)
+        × (tickets.new.items ≡ tickets.old.items ++ got)
+        × (pass.new ≡ with_tickets pass.old got) }
     ensures few { result ≤ most }
     ensures count { deque_len tickets.new ≡ deque_len tickets.old + result }
     ensures capacity { deque_capacity tickets.new ≡ deque_capacity tickets.old }
@@ -353,42 +360,4 @@ fn answer<S: Service>(alloc: Global, ticket: Ticket<S>) -> Parcel<S>
         Err(_) => Post::Failed(place),
     };
     Parcel { post, mail }
-}
-
-/// Posts the parcels, in order, and wakes nobody: their mailboxes are owed a ring.
-fn post_all<S: Service, G: Gate, R: Wait>(
-    rt: &R,
-    gate: &G,
-    parcels: &mut Parcels<S>,
-    owed: &mut Mails<S>,
-)
-    requires { deque_len owed.old + deque_len parcels.old ≤ deque_capacity owed.old }
-    ensures done { parcels.new.items ≡ [] }
-    ensures capacity { (deque_capacity parcels.new ≡ deque_capacity parcels.old)
-        × (deque_capacity owed.new ≡ deque_capacity owed.old) }
-{
-    while let Some(Parcel { post, mail }) = parcels.pop_front() {
-        let place = place_of(&post);
-        mail.deliver(rt, post);
-        gate.after(place);
-        if mail.is_due(place) {
-            owed.push_back_reserved(mail);
-        }
-    }
-}
-
-fn place_of<S: Service>(post: &Post<S>) -> u64 {
-    match post {
-        Post::Answered(place, _) | Post::Failed(place) => *place,
-    }
-}
-
-/// Rings the mailboxes. A second ring of one that has not been answered costs a load or two.
-fn ring_all<S: Service>(owed: &mut Mails<S>)
-    ensures done { owed.new.items ≡ [] }
-    ensures capacity { deque_capacity owed.new ≡ deque_capacity owed.old }
-{
-    while let Some(mail) = owed.pop_front() {
-        mail.ring();
-    }
 }

@@ -1,5 +1,6 @@
 pub mod CommandLineLemmas
 pub mod DoingLemmas
+pub mod HttpLemmas
 pub mod KeyText
 pub mod LineLemmas
 pub mod OptionLemmas

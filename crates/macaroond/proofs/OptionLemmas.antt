@@ -21,7 +21,7 @@ use Rattle.clap.specs.declared.parser.matches.ArgMatches.{ArgMatches}
 use Rattle.clap.specs.declared.builder.value_parser.ValueParser.TheVariants.{Unsigned}
 use Rattle.clap.proofs.ValueTestLemmas.{accepts-Accepts}
 use Rattle.macaroond.specs.CommandLine.{command_line, listen_command, pipe_command, serve_command}
-use Rattle.macaroond.specs.People.{IsTaskName, attenuate_command, check_command, inspect_command, keygen_command, mint_command, verify_command}
+use Rattle.macaroond.specs.People.{IsTaskName, attenuate_command, check_command, inspect_command, keygen_command, mint_command, status_command, verify_command}
 use Rattle.macaroond.specs.Options.{HasCommand, HasListenOptions, HasServeOptions, IsGiven, IsGivenNumber, MayBeNumber}
 use Rattle.macaroond.proofs.OptionWalk.{Each, HasValue, IsKnown, first_none, leaf_rows, no_value, one_value, second_none, value_given, value_or_none}
 
@@ -138,6 +138,10 @@ listen_options words e =
       loops = maybe_number c (codes "loops") rows 64 _ refl refl (value_or_none c (codes "loops") rows found.0);
       connections = maybe_number c (codes "connections") rows 1000000 _ refl refl (value_or_none c (codes "connections") rows found.0);
       drain = maybe_number c (codes "drain") rows 3600 _ refl refl (value_or_none c (codes "drain") rows found.0);
+      http = (
+        maybe_number c (codes "http-connections") rows 1024 _ refl refl (value_or_none c (codes "http-connections") rows found.0),
+        maybe_number c (codes "http-patience") rows 3600 _ refl refl (value_or_none c (codes "http-patience") rows found.0),
+      );
     }
 
 -- ---- the whole line
@@ -147,27 +151,28 @@ abbrev built_sub : App → Shape
 built_sub sub = built_leaf (inherited (with_leaf_noted (marked_built command_line.top)) sub.top)
 
 abbrev people : List Shape
-people = built_sub keygen_command ∷ built_sub check_command ∷ built_sub mint_command ∷ built_sub attenuate_command ∷ built_sub verify_command ∷ built_sub inspect_command ∷ []
+people = built_sub keygen_command ∷ built_sub check_command ∷ built_sub mint_command ∷ built_sub attenuate_command ∷ built_sub verify_command ∷ built_sub inspect_command ∷ built_sub status_command ∷ []
 
 abbrev IsPeoples : Option Shape → Type 0
 IsPeoples o = (s : Shape) × (o ≡ Some s) × IsTaskName s.name
 
 one_of_people : (t : Shape → Bool) → (find t people ≡ None) ⊎ IsPeoples (find t people)
 one_of_people t =
-    go (t (built_sub keygen_command)) (t (built_sub check_command)) (t (built_sub mint_command)) (t (built_sub attenuate_command)) (t (built_sub verify_command)) (t (built_sub inspect_command))
+    go (t (built_sub keygen_command)) (t (built_sub check_command)) (t (built_sub mint_command)) (t (built_sub attenuate_command)) (t (built_sub verify_command)) (t (built_sub inspect_command)) (t (built_sub status_command))
   where
-    found : Bool → Bool → Bool → Bool → Bool → Bool → Option Shape
-    found a b c d e f =
-        cond a (Some (built_sub keygen_command)) (cond b (Some (built_sub check_command)) (cond c (Some (built_sub mint_command)) (cond d (Some (built_sub attenuate_command)) (cond e (Some (built_sub verify_command)) (cond f (Some (built_sub inspect_command)) None)))))
+    found : Bool → Bool → Bool → Bool → Bool → Bool → Bool → Option Shape
+    found a b c d e f g =
+        cond a (Some (built_sub keygen_command)) (cond b (Some (built_sub check_command)) (cond c (Some (built_sub mint_command)) (cond d (Some (built_sub attenuate_command)) (cond e (Some (built_sub verify_command)) (cond f (Some (built_sub inspect_command)) (cond g (Some (built_sub status_command)) None))))))
 
-    go : (a b c d e f : Bool) → (found a b c d e f ≡ None) ⊎ IsPeoples (found a b c d e f)
-    go true b c d e f = inr (built_sub keygen_command, refl, inl refl)
-    go false true c d e f = inr (built_sub check_command, refl, inr (inl refl))
-    go false false true d e f = inr (built_sub mint_command, refl, inr (inr (inl refl)))
-    go false false false true e f = inr (built_sub attenuate_command, refl, inr (inr (inr (inl refl))))
-    go false false false false true f = inr (built_sub verify_command, refl, inr (inr (inr (inr (inl refl)))))
-    go false false false false false true = inr (built_sub inspect_command, refl, inr (inr (inr (inr (inr refl)))))
-    go false false false false false false = inl refl
+    go : (a b c d e f g : Bool) → (found a b c d e f g ≡ None) ⊎ IsPeoples (found a b c d e f g)
+    go true b c d e f g = inr (built_sub keygen_command, refl, inl refl)
+    go false true c d e f g = inr (built_sub check_command, refl, inr (inl refl))
+    go false false true d e f g = inr (built_sub mint_command, refl, inr (inr (inl refl)))
+    go false false false true e f g = inr (built_sub attenuate_command, refl, inr (inr (inr (inl refl))))
+    go false false false false true f g = inr (built_sub verify_command, refl, inr (inr (inr (inr (inl refl)))))
+    go false false false false false true g = inr (built_sub inspect_command, refl, inr (inr (inr (inr (inr (inl refl))))))
+    go false false false false false false true = inr (built_sub status_command, refl, inr (inr (inr (inr (inr (inr refl))))))
+    go false false false false false false false = inl refl
 
 -- the subcommand that a word names
 abbrev IsOne : Option Shape → Type 0

@@ -1,32 +1,31 @@
--- The names of subcommands, told apart by their first letters.
+-- The names of subcommands, told apart by their letters.
 use Rattle.std.proofs.Common.{◌≡◌, ◌∙◌, ◌==◌, ◌||◌, ◌⊎◌, inl, inr, ℕ, Bool, codes, true, false, refl, sym, ap, ap₂, subst, List, Option, Some, None, option_map, slice_index}
 use Rattle.clap.specs.Walk.{Row, Text}
 use Rattle.macaroond.specs.Options.{HasCommand, HasOptions}
 use Rattle.macaroond.specs.People.{IsTaskName}
 
-abbrev is_task_letter : ℕ → Bool
-is_task_letter x = (x == 107) || ((x == 99) || ((x == 109) || ((x == 97) || ((x == 118) || (x == 105)))))
+-- `pipe`, `serve` and `listen` begin so, and no subcommand for people does
+abbrev begins_machine : Text → Bool
+begins_machine name = (slice_index name 0 == 112) || ((slice_index name 0 == 108) || (slice_index name 3 == 118))
 
-abbrev begins_task : Text → Bool
-begins_task name = is_task_letter (slice_index name 0)
+task_begins : (name : Text) → IsTaskName name → begins_machine name ≡ false
+task_begins name (inl e) = subst (λ n. begins_machine n ≡ false) (sym e) refl
+task_begins name (inr (inl e)) = subst (λ n. begins_machine n ≡ false) (sym e) refl
+task_begins name (inr (inr (inl e))) = subst (λ n. begins_machine n ≡ false) (sym e) refl
+task_begins name (inr (inr (inr (inl e)))) = subst (λ n. begins_machine n ≡ false) (sym e) refl
+task_begins name (inr (inr (inr (inr (inl e))))) = subst (λ n. begins_machine n ≡ false) (sym e) refl
+task_begins name (inr (inr (inr (inr (inr (inl e)))))) = subst (λ n. begins_machine n ≡ false) (sym e) refl
+task_begins name (inr (inr (inr (inr (inr (inr e)))))) = subst (λ n. begins_machine n ≡ false) (sym e) refl
 
-task_begins : (name : Text) → IsTaskName name → begins_task name ≡ true
-task_begins name (inl e) = subst (λ n. begins_task n ≡ true) (sym e) refl
-task_begins name (inr (inl e)) = subst (λ n. begins_task n ≡ true) (sym e) refl
-task_begins name (inr (inr (inl e))) = subst (λ n. begins_task n ≡ true) (sym e) refl
-task_begins name (inr (inr (inr (inl e)))) = subst (λ n. begins_task n ≡ true) (sym e) refl
-task_begins name (inr (inr (inr (inr (inl e))))) = subst (λ n. begins_task n ≡ true) (sym e) refl
-task_begins name (inr (inr (inr (inr (inr e))))) = subst (λ n. begins_task n ≡ true) (sym e) refl
-
-machine_begins : (name : Text) → (name ≡ codes "pipe") ⊎ ((name ≡ codes "serve") ⊎ (name ≡ codes "listen")) → begins_task name ≡ false
-machine_begins name (inl e) = subst (λ n. begins_task n ≡ false) (sym e) refl
-machine_begins name (inr (inl e)) = subst (λ n. begins_task n ≡ false) (sym e) refl
-machine_begins name (inr (inr e)) = subst (λ n. begins_task n ≡ false) (sym e) refl
+machine_begins : (name : Text) → (name ≡ codes "pipe") ⊎ ((name ≡ codes "serve") ⊎ (name ≡ codes "listen")) → begins_machine name ≡ true
+machine_begins name (inl e) = subst (λ n. begins_machine n ≡ true) (sym e) refl
+machine_begins name (inr (inl e)) = subst (λ n. begins_machine n ≡ true) (sym e) refl
+machine_begins name (inr (inr e)) = subst (λ n. begins_machine n ≡ true) (sym e) refl
 
 -- a subcommand of a machine's name has a machine's options
 pub machine_options : (name : Text) (rows : List Row) → HasOptions name rows ⊎ IsTaskName name → (name ≡ codes "pipe") ⊎ ((name ≡ codes "serve") ⊎ (name ≡ codes "listen")) → HasOptions name rows
 machine_options name rows (inl has) machine = has
-machine_options name rows (inr task) machine = let bad : true ≡ false = subst (λ b. b ≡ false) (task_begins name task) (machine_begins name machine) in cc
+machine_options name rows (inr task) machine = let bad : false ≡ true = subst (λ b. b ≡ true) (task_begins name task) (machine_begins name machine) in cc
 
 -- the subcommand that was met has its options, or is for people
 pub met_options : {X : Type 0} (f : X → Text) (g : X → List Row) (met : Option X) (name : Text) (rows : List Row) → Some name ≡ option_map f met

@@ -1,5 +1,5 @@
 -- What the program's command line means, by `clap`'s definition of a parse.
-use Rattle.std.specs.Prelude.{◌≡◌, ◌+◌, ◌*◌, ◌≤◌, ◌||◌, ◌&&◌, ℕ, Bool, List, [], ◌∷◌, Option}
+use Rattle.std.specs.Prelude.{◌≡◌, ◌⊎◌, ◌+◌, ◌*◌, ◌≤◌, ◌||◌, ◌&&◌, ℕ, Bool, List, [], ◌∷◌, Option}
 use Rattle.std.specs.Prelude.{Some, None}
 use Rattle.std.specs.Prelude.{codes, if◌then◌else◌, false, nat_eq, string_bytes, true}
 use Rattle.std.specs.List.{starts_with}
@@ -8,7 +8,7 @@ use Rattle.std.specs.Str.Parse.{IsNumeral, digits_value, without_leading_plus}
 use Rattle.std.specs.declared.string.String.{String}
 use Rattle.std.specs.declared.alloc.Global.{Global}
 use Rattle.clap.specs.Kinds.{IsAmong, Kinds}
-use Rattle.clap.specs.Words.{App, Row, Text, fault_of, first_of, new_app, subcommand_of}
+use Rattle.clap.specs.Words.{App, Row, Rule, Text, fault_of, first_of, new_app, subcommand_of}
 use Rattle.clap.specs.Words.{with_subcommand}
 use Rattle.clap.specs.declared.error.kind.ErrorKind.{ErrorKind}
 use Rattle.clap.specs.declared.error.kind.ErrorKind.TheVariants.{DisplayHelp, DisplayVersion}
@@ -17,6 +17,7 @@ use Rattle.macaroond.specs.declared.choices.Choice.{Choice}
 use Rattle.macaroond.specs.declared.choices.Choice.TheVariants.{Pipe, Serve, Listen}
 use Rattle.macaroond.specs.declared.choices.Chosen.{Chosen}
 use Rattle.macaroond.specs.declared.choices.Chosen.TheVariants.{Machine, Person}
+use Rattle.macaroond.specs.declared.choices.HttpOptions.{HttpOptions}
 use Rattle.macaroond.specs.declared.choices.ListenOptions.{ListenOptions}
 use Rattle.macaroond.specs.declared.choices.Mode.{Mode}
 use Rattle.macaroond.specs.declared.choices.Mode.TheVariants.{Owner, Group, Everyone}
@@ -24,7 +25,7 @@ use Rattle.macaroond.specs.declared.choices.ServeOptions.{ServeOptions}
 use Rattle.macaroond.specs.declared.status.Status.{Status}
 use Rattle.macaroond.specs.declared.status.Status.TheVariants.{Done, BadLine, NoMemory}
 use Rattle.macaroond.specs.Arguments.{number, option, required, with_rules}
-use Rattle.macaroond.specs.People.{IsTask, with_people}
+use Rattle.macaroond.specs.People.{IsOptionalText, IsTask, with_people}
 
 -- ---- what `clap` is told
 
@@ -52,9 +53,21 @@ serve_command = with_rules (new_app (codes "serve"))
     ∷ required (number 1000 (option (codes "accept")))
     ∷ [])
 
+-- the options of `listen` for its sockets over HTTP
+abbrev pub http_rules : List Rule
+http_rules = option (codes "http")
+    ∷ option (codes "http-anywhere")
+    ∷ option (codes "http-mode")
+    ∷ number 1024 (option (codes "http-connections"))
+    ∷ number 3600 (option (codes "http-patience"))
+    ∷ option (codes "http-granted")
+    ∷ option (codes "http-facts")
+    ∷ option (codes "http-admin")
+    ∷ []
+
 -- the subcommand `listen`, whose socket and key file have to be given
 abbrev pub listen_command : App
-listen_command = with_rules (new_app (codes "listen"))
+listen_command = with_rules (with_rules (new_app (codes "listen"))
     (required (option (codes "socket"))
     ∷ required (option (codes "keys"))
     ∷ number 16 (option (codes "workers"))
@@ -63,7 +76,11 @@ listen_command = with_rules (new_app (codes "listen"))
     ∷ number 64 (option (codes "loops"))
     ∷ number 1000000 (option (codes "connections"))
     ∷ number 3600 (option (codes "drain"))
-    ∷ [])
+    ∷ option (codes "names")
+    ∷ option (codes "verify-socket")
+    ∷ option (codes "verify-mode")
+    ∷ option (codes "verify-names")
+    ∷ [])) http_rules
 
 -- the whole command line
 abbrev pub command_line : App
@@ -123,7 +140,7 @@ permissions Owner = 6 * 64
 permissions Group = 6 * 64 + 6 * 8
 permissions Everyone = 6 * 64 + 6 * 8 + 6
 
--- the mode of a socket whose option `--mode` was given so, or left out
+-- the mode of a socket whose option for it was given so, or left out
 abbrev pub mode_given : Option Text → Option Mode
 mode_given None = Some Owner
 mode_given (Some digits) = mode_of digits
@@ -138,6 +155,17 @@ HasServe options rows = IsText options.socket (first_of (codes "socket") rows)
     × IsNumber 16 options.workers (first_of (codes "workers") rows)
     × IsNumber 1000 options.accept (first_of (codes "accept") rows)
 
+-- the values of its options for HTTP
+abbrev pub HasHttp : HttpOptions → List Row → Type 0
+HasHttp options rows = IsOptionalText options.here (codes "http") rows
+    × IsOptionalText options.anywhere (codes "http-anywhere") rows
+    × (mode_given (first_of (codes "http-mode") rows) ≡ Some options.mode)
+    × IsNumberOrNone 1024 options.connections (first_of (codes "http-connections") rows)
+    × IsNumberOrNone 3600 options.patience (first_of (codes "http-patience") rows)
+    × IsOptionalText options.granted (codes "http-granted") rows
+    × IsOptionalText options.facts (codes "http-facts") rows
+    × IsOptionalText options.admin (codes "http-admin") rows
+
 -- the values of the options of `listen`
 abbrev pub HasListen : ListenOptions → List Row → Type 0
 HasListen options rows = IsText options.socket (first_of (codes "socket") rows)
@@ -148,6 +176,11 @@ HasListen options rows = IsText options.socket (first_of (codes "socket") rows)
     × IsNumberOrNone 64 options.loops (first_of (codes "loops") rows)
     × IsNumberOrNone 1000000 options.connections (first_of (codes "connections") rows)
     × IsNumberOrNone 3600 options.drain (first_of (codes "drain") rows)
+    × IsOptionalText options.names (codes "names") rows
+    × IsOptionalText options.verify_socket (codes "verify-socket") rows
+    × (mode_given (first_of (codes "verify-mode") rows) ≡ Some options.verify_mode)
+    × IsOptionalText options.verify_names (codes "verify-names") rows
+    × HasHttp options.http rows
 
 -- the choice has the values of a subcommand's options
 abbrev pub HasValues : Choice → List Row → Type 0
@@ -171,10 +204,14 @@ abbrev pub IsChosen : Chosen → Option (Text × List Row) → Type 0
 IsChosen (Machine choice) met = IsChoice choice met
 IsChosen (Person task) met = IsTask task met
 
--- `--mode` was given with digits that name none
+-- `--mode`, `--verify-mode` or `--http-mode` was given with digits that name none
+abbrev pub NamesNoMode : List Row → Type 0
+NamesNoMode rows = (mode_given (first_of (codes "mode") rows) ≡ None)
+    ⊎ ((mode_given (first_of (codes "verify-mode") rows) ≡ None)
+    ⊎ (mode_given (first_of (codes "http-mode") rows) ≡ None))
+
 abbrev pub HasUnknownMode : Option (Text × List Row) → Type 0
-HasUnknownMode met = (rows : List Row) × (met ≡ Some (codes "listen", rows))
-    × (mode_given (first_of (codes "mode") rows) ≡ None)
+HasUnknownMode met = (rows : List Row) × (met ≡ Some (codes "listen", rows)) × NamesNoMode rows
 
 -- the same of the words of a command line
 abbrev pub AsksUnknownMode : List Text → Type 0
@@ -217,4 +254,5 @@ names_another [] = false
 names_another (word ∷ rest) = bytes_eq word (codes "serve") || (bytes_eq word (codes "listen")
     || (bytes_eq word (codes "keygen") || (bytes_eq word (codes "check")
     || (bytes_eq word (codes "mint") || (bytes_eq word (codes "attenuate")
-    || (bytes_eq word (codes "verify") || bytes_eq word (codes "inspect")))))))
+    || (bytes_eq word (codes "verify") || (bytes_eq word (codes "inspect")
+    || bytes_eq word (codes "status"))))))))

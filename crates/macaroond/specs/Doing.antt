@@ -25,13 +25,17 @@ use Rattle.macaroond.specs.People.{verify_asked}
 use Rattle.macaroond.specs.declared.people.asking.AttenuateWords.{AttenuateWords}
 use Rattle.macaroond.specs.declared.people.asking.KeygenWords.{KeygenWords}
 use Rattle.macaroond.specs.declared.people.asking.MintWords.{MintWords}
+use Rattle.httparse.specs.Grammar.{ReadsResponse, ResponseHead, status_code}
+use Rattle.macaroond.specs.declared.people.asking.StatusWords.{StatusWords}
 use Rattle.macaroond.specs.declared.people.asking.VerifyWords.{VerifyWords}
 use Rattle.macaroond.specs.declared.people.asking.Task.{Task}
 use Rattle.macaroond.specs.declared.people.asking.Task.TheVariants.{Keygen, Check, Mint, Attenuate}
 use Rattle.macaroond.specs.declared.people.asking.Task.TheVariants.{Verify}
-use Rattle.macaroond.specs.declared.people.asking.Task.TheVariants.{Inspect}
+use Rattle.macaroond.specs.declared.people.asking.Task.TheVariants.{Inspect, Status as TellStatus}
 use Rattle.macaroond.specs.declared.people.fault.PersonFault.{PersonFault}
 use Rattle.macaroond.specs.declared.people.fault.PersonFault.TheVariants as fault
+use Rattle.macaroond.specs.declared.people.status_page.AskedPage.{AskedPage}
+use Rattle.macaroond.specs.declared.people.status_page.AskedPage.TheVariants as page
 use Rattle.macaroond.specs.declared.people.keygen.Deed.{Deed}
 use Rattle.macaroond.specs.declared.people.keygen.Deed.TheVariants as deed
 use Rattle.macaroond.specs.declared.status.Status.{Status}
@@ -147,6 +151,27 @@ DoesVerify words said = (table : Table) × (moment : ℕ) × (token : List ℕ)
 abbrev pub DoesInspect : List ℕ → Said → Type 0
 DoesInspect word said = (token : List ℕ) × StandsFor word token × SaysBytes token said
 
+-- the page that the words ask for; two can't be asked for
+abbrev pub GivesPage : StatusWords → Result AskedPage PersonFault → Type 0
+GivesPage words (Ok page.Status) = (words.prometheus ≡ false) × (words.connections ≡ false)
+GivesPage words (Ok page.Metrics) = (words.prometheus ≡ true) × (words.connections ≡ false)
+GivesPage words (Ok page.Connections) = (words.prometheus ≡ false) × (words.connections ≡ true)
+GivesPage words (Err why) =
+    (why ≡ fault.Pages) × (words.prometheus ≡ true) × (words.connections ≡ true)
+
+-- the body of a response with the status 200, by HTTP's grammar
+abbrev pub IsBody : List ℕ → List ℕ → Type 0
+IsBody reply body =
+    (head : ResponseHead) × ReadsResponse reply head body × (status_code head ≡ 200)
+
+abbrev pub IsPageOf : List ℕ → Said → Type 0
+IsPageOf reply said = IsBody reply said.text.items × (said.is_refusal ≡ false)
+
+-- what is said of a daemon: the body of some response, where one page was asked for
+abbrev pub DoesStatus : StatusWords → Said → Type 0
+DoesStatus words said =
+    ((words.prometheus && words.connections) ≡ false) × ((reply : List ℕ) × IsPageOf reply said)
+
 -- what is said where a task is done
 abbrev pub DoesTask : Task → Said → Type 0
 DoesTask (Keygen words) said = DoesKeygen words said
@@ -155,6 +180,7 @@ DoesTask (Mint words) said = DoesMint words said
 DoesTask (Attenuate words) said = DoesAttenuate words said
 DoesTask (Verify words) said = DoesVerify words said
 DoesTask (Inspect token) said = DoesInspect (string_bytes token) said
+DoesTask (TellStatus words) said = DoesStatus words said
 
 -- ---- how a run ends
 

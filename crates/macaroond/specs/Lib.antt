@@ -2,6 +2,7 @@ pub mod Arguments
 pub mod Arrived
 pub mod CommandLine
 pub mod Doing
+pub mod Http
 pub mod Inner
 pub mod Lines
 pub mod Options
@@ -10,6 +11,7 @@ pub mod People
 pub mod Pipe
 pub mod PipeText
 pub mod ReplyLine
+pub mod Rights
 pub mod Shape
 pub mod Status
 pub mod Watching

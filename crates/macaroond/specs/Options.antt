@@ -4,10 +4,11 @@ use Rattle.std.specs.Prelude.{◌≡◌, ◌⊎◌, ℕ, List, Option, Some, Non
 use Rattle.clap.specs.Values.{IsUnsignedIn}
 use Rattle.clap.specs.Words.{Row, Text, first_of, one_of}
 use Rattle.macaroond.specs.declared.choices.Choice.{Choice}
+use Rattle.macaroond.specs.declared.choices.HttpOptions.{HttpOptions}
 use Rattle.macaroond.specs.declared.options.OptionFault.{OptionFault}
 use Rattle.macaroond.specs.declared.options.OptionFault.TheVariants as fault
-use Rattle.macaroond.specs.CommandLine.{HasValues, IsNumber, IsNumberOrNone, choice_name}
-use Rattle.macaroond.specs.CommandLine.{mode_given}
+use Rattle.macaroond.specs.CommandLine.{HasHttp, HasValues, IsNumber, IsNumberOrNone, choice_name}
+use Rattle.macaroond.specs.CommandLine.{NamesNoMode, mode_given}
 use Rattle.macaroond.specs.People.{IsTaskName}
 
 -- the option has a value, as text and as it is read
@@ -45,6 +46,11 @@ abbrev pub HasServeOptions : List Row → Type 0
 HasServeOptions rows = IsGiven (codes "socket") rows × IsGiven (codes "keys") rows
     × IsGivenNumber 16 (codes "workers") rows × IsGivenNumber 1000 (codes "accept") rows
 
+-- the numbers of the options for HTTP
+abbrev pub HasHttpOptions : List Row → Type 0
+HasHttpOptions rows = MayBeNumber 1024 (codes "http-connections") rows
+    × MayBeNumber 3600 (codes "http-patience") rows
+
 pub record HasListenOptions (rows : List Row) : Type 0 where
   pub socket : IsGiven (codes "socket") rows
   pub keys : IsGiven (codes "keys") rows
@@ -53,6 +59,7 @@ pub record HasListenOptions (rows : List Row) : Type 0 where
   pub loops : MayBeNumber 64 (codes "loops") rows
   pub connections : MayBeNumber 1000000 (codes "connections") rows
   pub drain : MayBeNumber 3600 (codes "drain") rows
+  pub http : HasHttpOptions rows
 
 -- the rows are those of one of the three subcommands
 abbrev pub HasOptions : Text → List Row → Type 0
@@ -64,9 +71,15 @@ abbrev pub HasCommand : Option (Text × List Row) → Type 0
 HasCommand met = (name : Text) × (rows : List Row) × (met ≡ Some (name, rows))
     × (HasOptions name rows ⊎ IsTaskName name)
 
--- what is made of them: the choice, or `--mode` names no mode, or memory ran out
+-- what is made of the options for HTTP
+abbrev pub ChoosesHttp : List Row → Result HttpOptions OptionFault → Type 0
+ChoosesHttp rows (Ok options) = HasHttp options rows
+ChoosesHttp rows (Err fault.UnknownMode) = mode_given (first_of (codes "http-mode") rows) ≡ None
+ChoosesHttp rows (Err fault.NoMemory) = Unit {0}
+
+-- what is made of them: the choice, or an option for a mode names none, or memory ran out
 abbrev pub Chooses : Text → List Row → Result Choice OptionFault → Type 0
 Chooses name rows (Ok choice) = (choice_name choice ≡ name) × HasValues choice rows
 Chooses name rows (Err fault.UnknownMode) =
-    (name ≡ codes "listen") × (mode_given (first_of (codes "mode") rows) ≡ None)
+    (name ≡ codes "listen") × NamesNoMode rows
 Chooses name rows (Err fault.NoMemory) = Unit {0}

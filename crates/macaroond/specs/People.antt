@@ -1,7 +1,9 @@
 -- What people ask of the program, and what they are told.
 use Rattle.std.specs.Prelude.{◌≡◌, ◌≢◌, ◌⊎◌, ℕ, Bool, List, [], Option, Some, None, codes}
 use Rattle.std.specs.Prelude.{string_bytes}
-use Rattle.std.specs.Prelude.{if◌then◌else◌, option_map, unwrap_or, Result, Ok, Err}
+use Rattle.std.specs.Prelude.{if◌then◌else◌, false, option_map, unwrap_or, Result, Ok, Err}
+use Rattle.std.specs.Option.{option_map_or}
+use Rattle.std.specs.Str.{bytes_eq}
 use Rattle.std.specs.declared.alloc.Global.{Global}
 use Rattle.std.specs.declared.string.String.{String}
 use Rattle.clap.specs.Words.{App, Row, Rule, Text, all_of, first_of, new_app, new_rule, with_rule}
@@ -19,7 +21,7 @@ use Rattle.mac_words.specs.declared.fault.FieldFault.TheVariants as field
 use Rattle.mac_words.specs.declared.fault.TextFault.TheVariants as text
 use Rattle.mac_words.specs.declared.key_lines.NameFault.TheVariants as name
 use Rattle.mac_words.specs.declared.saying.Said.{Said}
-use Rattle.macaroond.specs.Arguments.{option, required}
+use Rattle.macaroond.specs.Arguments.{flag, option, required}
 use Rattle.macaroond.specs.declared.status.Status.{Status}
 use Rattle.macaroond.specs.declared.status.Status.TheVariants as status
 use Rattle.macaroond.specs.declared.people.fault.PersonFault.{PersonFault}
@@ -27,11 +29,12 @@ use Rattle.macaroond.specs.declared.people.fault.PersonFault.TheVariants as faul
 use Rattle.macaroond.specs.declared.people.asking.AttenuateWords.{AttenuateWords}
 use Rattle.macaroond.specs.declared.people.asking.KeygenWords.{KeygenWords}
 use Rattle.macaroond.specs.declared.people.asking.MintWords.{MintWords}
+use Rattle.macaroond.specs.declared.people.asking.StatusWords.{StatusWords}
 use Rattle.macaroond.specs.declared.people.asking.VerifyWords.{VerifyWords}
 use Rattle.macaroond.specs.declared.people.asking.Task.{Task}
 use Rattle.macaroond.specs.declared.people.asking.Task.TheVariants.{Keygen, Check, Mint, Attenuate}
 use Rattle.macaroond.specs.declared.people.asking.Task.TheVariants.{Verify}
-use Rattle.macaroond.specs.declared.people.asking.Task.TheVariants.{Inspect}
+use Rattle.macaroond.specs.declared.people.asking.Task.TheVariants.{Inspect, Status as TellStatus}
 
 -- ---- what `clap` is told
 
@@ -79,11 +82,18 @@ verify_command = with_rule (with_rule (with_rule (with_key (new_app (codes "veri
 abbrev pub inspect_command : App
 inspect_command = with_rule (new_app (codes "inspect")) (required (word (codes "token")))
 
+-- the subcommand `status`, with one option and two flags
+abbrev pub status_command : App
+status_command = with_rule (with_rule (with_rule (new_app (codes "status"))
+    (required (option (codes "socket")))) (flag (codes "prometheus")))
+    (flag (codes "connections"))
+
 -- a program with the subcommands for people
 abbrev pub with_people : App → App
 with_people program = with_subcommand (with_subcommand (with_subcommand (with_subcommand
-    (with_subcommand (with_subcommand program keygen_command.top) check_command.top)
-    mint_command.top) attenuate_command.top) verify_command.top) inspect_command.top
+    (with_subcommand (with_subcommand (with_subcommand program keygen_command.top)
+    check_command.top) mint_command.top) attenuate_command.top) verify_command.top)
+    inspect_command.top) status_command.top
 
 -- ---- what the task says of the words
 
@@ -94,6 +104,10 @@ text_given given = unwrap_or given []
 -- the texts of an option that may be given often
 abbrev pub texts_given : Option (List Text) → List Text
 texts_given given = unwrap_or given []
+
+-- a flag was set: it has the value `true` then
+abbrev pub is_set : Text → List Row → Bool
+is_set id rows = option_map_or (λ value. bytes_eq value (codes "true")) (first_of id rows) false
 
 abbrev pub IsGivenText : String Global → Text → List Row → Type 0
 IsGivenText text id rows = string_bytes text ≡ text_given (first_of id rows)
@@ -130,6 +144,11 @@ HasVerify words rows = IsGivenText words.keys (codes "keys") rows
     × AreGivenTexts words.facts.items (codes "fact") rows
     × IsOptionalText words.at (codes "at") rows
 
+abbrev pub HasStatus : StatusWords → List Row → Type 0
+HasStatus words rows = IsGivenText words.socket (codes "socket") rows
+    × (words.prometheus ≡ is_set (codes "prometheus") rows)
+    × (words.connections ≡ is_set (codes "connections") rows)
+
 -- the task has the values of a subcommand's arguments
 abbrev pub HasTask : Task → List Row → Type 0
 HasTask (Keygen words) rows = HasKeygen words rows
@@ -138,6 +157,7 @@ HasTask (Mint words) rows = HasMint words rows
 HasTask (Attenuate words) rows = HasAttenuate words rows
 HasTask (Verify words) rows = HasVerify words rows
 HasTask (Inspect token) rows = IsGivenText token (codes "token") rows
+HasTask (TellStatus words) rows = HasStatus words rows
 
 -- the subcommand that the task stands for
 abbrev pub task_name : Task → Text
@@ -147,6 +167,7 @@ task_name (Mint words) = codes "mint"
 task_name (Attenuate words) = codes "attenuate"
 task_name (Verify words) = codes "verify"
 task_name (Inspect token) = codes "inspect"
+task_name (TellStatus words) = codes "status"
 
 -- the task is the one that a subcommand of this name, with these arguments, stands for
 abbrev pub IsTask : Task → Option (Text × List Row) → Type 0
@@ -155,7 +176,8 @@ IsTask task met = (rows : List Row) × (met ≡ Some (task_name task, rows)) × 
 -- the names of the subcommands for people
 abbrev pub IsTaskName : Text → Type 0
 IsTaskName name = (name ≡ codes "keygen") ⊎ ((name ≡ codes "check") ⊎ ((name ≡ codes "mint")
-    ⊎ ((name ≡ codes "attenuate") ⊎ ((name ≡ codes "verify") ⊎ (name ≡ codes "inspect")))))
+    ⊎ ((name ≡ codes "attenuate") ⊎ ((name ≡ codes "verify") ⊎ ((name ≡ codes "inspect")
+    ⊎ (name ≡ codes "status"))))))
 
 -- ---- what the words ask
 
@@ -208,6 +230,7 @@ person_status (fault.Token _) = status.BadLine
 person_status fault.Form = status.BadLine
 person_status fault.Moment = status.BadLine
 person_status fault.Options = status.BadLine
+person_status fault.Pages = status.BadLine
 person_status (fault.Checked path line kind) = status.Refused
 person_status (fault.Change path why) = status.Refused
 person_status (fault.Exists path) = status.Refused

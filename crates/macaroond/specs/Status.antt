@@ -4,6 +4,14 @@ use Rattle.macaroond.specs.declared.fault.PipeFault.{PipeFault}
 use Rattle.macaroond.specs.declared.fault.PipeFault.TheVariants as fault
 use Rattle.mac_daemon.specs.declared.fault.DaemonFault.{DaemonFault}
 use Rattle.mac_daemon.specs.declared.fault.DaemonFault.TheVariants as daemon
+use Rattle.mac_gate.specs.declared.door.DoorFault.{DoorFault}
+use Rattle.mac_gate.specs.declared.door.DoorFault.TheVariants as door
+use Rattle.mac_gate.specs.declared.gate.GateFault.{GateFault}
+use Rattle.mac_gate.specs.declared.gate.GateFault.TheVariants as gate
+use Rattle.macaroond.specs.declared.http.HttpFault.{HttpFault}
+use Rattle.macaroond.specs.declared.http.HttpFault.TheVariants as http
+use Rattle.macaroond.specs.declared.key_watch.ListenFault.{ListenFault}
+use Rattle.macaroond.specs.declared.key_watch.ListenFault.TheVariants as listen
 use Rattle.macaroond.specs.declared.status.Status.{Status}
 use Rattle.macaroond.specs.declared.status.Status.TheVariants as status
 
@@ -31,11 +39,38 @@ run_status (Err fault) = pipe_status fault
 -- want of memory or of a thread; else the system's refusal
 abbrev pub daemon_status : DaemonFault → Status
 daemon_status (daemon.Place fault) = status.DeviceFault
+daemon_status (daemon.Side fault) = status.DeviceFault
 daemon_status (daemon.System fault) = status.DeviceFault
 daemon_status (daemon.Handed fault) = status.DeviceFault
 daemon_status daemon.Output = status.DeviceFault
 daemon_status daemon.NoThread = status.NoMemory
 daemon_status daemon.NoMemory = status.NoMemory
+
+-- the same of a socket over HTTP, and of who accepts there
+abbrev pub door_status : DoorFault → Status
+door_status door.NoMemory = status.NoMemory
+door_status (door.Place fault) = status.DeviceFault
+door_status (door.System fault) = status.DeviceFault
+door_status door.Taken = status.DeviceFault
+door_status door.Forbidden = status.DeviceFault
+door_status door.NotHere = status.DeviceFault
+
+abbrev pub gate_status : GateFault → Status
+gate_status gate.NoThread = status.NoMemory
+gate_status gate.NoMemory = status.NoMemory
+gate_status (gate.System fault) = status.DeviceFault
+
+abbrev pub listen_status : ListenFault → Status
+listen_status (listen.Daemon fault) = daemon_status fault
+listen_status (listen.Door address fault) = door_status fault
+listen_status (listen.Gate fault) = gate_status fault
+
+-- a bad line, but for want of memory
+abbrev pub http_status : HttpFault → Status
+http_status (http.Address word fault) = status.BadLine
+http_status http.Granted = status.BadLine
+http_status http.Source = status.BadLine
+http_status http.NoMemory = status.NoMemory
 
 -- a line that asks for no work ends with its own status; where help can't be printed, with that of
 -- a device

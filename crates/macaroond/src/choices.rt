@@ -56,6 +56,37 @@ pub struct ListenOptions {
     pub connections: Option<u64>,
     /// How many seconds connections have to end once the daemon is told to, from 1 to 3,600.
     pub drain: Option<u64>,
+    /// The names that its connections may use, with commas between them; else all.
+    pub names: Option<String>,
+    /// The path of a second socket, whose connections may not mint.
+    pub verify_socket: Option<String>,
+    /// Who may connect to it.
+    pub verify_mode: Mode,
+    /// The names that its connections may use, with commas between them; else all.
+    pub verify_names: Option<String>,
+    /// Its sockets over HTTP.
+    pub http: HttpOptions,
+}
+
+/// What `listen` is told of its sockets over HTTP.
+#[derive(Drop)]
+pub struct HttpOptions {
+    /// Addresses that this machine alone may reach, with commas between them.
+    pub here: Option<String>,
+    /// Addresses that any machine may reach, with commas between them.
+    pub anywhere: Option<String>,
+    /// Who may connect to those that are Unix sockets.
+    pub mode: Mode,
+    /// How many connections are live at a time, from 1 to 1,024.
+    pub connections: Option<u64>,
+    /// How many seconds a peer may bring no whole request, from 1 to 3,600.
+    pub patience: Option<u64>,
+    /// The status that grants.
+    pub granted: Option<String>,
+    /// Where facts are taken from, with commas between the words.
+    pub facts: Option<String>,
+    /// Addresses of this machine where operators ask, with commas between them.
+    pub admin: Option<String>,
 }
 
 /// Who may connect to a socket, as the permissions of its file say.

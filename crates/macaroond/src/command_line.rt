@@ -1,7 +1,7 @@
 //! The command line: what its words ask the program to do.
 //!
 //! `clap` says what a line means. It names one of the subcommands, `pipe`, `serve` and `listen` for
-//! programs, `keygen`, `mint`, `attenuate`, `verify` and `inspect` for people; `--help` or `-h`,
+//! programs, `keygen`, `mint`, `attenuate`, `verify`, `inspect` and `status` for people; `--help` or `-h`,
 //! before the subcommand or after it, asks for help, and `--version` or `-V` before it for the
 //! version.
 
@@ -29,7 +29,7 @@ use std::io;
 /// What is told where a word is not UTF-8.
 const NOT_TEXT: &str = "error: a word of the command line is not UTF-8\n";
 
-/// What is told where `--mode` names no mode.
+/// What is told where an option for a mode names none.
 const UNKNOWN_MODE: &str = "error: the mode of a socket is 600, 660 or 666\n";
 
 /// The words of the process, the first being the program's name.

@@ -1,9 +1,9 @@
 //! The command line as `clap` is told it, and what its options say.
 ghost use Rattle.std.specs.Prelude.{◌≡◌, false, IfOk};
 ghost use Rattle.clap.specs.Words.{app_of, rule_of};
-ghost use Rattle.macaroond.specs.Arguments.{number, option, required};
-ghost use Rattle.macaroond.specs.CommandLine.{command_line, listen_command, pipe_command};
-ghost use Rattle.macaroond.specs.CommandLine.{serve_command};
+ghost use Rattle.macaroond.specs.Arguments.{number, option, required, with_rules};
+ghost use Rattle.macaroond.specs.CommandLine.{command_line, http_rules, listen_command};
+ghost use Rattle.macaroond.specs.CommandLine.{pipe_command, serve_command};
 
 use crate::parts::{KEYS_HELP, add_arg, add_subcommand, build_option, build_subcommand};
 use crate::people::add_people;
@@ -27,6 +27,12 @@ pub const CONNECTIONS_MAX: u64 = 1_000_000;
 /// The most seconds that `--drain` takes: an hour.
 pub const DRAIN_MAX: u64 = 3600;
 
+/// The most connections that `--http-connections` takes.
+pub const HTTP_CONNECTIONS_MAX: u64 = 1024;
+
+/// The most seconds that `--http-patience` takes: an hour.
+pub const HTTP_PATIENCE_MAX: u64 = 3600;
+
 /// The version, as `--version` and `listen` print it. A build of a commit writes its first digits
 /// over the last word.
 pub(crate) const VERSION: &str = "0.1.0 (uncommitted)";
@@ -42,11 +48,13 @@ Input, of at most 16777216 bytes:
 
 Output, once the whole input is read, a line for each request:
   granted         the token is good for what was stated of the request
+  granted to DIGITS at DIGITS
+                  the same, with the token's identifier and location in hexadecimal
   token TEXT      the token that was asked for; token hex:DIGITS if it is binary
   refused 24 N    caveat N, counted from 0, is the first that isn't satisfied
   refused N       16 no request, 17 too long, 18 no such key, 19 no base64 text, 20 no token,
                   21 a third-party caveat, 22 past a limit, 23 a wrong signature,
-                  26 a caveat with a location
+                  26 a caveat with a location, 28 a clock that tells no moment
 
 Exit status:
   0  every request was answered, be it granted or refused
@@ -75,15 +83,23 @@ Exit status:
 
 /// What the help of `listen` says below its options.
 const LISTEN_HELP: &str = "\
-Prints one line once clients can connect, and one line on standard error for each connection that
-ended in a fault. A socket at PATH on which nobody listens is taken over; anything else at PATH is
-left alone, and the run ends with status 3. A socket that systemd hands over (LISTEN_FDS) is served
-in place of one at PATH. The key file has key lines, as `macaroond pipe` reads them, and at most
-16777216 bytes.
+Prints one line once clients can connect. Standard error is a log: a line for the start and the end,
+for each connection that ended in a fault, and for each change of the key file. A socket at PATH on
+which nobody listens is taken over; anything else at PATH is left alone, and the run ends with
+status 3. A socket that systemd hands over (LISTEN_FDS) is served in place of one at PATH. The key
+file has key lines, as `macaroond pipe` reads them, and at most 16777216 bytes.
+
+Without --idle a connection is ended that has sent nothing whole for 300 seconds: one that was never
+answered, or that began a request since. One that rests, or that is owed replies, stays.
 
 Runs until SIGTERM or SIGINT. Then it takes no more connections, answers what has come, closes each
 connection once its replies are sent, and ends. A second signal ends it at once. The key file is
 looked at twice a second, and at SIGHUP. A changed one is taken where it has no fault.
+
+Over HTTP a gateway asks for /verify/NAME with the field `Authorization: Bearer TOKEN`. It gets 200
+where the token is granted, and else 401, 403 or 404. /healthz tells whether the daemon is well.
+
+The socket PATH.status is for its owner: `macaroond status` asks there how the daemon is.
 
 Example:
   macaroond listen --socket /run/macaroond/socket --keys /etc/macaroond/keys --mode 660 --idle 60
@@ -109,7 +125,7 @@ const MODE_HELP: &str =
     "Who may connect: 600 the owner, 660 the group too, 666 everyone [default: 600]";
 
 const IDLE_HELP: &str =
-    "Ends a connection that makes no progress for so many seconds [default: never]";
+    "Ends a connection that makes no progress for so many seconds [default: see below]";
 
 const LOOPS_HELP: &str =
     "How many threads wait for connections and answer them, 1 to 64 [default: one a processor]";
@@ -119,6 +135,40 @@ const CONNECTIONS_HELP: &str =
 
 const DRAIN_HELP: &str =
     "How many seconds connections get once the daemon is told to end, 1 to 3600 [default: 10]";
+
+const NAMES_HELP: &str =
+    "The key names that may be used at the socket, with commas between them [default: all]";
+
+const VERIFY_HELP: &str =
+    "Where a second socket is made, at which tokens are verified and attenuated, but not minted";
+
+const VERIFY_MODE_HELP: &str =
+    "Who may connect to the second socket: 600, 660 or 666 [default: 600]";
+
+const VERIFY_NAMES_HELP: &str =
+    "The key names that may be used at the second socket [default: all]";
+
+const HTTP_HELP: &str =
+    "Where gateways ask over HTTP: unix:PATH, 127.0.0.1:PORT or [::1]:PORT, with commas between";
+
+const HTTP_ANYWHERE_HELP: &str = "The same, at addresses that other machines may reach";
+
+const HTTP_MODE_HELP: &str =
+    "Who may connect to Unix sockets over HTTP: 600, 660 or 666 [default: 600]";
+
+const HTTP_CONNECTIONS_HELP: &str =
+    "How many connections over HTTP are live at a time, from 1 to 1024 [default: 256]";
+
+const HTTP_PATIENCE_HELP: &str =
+    "Closes a connection over HTTP that brings no whole request for so many seconds [default: 10]";
+
+const HTTP_GRANTED_HELP: &str = "The status that grants: 200 or 204 [default: 200]";
+
+const HTTP_FACTS_HELP: &str =
+    "Where facts are taken from: header, query, forwarded, with commas between [default: none]";
+
+const HTTP_ADMIN_HELP: &str =
+    "Where operators ask over HTTP, at addresses of this machine; gateways get no page then";
 
 /// The whole command line.
 pub fn build_command<'a>(alloc: Global) -> Result<Command<'a>, AllocError>
@@ -173,7 +223,60 @@ fn build_listen<'a>(alloc: Global) -> Result<Command<'a>, AllocError>
     let listen = add_arg(listen, build_count(alloc, "idle", IDLE_MAX, IDLE_HELP))?;
     let listen = add_arg(listen, build_count(alloc, "loops", LOOPS_MAX, LOOPS_HELP))?;
     let listen = add_arg(listen, connections)?;
-    add_arg(listen, drain)
+    let listen = add_arg(listen, drain)?;
+    let listen = add_arg(listen, build_option(alloc, "names", "NAMES", NAMES_HELP))?;
+    let listen = add_arg(
+        listen,
+        build_option(alloc, "verify-socket", "PATH", VERIFY_HELP),
+    )?;
+    let listen = add_arg(
+        listen,
+        build_option(alloc, "verify-mode", "DIGITS", VERIFY_MODE_HELP),
+    )?;
+    let listen = add_arg(
+        listen,
+        build_option(alloc, "verify-names", "NAMES", VERIFY_NAMES_HELP),
+    )?;
+    add_http(alloc, listen)
+}
+
+/// The subcommand with its options for HTTP.
+fn add_http<'a>(alloc: Global, listen: Command<'a>) -> Result<Command<'a>, AllocError>
+    ensures { IfOk result (λ whole. app_of whole ≡ with_rules (app_of listen.entry) http_rules) }
+{
+    let anywhere = build_option(alloc, "http-anywhere", "ADDRESSES", HTTP_ANYWHERE_HELP);
+    let most = build_count(
+        alloc,
+        "http-connections",
+        HTTP_CONNECTIONS_MAX,
+        HTTP_CONNECTIONS_HELP,
+    );
+    let patience = build_count(
+        alloc,
+        "http-patience",
+        HTTP_PATIENCE_MAX,
+        HTTP_PATIENCE_HELP,
+    );
+    let listen = add_arg(listen, build_option(alloc, "http", "ADDRESSES", HTTP_HELP))?;
+    let listen = add_arg(listen, anywhere)?;
+    let listen = add_arg(
+        listen,
+        build_option(alloc, "http-mode", "DIGITS", HTTP_MODE_HELP),
+    )?;
+    let listen = add_arg(listen, most)?;
+    let listen = add_arg(listen, patience)?;
+    let listen = add_arg(
+        listen,
+        build_option(alloc, "http-granted", "STATUS", HTTP_GRANTED_HELP),
+    )?;
+    let listen = add_arg(
+        listen,
+        build_option(alloc, "http-facts", "SOURCES", HTTP_FACTS_HELP),
+    )?;
+    add_arg(
+        listen,
+        build_option(alloc, "http-admin", "ADDRESSES", HTTP_ADMIN_HELP),
+    )
 }
 
 /// A required option that takes a path.

@@ -3,17 +3,19 @@ ghost use Rattle.std.specs.Prelude.{◌≡◌, codes, IfOk};
 ghost use Rattle.clap.specs.Words.{first_of, found_of, rows_of};
 ghost use Rattle.macaroond.specs.CommandLine.{IsText, mode_given};
 ghost use Rattle.macaroond.specs.Options.{Chooses, HasListenOptions, HasNumber, HasOptions};
-ghost use Rattle.macaroond.specs.Options.{HasServeOptions, IsGiven, MayRead, Reads};
+ghost use Rattle.macaroond.specs.Options.{ChoosesHttp, HasHttpOptions, HasServeOptions};
+ghost use Rattle.macaroond.specs.Options.{IsGiven, MayRead, Reads};
 ghost use Rattle.macaroond.specs.declared.options.OptionFault.TheVariants.{NoMemory};
 
-use crate::choices::{Choice, ListenOptions, Mode, ServeOptions};
+use crate::choices::{Choice, HttpOptions, ListenOptions, Mode, ServeOptions};
+use crate::people::read_optional_text;
 use clap::ArgMatches;
 use std::alloc::{AllocError, Global};
 
 /// Why options that `clap` takes give no choice.
 #[derive(Clone, Copy)]
 pub enum OptionFault {
-    /// `--mode` has digits that name no mode.
+    /// `--mode`, `--verify-mode` or `--http-mode` has digits that name no mode.
     UnknownMode,
     /// Memory ran out.
     NoMemory,
@@ -57,14 +59,18 @@ fn read_serve(alloc: Global, options: &ArgMatches<'_>) -> Result<Choice, OptionF
     }))
 }
 
-/// The choice of the options of `listen`; the mode is looked at first.
+/// The choice of the options of `listen`; the modes are looked at first.
 fn read_listen(alloc: Global, options: &ArgMatches<'_>) -> Result<Choice, OptionFault>
     requires { HasListenOptions (rows_of (found_of options.now)) }
     ensures { Chooses (codes "listen") (rows_of (found_of options.now)) result }
 {
-    let Some(mode) = read_mode(options) else {
+    let (Some(mode), Some(verify_mode)) = (
+        read_mode(options, "mode"),
+        read_mode(options, "verify-mode"),
+    ) else {
         return Err(OptionFault::UnknownMode);
     };
+    let http = read_http(alloc, options)?;
     Ok(Choice::Listen(ListenOptions {
         socket: read_text(alloc, options, "socket")?,
         keys: read_text(alloc, options, "keys")?,
@@ -74,7 +80,32 @@ fn read_listen(alloc: Global, options: &ArgMatches<'_>) -> Result<Choice, Option
         loops: read_optional_number(options, "loops"),
         connections: read_optional_number(options, "connections"),
         drain: read_optional_number(options, "drain"),
+        names: read_optional_text(alloc, options, "names")?,
+        verify_socket: read_optional_text(alloc, options, "verify-socket")?,
+        verify_mode,
+        verify_names: read_optional_text(alloc, options, "verify-names")?,
+        http,
     }))
+}
+
+/// What the options of `listen` say of sockets over HTTP; the mode is looked at first.
+fn read_http(alloc: Global, options: &ArgMatches<'_>) -> Result<HttpOptions, OptionFault>
+    requires { HasHttpOptions (rows_of (found_of options.now)) }
+    ensures { ChoosesHttp (rows_of (found_of options.now)) result }
+{
+    let Some(mode) = read_mode(options, "http-mode") else {
+        return Err(OptionFault::UnknownMode);
+    };
+    Ok(HttpOptions {
+        here: read_optional_text(alloc, options, "http")?,
+        anywhere: read_optional_text(alloc, options, "http-anywhere")?,
+        mode,
+        connections: read_optional_number(options, "http-connections"),
+        patience: read_optional_number(options, "http-patience"),
+        granted: read_optional_text(alloc, options, "http-granted")?,
+        facts: read_optional_text(alloc, options, "http-facts")?,
+        admin: read_optional_text(alloc, options, "http-admin")?,
+    })
 }
 
 /// The value of an option that has to be given.
@@ -107,11 +138,11 @@ fn read_optional_number(options: &ArgMatches<'_>, name: &str) -> Option<u64>
     options.get_one::<u64>(name)
 }
 
-/// Who may connect to the socket.
-fn read_mode(options: &ArgMatches<'_>) -> Option<Mode>
-    ensures { result ≡ mode_given (first_of (codes "mode") (rows_of (found_of options.now))) }
+/// Who may connect to the socket whose mode this option tells.
+fn read_mode(options: &ArgMatches<'_>, name: &str) -> Option<Mode>
+    ensures { result ≡ mode_given (first_of name.now (rows_of (found_of options.now))) }
 {
-    match options.get_str("mode") {
+    match options.get_str(name) {
         Some(digits) => Mode::of(digits),
         None => Some(Mode::Owner),
     }

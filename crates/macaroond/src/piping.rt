@@ -1,5 +1,5 @@
 //! The pipe: key lines, an empty line and request lines in, a line for each answer out.
-ghost use Rattle.std.specs.Prelude.{◌≡◌, ◌⊎◌, ◌+◌, ◌<◌, ◌≤◌, ◌++◌, ◌∷◌, List, ℕ, length, map, IsTrue, IfOk, IfErr, OnOk};
+ghost use Rattle.std.specs.Prelude.{◌≡◌, ◌⊎◌, ◌+◌, ◌<◌, ◌≤◌, ◌++◌, [], ◌∷◌, List, Option, ℕ, length, map, IsTrue, IfOk, IfErr, OnOk};
 ghost use Rattle.mac_keys.specs.Table.{table_of};
 ghost use Rattle.mac_keys.specs.declared.fault.KeyFault.TheVariants as key;
 ghost use Rattle.mac_keys.specs.declared.fault.LineFault.{LineFault};
@@ -7,7 +7,7 @@ ghost use Rattle.mac_wire.specs.declared.arrival.Arrival.{Arrival};
 ghost use Rattle.mac_wire.specs.declared.reply.Reply.{Reply};
 ghost use Rattle.macaroond.specs.declared.fault.PipeFault.TheVariants.{Keys, Memory};
 ghost use Rattle.macaroond.specs.declared.input.TheConstants.{INPUT_MAX};
-ghost use Rattle.mac_decide.specs.Answer.{answer_of};
+ghost use Rattle.mac_decide.specs.Answer.{full_answer};
 ghost use Rattle.macaroond.specs.Arrived.{arrival_of};
 ghost use Rattle.macaroond.specs.Lines.{lines, key_text};
 ghost use Rattle.macaroond.specs.Inner.{EndsWriting, Tells, Writes};
@@ -21,16 +21,18 @@ use crate::fault::PipeFault;
 use crate::input::read_input;
 use crate::lines::{divide, next_line};
 use crate::reply_line::append_reply_line;
-use mac_decide::{answer, job_of};
+use mac_board::Moments;
+use mac_decide::{Rights, Terms, answer, job_of};
 use mac_keys::{KeyFault, KeyTable};
 use mac_wire::{Arrival, GATHERED, NoMemory, Reply, Sink, Source, send_all};
 use std::alloc::Global;
 
 /// Reads the key lines up to the first empty line, then a request a line in hexadecimal, and writes
-/// a line for each answer, in order.
-pub fn pipe<R: Source, W: Sink>(
+/// a line for each answer, in order. The clock is asked once, when all is read.
+pub fn pipe<R: Source, M: Moments, W: Sink>(
     alloc: Global,
     source: &mut R,
+    clock: &mut M,
     sink: &mut W,
 ) -> Result<(), PipeFault>
     requires readable { R.faults source.old < u64.MAX }
@@ -38,9 +40,13 @@ pub fn pipe<R: Source, W: Sink>(
     ensures source { IsTrue R.tells → (input : List ℕ)
         × (R.taken source.new ≡ R.taken source.old ++ input)
         × TakesInput result (R.ended source.new) input }
-    ensures output { IsTrue R.tells → IsTrue W.tells → (input : List ℕ)
+    ensures clock { OnOk result
+        ((moment : Option ℕ) × (M.told clock.new ≡ M.told clock.old ++ moment ∷ [])) }
+    ensures output { IsTrue R.tells → IsTrue W.tells → (input : List ℕ) (moment : Option ℕ)
         → R.taken source.new ≡ R.taken source.old ++ input
-        → GivesOutput answer_of result input (W.written sink.old) (W.written sink.new) }
+        → M.told clock.new ≡ M.told clock.old ++ moment ∷ []
+        → GivesOutput (full_answer moment) result input
+        (W.written sink.old) (W.written sink.new) }
     ensures keys { IsTrue R.tells → (input : List ℕ)
         → R.taken source.new ≡ R.taken source.old ++ input
         → IsTrue (R.ended source.new) → length input ≤ INPUT_MAX
@@ -50,9 +56,10 @@ pub fn pipe<R: Source, W: Sink>(
         (R.faults source.old + W.faults sink.old) (R.faults source.new + W.faults sink.new) }
 {
     let input = read_input(alloc, source)?;
+    let moment = clock.tell();
     let (keys, requests) = divide(input.as_slice());
     let table = read_table(alloc, keys)?;
-    write_answers(alloc, &table, requests, sink)
+    write_answers(alloc, &table, moment, requests, sink)
 }
 
 /// The table of the key lines.
@@ -67,16 +74,17 @@ pub(crate) fn read_table(alloc: Global, text: &[u8]) -> Result<KeyTable, PipeFau
     }
 }
 
-/// Writes the answer to each line of the requests.
+/// Writes the answer to each line of the requests, at this moment.
 fn write_answers<W: Sink>(
     alloc: Global,
     table: &KeyTable,
+    moment: Option<u64>,
     requests: &[u8],
     sink: &mut W,
 ) -> Result<(), PipeFault>
     requires { W.faults sink.old < u64.MAX }
     ensures written { IsTrue W.tells → Writes result
-        (answers (answer_of table.now) (map arrival_of (lines requests.now)))
+        (answers (full_answer moment table.now) (map arrival_of (lines requests.now)))
         (W.written sink.old) (W.written sink.new) }
     ensures ends { EndsWriting result }
     ensures faults { CountsDevice result (W.faults sink.old) (W.faults sink.new) }
@@ -86,7 +94,7 @@ fn write_answers<W: Sink>(
     while let Some((line, behind)) = next_line(rest) {
         let arrival = read_arrival(alloc, line)?;
         rest = rest_behind(&arrival, behind);
-        append_answer(alloc, table, arrival, &mut gathered)?;
+        append_answer(alloc, table, moment, arrival, &mut gathered)?;
         if gathered.len() >= GATHERED {
             send_all(sink, gathered.as_slice())?;
             gathered.clear();
@@ -113,19 +121,31 @@ fn rest_behind<'a>(arrival: &Arrival, behind: &'a [u8]) -> &'a [u8]
 fn append_answer(
     alloc: Global,
     table: &KeyTable,
+    moment: Option<u64>,
     arrival: Arrival,
     out: &mut Vec<u8>,
 ) -> Result<(), NoMemory>
     ensures { OnOk result
-        (out.new.items ≡ out.old.items ++ reply_line (answer_of table.now arrival)) }
+        (out.new.items ≡ out.old.items ++ reply_line (full_answer moment table.now arrival)) }
 {
-    let reply = reply_to(alloc, table, arrival)?;
+    let reply = reply_to(alloc, table, moment, arrival)?;
     append_reply_line(alloc, &reply, out)
 }
 
-/// The answer to an arrival.
-fn reply_to(alloc: Global, table: &KeyTable, arrival: Arrival) -> Result<Reply, NoMemory>
-    ensures { IfOk result (λ r. r ≡ answer_of table.now arrival) }
+/// The answer to an arrival: to the pipe everything is allowed.
+fn reply_to(
+    alloc: Global,
+    table: &KeyTable,
+    moment: Option<u64>,
+    arrival: Arrival,
+) -> Result<Reply, NoMemory>
+    ensures { IfOk result (λ r. r ≡ full_answer moment table.now arrival) }
 {
-    answer(alloc, &job_of(table, arrival))
+    let rights = &Rights::all();
+    let terms = Terms {
+        table,
+        rights,
+        moment,
+    };
+    answer(alloc, &job_of(terms, arrival))
 }

@@ -65,6 +65,18 @@ fn say_request(case: &mut Case<'_>, request: Request<'_>) {
             case.say_number(moment);
             say_lists(case, facts);
         }
+        Request::VerifyNow {
+            grant,
+            key,
+            token,
+            facts,
+        } => {
+            case.say("verify now ");
+            case.say_number(grant.kind() as u64);
+            say_field(case, key);
+            say_field(case, token);
+            say_lists(case, facts);
+        }
     }
 }
 

@@ -8,14 +8,16 @@ use crate::token::{next_token, say_parts, say_refusal, say_written, token_of};
 use crate::verdicts::say_verdicts;
 use arrayvec::ArrayVec;
 use mac_decide::{
-    Context, RUN, Rooms, answer, answer_all, answer_run, attenuate, job_of, job_view_of, mint,
-    satisfied, time_limit, time_since,
+    Context, RUN, Rights, Rooms, Terms, answer, answer_all, answer_run, attenuate, job_of,
+    job_view_of, mint, satisfied, time_limit, time_since,
 };
 use mac_hmac::root_key;
-use mac_keys::KeyTable;
 use mac_token::{Form, Token, TokenFault, write};
 use mac_wire::{Arrival, Bytes, FieldList, NoMemory, Reply, Version, reply_bytes};
 use std::alloc::Global;
+
+/// The moment of every request that names none: 2023-11-14T22:13:20Z.
+pub(crate) const MOMENT: u64 = 1_700_000_000;
 
 /// Tells what a case comes to, if it is one of these kinds.
 pub(crate) fn tells(case: &mut Case<'_>, kind: &str) -> bool {
@@ -92,7 +94,14 @@ fn reply(case: &mut Case<'_>) {
         return;
     };
     let payload = Bytes::new(case.bytes());
-    let job = job_of(&table, Arrival::Payload(payload));
+    let rights = &Rights::all();
+    let table = &table;
+    let terms = Terms {
+        table,
+        rights,
+        moment: Some(MOMENT),
+    };
+    let job = job_of(terms, Arrival::Payload(payload));
     let Ok(reply) = answer(case.alloc, &job) else {
         return case.fail(CaseFault::Memory);
     };
@@ -106,13 +115,19 @@ fn replies(case: &mut Case<'_>) {
         return;
     };
     let payloads = case.lists();
-    let Ok(lying) = replies_in_runs(case.alloc, &table, &payloads) else {
+    let rights = Rights::all();
+    let terms = Terms {
+        table: &table,
+        rights: &rights,
+        moment: Some(MOMENT),
+    };
+    let Ok(lying) = replies_in_runs(case.alloc, terms, &payloads) else {
         return case.fail(CaseFault::Memory);
     };
     let mut jobs = Vec::new(case.alloc);
     for payload in payloads {
         let payload = Arrival::Payload(Bytes::new(payload));
-        case.keep(&mut jobs, job_of(&table, payload));
+        case.keep(&mut jobs, job_of(terms, payload));
     }
     let Ok(replies) = answer_all(case.alloc, &jobs) else {
         return case.fail(CaseFault::Memory);
@@ -132,7 +147,7 @@ fn replies(case: &mut Case<'_>) {
 /// The replies to payloads where they lie.
 fn replies_in_runs<'a>(
     alloc: Global,
-    table: &'a KeyTable,
+    terms: Terms<'a>,
     payloads: &'a [Vec<u8>],
 ) -> Result<Vec<Reply>, NoMemory> {
     let mut rooms = Rooms::new(alloc);
@@ -141,7 +156,7 @@ fn replies_in_runs<'a>(
         let mut views: ArrayVec<_, RUN> = ArrayVec::new();
         for payload in run {
             if !views.is_full() {
-                views.push(job_view_of(table, payload));
+                views.push(job_view_of(terms, payload));
             }
         }
         for reply in answer_run(&mut rooms, alloc, views.as_slice())? {

@@ -158,6 +158,7 @@ fn reply_of(case: &mut Case<'_>, word: &str) -> Option<Reply>
     let (name, value) = word.split_once('=').unwrap_or((word, "-"));
     match name {
         "granted" => Some(Reply::Granted),
+        "granted-to" => owner_reply(case, value),
         "token" => token_reply(case.spelled(value)),
         "refused" => refusal_reply(value),
         "index" => match value.parse::<u16>() {
@@ -178,6 +179,22 @@ fn token_reply(token: Vec<u8>) -> Option<Reply>
     Some(Reply::Token(Bytes::new(token)))
 }
 
+/// The reply with an identifier and a location, a colon between them, if they aren't too long.
+fn owner_reply(case: &mut Case<'_>, value: &str) -> Option<Reply>
+    ensures { IfSome result IsReply }
+{
+    let (identifier, location) = value.split_once(':')?;
+    let identifier = case.spelled(identifier);
+    let location = case.spelled(location);
+    if identifier.len() > REPLY_TOKEN_MAX || location.len() > REPLY_TOKEN_MAX - identifier.len() {
+        return None;
+    }
+    Some(Reply::GrantedTo {
+        identifier: Bytes::new(identifier),
+        location: Bytes::new(location),
+    })
+}
+
 /// The reply with the refusal of a name.
 fn refusal_reply(name: &str) -> Option<Reply>
     ensures { IfSome result IsReply }
@@ -192,6 +209,8 @@ fn refusal_reply(name: &str) -> Option<Reply>
         ("limit", Refusal::Limit),
         ("bad-signature", Refusal::BadSignature),
         ("caveat-location", Refusal::CaveatLocation),
+        ("not-allowed", Refusal::NotAllowed),
+        ("no-clock", Refusal::NoClock),
     ] {
         if name == word {
             return Some(Reply::Refused(refusal));

@@ -1,8 +1,9 @@
 //! The world of macaroons: what each event comes to, and what leaves on each connection.
 
 use crate::case::{Case, CaseFault, WORDS_MAX};
+use crate::decide::MOMENT;
 use crate::keys::table;
-use mac_decide::{Job, Macaroons, job_of};
+use mac_decide::{Job, Macaroons, Rights, Terms, job_of};
 use mac_keys::KeyTable;
 use mac_order::{Event, Outcome, Service, World};
 use mac_wire::{Arrival, Bytes, Reply};
@@ -55,7 +56,7 @@ fn event(case: &mut Case<'_>, table: &KeyTable) -> Event<Macaroons> {
     let word = case.word();
     match word {
         "arrive" => Event::Arrive(case.small(), job(case, table)),
-        "oversize" => Event::Arrive(case.small(), job_of(table, Arrival::Oversize)),
+        "oversize" => Event::Arrive(case.small(), full_job(table, Arrival::Oversize)),
         _ => event_of(case, word),
     }
 }
@@ -76,7 +77,18 @@ pub(crate) fn event_of<S: Service>(case: &mut Case<'_>, word: &str) -> Event<S> 
 
 fn job(case: &mut Case<'_>, table: &KeyTable) -> Job {
     let payload = Bytes::new(case.bytes());
-    job_of(table, Arrival::Payload(payload))
+    full_job(table, Arrival::Payload(payload))
+}
+
+/// The job of an arrival, where everything is allowed.
+fn full_job(table: &KeyTable, arrival: Arrival) -> Job {
+    let rights = &Rights::all();
+    let terms = Terms {
+        table,
+        rights,
+        moment: Some(MOMENT),
+    };
+    job_of(terms, arrival)
 }
 
 /// Appends what each event came to, a comma behind each.
@@ -122,6 +134,15 @@ fn say_reply(case: &mut Case<'_>, reply: &Reply) {
         Reply::Unsatisfied(index) => {
             case.say(", unsatisfied ");
             case.say_number(*index as u64);
+        }
+        Reply::GrantedTo {
+            identifier,
+            location,
+        } => {
+            case.say(", granted to ");
+            case.digits(identifier.as_slice());
+            case.say(" at ");
+            case.digits(location.as_slice());
         }
         Reply::Token(token) => {
             case.say(", token ");

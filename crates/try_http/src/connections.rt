@@ -1,6 +1,7 @@
 //! Connections one after another, and what each is answered.
 
-use crate::fixed::{FixedMoment, NoWatch};
+use crate::fixed::{FixedMoment, FixedSteward, NoWatch};
+use mac_board::FixedTables;
 use mac_http::{Face, Granted, Rules, Sources, attend};
 use mac_keys::KeyTable;
 use std::alloc::Global;
@@ -61,7 +62,13 @@ where
     if words.is_empty() {
         return Ok(());
     }
-    let mut face = Face::new(alloc, keys, rules_of(words), FixedMoment::new());
+    let mut face = Face::new(
+        alloc,
+        FixedTables(keys),
+        rules_of(words),
+        FixedMoment::new(),
+        steward_of(words),
+    );
     let mut answers = Vec::new(alloc);
     let mut reader = requests;
     let secrets = RandomState::new(rt)?;
@@ -86,15 +93,27 @@ fn print_text<R: Print>(rt: &R, text: &[u8]) -> io::Result<()> {
     }
 }
 
+/// Whether a word is among those of a line.
+fn has(words: &[u8], word: &[u8]) -> bool {
+    words.split(|byte| *byte == b' ').any(|found| found == word)
+}
+
+/// The daemon that the words name.
+fn steward_of(words: &[u8]) -> FixedSteward {
+    FixedSteward {
+        is_ending: has(words, b"ending"),
+        is_well: !has(words, b"unwell"),
+    }
+}
+
 /// The rules that the words name.
 fn rules_of(words: &[u8]) -> Rules {
-    let has = |word: &[u8]| words.split(|byte| *byte == b' ').any(|found| found == word);
     let sources = Sources {
-        header: has(b"header"),
-        query: has(b"query"),
-        forwarded: has(b"forwarded"),
+        header: has(words, b"header"),
+        query: has(words, b"query"),
+        forwarded: has(words, b"forwarded"),
     };
-    let granted = if has(b"204") {
+    let granted = if has(words, b"204") {
         Granted::NoContent
     } else {
         Granted::Ok

@@ -1,7 +1,10 @@
-//! A clock that stands still, and a watch that drops nobody.
+//! A clock that stands still, a daemon that stays as it is, and a watch that drops nobody.
 
+use http::StatusCode;
 use http_server::Log;
-use mac_http::{Moments, Watch};
+use mac_board::Moments;
+use mac_http::{Page, Steward, Told, Watch};
+use std::alloc::AllocError;
 use std::io;
 
 /// The moment of each request: 2023-11-14T22:13:20Z.
@@ -29,6 +32,37 @@ impl Moments for FixedMoment {
         self.log = self.log.and(&moment, &());
         moment
     }
+}
+
+/// A daemon that stays as it is. It has no numbers.
+#[derive(Drop)]
+pub struct FixedSteward {
+    /// Whether its connections are to end.
+    pub is_ending: bool,
+    /// Whether it is well.
+    pub is_well: bool,
+}
+
+impl Steward for FixedSteward {
+    fn is_ending(&self) -> bool {
+        self.is_ending
+    }
+
+    fn tell(&self, page: Page, text: &mut Vec<u8>) -> Result<Told, AllocError> {
+        match page {
+            Page::Numbers | Page::Status | Page::Connections => Ok(Told::Nothing),
+            Page::Health if self.is_well => {
+                text.extend_from_slice(b"ok\n")?;
+                Ok(Told::Well)
+            }
+            Page::Health => {
+                text.extend_from_slice(b"why\n")?;
+                Ok(Told::Unwell)
+            }
+        }
+    }
+
+    fn note(&self, _status: StatusCode) {}
 }
 
 /// A watch that drops nobody.

@@ -70,14 +70,10 @@ fn full(alloc: Global) -> Result<Outcome, RunFault> {
     let (mut intake, mut outlet) = make_ring::<Digits>(alloc)?;
     let is_filled = admits(&mut intake, 0, SLIPS) && intake.free_slips() == 0;
     let is_full = intake.admit(9) == Err((AdmitFault::Full, 9));
-    let is_told = outlet.may_hold_slip();
     let is_taken = outlet.look() && outlet.open_slips() == 1;
     let is_freed = intake.admit(9) == Ok(SLIPS);
     let totals = meet(&mut intake, &mut outlet);
-    ring_if(
-        totals,
-        is_filled && is_full && is_told && is_taken && is_freed,
-    )
+    ring_if(totals, is_filled && is_full && is_taken && is_freed)
 }
 
 /// Each end works in a thread of its own: one slip more goes in than the ring holds.
@@ -191,17 +187,14 @@ fn intake_ends(alloc: Global) -> Result<bool, RunFault> {
     let is_first = intake.admit(4) == Ok(0);
     let is_second = intake.admit(5) == Ok(1);
     let is_there = !outlet.is_abandoned();
-    let Some(mut mark) = intake.finish() else {
-        return Ok(false);
-    };
+    drop(intake);
     let is_left = outlet.is_abandoned();
     let is_open = outlet.look();
     let is_settled = fault_at(alloc, &mut outlet, 0, 4)?.is_none();
     let is_sent = releases(&mut outlet, 0, 4);
-    let are_two = outlet.drain(&mut mark) == 2;
     let is_next = outlet.next_place() == 1;
     let is_last = outlet.look();
-    let is_told = is_there && is_left && are_two && is_next;
+    let is_told = is_there && is_left && is_next;
     Ok(is_first && is_second && is_told && is_open && is_settled && is_sent && is_last)
 }
 
@@ -213,6 +206,5 @@ fn outlet_ends(alloc: Global) -> Result<bool, RunFault> {
     drop(outlet);
     let is_left = intake.is_abandoned();
     let is_second = intake.admit(7) == Ok(1);
-    let is_unmarked = intake.finish().is_none();
-    Ok(is_first && is_there && is_left && is_second && is_unmarked)
+    Ok(is_first && is_there && is_left && is_second)
 }

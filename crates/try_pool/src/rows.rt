@@ -287,16 +287,16 @@ fn is_filled<R: Wait>(rt: &R, mail: &Mailbox<Digits>) -> bool {
         )
 }
 
-/// Whether posts are taken in order, past the taker and by it, and none goes in after a close.
+/// Whether posts are taken in order, and none goes in after a close.
 fn is_taken<R: Wait>(rt: &R, mail: &Mailbox<Digits>, taker: &mut Taker<Digits>) -> bool {
-    let is_past = matches!(mail.take(rt), Some(Post::Failed(0)));
-    let is_by = matches!(taker.take(rt), Some(Post::Failed(1)));
+    let is_first = matches!(taker.take(rt), Some(Post::Failed(0)));
+    let is_second = matches!(taker.take(rt), Some(Post::Failed(1)));
     taker.close();
     let is_late = matches!(
         mail.push(rt, Post::Failed(9)),
         Err((PutFault::Closed, Post::Failed(9)))
     );
-    is_past && is_by && is_late && matches!(taker.take(rt), Some(Post::Failed(2)))
+    is_first && is_second && is_late && matches!(taker.take(rt), Some(Post::Failed(2)))
 }
 
 /// A taker sleeps, and is rung for a flag and no post. Once it is closed it waits no more.

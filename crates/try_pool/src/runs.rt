@@ -60,7 +60,7 @@ where
 /// desks                    64 desks, and one that is refused
 /// start:WORKERS            a number of workers that is refused
 /// desk_out                 an end while a desk is out, and once it is home
-/// mailbox                  a mailbox that is full, taken from past its taker, and closed
+/// mailbox                  a mailbox that is full, taken from, and closed
 /// rung                     a taker that is woken for something else than a post
 /// ```
 fn run<R>(rt: &R, alloc: Global, word: &str) -> Result<Outcome, RunFault>

@@ -1,7 +1,7 @@
 //! What the calls are made on. The tokens and the signatures were computed by other libraries.
 
 use crate::outcome::Refused;
-use mac_decide::{Job, job_of};
+use mac_decide::{Job, Rights, Terms, job_of};
 use mac_keys::KeyTable;
 use mac_token::Token;
 use mac_wire::{Arrival, Bytes, Reply};
@@ -100,7 +100,12 @@ fn key_table(alloc: Global) -> Result<KeyTable, Refused> {
 fn job(alloc: Global, payload: &[u8]) -> Result<Job, Refused> {
     let keys = key_table(alloc)?;
     let payload = Bytes::new(Vec::from_slice(alloc, payload)?);
-    Ok(job_of(&keys, Arrival::Payload(payload)))
+    let terms = Terms {
+        table: &keys,
+        rights: &Rights::all(),
+        moment: None,
+    };
+    Ok(job_of(terms, Arrival::Payload(payload)))
 }
 
 /// The job that asks for the token.
@@ -127,7 +132,7 @@ pub(crate) fn is_token(reply: &Reply) -> bool {
 /// Whether it is a job like the one that asks for the token.
 pub(crate) fn is_mint(job: &Job) -> bool {
     match &job.arrival {
-        Arrival::Payload(payload) => payload.as_slice() == MINT && job.key.is_some(),
+        Arrival::Payload(payload) => payload.as_slice() == MINT && job.basis.keys.is_some(),
         Arrival::Oversize => false,
     }
 }

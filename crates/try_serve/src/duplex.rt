@@ -8,14 +8,12 @@ use crate::flags::Flags;
 use crate::report::met_text;
 use crate::serving::{ROOM, by_a_pool};
 use crate::streams::{FIRST_REPLY, TWO_FRAMES};
+use crate::waiting::{FIRST_FRAME, Waiting};
 use mac_pool::Gate;
-use mac_wire::{DeviceFault, MemSink, MemSource, Sink, Source};
+use mac_wire::{DeviceFault, MemSink, Sink};
 use std::alloc::Global;
 use std::sync::{Arc, Wait};
 use std::thread::Threads;
-
-/// How many bytes the first frame has.
-const FIRST_FRAME: usize = 52;
 
 /// The first flag tells that the second frame is asked for, the second that the first reply was
 /// written.
@@ -33,37 +31,6 @@ impl Gate for Meeting {
     }
 
     fn after(&self, _place: u64) {}
-}
-
-/// Gives the second frame once the first reply was written.
-#[derive(Drop)]
-struct Waiting<'a> {
-    inner: MemSource,
-    meeting: &'a Meeting,
-    has_given: bool,
-}
-
-impl<'a> Source for Waiting<'a> {
-    ghost tells = { true };
-
-    ghost taken = { λ s. s.inner.given };
-
-    ghost ended = { λ s. s.inner.has_ended };
-
-    ghost faults = { λ s. s.inner.fault_count };
-
-    fn read(&mut self, buf: &mut [u8]) -> Result<usize, DeviceFault> {
-        if self.has_given {
-            self.meeting.flags.set_first();
-            self.meeting.flags.await_second();
-        }
-        self.has_given = true;
-        self.inner.read(buf)
-    }
-
-    fn faults(&self) -> u64 {
-        self.inner.faults()
-    }
 }
 
 /// Tells that the first reply was written.
@@ -111,13 +78,9 @@ fn ends_of<'a>(
     alloc: Global,
     meeting: &'a Meeting,
 ) -> Result<(Waiting<'a>, Telling<'a>), RunFault> {
-    let source = MemSource::new(Vec::from_slice(alloc, TWO_FRAMES)?, FIRST_FRAME, 0);
+    let stream = Vec::from_slice(alloc, TWO_FRAMES)?;
     let sink = MemSink::new(alloc, ROOM, ROOM, 0)?;
-    let waiting = Waiting {
-        inner: source,
-        meeting,
-        has_given: false,
-    };
+    let waiting = Waiting::new(stream, FIRST_FRAME, &meeting.flags);
     let telling = Telling {
         inner: sink,
         meeting,

@@ -2,9 +2,10 @@
 
 use crate::fault::RunFault;
 use crate::payload::{Form, Texts, append_frame, mint_request, verify_request};
+use crate::requests::full_job;
 use crate::serving::by_a_pool;
 use crate::streams::key_table;
-use mac_decide::{answer, job_of};
+use mac_decide::answer;
 use mac_pool::NoGate;
 use mac_wire::{Arrival, Bytes, MemSink, MemSource, Reply};
 use std::alloc::{AllocError, Global};
@@ -39,7 +40,7 @@ fn minting(alloc: Global) -> Result<Vec<u8>, AllocError> {
 fn verifying(alloc: Global) -> Result<Vec<u8>, RunFault> {
     let keys = key_table(alloc)?;
     let arrival = Arrival::Payload(Bytes::new(minting(alloc)?));
-    match answer(alloc, &job_of(&keys, arrival))? {
+    match answer(alloc, &full_job(&keys, arrival))? {
         Reply::Token(token) => Ok(verify_request(
             alloc,
             b"bank",

@@ -2,10 +2,12 @@
 //! whatever order the threads went. `runs.rt` lists the runs.
 #![tactic(auto)]
 
+mod clock;
 mod duplex;
 mod false_worker;
 mod fault;
 mod flags;
+mod given_up;
 mod load;
 mod many;
 mod overtaking;
@@ -17,6 +19,7 @@ mod serving;
 mod streams;
 mod table;
 mod tables;
+mod waiting;
 
 use runs::told;
 use std::{env, io};

@@ -1,8 +1,9 @@
 //! Requests that look random, and their answers made one after the other.
 
+use crate::clock::MOMENT;
 use crate::fault::RunFault;
 use crate::payload::{Form, Texts, append_frame, attenuate_request, mint_request, verify_request};
-use mac_decide::{answer, job_of};
+use mac_decide::{Job, Rights, Terms, answer, job_of};
 use mac_keys::KeyTable;
 use mac_wire::{Arrival, Bytes, HELLO, Reply, Version, append_reply};
 use std::alloc::{AllocError, Global};
@@ -117,7 +118,7 @@ impl Asked {
     fn push(&mut self, alloc: Global, keys: &KeyTable, payload: Vec<u8>) -> Result<(), RunFault> {
         append_frame(&mut self.stream, payload.as_slice())?;
         let arrival = Arrival::Payload(Bytes::new(payload));
-        let reply = answer(alloc, &job_of(keys, arrival))?;
+        let reply = answer(alloc, &full_job(keys, arrival))?;
         append_reply(&mut self.due, &reply, self.version, self.kinds.count())?;
         self.kinds.add(&reply);
         Ok(())
@@ -156,7 +157,7 @@ impl Kinds {
 
     fn add(&mut self, reply: &Reply) {
         let kind = match reply {
-            Reply::Granted => &mut self.granted,
+            Reply::Granted | Reply::GrantedTo { .. } => &mut self.granted,
             Reply::Token(_) => &mut self.tokens,
             Reply::Refused(_) => &mut self.refused,
             Reply::Unsatisfied(_) => &mut self.unsatisfied,
@@ -173,7 +174,7 @@ fn tokens_of(alloc: Global, keys: &KeyTable, dice: &mut Dice) -> Result<Vec<Vec<
         let caveats = dice.texts(7);
         let payload = mint_request(alloc, form, b"bank", b"user:1001", caveats)?;
         let arrival = Arrival::Payload(Bytes::new(payload));
-        match answer(alloc, &job_of(keys, arrival))? {
+        match answer(alloc, &full_job(keys, arrival))? {
             Reply::Token(token) => tokens.push(token.into_vec())?,
             _ => return Err(RunFault::Wrong),
         }
@@ -212,4 +213,15 @@ fn damaged_verify(alloc: Global, dice: &mut Dice, token: &[u8]) -> Result<Vec<u8
         payload[at] ^= 1;
     }
     Ok(payload)
+}
+
+/// The job of an arrival, where everything is allowed.
+pub(crate) fn full_job(table: &KeyTable, arrival: Arrival) -> Job {
+    let rights = &Rights::all();
+    let terms = Terms {
+        table,
+        rights,
+        moment: Some(MOMENT),
+    };
+    job_of(terms, arrival)
 }

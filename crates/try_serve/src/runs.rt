@@ -1,7 +1,7 @@
 //! The runs, and what does each.
 
 use crate::fault::RunFault;
-use crate::{duplex, false_worker, load, many, overtaking, serving, tables};
+use crate::{duplex, false_worker, given_up, load, many, overtaking, serving, tables};
 use mac_wire::Version;
 use std::alloc::{AllocError, Global};
 use std::sync::Wait;
@@ -29,6 +29,7 @@ enum Kind {
     Cuts,
     FailingReads,
     FailingWrites,
+    GivenUp,
     Posts,
     Two,
     Many,
@@ -45,6 +46,7 @@ enum Kind {
 /// cuts:VERSION                two frames in version one or two, cut to each number of bytes
 /// failing_reads:VERSION       the same, and a source that fails at each of its calls
 /// failing_writes:VERSION      the same, and a sink that fails at each of its calls
+/// given_up                    a frame whose reply can't be written, from a peer that waits for it
 /// posts:HOW                   two frames, by a worker that posts false answers
 /// two:NAME:NAME               two streams at once by two workers, a byte a call
 /// many:REQUESTS:SEED          requests that look random, over three connections, by four workers
@@ -58,6 +60,7 @@ const RUNS: &[(&str, Kind)] = &[
     ("cuts", Kind::Cuts),
     ("failing_reads", Kind::FailingReads),
     ("failing_writes", Kind::FailingWrites),
+    ("given_up", Kind::GivenUp),
     ("posts", Kind::Posts),
     ("two", Kind::Two),
     ("many", Kind::Many),
@@ -92,6 +95,7 @@ where
         Kind::Cuts => tables::cuts_told(rt, alloc, version(rest)?),
         Kind::FailingReads => tables::reads_told(rt, alloc, version(rest)?),
         Kind::FailingWrites => tables::writes_told(rt, alloc, version(rest)?),
+        Kind::GivenUp => given_up::given_up_told(rt, alloc),
         Kind::Posts => false_worker::false_worker_told(rt, alloc, rest),
         Kind::Two => many::two_told(rt, alloc, first, behind),
         Kind::Many => many::many_told(rt, alloc, number(first)?, number(behind)?),

@@ -2,11 +2,12 @@
 
 ghost use Rattle.std.specs.Prelude.{◌≡◌, ◌≤◌, IfOk};
 
+use crate::clock::FixedClock;
 use crate::fault::RunFault;
 use crate::report::{Report, outcome_text};
 use crate::streams::{key_table, stream_of};
-use mac_board::FixedTables;
-use mac_decide::Macaroons;
+use mac_board::{FixedTables, TimedTables};
+use mac_decide::{Macaroons, Rights};
 use mac_keys::KeyTable;
 use mac_pool::{Desk, Gate, NoGate, Pool, Tally};
 use mac_serve::{ServeFault, Served, serve};
@@ -108,13 +109,14 @@ fn served<R: Threads + Wait + Sync, In: Source, Out: Sink>(
 ) -> Told
     ensures { result.desk.putter.queue ≡ desk.putter.queue }
 {
-    let mut keys = FixedTables(keys);
+    let mut outlook = TimedTables::new(FixedTables(keys), FixedClock::new());
     match serve(
         rt,
         alloc,
         source,
         sink,
-        &mut keys,
+        &mut outlook,
+        &Rights::all(),
         desk,
         Session::new(alloc),
     ) {

@@ -2,24 +2,28 @@
 //! for the proofs alone.
 
 ghost use Rattle.std.specs.Prelude.{◌≡◌, ◌+◌, ◌-◌, ◌<◌, ◌^◌, [], ◌∷◌, ◌++◌, length};
-ghost use Rattle.mac_queue.specs.Balance.{account, entry_of};
+ghost use Rattle.mac_queue.specs.Balance.{account, claim_of, entry_of};
 
 use crate::ticket::Ticket;
 use crossbeam_queue::protocol::{Join, Lesson, Outcome, Protocol, Split};
+use mac_mail::Mailbox;
 use mac_order::Service;
 use std::collections::LinkedList;
 
-/// What a pass has put and claimed, and its parts of the right to know the whole. No value is
-/// made.
-pub struct Account<J> {
+/// What a pass has put and claimed, the latter with the mailbox for its answer, and its parts of
+/// the right to know the whole. No value is made.
+pub struct Account<J, M> {
     pub parts: u64,
     pub put: LinkedList<(u64, J)>,
-    pub claimed: LinkedList<(u64, J)>,
+    pub claimed: LinkedList<(M, (u64, J))>,
 }
+
+/// What the passes of a service's queue know.
+pub type Books<S> = Account<<S as Service>::Job, Mailbox<S>>;
 
 pub struct Balance;
 
-impl<S: Service> Protocol<Ticket<S>, Account<S::Job>> for Balance {
+impl<S: Service> Protocol<Ticket<S>, Books<S>> for Balance {
     ghost use Rattle.std.specs.Prelude.{[]};
     ghost use Rattle.mac_queue.specs.Balance.{account, IsBalanced};
     ghost use Rattle.mac_queue.specs.declared.queue.TheConstants.{PASSES};
@@ -32,7 +36,7 @@ impl<S: Service> Protocol<Ticket<S>, Account<S::Job>> for Balance {
 /// A fresh pass is cut off.
 pub struct Cut;
 
-impl<J> Split<Account<J>> for Cut {
+impl<J, M> Split<Account<J, M>> for Cut {
     ghost left = { λ a. account (a.parts - 1) [] [] };
 
     ghost right = { λ a. account 1 [] [] };
@@ -41,7 +45,7 @@ impl<J> Split<Account<J>> for Cut {
 /// A pass takes in what another has put and claimed.
 pub struct Sum;
 
-impl<J> Join<Account<J>> for Sum {
+impl<J, M> Join<Account<J, M>> for Sum {
     ghost both = { λ a b. account (a.parts + b.parts) (a.put ++ b.put) (a.claimed ++ b.claimed) };
 
     ghost spent = { account 0 [] [] };
@@ -49,11 +53,11 @@ impl<J> Join<Account<J>> for Sum {
 
 pub struct Puts;
 
-impl<S: Service> Outcome<Ticket<S>, Account<S::Job>> for Puts {
+impl<S: Service> Outcome<Ticket<S>, Books<S>> for Puts {
     ghost then = { λ a ticket b. b ≡ account a.parts (a.put ++ entry_of ticket ∷ []) a.claimed };
 }
 
-impl<S: Service> Lesson<Ticket<S>, Account<S::Job>> for Puts {
+impl<S: Service> Lesson<Ticket<S>, Books<S>> for Puts {
     ghost use Rattle.std.specs.Prelude.{⊤};
 
     ghost fact = { λ a tickets. ⊤ };
@@ -62,13 +66,13 @@ impl<S: Service> Lesson<Ticket<S>, Account<S::Job>> for Puts {
 /// A pop adds to what was claimed, which is at most what all passes may put.
 pub struct Claims;
 
-impl<S: Service> Outcome<Ticket<S>, Account<S::Job>> for Claims {
+impl<S: Service> Outcome<Ticket<S>, Books<S>> for Claims {
     ghost then = { λ a ticket b.
-        (b ≡ account a.parts a.put (a.claimed ++ entry_of ticket ∷ []))
+        (b ≡ account a.parts a.put (a.claimed ++ claim_of ticket ∷ []))
         × (length b.claimed < 2 ^ 62) };
 }
 
-impl<S: Service> Lesson<Ticket<S>, Account<S::Job>> for Claims {
+impl<S: Service> Lesson<Ticket<S>, Books<S>> for Claims {
     ghost use Rattle.std.specs.Prelude.{⊤};
 
     ghost fact = { λ a tickets. ⊤ };
@@ -77,7 +81,7 @@ impl<S: Service> Lesson<Ticket<S>, Account<S::Job>> for Claims {
 /// What a pass that has every part knows.
 pub struct Total;
 
-impl<S: Service> Lesson<Ticket<S>, Account<S::Job>> for Total {
+impl<S: Service> Lesson<Ticket<S>, Books<S>> for Total {
     ghost use Rattle.mac_queue.specs.Balance.{IsAll};
 
     ghost fact = { IsAll };

@@ -8,7 +8,8 @@ ghost use Rattle.macaroond.specs.People.{mint_asked, person_status, said_status,
 use super::asking::{AttenuateWords, MintWords, VerifyWords};
 use super::given::{load_keys, read_form, read_moment, read_token};
 use super::keygen::{do_check, do_keygen};
-use super::readers::warn_of_readers;
+use super::readers::{warn_of_no_keys, warn_of_readers};
+use super::status_page::do_status;
 use super::{PersonFault, Task};
 use crate::status::Status;
 use mac_keys::KeyTable;
@@ -17,6 +18,7 @@ use mac_words::{Said, say_attenuate, say_inspect, say_mint, say_verify, warnings
 use std::alloc::{Alloc, Global};
 use std::fs::{File, Files};
 use std::io;
+use std::net::Net;
 use std::random::RandomSource;
 use std::time::Clock;
 
@@ -24,7 +26,7 @@ use std::time::Clock;
 pub fn run_task<R>(rt: &R, task: &Task) -> Status
 where
     R: Alloc<A = Global> + Input + Print + Eprint,
-    R: Files<File = File> + Clock + RandomSource + Sync,
+    R: Files<File = File> + Net + Clock + RandomSource + Sync,
     R::Reader: Send,
     ensures { EndsTask task.now result }
 {
@@ -40,7 +42,7 @@ where
 /// What is said to the person.
 fn do_task<'a, R>(rt: &R, task: &'a Task) -> Result<Said, PersonFault<'a>>
 where
-    R: Alloc<A = Global> + Input + Files<File = File> + Clock + RandomSource,
+    R: Alloc<A = Global> + Input + Files<File = File> + Net + Clock + RandomSource,
     R::Reader: Send,
     ensures { IfOk result (DoesTask task.now) }
 {
@@ -51,6 +53,7 @@ where
         Task::Attenuate(words) => do_attenuate(rt, words),
         Task::Verify(words) => do_verify(rt, words),
         Task::Inspect { token } => do_inspect(rt, token.as_str()),
+        Task::Status(words) => do_status(rt, words),
     }
 }
 
@@ -156,7 +159,8 @@ fn say_verify_under<'a>(
 }
 
 /// Warns on standard error of what is right but seldom meant: caveats of a new token that will not
-/// hold as bounds of time, and a checked key file that others than its owner may use.
+/// hold as bounds of time, and a checked key file that others than its owner may use or that has no
+/// key.
 fn warn<R: Alloc<A = Global> + Eprint + Files>(rt: &R, task: &Task, said: &Said) {
     if said.is_refusal {
         return;
@@ -164,8 +168,11 @@ fn warn<R: Alloc<A = Global> + Eprint + Files>(rt: &R, task: &Task, said: &Said)
     match task {
         Task::Mint(words) => warn_of_caveats(rt, words.caveats.as_slice()),
         Task::Attenuate(words) => warn_of_caveats(rt, words.caveats.as_slice()),
-        Task::Check { keys } => warn_of_readers(rt, keys.as_str()),
-        Task::Keygen(_) | Task::Verify(_) | Task::Inspect { .. } => {},
+        Task::Check { keys } => {
+            warn_of_readers(rt, keys.as_str());
+            warn_of_no_keys(rt, keys.as_str(), said.text.len());
+        },
+        Task::Keygen(_) | Task::Verify(_) | Task::Inspect { .. } | Task::Status(_) => {},
     }
 }
 

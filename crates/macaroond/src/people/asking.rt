@@ -3,7 +3,7 @@ ghost use Rattle.std.specs.Prelude.{◌≡◌, codes, map, option_map, string_by
 ghost use Rattle.clap.specs.Words.{all_of, first_of, found_of, rows_of};
 ghost use Rattle.mac_words.specs.Payload.{texts_of};
 ghost use Rattle.macaroond.specs.People.{HasAttenuate, HasKeygen, HasMint, HasTask, HasVerify};
-ghost use Rattle.macaroond.specs.People.{IsTaskName};
+ghost use Rattle.macaroond.specs.People.{HasStatus, IsTaskName, is_set};
 ghost use Rattle.macaroond.specs.People.{task_name, text_given, texts_given};
 
 use clap::ArgMatches;
@@ -30,6 +30,8 @@ pub enum Task {
         /// The token.
         token: String,
     },
+    /// Tell how a daemon is.
+    Status(StatusWords),
 }
 
 /// The words of a keygen: of the three paths one at most is to be given.
@@ -88,6 +90,17 @@ pub struct VerifyWords {
     pub at: Option<String>,
 }
 
+/// The words of a status: one flag at most is to be given.
+#[derive(Drop)]
+pub struct StatusWords {
+    /// The path of the daemon's socket.
+    pub socket: String,
+    /// Whether its numbers are told as Prometheus reads them.
+    pub prometheus: bool,
+    /// Whether its connections are told.
+    pub connections: bool,
+}
+
 /// The task that a subcommand with these options stands for. An argument that was left out is the
 /// empty text; `clap` takes no line that leaves out one that it asks for.
 pub fn read_task(alloc: Global, name: &str, options: &ArgMatches<'_>) -> Result<Task, AllocError>
@@ -102,6 +115,7 @@ pub fn read_task(alloc: Global, name: &str, options: &ArgMatches<'_>) -> Result<
         "attenuate" => Ok(Task::Attenuate(read_attenuate(alloc, options)?)),
         "verify" => Ok(Task::Verify(read_verify(alloc, options)?)),
         "inspect" => read_inspect(alloc, options),
+        "status" => Ok(Task::Status(read_status(alloc, options)?)),
         _ => unreachable!("the subcommand is one of those above"),
     }
 }
@@ -174,6 +188,27 @@ fn read_verify(alloc: Global, options: &ArgMatches<'_>) -> Result<VerifyWords, A
     })
 }
 
+/// The words of the arguments of `status`.
+fn read_status(alloc: Global, options: &ArgMatches<'_>) -> Result<StatusWords, AllocError>
+    ensures { IfOk result (λ words. HasStatus words (rows_of (found_of options.now))) }
+{
+    Ok(StatusWords {
+        socket: read_text_or_empty(alloc, options, "socket")?,
+        prometheus: read_flag(options, "prometheus"),
+        connections: read_flag(options, "connections"),
+    })
+}
+
+/// Whether a flag was set: `clap` gives it the value `true` then.
+fn read_flag(options: &ArgMatches<'_>, name: &str) -> bool
+    ensures { result ≡ is_set name.now (rows_of (found_of options.now)) }
+{
+    match options.get_str(name) {
+        Some(text) => text == "true",
+        None => false,
+    }
+}
+
 /// The value of an argument, or the empty text.
 fn read_text_or_empty(
     alloc: Global,
@@ -190,7 +225,7 @@ fn read_text_or_empty(
 }
 
 /// The value of an option that may be left out.
-fn read_optional_text(
+pub(crate) fn read_optional_text(
     alloc: Global,
     options: &ArgMatches<'_>,
     name: &str,

@@ -76,6 +76,14 @@ pub enum PersonFault<'a> {
     /// Two options name files.
     #[error("of `--into`, `--above` and `--drop` one alone may be given")]
     Options,
+    /// Two flags name pages.
+    #[error("of `--prometheus` and `--connections` one alone may be given")]
+    Pages,
+    /// No daemon answers at the status socket beside a socket.
+    #[error("{socket}.status: no daemon answers there; is one running, and are you its user?")]
+    NoDaemon {
+        socket: &'a str,
+    },
     /// Standard input.
     #[error("standard input can't be read, or is longer than 16777216 bytes")]
     Input,
@@ -117,7 +125,8 @@ impl<'a> PersonFault<'a> {
             | PersonFault::Token(_)
             | PersonFault::Form
             | PersonFault::Moment
-            | PersonFault::Options => Status::BadLine,
+            | PersonFault::Options
+            | PersonFault::Pages => Status::BadLine,
             PersonFault::Checked { .. }
             | PersonFault::Change { .. }
             | PersonFault::Exists { .. }

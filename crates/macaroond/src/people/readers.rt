@@ -1,4 +1,4 @@
-//! Who may read a key file.
+//! What is warned of in a key file: who may read it, and that it has no key.
 
 use std::fs::{self, Files};
 use std::os::unix::fs::PermissionsExt;
@@ -10,6 +10,15 @@ const OTHERS: u32 = 0o077;
 pub(crate) fn warn_of_readers<R: Files + Eprint>(rt: &R, path: &str) {
     if is_shared(rt, path) {
         let _ = eprintln!(rt; "warning: {path}: others than its owner may use the key file");
+    }
+}
+
+/// Warns on standard error of a key file that gives no name a key.
+pub(crate) fn warn_of_no_keys<R: Eprint>(rt: &R, path: &str, names: usize) {
+    if names == 0 {
+        let _ = eprintln!(rt;
+            "warning: {path}: the key file has no key; `macaroond keygen NAME` prints a line for it"
+        );
     }
 }
 

@@ -1,10 +1,10 @@
 //! The subcommands for people, as `clap` is told them.
 ghost use Rattle.std.specs.Prelude.{◌≡◌, false, true, IfOk};
 ghost use Rattle.clap.specs.Words.{app_of, rule_of};
-ghost use Rattle.macaroond.specs.Arguments.{option, required};
+ghost use Rattle.macaroond.specs.Arguments.{flag, option, required};
 ghost use Rattle.macaroond.specs.People.{attenuate_command, check_command, inspect_command};
 ghost use Rattle.macaroond.specs.People.{keygen_command, mint_command, repeated, verify_command};
-ghost use Rattle.macaroond.specs.People.{with_key, with_people, word};
+ghost use Rattle.macaroond.specs.People.{status_command, with_key, with_people, word};
 
 use crate::parts::{KEYS_HELP, add_arg, add_subcommand, build_option, build_subcommand};
 use clap::builder::ValueParser;
@@ -118,6 +118,29 @@ Exit status:
   3  standard input or standard output failed
   4  memory ran out";
 
+/// What the help of `status` says below its options.
+const STATUS_HELP: &str = "\
+Asks a daemon that listens at PATH, over the socket PATH.status, which is for the user that the
+daemon runs as. Prints a line for each number that it counts, `NAME VALUE`. With --prometheus the
+lines are those of Prometheus's text form. With --connections there is a line for each connection:
+its number, its socket, for how many milliseconds it is there, how many requests it was answered,
+how many bytes it hasn't taken, and whether it is plain or wide.
+
+Example:
+  macaroond status --socket /run/macaroond/socket
+
+Exit status:
+  0  what the daemon told was printed
+  2  a bad command line
+  3  no daemon answers there, or standard output failed
+  4  memory ran out";
+
+const STATUS_SOCKET_HELP: &str = "The socket of the daemon";
+
+const PROMETHEUS_HELP: &str = "Prints the numbers as Prometheus reads them";
+
+const LISTED_HELP: &str = "Prints the connections that there are";
+
 const INTO_HELP: &str = "Makes this file with the line, for its owner alone";
 
 const ABOVE_HELP: &str = "Puts the line above the name's old one in this key file";
@@ -145,7 +168,8 @@ pub(crate) fn add_people<'a>(alloc: Global, program: Command<'a>) -> Result<Comm
     let program = add_subcommand(program, build_mint(alloc)?)?;
     let program = add_subcommand(program, build_attenuate(alloc)?)?;
     let program = add_subcommand(program, build_verify(alloc)?)?;
-    add_subcommand(program, build_inspect(alloc)?)
+    let program = add_subcommand(program, build_inspect(alloc)?)?;
+    add_subcommand(program, build_status(alloc)?)
 }
 
 /// The subcommand `keygen`, with three options and the name of the key.
@@ -237,6 +261,19 @@ fn build_inspect<'a>(alloc: Global) -> Result<Command<'a>, AllocError>
     add_arg(command, build_word(alloc, "token", "TOKEN", TOKEN_HELP))
 }
 
+/// The subcommand `status`, with the socket and two flags.
+fn build_status<'a>(alloc: Global) -> Result<Command<'a>, AllocError>
+    ensures { IfOk result (λ whole. app_of whole ≡ status_command) }
+{
+    let command = build_subcommand(alloc, "status", "Tells how a daemon is", STATUS_HELP);
+    let command = add_arg(
+        command,
+        build_required(alloc, "socket", "PATH", STATUS_SOCKET_HELP),
+    )?;
+    let command = add_arg(command, build_flag(alloc, "prometheus", PROMETHEUS_HELP))?;
+    add_arg(command, build_flag(alloc, "connections", LISTED_HELP))
+}
+
 /// The subcommand with the options `--keys` and `--key`.
 fn add_key_options<'a>(alloc: Global, command: Command<'a>) -> Result<Command<'a>, AllocError>
     ensures { IfOk result (λ whole. app_of whole ≡ with_key (app_of command.entry)) }
@@ -253,6 +290,17 @@ fn build_repeated<'a>(alloc: Global, name: &'a str, help: &'a str) -> Arg<'a>
     build_option(alloc, name, "TEXT", help)
         .action(ArgAction::Append)
         .value_parser(ValueParser::NonEmptyString)
+}
+
+/// An option without a value.
+fn build_flag<'a>(alloc: Global, name: &'a str, help: &'a str) -> Arg<'a>
+    ensures rule { rule_of result ≡ flag name.entry.now }
+    ensures local { result.global ≡ false }
+{
+    Arg::new(alloc, name)
+        .long(name)
+        .action(ArgAction::SetTrue)
+        .help(help)
 }
 
 /// An option that has to be given.

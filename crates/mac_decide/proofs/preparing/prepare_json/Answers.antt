@@ -11,4 +11,4 @@ returns-in-Ok c =
     let context = c.args.context.now in
     let token = c.in-Ok.token in
     let same = one_verdict keys token context c.verify.result (verdict_of keys token context) c.verify.ensures (verdict_of-is keys token context) in
-    rw c.in-Ok.ensures (c.verdict_reply.ensures ∙ ap verdict_reply same)
+    rw c.in-Ok.ensures (rw same at c.told_verdict.ensures)

@@ -9,11 +9,12 @@ use Rattle.mac_decide.proofs.preparing.prepare_view.Goals as goal
 
 pub returns-in-Ok : goal.returns-in-Ok
 returns-in-Ok c =
+    let grant = c.args.grant in
     let keys = c.args.keys in
     let token = c.in-Ok.token in
     let context = c.args.context in
     let other = c.other_key.result in
-    ap (λ (p : Progress). verdict_reply (verdict_by (end_of p) other token context)) c.of_token-folding.ensures
-    ∙ ap verdict_reply (verdict_of-by keys.first other token context)
-    ∙ ap verdict_reply (verdict_of-alike (listed keys) (keys.first ∷ option_to_list other) token context (c.other_key.ensures.minted token))
-    ∙ ap (λ read. told read (λ t. verdict_reply (verdict_of (listed keys) t context))) c.in-Ok.ensures
+    ap (λ (p : Progress). verdict_reply grant token (verdict_by (end_of p) other token context)) c.of_token-folding.ensures
+    ∙ ap (verdict_reply grant token) (verdict_of-by keys.first other token context)
+    ∙ ap (verdict_reply grant token) (verdict_of-alike (listed keys) (keys.first ∷ option_to_list other) token context (c.other_key.ensures.minted token))
+    ∙ ap (λ read. told read (λ t. verdict_reply grant t (verdict_of (listed keys) t context))) c.in-Ok.ensures

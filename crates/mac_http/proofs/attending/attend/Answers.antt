@@ -19,13 +19,14 @@ returns g c =
     let received = read.2 ∙ ap (λ (h : History). h.received ++ read.0) fresh in
     let sent = written.2 ∙ ap (λ (h : History). h.sent ++ written.0) fresh in
     let called = calls.1 ∙ ap (λ (h : History). h.calls ++ calls.0) fresh in
-    let each = right_each _ (λ s. s.keys.now) (λ s. s.rules) (λ s. g.M.Moments.told s.moments) (λ s q r t x. x) calls.0 _ _ calls.2 in
+    let each = right_each _ g.K.Tables.tells (λ s. g.K.Tables.known s.keys) (λ s. s.rules) (λ s. g.M.Moments.told s.moments) (λ s q r t x. x) calls.0 _ _ calls.2 in
     record {
       history = history c.serve.new.connection;
       read = subst (λ (t : List ℕ). Consumes (g.R.Read.remaining c.args.reader.now) (g.R.Read.remaining c.serve.new.reader) t) (sym received) read.1;
       written = subst (λ (t : List ℕ). Appends (g.W.Write.contents c.args.writer.now) (g.W.Write.contents c.serve.new.writer) t) (sym sent) written.1;
       served = subst (λ (k : Config). ∥ IsServed k (history c.serve.new.connection) ∥₁) (c.serve.ensures.config ∙ c.new-connection.ensures.config) (always_served c.serve.new.connection);
-      moments = each.0;
-      told_more = each.1;
-      right = subst (λ (cs : List Call). AllZip (IsRight c.args.face.now.keys.now c.args.face.now.rules) each.0 cs) (sym called) each.2;
+      under = each.0;
+      taken = each.1;
+      told_more = each.2;
+      right = subst (λ (cs : List Call). AllZip (IsRight c.args.face.now.rules) each.0 cs) (sym called) each.3;
     }

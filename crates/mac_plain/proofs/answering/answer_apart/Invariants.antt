@@ -1,8 +1,9 @@
 use Rattle.std.proofs.Common.{take}
+use Rattle.mac_board.specs.Noticed.{lent_current}
 use Rattle.mac_plain.specs.Goes.{AreAnswered}
 use Rattle.mac_plain.specs.Requests.{asked_of}
 use Rattle.mac_plain.proofs.answering.answer_apart.Given as goal
 
 abbrev pub invariant-loop-index : goal.invariant-loop-index
 invariant-loop-index g l =
-    AreAnswered g.P.Port.tells g.P.Port.taken g.P.Port.written l.keys (λ k. asked_of k l.arena (take l.index l.run)) l.initial.clients l.clients
+    AreAnswered g.P.Port.tells g.P.Port.taken g.P.Port.written (lent_current l.current) (λ k. asked_of k l.arena (take l.index l.run)) l.initial.clients l.clients

@@ -1,4 +1,5 @@
 use Rattle.std.proofs.Common.{◌≤◌, ◌-◌, length, take}
+use Rattle.mac_board.specs.Noticed.{lent_current}
 use Rattle.mac_plain.specs.Goes.{AreAnswered}
 use Rattle.mac_plain.specs.Requests.{asked_of}
 use Rattle.mac_plain.proofs.answering.answer_requests.Given as goal
@@ -6,7 +7,7 @@ use Rattle.mac_plain.proofs.answering.answer_requests.Given as goal
 abbrev pub invariant-loop-at : goal.invariant-loop-at
 invariant-loop-at g l = record {
   inside : l.at ≤ length l.requests;
-  answered : AreAnswered g.P.Port.tells g.P.Port.taken g.P.Port.written l.keys (λ k. asked_of k l.arena (take l.at l.requests)) l.initial.clients l.clients;
+  answered : AreAnswered g.P.Port.tells g.P.Port.taken g.P.Port.written (lent_current l.current) (λ k. asked_of k l.arena (take l.at l.requests)) l.initial.clients l.clients;
 }
 
 abbrev pub decreases-loop-at : goal.decreases-loop-at

@@ -1,4 +1,4 @@
-use Rattle.std.proofs.Common.{◌-◌, length, arith, refl, sym, subst, ℕ, List, ap}
+use Rattle.std.proofs.Common.{◌-◌, length, refl, sym, subst, ℕ, List}
 use Rattle.mac_wire.specs.Cut.{IsFront}
 use Rattle.mac_wire.proofs.Lists.{take-rest}
 use Rattle.mac_plain.specs.declared.client.TheConstants.{PLAIN_MAX}

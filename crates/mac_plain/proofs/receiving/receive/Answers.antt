@@ -1,7 +1,5 @@
-use Rattle.std.proofs.Common.{◌≡◌, ◌++◌, ℕ, List, [], length, map, take, refl, sym, ap, subst, ◌∙◌}
+use Rattle.std.proofs.Common.{◌++◌, ℕ, List, [], length, map, take, refl, sym, subst}
 use Rattle.std.proofs.lemmas.List.{append-nil}
-use Rattle.mac_wire.specs.declared.session.Session.{Session}
-use Rattle.mac_decide.specs.declared.job.Job.{Job}
 use Rattle.mac_plain.specs.Goes.{OwesSo}
 use Rattle.mac_plain.specs.Requests.{payload_at}
 use Rattle.mac_plain.specs.declared.course.Course.{Course}
@@ -13,18 +11,18 @@ use Rattle.mac_plain.proofs.Pieces.{came_so, none_added}
 use Rattle.mac_plain.proofs.receiving.receive.Goals as goal
 
 pub returns-in_default-clause-receives : goal.returns-in_default-clause-receives
-returns-in_default-clause-receives g c table =
+returns-in_default-clause-receives g c current =
     let me = c.args.client.now in
     record {
       part = [];
       arena_is = sym (append-nil c.args.arena.now.items);
       own = [];
       adds = none_added c.args.owner (length c.args.arena.now.items) c.args.requests.now.items;
-      goes = goes_still g.P.Port.tells g.P.Port.taken g.P.Port.written table me me [] refl (λ read sent done owed o. none_done me.course me.session read sent done owed o);
+      goes = goes_still g.P.Port.tells g.P.Port.taken g.P.Port.written current me me [] refl refl (λ read sent done owed o. none_done me.course me.session read sent done owed o);
     }
 
 pub returns-in-Later-clause-receives : goal.returns-in-Later-clause-receives
-returns-in-Later-clause-receives g c table =
+returns-in-Later-clause-receives g c current =
     let me = c.args.client.now in
     record {
       part = [];
@@ -34,6 +32,7 @@ returns-in-Later-clause-receives g c table =
       goes = record {
         came = [];
         gone = [];
+        rights_kept = refl;
         took = λ told. c.in-Later.ensures.taken told;
         wrote = λ told. still g.P.Port.tells (g.P.Port.written me.port) (g.P.Port.written c.read.new.self) (c.in-Later.ensures.written told) told;
         goes_on = λ read sent done owed.
@@ -42,7 +41,7 @@ returns-in-Later-clause-receives g c table =
     }
 
 pub returns-in-End-clause-receives : goal.returns-in-End-clause-receives
-returns-in-End-clause-receives g c table =
+returns-in-End-clause-receives g c current =
     let me = c.args.client.now in
     record {
       part = [];
@@ -52,6 +51,7 @@ returns-in-End-clause-receives g c table =
       goes = record {
         came = [];
         gone = [];
+        rights_kept = refl;
         took = λ told. c.in-End.ensures.taken told;
         wrote = λ told. still g.P.Port.tells (g.P.Port.written me.port) (g.P.Port.written c.read.new.self) (c.in-End.ensures.written told) told;
         goes_on = λ read sent done owed.
@@ -61,7 +61,7 @@ returns-in-End-clause-receives g c table =
     }
 
 pub returns-in-Fault-clause-receives : goal.returns-in-Fault-clause-receives
-returns-in-Fault-clause-receives g c table =
+returns-in-Fault-clause-receives g c current =
     let me = c.args.client.now in
     record {
       part = [];
@@ -71,6 +71,7 @@ returns-in-Fault-clause-receives g c table =
       goes = record {
         came = [];
         gone = [];
+        rights_kept = refl;
         took = λ told. c.in-Fault.ensures.taken told;
         wrote = λ told. still g.P.Port.tells (g.P.Port.written me.port) (g.P.Port.written c.read.new.self) (c.in-Fault.ensures.written told) told;
         goes_on = λ read sent done owed.
@@ -80,7 +81,7 @@ returns-in-Fault-clause-receives g c table =
     }
 
 pub returns-in-Bytes-clause-receives : goal.returns-in-Bytes-clause-receives
-returns-in-Bytes-clause-receives g c table =
+returns-in-Bytes-clause-receives g c current =
     let me = c.args.client.now in
     let t = c.take_in-client.ensures in
     let came : List ℕ = take c.in-Bytes.count c.read.new.buf in
@@ -93,6 +94,7 @@ returns-in-Bytes-clause-receives g c table =
       goes = record {
         came = came;
         gone = [];
+        rights_kept = refl;
         took = λ told. c.in-Bytes.ensures.taken told;
         wrote = λ told. still g.P.Port.tells (g.P.Port.written me.port) (g.P.Port.written c.read.new.self) (c.in-Bytes.ensures.written told) told;
         goes_on = λ read sent done owed o.

@@ -1,4 +1,4 @@
-use Rattle.std.proofs.Common.{◌≤◌, [], length, rules, sym, subst}
+use Rattle.std.proofs.Common.{◌≤◌, length, rules, sym, subst}
 use Rattle.std.proofs.lemmas.List.Elements.{All-nil}
 use Rattle.mac_plain.specs.Requests.{AreWithin}
 use Rattle.mac_plain.specs.Receiving.{Receives}
@@ -10,7 +10,7 @@ use Rattle.mac_plain.proofs.round.receive_all.Goals as goal
 pub loop-index-init : goal.loop-index-init
 loop-index-init g c = record {
   within = subst (AreWithin (length c.args.arena.now.items)) (sym c.requires) (All-nil (λ (r : Request). (r.start ≤ r.end) × (r.end ≤ length c.args.arena.now.items)));
-  read = λ table. still_read g.P.Port.tells g.P.Port.taken g.P.Port.written table c.args.arena.now.items c.args.requests.now.items c.args.clients.now c.requires;
+  read = λ current. still_read g.P.Port.tells g.P.Port.taken g.P.Port.written current c.args.arena.now.items c.args.requests.now.items c.args.clients.now c.requires;
 }
 
 pub loop-index-preserved : goal.loop-index-preserved
@@ -20,9 +20,9 @@ loop-index-preserved g c =
     let there = read_at c.loop-index.clients i now (search rules) c.index-clients-index.is in
     record {
       within = c.visit.ensures.within;
-      read = λ table.
-          one_read g.P.Port.tells g.P.Port.taken g.P.Port.written table c.args.clients.now c.loop-index.clients i now c.visit.new.client
+      read = λ current.
+          one_read g.P.Port.tells g.P.Port.taken g.P.Port.written current c.args.clients.now c.loop-index.clients i now c.visit.new.client
           c.loop-index.arena.items c.visit.new.arena.items c.loop-index.requests.items c.visit.new.requests.items there c.loop-index.invariant.within
-          (subst (λ (x : Client g.row.P.Denot). Receives g.P.Port.tells g.P.Port.taken g.P.Port.written table i x c.visit.new.client c.loop-index.arena.items c.visit.new.arena.items
-          c.loop-index.requests.items c.visit.new.requests.items) (sym c.index-clients-index.is) (c.visit.ensures.receives table)) (c.loop-index.invariant.read table);
+          (subst (λ (x : Client g.row.P.Denot). Receives g.P.Port.tells g.P.Port.taken g.P.Port.written current i x c.visit.new.client c.loop-index.arena.items c.visit.new.arena.items
+          c.loop-index.requests.items c.visit.new.requests.items) (sym c.index-clients-index.is) (c.visit.ensures.receives current)) (c.loop-index.invariant.read current);
     }

@@ -1,5 +1,5 @@
 use Rattle.std.proofs.Common.{length}
-use Rattle.mac_keys.specs.Table.{Table}
+use Rattle.mac_board.specs.Noticed.{Current}
 use Rattle.mac_plain.specs.Goes.{AreRead}
 use Rattle.mac_plain.specs.Requests.{AreWithin, asked_of}
 use Rattle.mac_plain.proofs.round.receive_all.Given as goal
@@ -7,5 +7,5 @@ use Rattle.mac_plain.proofs.round.receive_all.Given as goal
 abbrev pub invariant-loop-index : goal.invariant-loop-index
 invariant-loop-index g l = record {
   within : AreWithin (length l.arena.items) l.requests.items;
-  read : (table : Table) → AreRead g.P.Port.tells g.P.Port.taken g.P.Port.written table (λ k. asked_of k l.arena.items l.requests.items) l.initial.clients l.clients;
+  read : (current : Current) → AreRead g.P.Port.tells g.P.Port.taken g.P.Port.written current (λ k. asked_of k l.arena.items l.requests.items) l.initial.clients l.clients;
 }

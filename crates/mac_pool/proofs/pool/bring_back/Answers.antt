@@ -31,7 +31,7 @@ loop-thread-preserved g c =
       brought = invariant.brought ++ back ∷ [];
       all = brought_more c.args.all.now.items invariant.brought c.loop-thread.all.items c.push_reserved.new.self.items back c.push_reserved.ensures.items invariant.all;
       count = omega (arith, invariant.count, ap length split, length-append rest (c.in-Some.thread ∷ []), length-append invariant.brought (back ∷ []));
-      idle = workers_push _ invariant.brought back invariant.idle (brought_is _ _ back _ (worker_last _ (map given rest) _ left) c.join.ensures);
+      idle = workers_push _ invariant.brought back invariant.idle (brought_is _ _ back _ (worker_last _ (map given rest) _ left) c.join.ensures.claims);
       left = workers_front _ (map given rest) _ left;
     }
 

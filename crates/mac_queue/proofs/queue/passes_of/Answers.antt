@@ -1,4 +1,5 @@
 use Rattle.std.proofs.Common.{◌≡◌, ◌-◌, ◌+◌, [], arith, rules, refl, ap, ◌∙◌}
+use Rattle.mac_mail.specs.Post.{Mail}
 use Rattle.mac_queue.specs.Balance.{account}
 use Rattle.mac_queue.specs.declared.queue.account.Account.{Account}
 use Rattle.mac_queue.specs.declared.queue.TheConstants.{PASSES}
@@ -19,14 +20,14 @@ loop-number-preserved g c =
     let fewer : PASSES - c.loop-number.number - 1 ≡ PASSES - (c.loop-number.number + 1) = omega arith in
     record {
       seat = search rules;
-      rest = cut.0 ∙ ap (λ (a : Account g.row.S-Job.Denot). account (a.parts - 1) [] []) rest ∙ ap (λ n. account n [] []) fewer;
+      rest = cut.0 ∙ ap (λ (a : Account g.row.S-Job.Denot Mail). account (a.parts - 1) [] []) rest ∙ ap (λ n. account n [] []) fewer;
       count = search rules;
       below = omega arith;
       fresh = rw c.in_ok-push.ensures.items (fresh_push _ _ _ _ c.loop-number.invariant.fresh c.loop-number.invariant.count record {
         queue_is = queue;
         number_is = refl;
-        put_is = ap (λ (a : Account g.row.S-Job.Denot). a.put) cut.1;
-        claimed_is = ap (λ (a : Account g.row.S-Job.Denot). a.claimed) cut.1;
+        put_is = ap (λ (a : Account g.row.S-Job.Denot Mail). a.put) cut.1;
+        claimed_is = ap (λ (a : Account g.row.S-Job.Denot Mail). a.claimed) cut.1;
       });
     }
 
@@ -37,6 +38,6 @@ returns-clause-fresh g c =
     rw c.in_ok-push-2.ensures.items (fresh_push _ _ _ _ c.loop-number.invariant.fresh (c.loop-number.invariant.count ∙ last) record {
       queue_is = c.loop-number.invariant.seat.0;
       number_is = refl;
-      put_is = ap (λ (a : Account g.row.S-Job.Denot). a.put) rest;
-      claimed_is = ap (λ (a : Account g.row.S-Job.Denot). a.claimed) rest;
+      put_is = ap (λ (a : Account g.row.S-Job.Denot Mail). a.put) rest;
+      claimed_is = ap (λ (a : Account g.row.S-Job.Denot Mail). a.claimed) rest;
     })

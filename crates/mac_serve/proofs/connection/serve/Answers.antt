@@ -2,7 +2,7 @@
 use Rattle.std.proofs.Common.{◌≡◌, ◌+◌, ◌∙◌, ◌++◌, List, [], ℕ, None, Some, eqb, ap, sym, subst, length, take}
 use Rattle.std.specs.Prelude.{IsTrue, Option}
 use Rattle.std.proofs.lemmas.Bool.{eqb-true}
-use Rattle.mac_board.specs.Follows.{Takes}
+use Rattle.mac_serve.specs.Receiving.{TakesUnder}
 use Rattle.mac_ring.specs.Ring.{admitted, received, waiting}
 use Rattle.mac_ring.specs.declared.totals.Totals.{Totals}
 use Rattle.mac_order.specs.Buffer.{Buffer}
@@ -19,7 +19,7 @@ use Rattle.mac_serve.proofs.connection.serve.Goals as goal
 
 pub returns-in_default-clause-serves : goal.returns-in_default-clause-serves
 returns-in_default-clause-serves g c past come =
-    nothing-served g.In.Source.tells g.Out.Sink.tells g.K.Tables.tells (g.K.Tables.known c.args.keys.now) c.args.session past (g.In.Source.taken c.args.source.now) (g.Out.Sink.written c.args.sink.now)
+    nothing-served c.args.rights.now g.In.Source.tells g.Out.Sink.tells g.K.Outlook.tells (g.K.Outlook.known c.args.outlook.now) c.args.session past (g.In.Source.taken c.args.source.now) (g.Out.Sink.written c.args.sink.now)
     c.args.desk.putter c.args.desk.taker c.unserved.result (come-past c.args.session.version past c.args.session.carried.items come) c.unserved.ensures
 
 pub returns-in_default-begun-clause-serves : goal.returns-in_default-begun-clause-serves
@@ -27,9 +27,9 @@ returns-in_default-begun-clause-serves g c past come =
     let given = g.In.Source.taken c.args.source.now in
     let wrote = g.Out.Sink.written c.args.sink.now in
     let same = c.in_default-begun.ensures.untouched in
-    subst (λ (l : List ℕ). HasServed g.In.Source.tells g.Out.Sink.tells (Takes g.K.Tables.tells (g.K.Tables.known c.args.keys.now) (g.K.Tables.known c.args.keys.now)) c.args.session past given l wrote wrote c.args.desk.putter c.args.desk.taker
+    subst (λ (l : List ℕ). HasServed g.In.Source.tells g.Out.Sink.tells (TakesUnder c.args.rights.now g.K.Outlook.tells (g.K.Outlook.known c.args.outlook.now) (g.K.Outlook.known c.args.outlook.now)) c.args.session past given l wrote wrote c.args.desk.putter c.args.desk.taker
     (Some fault.NoMemory) c.unserved-in_default-begun.result) (sym (ap g.In.Source.taken same))
-    (nothing-served g.In.Source.tells g.Out.Sink.tells g.K.Tables.tells (g.K.Tables.known c.args.keys.now) c.args.session past given wrote c.args.desk.putter c.args.desk.taker c.unserved-in_default-begun.result
+    (nothing-served c.args.rights.now g.In.Source.tells g.Out.Sink.tells g.K.Outlook.tells (g.K.Outlook.known c.args.outlook.now) c.args.session past given wrote c.args.desk.putter c.args.desk.taker c.unserved-in_default-begun.result
     (come-past c.args.session.version past c.args.session.carried.items come) c.unserved-in_default-begun.ensures)
 
 pub returns-in-None-clause-serves : goal.returns-in-None-clause-serves
@@ -53,7 +53,7 @@ returns-in-None-clause-serves g c past come =
     let due : totals.released ≡ next o =
     ap (λ (t : Totals). t.released) ends.totals ∙ released-count _ (received ring) ring.buffer.next ends.kept.sent ∙ ap (λ (b : Buffer Job). b.next) ends.outlet.3 in
     let none : out_text c.new-outbound.result ≡ [] = ap (λ (n : ℕ). take n (framed (payloads c.new-outbound.result))) c.new-outbound.ensures.none in
-    has-served g.In.Source.tells g.Out.Sink.tells (Takes g.K.Tables.tells (g.K.Tables.known c.args.keys.now) (g.K.Tables.known c.run_both-sending.new.keys)) c.args.session past
+    has-served g.In.Source.tells g.Out.Sink.tells (TakesUnder c.args.rights.now g.K.Outlook.tells (g.K.Outlook.known c.args.outlook.now) (g.K.Outlook.known c.run_both-sending.new.outlook)) c.args.session past
     (g.In.Source.taken c.args.source.now) (g.In.Source.taken c.run_both-sending.new.source) (g.Out.Sink.written c.args.sink.now) (g.Out.Sink.written c.run_both-sending.new.sink)
     read.stream read.readings read.unread out.ahead c.run_both-sending.new.unsent c.args.desk.putter c.args.desk.taker start i o (waiting ring) totals.admitted c.run_both-sending.new.incoming.reader
     read.gave read.taken read.came out.parts (nothing-out c.new-outbound.result o c.run_both-sending.new.unsent c.new-outbound.ensures.none out.none)
@@ -85,7 +85,7 @@ returns-clause-serves g c past come =
     let due : totals.released ≡ next o =
     ap (λ (t : Totals). t.released) ends.totals ∙ released-count _ (received ring) ring.buffer.next ends.kept.sent ∙ ap (λ (b : Buffer Job). b.next) ends.outlet.3 in
     let none : out_text c.new-outbound.result ≡ [] = ap (λ (n : ℕ). take n (framed (payloads c.new-outbound.result))) c.new-outbound.ensures.none in
-    has-served g.In.Source.tells g.Out.Sink.tells (Takes g.K.Tables.tells (g.K.Tables.known c.args.keys.now) (g.K.Tables.known c.run_both-sending.new.keys)) c.args.session past
+    has-served g.In.Source.tells g.Out.Sink.tells (TakesUnder c.args.rights.now g.K.Outlook.tells (g.K.Outlook.known c.args.outlook.now) (g.K.Outlook.known c.run_both-sending.new.outlook)) c.args.session past
     (g.In.Source.taken c.args.source.now) (g.In.Source.taken c.run_both-sending.new.source) (g.Out.Sink.written c.args.sink.now) (g.Out.Sink.written c.run_both-sending.new.sink)
     read.stream read.readings read.unread out.ahead c.run_both-sending.new.unsent c.args.desk.putter c.args.desk.taker start i o (waiting ring) totals.admitted c.run_both-sending.new.incoming.reader
     read.gave read.taken read.came out.parts (nothing-out c.new-outbound.result o c.run_both-sending.new.unsent c.new-outbound.ensures.none out.none)

@@ -1,11 +1,15 @@
-use Rattle.std.proofs.Common.{◌≡◌, ◌+◌, ◌≤◌}
+use Rattle.std.proofs.Common.{◌≡◌, ◌+◌, ◌≤◌, ◌++◌, List, length}
 use Rattle.std.specs.VecDeque.{deque_len, deque_capacity}
-use Rattle.mac_queue.specs.Pass.{HasClaimed}
+use Rattle.mac_queue.specs.declared.ticket.Ticket.{Ticket}
+use Rattle.mac_worker.specs.Working.{with_tickets}
 use Rattle.mac_worker.proofs.work.claim_more.Given as goal
 
 abbrev pub invariant-loop : goal.invariant-loop
 invariant-loop g l = record {
-  claimed : HasClaimed l.fn.pass l.claimed l.pass;
+  got : List (Ticket g.row.S.Denot g.row.S-Job.Denot g.row.S-Reply.Denot);
+  number : length got ≡ l.claimed;
+  tickets : l.tickets.items ≡ l.fn.tickets.items ++ got;
+  pass : l.pass ≡ with_tickets l.fn.pass got;
   below : l.claimed ≡ l.counter;
   few : l.counter ≤ l.most;
   count : deque_len l.tickets ≡ deque_len l.fn.tickets + l.claimed;

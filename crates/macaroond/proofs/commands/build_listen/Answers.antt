@@ -1,6 +1,8 @@
-use Rattle.std.proofs.Common.{◌∙◌, ap₂}
+use Rattle.std.proofs.Common.{◌∙◌, ap, ap₂}
 use Rattle.std.proofs.lemmas.Result.{IfOk-weaker}
-use Rattle.clap.specs.Words.{with_rule}
+use Rattle.clap.specs.Words.{App, with_rule}
+use Rattle.macaroond.specs.Arguments.{with_rules}
+use Rattle.macaroond.specs.CommandLine.{http_rules}
 use Rattle.macaroond.proofs.commands.build_listen.Goals as goal
 
 -- one line for each option
@@ -13,4 +15,9 @@ returns c =
     let idle = c.in_ok-listen-5.ensures ∙ ap₂ with_rule mode c.build_count.ensures.rule in
     let loops = c.in_ok-listen-6.ensures ∙ ap₂ with_rule idle c.build_count-2.ensures.rule in
     let connections = c.in_ok-listen-7.ensures ∙ ap₂ with_rule loops c.build_count-connections.ensures.rule in
-    IfOk-weaker c.add_arg-8.result _ _ (λ listen drain. drain ∙ ap₂ with_rule connections c.build_count-drain.ensures.rule) c.add_arg-8.ensures
+    let drain = c.in_ok-listen-8.ensures ∙ ap₂ with_rule connections c.build_count-drain.ensures.rule in
+    let names = c.in_ok-listen-9.ensures ∙ ap₂ with_rule drain c.build_option-2.ensures.rule in
+    let socket_too = c.in_ok-listen-10.ensures ∙ ap₂ with_rule names c.build_option-3.ensures.rule in
+    let mode_too = c.in_ok-listen-11.ensures ∙ ap₂ with_rule socket_too c.build_option-4.ensures.rule in
+    let names_too = c.in_ok-listen-12.ensures ∙ ap₂ with_rule mode_too c.build_option-5.ensures.rule in
+    IfOk-weaker c.add_http.result _ _ (λ listen last. last ∙ ap (λ (app : App). with_rules app http_rules) names_too) c.add_http.ensures

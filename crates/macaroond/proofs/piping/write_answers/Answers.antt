@@ -1,6 +1,6 @@
 use Rattle.std.proofs.Common.{◌∙◌, ◌∷◌, List, ℕ, ap, sym, map}
 use Rattle.mac_wire.specs.declared.arrival.Arrival.{Arrival}
-use Rattle.mac_decide.specs.Answer.{answer_of}
+use Rattle.mac_decide.specs.Answer.{full_answer}
 use Rattle.macaroond.specs.Arrived.{arrival_of}
 use Rattle.macaroond.specs.Lines.{lines}
 use Rattle.macaroond.specs.PipeText.{answers}
@@ -17,7 +17,7 @@ returns-in_err-append_answer-clause-written g c tells =
 
 pub returns-in_err-send_all-clause-written : goal.returns-in_err-send_all-clause-written
 returns-in_err-send_all-clause-written g c tells =
-    let reply = answer_of c.args.table.now in
+    let reply = full_answer c.args.moment c.args.table.now in
     let rest = ap (λ (ls : List (List ℕ)). answers reply (map arrival_of ls)) c.in-Some.ensures.line
     ∙ ap (λ (a : Arrival). answers reply (a ∷ map arrival_of (lines c.in-Some.behind.now))) (sym c.in_ok-arrival.ensures)
     ∙ c.rest_behind-rest.ensures.rest reply in

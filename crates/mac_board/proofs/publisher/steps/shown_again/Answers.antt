@@ -1,4 +1,4 @@
-use Rattle.std.proofs.Common.{◌≡◌, ◌∙◌, ℕ, List, fold, ap}
+use Rattle.std.proofs.Common.{◌∙◌, ℕ, fold, ap}
 use Rattle.std.specs.Arc.{arc_value}
 use Rattle.left_right.specs.Sides.{view}
 use Rattle.mac_keys.specs.Keys.{Table}

@@ -1,4 +1,5 @@
 use Rattle.std.proofs.Common.{ℕ, List, rules, subst}
+use Rattle.mac_board.specs.Noticed.{lent_current}
 use Rattle.mac_plain.specs.Goes.{AreAnswered}
 use Rattle.mac_plain.specs.Requests.{asked_of}
 use Rattle.mac_plain.specs.declared.request.Request.{Request}
@@ -9,12 +10,12 @@ pub returns-clause-serves : goal.returns-clause-serves
 returns-clause-serves g c =
     let arena = c.receive_all.new.arena.items in
     let requests = c.receive_all.new.requests.items in
-    let table = c.table.result.now in
-    let each = all_served g.P.Port.tells g.P.Port.taken g.P.Port.written table (λ k. asked_of k arena requests) c.args.clients.now c.receive_all.new.clients
-    c.answer_requests.new.clients c.flush_all.new.clients (search rules) (search rules) (c.receive_all.ensures.read table)
-    (subst (λ (l : List Request). AreAnswered g.P.Port.tells g.P.Port.taken g.P.Port.written table (λ k. asked_of k arena l) c.receive_all.new.clients c.answer_requests.new.clients)
+    let current = lent_current c.current.result in
+    let each = all_served g.P.Port.tells g.P.Port.taken g.P.Port.written current (λ k. asked_of k arena requests) c.args.clients.now c.receive_all.new.clients
+    c.answer_requests.new.clients c.flush_all.new.clients (search rules) (search rules) (c.receive_all.ensures.read current)
+    (subst (λ (l : List Request). AreAnswered g.P.Port.tells g.P.Port.taken g.P.Port.written current (λ k. asked_of k arena l) c.receive_all.new.clients c.answer_requests.new.clients)
     c.as_slice-2.ensures.value
-    (subst (λ (l : List ℕ). AreAnswered g.P.Port.tells g.P.Port.taken g.P.Port.written table (λ k. asked_of k l c.as_slice-2.result.now) c.receive_all.new.clients c.answer_requests.new.clients)
+    (subst (λ (l : List ℕ). AreAnswered g.P.Port.tells g.P.Port.taken g.P.Port.written current (λ k. asked_of k l c.as_slice-2.result.now) c.receive_all.new.clients c.answer_requests.new.clients)
     c.as_slice.ensures.value c.answer_requests.ensures))
-    (c.flush_all.ensures table) in
-    record { table = table; is_up = c.table.ensures; each = each }
+    (c.flush_all.ensures current) in
+    record { current = current; is_current = c.current.ensures; each = each }

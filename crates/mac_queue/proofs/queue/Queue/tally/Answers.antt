@@ -4,6 +4,7 @@ use Rattle.std.specs.List.{sum_by}
 use Rattle.std.specs.Vec.Iter.{into_iter_items}
 use Rattle.crossbeam_queue.specs.Passes.{view}
 use Rattle.mac_queue.specs.Balance.{entry_of}
+use Rattle.mac_mail.specs.Post.{Mail}
 use Rattle.mac_queue.specs.Pass.{Pass, all_put, all_claimed}
 use Rattle.mac_queue.specs.declared.queue.account.Account.{Account}
 use Rattle.mac_queue.specs.declared.queue.TheConstants.{PUTS_MAX}
@@ -60,7 +61,7 @@ returns g c =
     let number = held.1 in
     record {
       left = map entry held.0;
-      each = λ weight. let f = held.2 weight in omega (arith, ap (sum_by weight) put, ap (sum_by weight) claimed, total_map weight entry held.0);
+      each = λ weight. let f = held.2 weight in omega (arith, ap (sum_by weight) put, ap (sum_by (λ (e : Mail × (ℕ × g.row.S-Job.Denot)). weight e.1)) claimed, total_map weight (λ (e : Mail × (ℕ × g.row.S-Job.Denot)). e.1) (all_claimed c.args.passes.items), total_map weight entry held.0);
       put_is = count ∙ ap length put;
       claimed_is = omega (arith, ap length claimed, ones (view c.loop-pass.whole).put, ones (view c.loop-pass.whole).claimed, ones held.0);
       left_is = omega (arith, length-map held.0 entry);
@@ -101,9 +102,9 @@ loop-pass-preserved g c =
     let queue : All of_queue (pass ∷ others) = subst (λ (l : List (Pass g.row.S-Job.Denot)). All of_queue l) split invariant.queue in
     let put : (view c.pass.inside.seat).put ≡ pass.put = ap (λ (p : Pass g.row.S-Job.Denot). p.put) c.pass.view_is in
     let claimed : (view c.pass.inside.seat).claimed ≡ pass.claimed = ap (λ (p : Pass g.row.S-Job.Denot). p.claimed) c.pass.view_is in
-    let new_put = ap (λ (a : Account g.row.S-Job.Denot). a.put) joined in
-    let new_claimed = ap (λ (a : Account g.row.S-Job.Denot). a.claimed) joined in
-    let new_parts : (view c.absorb.new.pass).parts ≡ (view c.loop-pass.whole).parts + (view c.pass.inside.seat).parts = ap (λ (a : Account g.row.S-Job.Denot). a.parts) joined in
+    let new_put = ap (λ (a : Account g.row.S-Job.Denot Mail). a.put) joined in
+    let new_claimed = ap (λ (a : Account g.row.S-Job.Denot Mail). a.claimed) joined in
+    let new_parts : (view c.absorb.new.pass).parts ≡ (view c.loop-pass.whole).parts + (view c.pass.inside.seat).parts = ap (λ (a : Account g.row.S-Job.Denot Mail). a.parts) joined in
     let part = c.pass.invariant.1 in
     let parts = invariant.parts in
     record {

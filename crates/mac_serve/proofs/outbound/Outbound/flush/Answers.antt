@@ -47,7 +47,7 @@ returns-in-Err g c = record {
   holds = λ earlier h. (
     λ is. absurd cc,
     fell-cut earlier c.args.self.now _ c.in-Err.count c.whole_frames.result c.saturating_add-self.result (c.args.self.now.written + c.in-Err.count) h
-        (λ (job : Job). c.replies_can_be_sent.ensures job.arrival job.key) (omega (arith, c.next_place-due.ensures.next, c.next_place-due.type_inv))
+        (λ (job : Job). c.replies_can_be_sent.ensures job.arrival job.basis) (omega (arith, c.next_place-due.ensures.next, c.next_place-due.type_inv))
         (rw c.as_slice.ensures.value at c.in-Err.ensures.bound) (ap (take c.in-Err.count) c.deref.ensures.value) c.whole_frames.ensures c.saturating_add-self.ensures refl,
   );
   written = λ tells earlier head h was.

@@ -1,0 +1,129 @@
+//! What a daemon counts, for all its threads. No contract speaks of the counts.
+
+use mac_board::{Moments, News};
+use mac_count::{Asked, Counters, Number, Request, Told};
+use mac_loop::Turn;
+use mac_system::SystemMoments;
+use std::alloc::{AllocError, Global};
+use std::sync::Arc;
+use std::time::Clock;
+
+/// The counters of a daemon, one place for each thing that is counted.
+#[derive(Drop)]
+pub struct Numbers {
+    counters: Arc<Counters, Global>,
+}
+
+impl Numbers {
+    /// Those of a daemon that begins now.
+    pub fn begin<R: Clock>(rt: &R, alloc: Global) -> Result<Numbers, AllocError> {
+        let counters = Arc::new(alloc, Counters::new())?;
+        counters.set(Number::StartedAt, seconds(rt));
+        Ok(Numbers { counters })
+    }
+
+    /// The same counters, for another thread.
+    pub fn share(&self) -> Result<Numbers, AllocError> {
+        let counters = Arc::try_clone(&self.counters)?;
+        Ok(Numbers { counters })
+    }
+
+    /// What they are counted in.
+    pub fn counters(&self) -> &Counters {
+        &self.counters
+    }
+
+    /// A connection was accepted, or was closed since there are as many as there may be.
+    pub fn count_accepted(&self, is_room: bool) {
+        if is_room {
+            self.counters.add(Number::Connections, 1);
+            self.counters.add(Number::ConnectionsPlain, 1);
+            self.counters.add(Number::ConnectionsTotal, 1);
+        } else {
+            self.counters.add(Number::ConnectionsAtLimit, 1);
+        }
+    }
+
+    /// A connection has ended, which no desk has.
+    pub fn count_ended(&self, is_faulty: bool) {
+        self.counters.take(Number::Connections, 1);
+        self.counters.take(Number::ConnectionsPlain, 1);
+        if is_faulty {
+            self.counters.add(Number::ConnectionsFaulty, 1);
+        }
+    }
+
+    /// A turn of a loop has ended.
+    pub fn count_turn(&self, turn: &Turn) {
+        self.counters.add_requests(&turn.requests);
+        self.add_some(Number::BytesIn, turn.traffic.came);
+        self.add_some(Number::BytesOut, turn.traffic.went);
+    }
+
+    /// A connection got a desk.
+    pub fn count_widened(&self) {
+        self.counters.take(Number::ConnectionsPlain, 1);
+        self.counters.add(Number::ConnectionsWide, 1);
+    }
+
+    /// A connection gave its desk back.
+    pub fn count_narrowed(&self) {
+        self.counters.take(Number::ConnectionsWide, 1);
+        self.counters.add(Number::ConnectionsPlain, 1);
+    }
+
+    /// A wide connection was sent so many replies, of so many bytes.
+    pub fn count_wide(&self, sent: u64, written: u64) {
+        self.add_some(Number::RequestsWide, sent);
+        self.add_some(Number::BytesOut, written);
+    }
+
+    /// So many bytes came on a wide connection.
+    pub fn count_came(&self, count: usize) {
+        self.add_some(Number::BytesIn, count as u64);
+    }
+
+    /// A connection over HTTP has begun.
+    pub fn count_guest(&self) {
+        self.counters.add(Number::ConnectionsHttp, 1);
+    }
+
+    /// One has ended.
+    pub fn count_guest_gone(&self) {
+        self.counters.take(Number::ConnectionsHttp, 1);
+    }
+
+    /// A verify was told this over HTTP.
+    pub fn count_verify(&self, told: Told) {
+        let asked = Asked::Verify;
+        self.counters.answered(Request { asked, told });
+    }
+
+    /// The keys that were read have so many names.
+    pub fn set_keys<R: Clock>(&self, rt: &R, names: usize) {
+        self.counters.set(Number::KeyNames, names as u64);
+        self.counters.set(Number::KeysReadAt, seconds(rt));
+        self.counters.set(Number::KeysRefused, 0);
+    }
+
+    /// Notes what came of a look at the key file.
+    pub fn note_keys<R: Clock>(&self, rt: &R, news: &News) {
+        match news {
+            News::Nothing => {}
+            News::Taken(names) => self.set_keys(rt, *names),
+            News::Refused(_) => self.counters.set(Number::KeysRefused, 1),
+        }
+    }
+
+    /// Adds, where there is anything to be added.
+    fn add_some(&self, number: Number, count: u64) {
+        if count > 0 {
+            self.counters.add(number, count);
+        }
+    }
+}
+
+/// The seconds since 1970, or 0 where the clock tells none.
+fn seconds<R: Clock>(rt: &R) -> u64 {
+    SystemMoments::new(rt).tell().unwrap_or(0)
+}

@@ -1,0 +1,3 @@
+pub mod Address
+pub mod Patience
+pub mod Places

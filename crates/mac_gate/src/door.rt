@@ -1,0 +1,183 @@
+//! Sockets that listen.
+
+use crate::address::Address;
+use crate::stream::Stream;
+use mac_daemon::{Place, PlaceFault, bind_at};
+use std::alloc::Global;
+use std::fs::{File, Files};
+use std::io;
+use std::io::ErrorKind;
+use std::net::{Net, SocketAddr, TcpListener, TcpStream};
+use std::os::fd::AsRawFd;
+use std::os::unix::net::UnixListener;
+use std::process::Process;
+use std::sync::Wait;
+use thiserror::Error;
+
+/// A socket that listens, and is never waited for.
+#[derive(Drop)]
+pub enum Door {
+    /// A Unix socket.
+    Unix(UnixListener),
+    /// A TCP socket.
+    Tcp(TcpListener),
+}
+
+/// Doors that were opened one after another, with the locks of their paths.
+#[derive(Drop)]
+pub struct Doors {
+    pub(crate) doors: Vec<Door>,
+    pub(crate) locks: Vec<File>,
+}
+
+/// Why there is no door at an address.
+#[derive(Debug, Drop, Error)]
+pub enum DoorFault {
+    /// There is no Unix socket at its path.
+    #[error("{0}")]
+    Place(PlaceFault),
+    /// Somebody has the port.
+    #[error("somebody listens there; end that process first, or give another port")]
+    Taken,
+    /// The user of the process may not have the port.
+    #[error("no permission; give a port from 1024 on, or let this user have it")]
+    Forbidden,
+    /// The machine hasn't the IP address.
+    #[error("this machine has no such address")]
+    NotHere,
+    /// Memory ran out.
+    #[error("memory ran out")]
+    NoMemory,
+    /// The system refused a step.
+    #[error("{0}")]
+    System(io::Error),
+}
+
+impl From<PlaceFault> for DoorFault {
+    fn from(refused: PlaceFault) -> DoorFault {
+        match refused {
+            PlaceFault::NoMemory => DoorFault::NoMemory,
+            refused => DoorFault::Place(refused),
+        }
+    }
+}
+
+impl From<io::Error> for DoorFault {
+    fn from(refused: io::Error) -> DoorFault {
+        match refused.kind() {
+            ErrorKind::AddrInUse => DoorFault::Taken,
+            ErrorKind::PermissionDenied => DoorFault::Forbidden,
+            ErrorKind::AddrNotAvailable => DoorFault::NotHere,
+            _ => DoorFault::System(refused),
+        }
+    }
+}
+
+impl Door {
+    /// The next connection that waits here, or why the system gives none.
+    pub fn accept<R: Wait>(&self, rt: &R) -> Option<io::Result<Stream>> {
+        for _ in rt.forever() {
+            match self.try_accept() {
+                Ok(stream) => return Some(Ok(stream)),
+                Err(fault) if fault.kind() == ErrorKind::WouldBlock => return None,
+                Err(fault) if fault.kind() == ErrorKind::Interrupted => {}
+                Err(fault) => return Some(Err(fault)),
+            }
+        }
+        unreachable!()
+    }
+
+    /// The number that the system knows it by.
+    pub fn descriptor(&self) -> i32 {
+        match self {
+            Door::Unix(listener) => listener.as_raw_fd(),
+            Door::Tcp(listener) => listener.as_raw_fd(),
+        }
+    }
+
+    fn try_accept(&self) -> io::Result<Stream> {
+        match self {
+            Door::Unix(listener) => {
+                let (stream, _) = listener.accept()?;
+                Ok(Stream::Unix(stream))
+            }
+            Door::Tcp(listener) => {
+                let (stream, _) = listener.accept()?;
+                Ok(Stream::Tcp(stream))
+            }
+        }
+    }
+}
+
+impl Doors {
+    /// No door yet.
+    pub fn new(alloc: Global) -> Doors {
+        Doors {
+            doors: Vec::new(alloc),
+            locks: Vec::new(alloc),
+        }
+    }
+
+    /// Whether there is none.
+    pub fn is_empty(&self) -> bool {
+        self.doors.is_empty()
+    }
+
+    /// Opens a door at an address. A Unix socket has these permissions.
+    pub fn open<R>(
+        &mut self,
+        rt: &R,
+        alloc: Global,
+        address: Address<'_>,
+        permissions: u32,
+        process: Process,
+    ) -> Result<(), DoorFault>
+    where
+        R: Files<File = File> + Net<Listener = TcpListener, Stream = TcpStream>,
+    {
+        match address {
+            Address::Unix(path) => self.open_unix(rt, alloc, path, permissions, process),
+            Address::Tcp(address) => self.open_tcp(rt, address),
+        }
+    }
+
+    /// Opens the door of a Unix socket, which has these permissions.
+    pub fn open_unix<R>(
+        &mut self,
+        rt: &R,
+        alloc: Global,
+        path: &str,
+        permissions: u32,
+        process: Process,
+    ) -> Result<(), DoorFault>
+    where
+        R: Files<File = File> + Net,
+    {
+        let Place { listener, lock } = bind_at(rt, alloc, path, permissions, process)?;
+        listener.set_nonblocking(true)?;
+        self.keep(Door::Unix(listener))?;
+        let Some(lock) = lock else {
+            return Ok(());
+        };
+        match self.locks.push(lock) {
+            Ok(()) => Ok(()),
+            Err(_) => Err(DoorFault::NoMemory),
+        }
+    }
+
+    fn open_tcp<R>(&mut self, rt: &R, address: SocketAddr) -> Result<(), DoorFault>
+    where
+        R: Net<Listener = TcpListener, Stream = TcpStream>,
+    {
+        let listener = TcpListener::bind(rt, address)?;
+        listener.set_nonblocking(true)?;
+        self.keep(Door::Tcp(listener))
+    }
+
+    fn keep(&mut self, door: Door) -> Result<(), DoorFault> {
+        match self.doors.push(door) {
+            Ok(()) => Ok(()),
+            Err(_) => Err(DoorFault::NoMemory),
+        }
+    }
+}

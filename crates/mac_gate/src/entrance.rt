@@ -1,0 +1,86 @@
+//! Where connections come in: doors, until the house ends.
+
+use crate::door::Door;
+use crate::house::House;
+use crate::stream::Stream;
+use mio::unix::SourceFd;
+use mio::{Events, Interest, Poll, Token, Waker};
+use std::alloc::Global;
+use std::io;
+use std::net::Net;
+use std::sync::{Arc, Wait};
+
+/// The token of what ends a wait, which no door has.
+const WAKER: usize = 1 << 40;
+
+/// How many events are taken at a time.
+const EVENTS: usize = 8;
+
+/// Doors, and what waits for connections there.
+#[derive(Drop)]
+pub struct Entrance {
+    doors: Vec<Door>,
+    // The door that is looked at first.
+    next: usize,
+    poll: Poll,
+    events: Events,
+}
+
+impl Entrance {
+    /// The entrance through these doors, with what ends its waits.
+    pub fn open<R: Net>(rt: &R, alloc: Global, doors: Vec<Door>) -> io::Result<(Entrance, Waker)> {
+        let poll = Poll::new(rt)?;
+        let registry = poll.registry();
+        for (number, door) in doors.iter().enumerate() {
+            registry.register(
+                &mut SourceFd(&door.descriptor()),
+                Token(number),
+                Interest::READABLE,
+            )?;
+        }
+        let waker = Waker::new(registry, Token(WAKER))?;
+        let events = Events::with_capacity(alloc, EVENTS)?;
+        let entrance = Entrance {
+            doors,
+            next: 0,
+            poll,
+            events,
+        };
+        Ok((entrance, waker))
+    }
+
+    /// The next connection, or why the system gives none; nothing more once the house ends.
+    pub fn accept<R: Wait>(
+        &mut self,
+        rt: &R,
+        house: &Arc<House, Global>,
+    ) -> Option<io::Result<Stream>> {
+        for _ in rt.forever() {
+            if house.is_ending() {
+                return None;
+            }
+            if let Some(welcome) = self.try_doors(rt) {
+                return Some(welcome);
+            }
+            let _ = self.poll.poll(&mut self.events, None);
+        }
+        unreachable!()
+    }
+
+    /// What waits at the first door that has something, from the next one on. So no door keeps
+    /// another from its turn.
+    fn try_doors<R: Wait>(&mut self, rt: &R) -> Option<io::Result<Stream>> {
+        for _ in 0..self.doors.len() {
+            let number = if self.next < self.doors.len() {
+                self.next
+            } else {
+                0
+            };
+            self.next = number.saturating_add(1);
+            if let Some(stream) = self.doors[number].accept(rt) {
+                return Some(stream);
+            }
+        }
+        None
+    }
+}

@@ -1,0 +1,74 @@
+//! What the pages of the HTTP face tell of the daemon.
+
+use crate::house::House;
+use crate::serving::Pages;
+use http::StatusCode;
+use mac_http::{Page, Steward, Told};
+use std::alloc::AllocError;
+use std::time::Clock;
+
+/// Speaks for the daemon of a gate that has these pages.
+#[derive(Drop)]
+pub struct Speaker<'a, R> {
+    pub rt: &'a R,
+    pub house: &'a House,
+    pub pages: Pages,
+}
+
+impl Pages {
+    /// Whether a page is among them.
+    fn has(self, page: Page) -> bool {
+        match page {
+            Page::Health | Page::Numbers => self != Pages::Nothing,
+            Page::Status | Page::Connections => self == Pages::All,
+        }
+    }
+}
+
+impl<'a, R: Clock> Steward for Speaker<'a, R> {
+    fn is_ending(&self) -> bool {
+        self.house.is_ending()
+    }
+
+    fn tell(&self, page: Page, text: &mut Vec<u8>) -> Result<Told, AllocError> {
+        if !self.pages.has(page) {
+            return Ok(Told::Nothing);
+        }
+        match page {
+            Page::Health => return tell_health(self.house, text),
+            Page::Numbers => self.house.append_metrics(text)?,
+            Page::Status => self.house.append_status(text)?,
+            Page::Connections => self.house.append_connections(self.rt, text)?,
+        }
+        Ok(Told::Well)
+    }
+
+    fn note(&self, status: StatusCode) {
+        self.house.count_verify(told_by(status));
+    }
+}
+
+/// Tells how a daemon is.
+fn tell_health(house: &House, text: &mut Vec<u8>) -> Result<Told, AllocError> {
+    if house.is_ending() {
+        text.extend_from_slice(b"it was told to end\n")?;
+        return Ok(Told::Unwell);
+    }
+    if house.has_refused_keys() {
+        text.extend_from_slice(b"the last key file was refused; the keys stay as they were\n")?;
+        return Ok(Told::Unwell);
+    }
+    text.extend_from_slice(b"ok\n")?;
+    Ok(Told::Well)
+}
+
+/// What a verify was told by a status.
+fn told_by(status: StatusCode) -> mac_count::Told {
+    if status == StatusCode::OK || status == StatusCode::NO_CONTENT {
+        mac_count::Told::Granted
+    } else if status == StatusCode::FORBIDDEN {
+        mac_count::Told::Unsatisfied
+    } else {
+        mac_count::Told::Refused
+    }
+}

@@ -1,0 +1,126 @@
+//! The pages that tell of the daemon itself.
+
+ghost use Rattle.std.specs.Prelude.{◌≡◌, OnOk};
+ghost use Rattle.http_server.specs.Response.{IsBlank, IsResponse};
+ghost use Rattle.mac_http.specs.Faced.{MayClose};
+ghost use Rattle.mac_http.specs.Page.{TellsPage, is_text, page_in};
+
+use bytes::BufMut;
+use http::StatusCode;
+use http::header::{CONNECTION, CONTENT_TYPE, HeaderValue};
+use http_server::Response;
+use std::alloc::{AllocError, Global};
+
+/// The paths of the pages.
+const HEALTH: &[u8] = b"/healthz";
+
+const NUMBERS: &[u8] = b"/metrics";
+
+const STATUS: &[u8] = b"/status";
+
+const CONNECTIONS: &[u8] = b"/connections";
+
+/// A page that tells of the daemon.
+#[derive(Clone, Copy, Debug, PartialEq, Eq)]
+pub enum Page {
+    /// How the daemon is.
+    Health,
+    /// What it has counted, as Prometheus reads it.
+    Numbers,
+    /// What it has counted, a line for each number.
+    Status,
+    /// The connections that it has, a line for each.
+    Connections,
+}
+
+/// What there is on a page.
+#[derive(Clone, Copy, Debug, PartialEq, Eq)]
+pub enum Told {
+    /// There is no such page.
+    Nothing,
+    /// The text of a daemon that is well.
+    Well,
+    /// The text of one that is not.
+    Unwell,
+}
+
+/// Speaks for the daemon that a face belongs to.
+pub trait Steward {
+    /// Whether its connections are to end.
+    fn is_ending(&self) -> bool;
+
+    /// Appends the text of a page, where there is one.
+    fn tell(&self, page: Page, text: &mut Vec<u8>) -> Result<Told, AllocError>;
+
+    /// A request for anything but a page was answered with this status.
+    fn note(&self, status: StatusCode);
+}
+
+/// The page that a path names.
+pub(crate) fn page_in(path: &[u8]) -> Option<Page>
+    ensures { result ≡ page_in path.now }
+{
+    if path == HEALTH {
+        Some(Page::Health)
+    } else if path == NUMBERS {
+        Some(Page::Numbers)
+    } else if path == STATUS {
+        Some(Page::Status)
+    } else if path == CONNECTIONS {
+        Some(Page::Connections)
+    } else {
+        None
+    }
+}
+
+/// Fills a blank response with a page.
+pub(crate) fn tell_page<S: Steward>(alloc: Global, steward: &S, page: Page, response: &mut Response)
+    requires { IsBlank response.old }
+    ensures { TellsPage response.new }
+{
+    if fill_page(alloc, steward, page, response).is_err() {
+        response.clear();
+        response.status = StatusCode::SERVICE_UNAVAILABLE;
+    }
+}
+
+fn fill_page<S: Steward>(
+    alloc: Global,
+    steward: &S,
+    page: Page,
+    response: &mut Response,
+) -> Result<(), AllocError>
+    requires { IsBlank response.old }
+    ensures { OnOk result (TellsPage response.new) }
+{
+    let mut text = Vec::new(alloc);
+    let status = match steward.tell(page, &mut text)? {
+        Told::Nothing => {
+            response.status = StatusCode::NOT_FOUND;
+            return Ok(());
+        }
+        Told::Well => StatusCode::OK,
+        Told::Unwell => StatusCode::SERVICE_UNAVAILABLE,
+    };
+    put_text(status, text.as_slice(), response)
+}
+
+/// Fills a blank response with a text.
+fn put_text(status: StatusCode, text: &[u8], response: &mut Response) -> Result<(), AllocError>
+    requires { IsBlank response.old }
+    ensures { OnOk result (IsResponse status is_text text.now response.new) }
+{
+    response.status = status;
+    response.add_header(
+        CONTENT_TYPE,
+        HeaderValue::from_static("text/plain; charset=utf-8"),
+    )?;
+    response.body.put_slice(text)
+}
+
+/// Tells that the connection is closed behind the response, where there is memory for it.
+pub(crate) fn announce_close(response: &mut Response)
+    ensures { MayClose response.old response.new }
+{
+    let _ = response.add_header(CONNECTION, HeaderValue::from_static("close"));
+}

@@ -1,0 +1,84 @@
+//! Clients that go from loop to loop: few share a loop for as long as it keeps up.
+
+use crate::inbox::Loops;
+use crate::looping::Loop;
+use crate::watch::Watch;
+use std::sync::Wait;
+use std::time::Clock;
+
+/// A loop that worked a greater share of the time, in thousandths, gives clients away.
+const SHARE_HIGH: u64 = 900;
+
+/// A loop that worked no more may take them.
+const SHARE_LOW: u64 = 500;
+
+/// Two loops that together worked no more become one.
+const SHARE_ONE: u64 = 600;
+
+impl Loop {
+    /// Gives clients to another loop: half of those that are active where this one can't keep up,
+    /// all of them where one before it has time for them.
+    pub(super) fn spread<R: Wait + Clock, W: Watch>(&mut self, rt: &R, loops: &Loops, watch: &W) {
+        let own = self.shares.of(self.number);
+        let least = self.shares.least();
+        if own >= SHARE_HIGH && self.shares.of(least) <= SHARE_LOW {
+            self.give(rt, loops, watch, least, 2);
+        } else if own <= SHARE_ONE {
+            if let Some(before) = self.shares.first_below(SHARE_ONE - own) {
+                if before < self.number {
+                    self.give(rt, loops, watch, before, 1);
+                }
+            }
+        }
+        self.rest();
+    }
+
+    /// Gives one of so many active clients to another loop.
+    fn give<R: Wait + Clock, W: Watch>(
+        &mut self,
+        rt: &R,
+        loops: &Loops,
+        watch: &W,
+        number: usize,
+        of: usize,
+    ) {
+        let mut seen = 0usize;
+        for slot in 0..self.members.slots() {
+            let is_active = self.members.note(slot).map_or(false, |note| note.is_active);
+            if is_active && self.members.client(slot).is_some() {
+                seen = seen.saturating_add(1);
+                if seen % of.max(1) == 0 {
+                    self.move_to(rt, loops, watch, number, slot);
+                }
+            }
+        }
+    }
+
+    /// Moves the client of a slot to another loop. Where there is no memory for that it stays.
+    fn move_to<R: Wait + Clock, W: Watch>(
+        &mut self,
+        rt: &R,
+        loops: &Loops,
+        watch: &W,
+        number: usize,
+        slot: usize,
+    ) {
+        let Some(client) = self.members.take(slot) else {
+            return;
+        };
+        loops.count_unsent(client.unsent(), 0);
+        let client = self.part(slot, client);
+        if let Err(client) = loops.hand(rt, number, client) {
+            self.receive(rt, client, loops, watch);
+        }
+    }
+
+    /// Forgets which clients were active.
+    fn rest(&mut self) {
+        for slot in 0..self.members.slots() {
+            if let Some(note) = self.members.note(slot) {
+                note.is_active = false;
+            }
+        }
+    }
+}

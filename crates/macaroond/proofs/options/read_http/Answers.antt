@@ -1,0 +1,14 @@
+use Rattle.std.proofs.Common.{sym, ◌∙◌}
+use Rattle.macaroond.proofs.options.read_http.Goals as goal
+
+pub returns : goal.returns
+returns c = (
+  c.in_ok-read_optional_text.ensures,
+  c.in_ok-read_optional_text-2.ensures,
+  sym c.read_mode.ensures ∙ c.in-Some.is,
+  c.read_optional_number.ensures 1024 c.requires.0,
+  c.read_optional_number-2.ensures 3600 c.requires.1,
+  c.in_ok-read_optional_text-3.ensures,
+  c.in_ok-read_optional_text-4.ensures,
+  c.in_ok-read_optional_text-5.ensures,
+)

@@ -1,0 +1,22 @@
+use Rattle.std.proofs.Common.{refl, sym, ◌∙◌}
+use Rattle.macaroond.proofs.options.read_listen.Goals as goal
+
+pub returns : goal.returns
+returns c = (
+  refl,
+  (
+    c.in_ok-read_text.ensures,
+    c.in_ok-read_text-2.ensures,
+    c.read_optional_number.ensures 16 c.requires.workers,
+    sym c.read_mode.ensures ∙ c.in-Some-Some.is-0,
+    c.read_optional_number-2.ensures 86400 c.requires.idle,
+    c.read_optional_number-3.ensures 64 c.requires.loops,
+    c.read_optional_number-4.ensures 1000000 c.requires.connections,
+    c.read_optional_number-5.ensures 3600 c.requires.drain,
+    c.in_ok-read_optional_text.ensures,
+    c.in_ok-read_optional_text-2.ensures,
+    sym c.read_mode-2.ensures ∙ c.in-Some-Some.is-1,
+    c.in_ok-read_optional_text-3.ensures,
+    c.in_ok-http.ensures,
+  ),
+)

@@ -1,0 +1,105 @@
+-- The sockets over HTTP, as the options of `listen` name them.
+use Rattle.std.specs.Prelude.{◌≡◌, ◌*◌, ◌^◌, ◌||◌, ℕ, Bool, List, [], ◌++◌, map, Option, Some, None, Result, Ok, Err}
+use Rattle.std.specs.Prelude.{codes, if◌then◌else◌, string_bytes, true, false}
+use Rattle.std.specs.List.{list_all, list_any, slice_split}
+use Rattle.std.specs.Str.{bytes_eq}
+use Rattle.std.specs.Duration.{as_nanos}
+use Rattle.std.specs.declared.alloc.Global.{Global}
+use Rattle.std.specs.declared.string.String.{String}
+use Rattle.std.specs.declared.vec.Vec.{Vec}
+use Rattle.mac_gate.specs.Address.{AreRead}
+use Rattle.mac_gate.specs.declared.address.Address.{Address}
+use Rattle.mac_gate.specs.declared.address.Reach.{Reach}
+use Rattle.mac_gate.specs.declared.address.Reach.TheVariants.{Loopback, Anywhere}
+use Rattle.mac_gate.specs.declared.serving.Pages.{Pages}
+use Rattle.mac_gate.specs.declared.serving.Pages.TheVariants as pages
+use Rattle.mac_http.specs.declared.rules.Granted.{Granted}
+use Rattle.mac_http.specs.declared.rules.Granted.TheVariants as granted
+use Rattle.mac_http.specs.declared.rules.Sources.{Sources}
+use Rattle.macaroond.specs.CommandLine.{permissions}
+use Rattle.macaroond.specs.Rights.{is_comma}
+use Rattle.macaroond.specs.declared.choices.HttpOptions.{HttpOptions}
+use Rattle.macaroond.specs.declared.http.HttpFault.{HttpFault}
+use Rattle.macaroond.specs.declared.http.HttpFault.TheVariants as fault
+use Rattle.macaroond.specs.declared.http.HttpPlan.{HttpPlan}
+
+-- the addresses of a list, or none where it is left out
+abbrev pub AreNamed : Reach → Option (String Global) → List Address → Type 0
+AreNamed reach None addresses = addresses ≡ []
+AreNamed reach (Some list) addresses = AreRead reach (string_bytes list) addresses
+
+-- the same, or a word of the list is no address that may be served
+abbrev pub GivesAddresses : Reach → Option (String Global) → Result (Vec Address Global) HttpFault
+    → Type 0
+GivesAddresses reach list (Ok addresses) = AreNamed reach list addresses.items
+GivesAddresses reach list (Err (fault.Address word why)) = Unit {0}
+GivesAddresses reach list (Err fault.NoMemory) = Unit {0}
+GivesAddresses reach list (Err _) = ⊥
+
+-- the status that grants: 200 or 204, and 200 where none is named
+abbrev pub granted_of : Option (String Global) → Option Granted
+granted_of None = Some granted.Ok
+granted_of (Some status) = if bytes_eq (string_bytes status) (codes "200") then Some granted.Ok
+    else (if bytes_eq (string_bytes status) (codes "204") then Some granted.NoContent else None)
+
+-- the pages that gateways are told: none where operators have addresses of their own
+abbrev pub pages_beside : Option (String Global) → Pages
+pages_beside None = pages.Public
+pages_beside (Some admin) = pages.Nothing
+
+-- the words of a list, or none where it is left out
+abbrev pub words_of : Option (String Global) → List (List ℕ)
+words_of None = []
+words_of (Some list) = slice_split is_comma (string_bytes list)
+
+abbrev pub is_source : List ℕ → Bool
+is_source word = bytes_eq word (codes "header") || (bytes_eq word (codes "query")
+    || bytes_eq word (codes "forwarded"))
+
+-- the sources that these words name
+abbrev pub sources_in : List (List ℕ) → Sources
+sources_in words = record {
+  header = list_any (λ word. bytes_eq word (codes "header")) words;
+  query = list_any (λ word. bytes_eq word (codes "query")) words;
+  forwarded = list_any (λ word. bytes_eq word (codes "forwarded")) words;
+}
+
+-- the sources that a list names, or one of its words names none
+abbrev pub GivesSources : Option (String Global) → Result Sources HttpFault → Type 0
+GivesSources list (Ok sources) =
+    (list_all is_source (words_of list) ≡ true) × (sources ≡ sources_in (words_of list))
+GivesSources list (Err fault.Source) = list_all is_source (words_of list) ≡ false
+GivesSources list (Err fault.NoMemory) = Unit {0}
+GivesSources list (Err _) = ⊥
+
+-- the connections over HTTP that may be live at a time
+abbrev pub http_connections_of : Option ℕ → ℕ
+http_connections_of None = 256
+http_connections_of (Some asked) = asked
+
+-- the seconds that a peer has for a request
+abbrev pub http_patience_of : Option ℕ → ℕ
+http_patience_of None = 10
+http_patience_of (Some asked) = asked
+
+-- the addresses of this machine stand before the others
+pub record IsPlan (options : HttpOptions) (plan : HttpPlan) : Type 0 where
+  pub here : List Address
+  pub anywhere : List Address
+  pub together : plan.addresses.items ≡ here ++ anywhere
+  pub are_here : AreNamed Loopback options.here here
+  pub are_anywhere : AreNamed Anywhere options.anywhere anywhere
+  pub are_admin : AreNamed Loopback options.admin plan.admin.items
+  pub mode : plan.permissions ≡ permissions options.mode
+  pub status : granted_of options.granted ≡ Some plan.terms.rules.granted
+  pub sources : GivesSources options.facts (Ok plan.terms.rules.sources)
+  pub connections : plan.terms.connections ≡ http_connections_of options.connections
+  pub patience : as_nanos plan.terms.patience ≡ http_patience_of options.patience * 10 ^ 9
+  pub pages : plan.terms.pages ≡ pages_beside options.admin
+
+-- the fault that the options have
+abbrev pub IsRefused : HttpOptions → HttpFault → Type 0
+IsRefused options fault.Granted = granted_of options.granted ≡ None
+IsRefused options fault.Source = list_all is_source (words_of options.facts) ≡ false
+IsRefused options (fault.Address word why) = Unit {0}
+IsRefused options fault.NoMemory = Unit {0}

@@ -1,0 +1,271 @@
+//! The sockets over HTTP that the options of `listen` name.
+
+ghost use Rattle.std.specs.Prelude.{◌≡◌, IfErr, IfOk, map};
+ghost use Rattle.std.specs.List.{list_all, list_any, slice_split};
+ghost use Rattle.std.specs.Str.{bytes_eq};
+ghost use Rattle.macaroond.specs.Http.{GivesAddresses, GivesSources, IsPlan, IsRefused};
+ghost use Rattle.macaroond.specs.Http.{granted_of, is_source, pages_beside, words_of};
+ghost use Rattle.macaroond.specs.Rights.{is_comma};
+
+use crate::choices::HttpOptions;
+use crate::commands::VERSION;
+use crate::operating::OPERATORS_MAX;
+use mac_gate::{
+    Address, AddressFault, DoorFault, Doors, ListFault, Pages, Reach, Terms, read_addresses,
+};
+use mac_http::{Granted, Rules, Sources};
+use std::alloc::{AllocError, Global};
+use std::fs::{File, Files};
+use std::net::{Net, TcpListener, TcpStream};
+use std::process::Process;
+use std::time::Duration;
+
+/// How many connections over HTTP there are at a time, where nothing else is asked for.
+const CONNECTIONS: u64 = 256;
+
+/// How many seconds a peer may bring no whole request, where nothing else is asked for.
+const PATIENCE: u64 = 10;
+
+/// The words that name sources of facts.
+const HEADER: &[u8] = b"header";
+
+const QUERY: &[u8] = b"query";
+
+const FORWARDED: &[u8] = b"forwarded";
+
+/// Sockets over HTTP, as options name them.
+#[derive(Drop)]
+pub struct HttpPlan<'a> {
+    /// Where they are.
+    pub addresses: Vec<Address<'a>>,
+    /// Where operators ask, and nobody else.
+    pub admin: Vec<Address<'a>>,
+    /// The permissions of the files of those that are Unix sockets.
+    pub permissions: u32,
+    /// How their connections are served.
+    pub terms: Terms,
+}
+
+impl<'a> HttpPlan<'a> {
+    /// How many connections there may be at a time: none where there is no address.
+    pub fn connections(&self) -> usize {
+        if self.addresses.is_empty() {
+            0
+        } else {
+            self.terms.connections
+        }
+    }
+
+    /// How many descriptors its sockets may need, and those of operators.
+    pub fn descriptors(&self) -> u64 {
+        let doors = self.admin.len().saturating_add(1);
+        let operators = gate_descriptors(OPERATORS_MAX, doors);
+        if self.addresses.is_empty() {
+            return operators;
+        }
+        gate_descriptors(self.terms.connections, self.addresses.len()).saturating_add(operators)
+    }
+}
+
+/// How many descriptors a gate may need: one for each connection, two for each door with its lock,
+/// and three to wait by.
+fn gate_descriptors(connections: usize, doors: usize) -> u64 {
+    (connections as u64)
+        .saturating_add((doors as u64).saturating_mul(2))
+        .saturating_add(3)
+}
+
+/// Why the options for HTTP can't be followed.
+#[derive(Clone, Copy)]
+pub enum HttpFault<'a> {
+    /// A word of a list is no address that may be served.
+    Address { word: &'a [u8], fault: AddressFault },
+    /// `--http-granted` is no status that grants.
+    Granted,
+    /// A word of `--http-facts` is no source.
+    Source,
+    /// Memory ran out.
+    NoMemory,
+}
+
+impl<'a> From<AllocError> for HttpFault<'a> {
+    ghost use Rattle.std.specs.Prelude.{◌≡◌};
+    ghost use Rattle.macaroond.specs.declared.http.HttpFault.TheVariants as fault;
+
+    ghost from_gives = { λ _ made. made ≡ fault.NoMemory };
+
+    fn from(_refused: AllocError) -> HttpFault<'a> {
+        HttpFault::NoMemory
+    }
+}
+
+/// The sockets over HTTP that options name, if they name any.
+pub fn plan_http<'a>(alloc: Global, options: &'a HttpOptions) -> Result<HttpPlan<'a>, HttpFault<'a>>
+    ensures plan { IfOk result (IsPlan options.now) }
+    ensures refused { IfErr result (IsRefused options.now) }
+{
+    let mut addresses = read_named(alloc, &options.here, Reach::Loopback)?;
+    let anywhere = read_named(alloc, &options.anywhere, Reach::Anywhere)?;
+    addresses.extend_from_slice(&anywhere)?;
+    let admin = read_named(alloc, &options.admin, Reach::Loopback)?;
+    let Some(granted) = read_granted(&options.granted) else {
+        return Err(HttpFault::Granted);
+    };
+    let sources = read_sources(alloc, &options.facts)?;
+    Ok(HttpPlan {
+        addresses,
+        admin,
+        permissions: options.mode.permissions(),
+        terms: Terms {
+            rules: Rules { sources, granted },
+            connections: options.connections.unwrap_or(CONNECTIONS) as usize,
+            patience: Duration::from_secs(options.patience.unwrap_or(PATIENCE)),
+            pages: pages_beside(&options.admin),
+            version: VERSION,
+        },
+    })
+}
+
+/// The pages that gateways are told: none where operators have addresses of their own.
+fn pages_beside(admin: &Option<String>) -> Pages
+    ensures { result ≡ pages_beside admin.now }
+{
+    match admin {
+        Some(_) => Pages::Nothing,
+        None => Pages::Public,
+    }
+}
+
+/// The addresses of a list that may be left out.
+fn read_named<'a>(
+    alloc: Global,
+    list: &'a Option<String>,
+    reach: Reach,
+) -> Result<Vec<Address<'a>>, HttpFault<'a>>
+    ensures { GivesAddresses reach list.now result }
+{
+    let Some(list) = list else {
+        return Ok(Vec::new(alloc));
+    };
+    match read_addresses(alloc, list.as_str().as_bytes(), reach) {
+        Ok(addresses) => Ok(addresses),
+        Err(ListFault::Word { word, fault }) => Err(HttpFault::Address { word, fault }),
+        Err(ListFault::NoMemory) => Err(HttpFault::NoMemory),
+    }
+}
+
+/// The status that grants, where it is named so, or left out.
+fn read_granted(status: &Option<String>) -> Option<Granted>
+    ensures { result ≡ granted_of status.now }
+{
+    match status {
+        None => Some(Granted::Ok),
+        Some(status) => match status.as_str() {
+            "200" => Some(Granted::Ok),
+            "204" => Some(Granted::NoContent),
+            _ => None,
+        },
+    }
+}
+
+/// The sources of facts that a list names, which may be left out.
+fn read_sources<'a>(alloc: Global, list: &Option<String>) -> Result<Sources, HttpFault<'a>>
+    ensures { GivesSources list.now result }
+{
+    let words = list_words(alloc, list)?;
+    if !are_sources(&words) {
+        return Err(HttpFault::Source);
+    }
+    Ok(Sources {
+        header: has_word(&words, HEADER),
+        query: has_word(&words, QUERY),
+        forwarded: has_word(&words, FORWARDED),
+    })
+}
+
+/// The words of a list that may be left out.
+fn list_words(alloc: Global, list: &Option<String>) -> Result<Vec<&[u8]>, AllocError>
+    ensures { IfOk result (λ words. map (λ word. word.now) words.items ≡ words_of list.now) }
+{
+    match list {
+        Some(list) => split_words(alloc, list.as_str().as_bytes()),
+        None => Ok(Vec::new(alloc)),
+    }
+}
+
+/// What stands between the commas of a list.
+fn split_words(alloc: Global, list: &[u8]) -> Result<Vec<&[u8]>, AllocError>
+    ensures { IfOk result (λ words.
+        map (λ word. word.now) words.items ≡ slice_split is_comma list.now) }
+{
+    let mut words = Vec::new(alloc);
+    for word in list.split(|byte| *byte == b',') {
+        words.push(word)?;
+    }
+    Ok(words)
+}
+
+/// Whether each word names a source of facts.
+fn are_sources(words: &[&[u8]]) -> bool
+    ensures { result ≡ list_all (λ word. is_source word.now) words.now }
+{
+    words.iter().all(|word| is_source(word))
+}
+
+fn is_source(word: &[u8]) -> bool
+    ensures { result ≡ is_source word.now }
+{
+    word == HEADER || word == QUERY || word == FORWARDED
+}
+
+/// Whether a word is among these.
+fn has_word(words: &[&[u8]], sought: &[u8]) -> bool
+    ensures { result ≡ list_any (λ word. bytes_eq word.now sought.now) words.now }
+{
+    words.iter().any(|word| *word == sought)
+}
+
+/// Opens the doors of a plan, in the order of its addresses. At a fault it tells the address.
+pub fn open_doors<'a, R>(
+    rt: &R,
+    alloc: Global,
+    plan: &HttpPlan<'a>,
+    process: Process,
+) -> Result<Doors, (Address<'a>, DoorFault)>
+where
+    R: Files<File = File> + Net<Listener = TcpListener, Stream = TcpStream>,
+{
+    open_each(rt, alloc, &plan.addresses, plan.permissions, process)
+}
+
+/// The same of the doors for operators.
+pub fn open_admin<'a, R>(
+    rt: &R,
+    alloc: Global,
+    plan: &HttpPlan<'a>,
+    process: Process,
+) -> Result<Doors, (Address<'a>, DoorFault)>
+where
+    R: Files<File = File> + Net<Listener = TcpListener, Stream = TcpStream>,
+{
+    open_each(rt, alloc, &plan.admin, plan.permissions, process)
+}
+
+fn open_each<'a, R>(
+    rt: &R,
+    alloc: Global,
+    addresses: &[Address<'a>],
+    permissions: u32,
+    process: Process,
+) -> Result<Doors, (Address<'a>, DoorFault)>
+where
+    R: Files<File = File> + Net<Listener = TcpListener, Stream = TcpStream>,
+{
+    let mut doors = Doors::new(alloc);
+    for address in addresses {
+        if let Err(fault) = doors.open(rt, alloc, *address, permissions, process) {
+            return Err((*address, fault));
+        }
+    }
+    Ok(doors)
+}

@@ -1,0 +1,121 @@
+//! Where operators ask how a daemon is: a socket beside its own, and addresses of this machine.
+
+use crate::commands::VERSION;
+use crate::key_watch::ListenFault;
+use mac_board::Publisher;
+use mac_daemon::{Daemon, DaemonFault};
+use mac_gate::{DoorFault, Doors, Gate, Pages, Terms, open_gate};
+use mac_http::{Granted, Rules, Sources};
+use mac_keys::KeyTable;
+use std::alloc::{Alloc, AllocError, Global};
+use std::fs::{File, Files};
+use std::net::{Net, TcpListener, TcpStream};
+use std::process::Process;
+use std::random::RandomSource;
+use std::sync::Wait;
+use std::thread::Threads;
+use std::time::{Clock, Duration};
+
+/// The permissions of a status socket: it is for its owner.
+const STATUS_PERMISSIONS: u32 = 0o600;
+
+/// How many connections of operators there are at a time.
+pub(crate) const OPERATORS_MAX: usize = 16;
+
+/// How many seconds an operator may bring no whole request.
+const PATIENCE: u64 = 10;
+
+/// The gate at which operators ask. No token is granted there: it has no key.
+#[derive(Drop)]
+pub(crate) struct OperatorsGate<R: Wait + Drop> {
+    gate: Gate,
+    // The table without a key stays up as long as this is kept.
+    _publisher: Publisher<R>,
+}
+
+impl<R: Wait + Drop> OperatorsGate<R> {
+    /// Takes no further connection, and closes those that are idle.
+    pub(crate) fn end(&self, rt: &R) {
+        self.gate.end(rt);
+    }
+}
+
+/// The path of the status socket of a daemon.
+pub(crate) fn status_path(alloc: Global, socket: &str) -> Result<String, AllocError> {
+    format!(in alloc; "{socket}.status")
+}
+
+/// Makes the status socket of a daemon, and adds its door.
+pub(crate) fn open_status<R>(
+    rt: &R,
+    alloc: Global,
+    socket: &str,
+    doors: &mut Doors,
+    process: Process,
+) -> Result<(), DoorFault>
+where
+    R: Files<File = File> + Net<Listener = TcpListener, Stream = TcpStream>,
+{
+    let Ok(path) = status_path(alloc, socket) else {
+        return Err(DoorFault::NoMemory);
+    };
+    doors.open_unix(rt, alloc, path.as_str(), STATUS_PERMISSIONS, process)
+}
+
+/// Warns of a daemon that has no status socket. Nobody is kept from what it is for.
+pub(crate) fn warn_of_no_status<R: Eprint>(rt: &R, socket: &str, fault: &DoorFault) {
+    let _ = eprintln!(rt;
+        "warning: {socket}.status: {fault}; `macaroond status` can't ask this daemon"
+    );
+}
+
+/// Has the connections of operators served, which come in through these doors.
+pub(crate) fn start_operators<'a, R>(
+    rt: &R,
+    doors: Doors,
+    daemon: &Daemon,
+) -> Result<Option<OperatorsGate<R>>, ListenFault<'a>>
+where
+    R: Alloc<A = Global> + Clock + RandomSource + Net + Drop,
+    R: Threads + Wait + Sync + Copy + Send + 'static,
+{
+    if doors.is_empty() {
+        return Ok(None);
+    }
+    let alloc = rt.alloc();
+    let Ok(no_keys) = KeyTable::read(alloc, b"") else {
+        return Err(ListenFault::Daemon(DaemonFault::NoMemory));
+    };
+    let publisher = Publisher::new(alloc, *rt, no_keys, OPERATORS_MAX)?;
+    let followers = publisher.followers()?;
+    let gate = open_gate(
+        rt,
+        alloc,
+        doors,
+        followers,
+        daemon.guests()?,
+        operators_terms(),
+    )?;
+    Ok(Some(OperatorsGate {
+        gate,
+        _publisher: publisher,
+    }))
+}
+
+/// How the connections of operators are served.
+fn operators_terms() -> Terms {
+    Terms {
+        rules: Rules {
+            sources: Sources {
+                header: false,
+                query: false,
+                forwarded: false,
+            },
+            granted: Granted::Ok,
+        },
+        connections: OPERATORS_MAX,
+        patience: Duration::from_secs(PATIENCE),
+        pages: Pages::All,
+        version: VERSION,
+    }
+}

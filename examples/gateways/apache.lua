@@ -1,0 +1,40 @@
+-- Asks macaroond whether a request's token is granted; any failure is answered 503.
+local unix = require "socket.unix"
+
+local function ask(stream, fields)
+    stream:settimeout(2)
+    if not stream:connect("macaroond.http") or not stream:send(table.concat(fields, "\r\n")) then
+        return 503, {}
+    end
+    local status = (stream:receive("*l") or ""):match("^HTTP/1%.1 (%d+) ")
+    local found, line = {}, status and stream:receive("*l")
+    while line and line ~= "" do
+        local name, value = line:match("^([^:]+): ?(.*)$")
+        found[name:lower()], line = value, stream:receive("*l")
+    end
+    -- A head that isn't whole is no verdict.
+    return line and tonumber(status) or 503, found
+end
+
+function check(r)
+    local stream = unix.stream()
+    -- Nothing of the client's own but its token, and the facts that Apache knows.
+    local status, found = ask(stream, {
+        "GET /verify/bank HTTP/1.1", "Host: macaroond", "Connection: close",
+        "Authorization: " .. (r.headers_in["Authorization"] or ""),
+        "X-Forwarded-Method: " .. r.method, "X-Forwarded-Uri: " .. r.unparsed_uri,
+        "X-Forwarded-Host: " .. (r.hostname or ""),
+        "X-Forwarded-Proto: " .. (r.is_https and "https" or "http"),
+        "X-Real-IP: " .. r.useragent_ip, "Macaroon-Fact: service = demo", "", "",
+    })
+    stream:close()
+    if status == 200 then
+        -- This also takes the place of a field that the client sent. The client may name it in its
+        -- Connection, and Apache would take it out then.
+        r.headers_in["Macaroon-Identifier"] = found["macaroon-identifier"]
+        r.headers_in["Connection"] = (r.headers_in["Connection"] or ""):lower():match("close")
+        return apache2.OK
+    end
+    r.err_headers_out["WWW-Authenticate"] = found["www-authenticate"]
+    return (status == 401 or status == 403) and status or 503
+end

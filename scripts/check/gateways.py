@@ -1,0 +1,216 @@
+#!/usr/bin/env python3
+"""Gateways that ask `macaroond listen` over HTTP, by the configurations of examples/gateways.
+
+    gateways.py [NAME ..]     these alone
+
+Each is asked where Debian's packages are installed (scripts/install_peers.sh), and told as skipped
+where they aren't. Envoy and Traefik aren't in Debian: a script sends what they would send.
+"""
+import concurrent.futures
+import http.client
+import pathlib
+import signal
+import sys
+import time
+
+sys.path.insert(0, str(pathlib.Path(__file__).resolve().parents[1]))
+from check import gateway_scripted
+from check.gateway_rows import ALICE, HELLO, HOST, ROWS, UNASKED, Row, narrowed
+from check.gateway_servers import GATEWAYS, asked, connected, guarded, head, program_of
+from common.daemon import PATIENCE
+
+# What a gateway answers that got no verdict, and what each does: of a daemon that is gone, of one
+# that hangs, and of one that has no key of the name.
+LOST = (500, 502, 503, 504)
+LOST_BY = {
+    "nginx": (500, 500, 500),
+    "caddy": (502, 504, 404),
+    "haproxy": (503, 503, 503),
+    "apache": (503, 503, 503),
+}
+# More requests than a gateway keeps connections, and after how many seconds none is left of those
+# that it doesn't keep.
+REPEATS, SETTLED = 40, 3
+GRANTED, NO_TOKEN = Row("granted", 200, ALICE), Row("no token", 401)
+NEW_SECRET = b"the secret that comes next"
+NEW = Row("by the new key", 200, narrowed(secret=NEW_SECRET))
+
+
+def missing():
+    return [name for name in GATEWAYS if program_of(name) is None]
+
+
+def asked_row(scene, row):
+    """The status of a row, the scheme that is asked for, and what the service behind saw."""
+    text = head(row.target, *row.lines(), method=row.method, body=row.body)
+    status, fields = asked(scene.port, text)
+    scheme = fields.get("www-authenticate", "").partition(" ")[0]
+    return status, scheme, [told_of(seen) for seen in scene.service.taken()]
+
+
+def told_of(seen):
+    """What counts of a request that the service saw: whose it is, and what a client told."""
+    identifiers = [value for value in seen.values("macaroon-identifier") if value]
+    left = seen.values("authorization") + seen.values("macaroon-fact")
+    target = seen.target.removeprefix("http://example.org")
+    return seen.method, target, identifiers, left, len(seen.body)
+
+
+def due_of(row, name):
+    """What `asked_row` has to find."""
+    status = row.due(name)
+    target = row.target.removeprefix("http://example.org")
+    whose = [row.whose] if row.whose else []
+    seen = [(row.method, target, whose, [], len(row.body))] if status == 200 else []
+    return status, "Macaroon" if status == 401 else "", seen
+
+
+def rows(name, scene):
+    """Each row of the table."""
+    for row in ROWS:
+        yield row.what, asked_row(scene, row), due_of(row, name)
+
+
+def on_one_connection(scene):
+    """A connection keeps nothing of a grant: the next request needs its own."""
+    connection = http.client.HTTPConnection("127.0.0.1", scene.port, timeout=PATIENCE)
+    bearing = {"Authorization": f"Macaroon {ALICE}"}
+    found = []
+    for fields in (bearing, {}, bearing, {"Authorization": f"Macaroon {narrowed('a = b')}"}):
+        connection.request("GET", HELLO, headers=fields)
+        response = connection.getresponse()
+        response.read()
+        found.append(response.status)
+    connection.close()
+    yield "on one connection", found, [200, 401, 200, 403]
+    hosts = [seen.values("host")[0].partition(":")[0] for seen in scene.service.taken()]
+    yield "and the service saw two, and their host", hosts, ["127.0.0.1"] * 2
+
+
+def by_an_old_client(scene):
+    """HTTP/1.0 without a host, which tells no fact about it."""
+    for token, due in ((narrowed("method = GET"), 200), (narrowed(HOST), 403)):
+        text = f"GET {HELLO} HTTP/1.0\r\nAuthorization: Macaroon {token}\r\n\r\n".encode()
+        yield "HTTP/1.0 without a host", asked(scene.port, text)[0], due
+    yield "and the service saw one", len(scene.service.taken()), 1
+
+
+def kept(daemon):
+    """How many connections the daemon has over HTTP, besides that which asks."""
+    front = b"macaroond_connections_http "
+    with connected(daemon.folder / "macaroond.http") as stream:
+        stream.sendall(head("/metrics"))
+        with stream.makefile("rb") as page:
+            return next(int(line[len(front):]) for line in page if line.startswith(front)) - 1
+
+
+def as_connections_stay(name, scene):
+    """Whether the gateway keeps connections to the daemon, and uses them again."""
+    for _ in range(REPEATS):
+        asked_row(scene, GRANTED)
+    until = time.monotonic() + SETTLED
+    while (count := kept(scene.daemon)) and time.monotonic() < until:
+        time.sleep(0.1)
+    yield f"{count} connections are kept", 0 < count < REPEATS, name != "apache"
+
+
+def without_verdict(name, scene, row):
+    """Whether a row is refused, as it has to be while the daemon gives no verdict."""
+    status, _, seen = asked_row(scene, row)
+    is_refused = status in LOST or status == row.due(name) and status in UNASKED
+    return "refused" if is_refused and not seen else (status, seen)
+
+
+def while_it_hangs(name, scene):
+    """A daemon that takes connections and answers nothing."""
+    scene.daemon.halt()
+    begin = time.monotonic()
+    yield "a daemon that hangs", asked_row(scene, GRANTED), (LOST_BY[name][1], "", [])
+    yield "and that is told in time", time.monotonic() - begin < PATIENCE / 2, True
+    scene.daemon.run.send_signal(signal.SIGCONT)
+    yield "once it goes on", asked_row(scene, GRANTED), due_of(GRANTED, name)
+
+
+def while_it_is_gone(name, scene):
+    """A daemon that was killed, one that came back, and one that came back unseen."""
+    scene.daemon.end()
+    yield "no daemon", asked_row(scene, GRANTED), (LOST_BY[name][0], "", [])
+    for row in ROWS:
+        yield f"without a daemon: {row.what}", without_verdict(name, scene, row), "refused"
+    scene.daemon.start()
+    yield "a daemon that came back", asked_row(scene, GRANTED), due_of(GRANTED, name)
+    for how in (signal.SIGTERM, signal.SIGKILL):
+        scene.daemon.end(how)
+        scene.daemon.start()
+        yield "one that came back unseen", asked_row(scene, GRANTED), due_of(GRANTED, name)
+
+
+def await_status(scene, row, status):
+    """Waits until a row gets a status, as it does soon after keys changed."""
+    until = time.monotonic() + PATIENCE
+    while time.monotonic() < until and asked_row(scene, row)[0] != status:
+        time.sleep(0.05)
+
+
+def as_keys_change(name, scene):
+    """Keys that change while the daemon and the gateway run on."""
+    yield "by a key to come", asked_row(scene, NEW), (401, "Macaroon", [])
+    scene.daemon.write_keys(NEW_SECRET)
+    await_status(scene, NEW, 200)
+    yield NEW.what, asked_row(scene, NEW), due_of(NEW, name)
+    yield "by the old key", asked_row(scene, GRANTED), (401, "Macaroon", [])
+    yield "without a token", asked_row(scene, NO_TOKEN), due_of(NO_TOKEN, name)
+    scene.daemon.write_keys(NEW_SECRET, "inn")
+    await_status(scene, NEW, LOST_BY[name][2])
+    yield "no key of the name", asked_row(scene, NEW), (LOST_BY[name][2], "", [])
+
+
+def of_gateway(name):
+    with guarded(name) as scene:
+        yield from rows(name, scene)
+        yield from on_one_connection(scene)
+        yield from by_an_old_client(scene)
+        yield from as_connections_stay(name, scene)
+        yield from while_it_is_gone(name, scene)
+        yield from as_keys_change(name, scene)
+    with guarded(name, patient=False) as scene:
+        yield from while_it_hangs(name, scene)
+
+
+def listed(name):
+    """Each check of a gateway: what was asked, what was told, and what is due."""
+    return list(of_gateway(name) if name in GATEWAYS else gateway_scripted.rows(name))
+
+
+def found_of(names):
+    """Each check by its gateway, where all are asked at once."""
+    with concurrent.futures.ThreadPoolExecutor(len(names)) as pool:
+        return [(name, *row) for name, found in zip(names, pool.map(listed, names)) for row in found]
+
+
+def all_names():
+    return [*GATEWAYS, *gateway_scripted.SCRIPTED]
+
+
+def faults(*chosen):
+    """What is wrong with these gateways, or all, how much was asked, and which aren't there."""
+    names = chosen or all_names()
+    left_out = [name for name in names if name in missing()]
+    found = found_of([name for name in names if name not in left_out])
+    wrong = [
+        f"{name}: {what}: {str(told)[:500]}, and it should be {str(due)[:500]}"
+        for name, what, told, due in found
+        if told != due
+    ]
+    skipped = [f"{name} isn't installed (scripts/install_peers.sh)" for name in left_out]
+    return wrong, len(found), skipped
+
+
+if __name__ == "__main__":
+    if unknown := set(sys.argv[1:]) - set(all_names()):
+        sys.exit(f"there is no gateway {', '.join(sorted(unknown))}")
+    begin = time.monotonic()
+    wrong, count, skipped = faults(*sys.argv[1:])
+    print(*wrong, *skipped, sep="\n")
+    print(f"gateways: {len(wrong)} of {count} are wrong, {time.monotonic() - begin:.1f} s")
+    sys.exit(bool(wrong))

@@ -1,0 +1,327 @@
+#!/usr/bin/env python3
+"""The sockets over HTTP of `macaroond listen`: what is answered there, who is dropped, and how they end."""
+import contextlib
+import pathlib
+import signal
+import socket
+import stat
+import subprocess
+import sys
+import tempfile
+import time
+
+sys.path.insert(0, str(pathlib.Path(__file__).resolve().parents[1]))
+from check.http_rows import README, v2
+from common import logged
+from common.daemon import PATIENCE, PROGRAM
+
+import request
+
+# The secret of the token of README's text, and of the others that are made here.
+SECRET = "this is our super secret key; only we should know it"
+# How many seconds a peer may bring no whole request, in the runs that try that.
+PATIENT = 2
+# What a request head is ended by.
+END = b"\r\n\r\n"
+
+
+class Daemon:
+    """A daemon that listens over HTTP at a Unix socket and at a port of this machine."""
+
+    def __init__(self, folder, *words):
+        self.folder, self.keys = pathlib.Path(folder), pathlib.Path(folder) / "keys"
+        self.path, self.port = f"{folder}/http", free_port()
+        self.write_keys("bank")
+        command = [PROGRAM, "listen", "--socket", f"{folder}/socket", "--keys", str(self.keys)]
+        command += ["--http", f"unix:{self.path},127.0.0.1:{self.port}", *words]
+        pipes = {"stdout": subprocess.PIPE, "stderr": subprocess.PIPE, "text": True}
+        self.run = subprocess.Popen(command, **pipes)
+        self.first = self.run.stdout.readline()
+
+    def write_keys(self, *names):
+        new = self.folder / "keys.new"
+        new.write_text("".join(f"{request.key(name, SECRET)}\n" for name in names))
+        new.chmod(0o600)
+        new.rename(self.keys)
+
+    def unix(self):
+        stream = socket.socket(socket.AF_UNIX)
+        stream.settimeout(PATIENCE)
+        stream.connect(self.path)
+        return stream
+
+    def tcp(self):
+        return socket.create_connection(("127.0.0.1", self.port), PATIENCE)
+
+    def told_to_end(self):
+        """How long the run took to its end, and how it ended."""
+        begin = time.monotonic()
+        self.run.send_signal(signal.SIGTERM)
+        output, error = self.run.communicate(timeout=PATIENCE)
+        return time.monotonic() - begin, (self.run.returncode, output, error)
+
+
+def free_port():
+    with socket.create_server(("127.0.0.1", 0)) as server:
+        return server.getsockname()[1]
+
+
+@contextlib.contextmanager
+def listening(*words):
+    with tempfile.TemporaryDirectory() as folder:
+        daemon = Daemon(folder, *words)
+        try:
+            yield daemon
+        finally:
+            daemon.run.kill()
+            daemon.run.wait()
+            daemon.run.stdout.close()
+            daemon.run.stderr.close()
+
+
+def asking(target, *fields, version="1.1", method="GET"):
+    lines = [f"{method} {target} HTTP/{version}", "Host: macaroond", *fields]
+    return "\r\n".join(lines).encode() + END
+
+
+def bearing(token, *fields, target="/verify/bank", **how):
+    return asking(target, f"Authorization: Macaroon {token}", *fields, **how)
+
+
+def response(stream, rest=b""):
+    """The next response: its status, its fields, its body, and what came behind it."""
+    while END not in rest:
+        piece = stream.recv(65_536)
+        if not piece:
+            return None, {}, rest, b""
+        rest += piece
+    head, rest = rest.split(END, 1)
+    lines = head.decode().split("\r\n")
+    fields = dict(line.split(": ", 1) for line in lines[1:])
+    length = int(fields.get("content-length", 0))
+    while len(rest) < length:
+        rest += stream.recv(65_536)
+    return int(lines[0].split()[1]), fields, rest[:length], rest[length:]
+
+
+def asked(stream, text):
+    """The status of what a request is answered."""
+    stream.sendall(text)
+    return response(stream)[0]
+
+
+def end_of(stream):
+    """How many seconds pass until the other end closes."""
+    begin = time.monotonic()
+    try:
+        while stream.recv(65_536):
+            pass
+    except ConnectionError:
+        pass
+    return time.monotonic() - begin
+
+
+def statuses():
+    """Each status that docs/HTTP.md tells, over both kinds of socket, one behind the other."""
+    good, narrowed = README, v2(b"alice", [b"account = 17"])
+    cases = [
+        ("granted", bearing(good), 200),
+        ("no token", asking("/verify/bank"), 401),
+        ("no text of a token", bearing("?"), 401),
+        ("another secret", bearing(v2(b"alice", secret=b"other")), 401),
+        ("another scheme", asking("/verify/bank", "Authorization: Basic eDp5"), 401),
+        ("a caveat without its fact", bearing(narrowed), 403),
+        ("a caveat with its fact", bearing(narrowed, "Macaroon-Fact: account = 17"), 200),
+        ("another name", bearing(good, target="/verify/none"), 404),
+        ("another path", asking("/"), 404),
+        ("too many facts", bearing(good, *["Macaroon-Fact: a"] * 50), 200),
+        ("health", asking("/healthz"), 200),
+        ("numbers", asking("/metrics"), 200),
+        ("any method", bearing(good, method="POST"), 200),
+    ]
+    with listening("--http-facts", "header") as daemon:
+        for where, connect in (("Unix", daemon.unix), ("TCP", daemon.tcp)):
+            with connect() as stream:
+                for name, text, status in cases:
+                    yield f"{name} over {where}", asked(stream, text), status
+            with connect() as stream:
+                stream.sendall(b"".join(text for _, text, _ in cases))
+                found, rest = [], b""
+                for _ in cases:
+                    status, _, _, rest = response(stream, rest)
+                    found.append(status)
+                yield f"a pipeline over {where}", found, [status for _, _, status in cases]
+            with connect() as stream:
+                stream.sendall(bearing(good, version="1.0"))
+                yield f"HTTP/1.0 over {where}", response(stream)[0], 200
+                yield f"its end over {where}", end_of(stream) < 1, True
+            with connect() as stream:
+                stream.sendall(b"no request at all" + END + b"x" * 20_000)
+                yield f"no request over {where}", response(stream)[0], 400
+                yield f"and its end over {where}", end_of(stream) < PATIENCE, True
+        yield "the mode of the socket", stat.S_IMODE(pathlib.Path(daemon.path).stat().st_mode), 0o600
+
+
+def rules():
+    """What options say of the face."""
+    narrowed = bearing(v2(b"alice", [b"account = 17"]), "Macaroon-Fact: account = 17")
+    with listening() as daemon, daemon.tcp() as stream:
+        yield "no source of facts", asked(stream, narrowed), 403
+    with listening("--http-granted", "204", "--http-facts", "query,forwarded", "--http-mode", "666") as daemon:
+        with daemon.tcp() as stream:
+            yield "granted by 204", asked(stream, bearing(README)), 204
+            yield "a source that isn't named", asked(stream, narrowed), 403
+            query = bearing(v2(b"alice", [b"account = 17"]), target="/verify/bank?fact=account+%3d+17")
+            yield "a fact of the query", asked(stream, query), 204
+        yield "a mode", stat.S_IMODE(pathlib.Path(daemon.path).stat().st_mode), 0o666
+
+
+def changing_keys():
+    """A connection that lasts is answered under the keys of the moment."""
+    with listening() as daemon, daemon.unix() as stream:
+        yield "before", asked(stream, bearing(README)), 200
+        daemon.write_keys("shop")
+        until = time.monotonic() + PATIENCE
+        status = 200
+        while status == 200 and time.monotonic() < until:
+            time.sleep(0.1)
+            status = asked(stream, bearing(README))
+        yield "the name is gone", status, 404
+        yield "another is there", asked(stream, bearing(README, target="/verify/shop")), 200
+
+
+def slow_peers():
+    """Who brings no whole request in time is dropped, and others aren't kept waiting."""
+    with listening("--http-patience", str(PATIENT), "--http-facts", "header") as daemon:
+        for where, connect in (("Unix", daemon.unix), ("TCP", daemon.tcp)):
+            with connect() as silent, connect() as half, connect() as dripping:
+                half.sendall(b"GET /healthz HTTP/1.1\r\nHost: a\r\n")
+                begin = time.monotonic()
+                with contextlib.suppress(ConnectionError):
+                    while time.monotonic() - begin < 5 * PATIENT:
+                        dripping.sendall(b"G")
+                        time.sleep(PATIENT / 20)
+                took = time.monotonic() - begin
+                yield f"a dripping peer over {where}: {took:.1f} s", PATIENT - 0.5 < took < 3 * PATIENT, True
+                yield f"a silent one over {where}", end_of(silent) < 1, True
+                yield f"half a head over {where}", end_of(half) < 1, True
+            with connect() as body:
+                body.sendall(asking("/verify/bank", "Content-Length: 10", method="POST") + b"12345")
+                yield f"half a body over {where}", end_of(body) < 3 * PATIENT, True
+            with connect() as lasting:
+                found = []
+                for _ in range(4):
+                    found.append(asked(lasting, bearing(README)))
+                    time.sleep(PATIENT / 2)
+                yield f"one that asks on over {where}", found, [200] * 4
+            with connect() as deaf:
+                deaf.settimeout(5 * PATIENT)
+                begin = time.monotonic()
+                with contextlib.suppress(ConnectionError, TimeoutError):
+                    while time.monotonic() - begin < 5 * PATIENT:
+                        deaf.sendall(asking("/healthz") * 1_000)
+                took = time.monotonic() - begin
+                yield f"one that never reads over {where}: {took:.1f} s", took < 4 * PATIENT, True
+
+
+def full_house():
+    """One connection too many is closed, and there is a place again once another has gone."""
+    with listening("--http-connections", "3") as daemon:
+        with contextlib.ExitStack() as stack:
+            guests = [stack.enter_context(connect()) for connect in (daemon.unix, daemon.tcp, daemon.unix)]
+            yield "three of three", [asked(guest, asking("/healthz")) for guest in guests], [200] * 3
+            for connect in (daemon.unix, daemon.tcp):
+                with connect() as late:
+                    yield "a fourth", late.recv(1), b""
+            yield "the three go on", [asked(guest, asking("/healthz")) for guest in guests], [200] * 3
+            guests[0].close()
+            status, until = None, time.monotonic() + PATIENCE
+            while status != 200 and time.monotonic() < until:
+                with daemon.unix() as late, contextlib.suppress(ConnectionError):
+                    status = asked(late, asking("/healthz"))
+            yield "a place again", status, 200
+
+
+def ends():
+    """Idle connections are closed; one that has begun a request is answered, and told of the end."""
+    with listening() as daemon, daemon.unix() as idle, daemon.tcp() as other:
+        yield "before the end", [asked(stream, asking("/healthz")) for stream in (idle, other)], [200] * 2
+        took, (status, _, error) = daemon.told_to_end()
+        yield "idle connections", [stream.recv(1) for stream in (idle, other)], [b"", b""]
+        yield f"how it ends: {error}", status, 0
+        yield f"at once: {took:.1f} s", took < 5, True
+    with listening() as daemon, daemon.tcp() as begun:
+        text = asking("/healthz")
+        begun.sendall(text[:20])
+        time.sleep(0.3)
+        daemon.run.send_signal(signal.SIGTERM)
+        time.sleep(0.5)
+        yield "it waits for who has begun", daemon.run.poll(), None
+        begun.sendall(text[20:])
+        status, fields, body, _ = response(begun)
+        yield "its answer", (status, fields.get("connection"), body), (503, "close", b"it was told to end\n")
+        yield "its end", begun.recv(1), b""
+        yield "how that ends", daemon.run.wait(PATIENCE), 0
+    with listening("--drain", "1") as daemon, daemon.tcp() as begun:
+        begun.sendall(asking("/healthz")[:20])
+        time.sleep(0.3)
+        took, (status, _, error) = daemon.told_to_end()
+        yield f"who never goes on is cut off: {took:.1f} s", 0.5 < took < 5, True
+        end = logged.read_all(error)[-1]
+        yield "how that ends", (status, end.what, end.fields), (0, "end", {"connections": "1"})
+    with listening("--drain", "60") as daemon, daemon.tcp() as begun:
+        begun.sendall(asking("/healthz")[:20])
+        time.sleep(0.3)
+        daemon.run.send_signal(signal.SIGTERM)
+        time.sleep(0.5)
+        took, (status, _, _) = daemon.told_to_end()
+        yield f"a second signal: {took:.1f} s", (status, took < 5), (0, True)
+
+
+def refusals():
+    """Command lines that name no address, or one that others may reach."""
+    foreign = "other machines may reach this address; name it by --http-anywhere if they may"
+    unread = "this is no address; give unix:PATH, 127.0.0.1:PORT or [::1]:PORT"
+    cases = [
+        (["--http", "0.0.0.0:1234"], f"error: 0.0.0.0:1234: {foreign}\n", 2),
+        (["--http", "127.0.0.1:1,192.0.2.1:2"], f"error: 192.0.2.1:2: {foreign}\n", 2),
+        (["--http", "[::]:1234"], f"error: [::]:1234: {foreign}\n", 2),
+        (["--http", "localhost:80"], f"error: localhost:80: {unread}\n", 2),
+        (["--http", "unix:"], f"error: unix:: {unread}\n", 2),
+        (["--http", ""], f"error: : {unread}\n", 2),
+        (["--http-anywhere", "127.0.0.1"], f"error: 127.0.0.1: {unread}\n", 2),
+        (["--http", "127.0.0.1:1", "--http-granted", "201"], "error: the status that grants is 200 or 204\n", 2),
+        (["--http-facts", "header,body"], "error: a source of facts is header, query or forwarded\n", 2),
+        (["--http-mode", "777"], "error: the mode of a socket is 600, 660 or 666\n", 2),
+    ]
+    with listening() as daemon:
+        command = [PROGRAM, "listen", "--socket", f"{daemon.folder}/2", "--keys", str(daemon.keys)]
+        for words, text, status in cases:
+            found = subprocess.run([*command, *words], capture_output=True, text=True, timeout=PATIENCE)
+            yield " ".join(words), (found.returncode, found.stderr), (status, text)
+        for address in (f"127.0.0.1:{daemon.port}", f"unix:{daemon.path}"):
+            found = subprocess.run([*command, "--http", address], capture_output=True, text=True, timeout=PATIENCE)
+            yield f"{address} is taken", found.returncode, 3
+            yield f"and told: {found.stderr}", found.stderr.startswith(f"error: {address}: "), True
+    with tempfile.TemporaryDirectory() as folder:
+        daemon = Daemon(folder, "--http-anywhere", f"0.0.0.0:{free_port()}")
+        anywhere = daemon.run.args[-1].rsplit(":", 1)[1]
+        with socket.create_connection(("127.0.0.1", int(anywhere)), PATIENCE) as stream:
+            yield "an address for all", asked(stream, asking("/healthz")), 200
+        yield "how it ends", daemon.told_to_end()[1][0], 0
+
+
+PARTS = (statuses, rules, changing_keys, slow_peers, full_house, ends, refusals)
+
+
+def faults():
+    found = [(part.__name__, *row) for part in PARTS for row in part()]
+    wrong = [f"{part}: {name}: {told!r}, and it should be {due!r}" for part, name, told, due in found if told != due]
+    return wrong, len(found)
+
+
+if __name__ == "__main__":
+    wrong, count = faults()
+    print(*wrong, sep="\n")
+    print(f"http: {len(wrong)} of {count} are wrong")
+    sys.exit(bool(wrong))

@@ -1,0 +1,157 @@
+#!/usr/bin/env python3
+"""What `macaroond listen` and `macaroond serve` say where they can't start, or start with a warning: what is wrong,
+where, and what to do. Each message of the table in docs/OPERATING.md is provoked here."""
+import os
+import pathlib
+import subprocess
+import sys
+import tempfile
+
+sys.path.insert(0, str(pathlib.Path(__file__).resolve().parents[1]))
+from check.daemon_rows import END_FIRST, EXISTS, NO_SOCKET
+from common import KEYS, TOP
+from common.daemon import PROGRAM, connected
+
+# How many seconds anything may take, on a machine that is busy with other work.
+PATIENCE = 120
+# A user that owns nothing here, for messages of permissions where root runs this.
+NOBODY = 65_534
+PAGE = TOP / "docs" / "OPERATING.md"
+NO_FOLDER = "there is no such folder; make it first, or give another path"
+NO_PERMISSION = "no permission; let this user write the folder, or give another path"
+TOO_LONG = "the path is too long for a socket; give one of 101 bytes at most"
+NO_KEYS = "the key file has no key; `macaroond keygen NAME` prints a line for it"
+FOLDER = "the key file can't be read: it is a folder; give the path of a file in it"
+UNREADABLE = "the key file can't be read: no permission; give it to the daemon's user"
+LONG_FILE = "the key file is longer than a key file may be; 16777216 bytes are read"
+NO_OUTPUT = "standard output failed; give it a place where the first line can be written"
+
+
+def as_nobody():
+    if os.getuid() == 0:
+        os.setgroups([])
+        os.setgid(NOBODY)
+        os.setuid(NOBODY)
+
+
+def refused(words, **how):
+    """The status of a run that doesn't start, and what it says."""
+    pipes = {"stdout": subprocess.PIPE, "stderr": subprocess.PIPE, "text": True, "stdin": subprocess.DEVNULL}
+    run = subprocess.Popen([PROGRAM, *words], **{**pipes, **how})
+    try:
+        _, error = run.communicate(timeout=PATIENCE)
+    except subprocess.TimeoutExpired:
+        run.kill()
+        run.communicate()
+        return "it runs on"
+    return run.returncode, error
+
+
+def listen(socket, keys=KEYS):
+    return ["listen", "--socket", socket, "--keys", str(keys), "--workers", "1"]
+
+
+def serve(socket, keys=KEYS):
+    return ["serve", "--socket", socket, "--keys", str(keys), "--workers", "1", "--accept", "1"]
+
+
+def key_files(folder):
+    """A key file that is missing, a folder, not for this user, or too long."""
+    missing, inside, locked, long = (f"{folder}/{name}" for name in ("missing", "inside", "locked", "long"))
+    os.mkdir(inside)
+    pathlib.Path(locked).write_text("key bank 00\n")
+    os.chmod(locked, 0)
+    with open(long, "w") as text:
+        text.truncate((1 << 24) + 1)
+    due = f"error: {missing}: there is no key file; `macaroond keygen NAME --into {missing}` makes one\n"
+    for name, words in (("listen", listen), ("serve", serve)):
+        socket = f"{folder}/{name}"
+        yield f"{name}: no key file", refused(words(socket, missing)), (3, due)
+        yield f"{name}: a folder", refused(words(socket, inside)), (3, f"error: {inside}: {FOLDER}\n")
+        yield f"{name}: a long file", refused(words(socket, long)), (3, f"error: {long}: {LONG_FILE}\n")
+        yield f"{name}: no permission", refused(words(socket, locked), preexec_fn=as_nobody), (3, f"error: {locked}: {UNREADABLE}\n")
+
+
+def key_lines(folder):
+    """A faulty line, and a file without a key."""
+    faulty, empty = f"{folder}/faulty", f"{folder}/empty"
+    for path, text in ((faulty, "key bank 00\nkey bank\n"), (empty, "# none\n")):
+        pathlib.Path(path).write_text(text)
+        os.chmod(path, 0o600)
+    said = refused(listen(f"{folder}/one", faulty))
+    yield "a faulty line", (said[0], said[1].startswith(f"error: {faulty}: line 2: ")), (1, True)
+    warning = f"warning: {empty}: {NO_KEYS}\n"
+    checked = subprocess.run([PROGRAM, "check", "--keys", empty], capture_output=True, text=True, timeout=PATIENCE)
+    yield "check warns of no key", (checked.returncode, checked.stdout, checked.stderr), (0, "", warning)
+    pipes = {"stdout": subprocess.PIPE, "stderr": subprocess.PIPE, "text": True}
+    for name, words in (("listen", listen), ("serve", serve)):
+        with subprocess.Popen([PROGRAM, *words(f"{folder}/{name}", empty)], **pipes) as run:
+            run.stdout.readline()
+            yield f"{name} warns of no key", run.stderr.readline(), warning
+            run.kill()
+
+
+def paths(folder):
+    """A socket's path that can't be taken."""
+    file, gone, closed, long = (f"{folder}/{name}" for name in ("file", "gone/socket", "closed/socket", "l" * 120))
+    pathlib.Path(file).write_text("")
+    os.mkdir(f"{folder}/closed", 0o755)
+    os.chmod(folder, 0o755)
+    yield "listen: a file", refused(listen(file)), (3, f"error: {file}: {NO_SOCKET}\n")
+    yield "serve: a file", refused(serve(file)), (3, f"error: {file}: {EXISTS}\n")
+    keys = pathlib.Path(folder, "keys")
+    keys.write_bytes(KEYS.read_bytes())
+    for name, words in (("listen", listen), ("serve", serve)):
+        yield f"{name}: no folder", refused(words(gone)), (3, f"error: {gone}: {NO_FOLDER}\n")
+        yield f"{name}: a long path", refused(words(long)), (3, f"error: {long}: {TOO_LONG}\n")
+        status, error = refused(words(closed, keys), preexec_fn=as_nobody)
+        yield f"{name}: no permission", (status, error.splitlines()[-1:]), (3, [f"error: {closed}: {NO_PERMISSION}"])
+
+
+def taken(folder):
+    """A path on which somebody listens: a daemon, or another program."""
+    path = f"{folder}/taken"
+    pipes = {"stdout": subprocess.PIPE, "stderr": subprocess.DEVNULL, "text": True}
+    with subprocess.Popen([PROGRAM, *listen(path)], **pipes) as run:
+        run.stdout.readline()
+        yield "a daemon's", refused(listen(path)), (3, f"error: {path}: process {run.pid} has it; {END_FIRST}\n")
+        with connected(path):
+            pass
+        os.rename(path, f"{folder}/other")
+        due = f"error: {folder}/other: somebody listens there; {END_FIRST}\n"
+        yield "another's", refused(listen(f"{folder}/other")), (3, due)
+        run.kill()
+
+
+def outputs(folder):
+    """Standard output that takes nothing."""
+    with open("/dev/full", "w") as full:
+        yield "a full device", refused(listen(f"{folder}/full"), stdout=full), (3, f"error: {NO_OUTPUT}\n")
+
+
+def told(page):
+    """Which of the messages the table of the page lacks."""
+    texts = (END_FIRST, EXISTS, NO_SOCKET, NO_FOLDER, NO_PERMISSION, TOO_LONG, NO_KEYS, FOLDER, UNREADABLE, LONG_FILE, NO_OUTPUT)
+    return [text for text in texts if text.replace("`", "") not in page.replace("`", "")]
+
+
+def faults():
+    """What went otherwise than it must, and how many checks there were."""
+    seen = [("the page's table", told(PAGE.read_text()), [])]
+    for part in (key_files, key_lines, paths, taken, outputs):
+        with tempfile.TemporaryDirectory() as folder:
+            os.chmod(folder, 0o755)
+            seen += part(folder)
+    found = [f"messages: {what}: {got!r} where {due!r} is due" for what, got, due in seen if got != due]
+    return found, len(seen)
+
+
+def main():
+    found, count = faults()
+    if found:
+        raise SystemExit("\n".join(found))
+    print(count, "checks")
+
+
+if __name__ == "__main__":
+    main()

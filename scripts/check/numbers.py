@@ -1,0 +1,170 @@
+#!/usr/bin/env python3
+"""The numbers of `macaroond listen`, at `/metrics` of its HTTP face: each is made to change here, and compared with what
+was done. Those that docs/OPERATING.md lists are those that are told."""
+import pathlib
+import re
+import socket
+import sys
+import time
+
+sys.path.insert(0, str(pathlib.Path(__file__).resolve().parents[1]))
+from check.http_sockets import asking, listening, response
+from common import TOP
+from common.daemon import PATIENCE, frame, received
+
+import request
+
+PAGE = TOP / "docs" / "OPERATING.md"
+LINE = re.compile(r'macaroond_([a-z_]+)(\{[^}]*\})? (\d+)')
+TYPE = re.compile(r"# TYPE macaroond_([a-z_]+) (counter|gauge)")
+# A request that a loop doesn't answer: it is longer than 4,096 bytes.
+WIDE_FACTS = ["a" * 250] * 20
+
+
+def numbers(daemon):
+    """What the daemon tells: each number by its name, and its labels where it has any."""
+    with daemon.unix() as stream:
+        stream.sendall(asking("/metrics"))
+        status, fields, body, _ = response(stream)
+    lines = body.decode().splitlines()
+    values = dict(line.rsplit(" ", 1) for line in lines if LINE.fullmatch(line))
+    told = {name.removeprefix("macaroond_"): int(value) for name, value in values.items()}
+    strangers = [line for line in lines if not LINE.fullmatch(line) and not TYPE.fullmatch(line)]
+    return told if status == 200 and not strangers else {"strangers": strangers}
+
+
+def await_number(daemon, name, value):
+    """The number once it is this one, or what it is after all patience."""
+    until = time.monotonic() + PATIENCE
+    while (now := numbers(daemon).get(name)) != value and time.monotonic() < until:
+        time.sleep(0.02)
+    return now
+
+
+def connected(daemon):
+    stream = socket.socket(socket.AF_UNIX)
+    stream.settimeout(PATIENCE)
+    stream.connect(f"{daemon.folder}/socket")
+    return stream
+
+
+def ask(stream, payload):
+    """The reply to a request, without its length."""
+    stream.sendall(frame(payload))
+    length = int.from_bytes(received(stream, 4), "big")
+    return received(stream, length)
+
+
+def requests_and_bytes(daemon):
+    """Requests of each kind, and each answer, are counted once; and so are bytes."""
+    before = numbers(daemon)
+    with connected(daemon) as stream:
+        token = ask(stream, request.mint("v2-binary", "bank", "here", "alice"))[1:]
+        text = "hex:" + token.hex()
+        payloads = [
+            request.mint("v2-binary", "none", "here", "alice"),
+            request.attenuate("v2-binary", text, "a = b"),
+            request.attenuate("v2-binary", "hex:00", "a = b"),
+            request.verify("bank", text, 0),
+            request.verify("bank", text, 0),
+            b"",
+            b"\x09",
+        ]
+        replies = [ask(stream, payload) for payload in payloads]
+        narrow = "hex:" + replies[1][1:].hex()
+        payloads.append(request.verify("bank", narrow, 0))
+        replies.append(ask(stream, payloads[-1]))
+        payloads.append(request.verify("none", text, 0))
+        replies.append(ask(stream, payloads[-1]))
+        first = len(frame(request.mint("v2-binary", "bank", "here", "alice")))
+        came = first + sum(len(frame(payload)) for payload in payloads)
+        went = 5 + len(token) + sum(len(frame(reply)) for reply in replies)
+        yield "connections", (numbers(daemon)["connections"], numbers(daemon)["connections_plain"]), (1, 1)
+    yield "connections: it has left", await_number(daemon, "connections", 0), 0
+    after = numbers(daemon)
+    # A connection that asked for the numbers may be there still.
+    names = set(after) - {"connections_http"}
+    grown = {name: after[name] - before[name] for name in names if after[name] != before[name]}
+    due = {
+        ("mint", "token"): 1, ("mint", "refused"): 1, ("attenuate", "token"): 1, ("attenuate", "refused"): 1,
+        ("verify", "granted"): 2, ("verify", "unsatisfied"): 1, ("verify", "refused"): 1, ("nothing", "refused"): 2,
+    }
+    due = {f'requests_total{{asked="{asked}",told="{told}"}}': count for (asked, told), count in due.items()}
+    yield "what has grown", grown, {**due, "connections_total": 1, "bytes_in_total": came, "bytes_out_total": went}
+
+
+def wide(daemon):
+    """A request that is long is counted beside the others."""
+    before = numbers(daemon)
+    payload = request.verify("bank", "hex:00", 0, *WIDE_FACTS)
+    with connected(daemon) as stream:
+        replies = [ask(stream, payload) for _ in range(3)]
+    yield "its replies", replies, [b"\x13"] * 3
+    yield "requests_wide_total", await_number(daemon, "requests_wide_total", before["requests_wide_total"] + 3), 3
+    yield "connections_wide", await_number(daemon, "connections_wide", 0), 0
+    after = numbers(daemon)
+    yield "bytes in", after["bytes_in_total"] - before["bytes_in_total"], 3 * len(frame(payload))
+    yield "bytes out", after["bytes_out_total"] - before["bytes_out_total"], 3 * len(frame(b"\x13"))
+
+
+def connections(daemon):
+    """Connections past the limit, in a fault, and over HTTP."""
+    with connected(daemon) as one, connected(daemon) as other:
+        for stream in (one, other):
+            ask(stream, b"")
+        with connected(daemon) as third:
+            yield "one too many is closed", third.recv(1), b""
+        told = numbers(daemon)
+        yield "connections at the limit", (told["connections"], told["connections_closed_at_limit_total"]), (2, 1)
+        one.sendall(bytes(3))
+    yield "connections_faulty_total", await_number(daemon, "connections_faulty_total", 1), 1
+    with daemon.unix(), daemon.tcp():
+        yield "connections_http", await_number(daemon, "connections_http", 3), 3
+
+
+def keys(daemon):
+    """A key file that is read anew, and one that is refused."""
+    daemon.write_keys("bank", "shop")
+    yield "key_names", await_number(daemon, "key_names", 2), 2
+    age = time.time() - numbers(daemon)["keys_read_seconds"]
+    yield f"keys_read_seconds: {age:.0f} s ago", -2 < age < 60, True
+    daemon.keys.write_text("key bank\n")
+    yield "keys_refused", await_number(daemon, "keys_refused", 1), 1
+    with daemon.unix() as stream:
+        stream.sendall(asking("/healthz"))
+        status, _, body, _ = response(stream)
+    yield "its health", (status, body), (503, b"the last key file was refused; the keys stay as they were\n")
+    daemon.write_keys("bank")
+    yield "and again", await_number(daemon, "keys_refused", 0), 0
+
+
+def page(daemon):
+    told = {name.split("{")[0] for name in numbers(daemon)}
+    section = PAGE.read_text().split("## Numbers")[1].split("\n## ")[0]
+    rows = [line.split("|")[1] for line in section.splitlines() if line.startswith("| `")]
+    listed = {name for row in rows for name in re.findall(r"`([a-z_]+)[`{]", row)}
+    yield "the page lists each number", sorted(listed), sorted(told)
+    age = time.time() - numbers(daemon)["started_seconds"]
+    yield f"started_seconds: {age:.0f} s ago", -2 < age < 600, True
+
+
+def faults():
+    seen = []
+    with listening() as daemon:
+        for part in (requests_and_bytes, wide, keys, page):
+            seen += part(daemon)
+    with listening("--connections", "2") as daemon:
+        seen += connections(daemon)
+    found = [f"numbers: {what}: {got!r} where {due!r} is due" for what, got, due in seen if got != due]
+    return found, len(seen)
+
+
+def main():
+    found, count = faults()
+    if found:
+        raise SystemExit("\n".join(found))
+    print(count, "checks")
+
+
+if __name__ == "__main__":
+    main()

@@ -1,0 +1,195 @@
+#!/usr/bin/env python3
+"""What operators ask a daemon: `macaroond status` in its three forms, the status socket beside the daemon's own, and
+the addresses of `--http-admin`."""
+import os
+import pathlib
+import re
+import socket
+import stat
+import subprocess
+import sys
+import tempfile
+import time
+
+sys.path.insert(0, str(pathlib.Path(__file__).resolve().parents[1]))
+from check.http_rows import README
+from check.http_sockets import asking, bearing, free_port, listening, response
+from check.numbers import WIDE_FACTS, ask, connected
+from common import KEYS, daemon, logged
+from common.daemon import PATIENCE, PROGRAM
+
+import request
+
+NO_DAEMON = "no daemon answers there; is one running, and are you its user?"
+TWO_PAGES = "error: of `--prometheus` and `--connections` one alone may be given\n"
+# A path that has room for a socket, and none for that of its status.
+LONG = 101
+NOBODY = 65_534
+
+
+def status(path, *words, **how):
+    """How `macaroond status` ends, what it prints, and what it says."""
+    command = [PROGRAM, "status", "--socket", path, *words]
+    run = subprocess.run(command, capture_output=True, text=True, timeout=PATIENCE, **how)
+    return run.returncode, run.stdout, run.stderr
+
+
+def numbers(path):
+    """The numbers that `status` prints, by name, behind the line of the version."""
+    _, text, _ = status(path)
+    return dict(line.rsplit(" ", 1) for line in text.splitlines()[1:])
+
+
+def version_in(path):
+    return status(path)[1].splitlines()[0].removeprefix("version ")
+
+
+def metrics(path):
+    """The same of `status --prometheus`, by the names of the other form."""
+    _, text, _ = status(path, "--prometheus")
+    rows = re.findall(r"^macaroond_(\S+) (\d+)$", text, re.M)
+    labelled = re.compile(r'requests_total\{asked="(\w+)",told="(\w+)"\}')
+    return {labelled.sub(r"requests \1 \2", name): value for name, value in rows}
+
+
+def listed(path):
+    """What `status --connections` says of each connection."""
+    _, text, _ = status(path, "--connections")
+    return [logged.fields_of(" " + line) for line in text.splitlines()]
+
+
+def await_listed(path, *requests):
+    """The connections once they were answered so many requests, or what they are after all patience."""
+    until = time.monotonic() + PATIENCE
+    while asked_of(rows := listed(path)) != list(requests) and time.monotonic() < until:
+        time.sleep(0.05)
+    return rows
+
+
+def asked_of(rows):
+    return sorted(row["requests"] for row in rows)
+
+
+def forms(served):
+    """The numbers of both forms are those of the daemon, and the same."""
+    path = f"{served.folder}/socket"
+    with connected(served) as stream:
+        token = "hex:" + ask(stream, request.mint("v2-binary", "bank", "here", "alice"))[1:].hex()
+        ask(stream, request.verify("bank", token, 0))
+        told = numbers(path)
+        version = subprocess.run([PROGRAM, "--version"], capture_output=True, text=True).stdout
+        yield "its version", f"macaroond {version_in(path)}\n", version
+        due = {"requests mint token": "1", "requests verify granted": "1", "connections": "1", "key_names": "1"}
+        yield "what was asked", {name: told.get(name) for name in due}, due
+        both = metrics(path)
+        left_out = [name for name in told if name not in both]
+        yield "numbers that the other form hasn't", left_out, []
+    with served.unix() as gateway:
+        gateway.sendall(bearing(README))
+        yield "a verify over HTTP", response(gateway)[0], 200
+        yield "it is counted", numbers(path)["requests verify granted"], "2"
+
+
+def connections(served):
+    """Each connection has a line, with what it has come to."""
+    path = f"{served.folder}/socket"
+    with connected(served) as one, connected(served) as wide:
+        ask(one, b"")
+        ask(one, b"")
+        ask(wide, request.verify("bank", "hex:00", 0, *WIDE_FACTS))
+        rows = await_listed(path, "1", "2")
+        yield "both", asked_of(rows), ["1", "2"]
+        yield "their socket", {row["socket"] for row in rows}, {path}
+        yield "unsent", {row["unsent"] for row in rows}, {"0"}
+        yield "numbers apart", len({row["connection"] for row in rows}), 2
+        yield "forms", {row["form"] for row in rows} <= {"plain", "wide"}, True
+        yield "for how long", all(0 <= int(row["millis"]) < 1_000 * PATIENCE for row in rows), True
+    yield "they have left", await_listed(path), []
+
+
+def places(served):
+    """The status socket is its owner's alone, has no key, and is no place for frames."""
+    path = f"{served.folder}/socket.status"
+    yield "its mode", oct(stat.S_IMODE(os.stat(path).st_mode)), "0o600"
+    with daemon.connected(path) as stream:
+        stream.sendall(bearing(README))
+        yield "no key there", response(stream)[0], 404
+    with served.unix() as gateway:
+        for page, due in (("/status", 404), ("/connections", 404), ("/metrics", 200), ("/healthz", 200)):
+            gateway.sendall(asking(page))
+            yield f"a gateway at {page}", response(gateway)[0], due
+    own = f"{served.folder}/socket"
+    yield "two pages", status(own, "--prometheus", "--connections"), (2, "", TWO_PAGES)
+    if os.getuid() == 0:
+        os.chmod(served.folder, 0o755)
+        code, printed, said = status(own, preexec_fn=as_nobody)
+        yield "another user", (code, printed, NO_DAEMON in said), (3, "", True)
+
+
+def as_nobody():
+    os.setgroups([])
+    os.setgid(NOBODY)
+    os.setuid(NOBODY)
+
+
+def admin():
+    """With an address for operators, gateways are told no page."""
+    port = free_port()
+    with listening("--http-admin", f"127.0.0.1:{port}") as served:
+        for page, there, here in (("/metrics", 200, 404), ("/healthz", 200, 404), ("/status", 200, 404)):
+            yield f"an operator at {page}", asked_at(port, page), there
+            yield f"a gateway at {page}", asked_at(served.port, page), here
+    code, error = refused("--http-admin", "0.0.0.0:8080")
+    yield "an address of others", (code, "0.0.0.0:8080" in error), (2, True)
+
+
+def asked_at(port, page):
+    with socket.create_connection(("127.0.0.1", port), PATIENCE) as stream:
+        stream.sendall(asking(page))
+        return response(stream)[0]
+
+
+def refused(*words):
+    with tempfile.TemporaryDirectory() as folder:
+        command = [PROGRAM, "listen", "--socket", f"{folder}/socket", "--keys", KEYS, *words]
+        run = subprocess.run(command, capture_output=True, text=True, timeout=PATIENCE)
+    return run.returncode, run.stderr
+
+
+def without():
+    """No daemon, one whose path is too long for a second socket, and a second one at the same path."""
+    with tempfile.TemporaryDirectory() as folder:
+        path = f"{folder}/none"
+        yield "no daemon", status(path), (3, "", f"error: {path}.status: {NO_DAEMON}\n")
+        long = f"{folder}/{'a' * (LONG - len(folder) - 1)}"
+        command = [PROGRAM, "listen", "--socket", long, "--keys", KEYS]
+        with subprocess.Popen(command, stdout=subprocess.PIPE, stderr=subprocess.PIPE, text=True) as run:
+            first = run.stdout.readline()
+            run.terminate()
+            said = run.communicate(timeout=PATIENCE)[1]
+        yield "a long path", (first.startswith("listening"), f"warning: {long}.status: " in said), (True, True)
+    with daemon.listening() as (path, _):
+        command = [PROGRAM, "listen", "--socket", path, "--keys", KEYS]
+        run = subprocess.run(command, capture_output=True, text=True, timeout=PATIENCE)
+        yield "a second daemon warns of nothing", (run.returncode, "warning" in run.stderr), (3, False)
+
+
+def faults():
+    seen = []
+    with listening() as served:
+        for part in (forms, connections, places):
+            seen += part(served)
+    seen += [*admin(), *without()]
+    found = [f"operators: {what}: {got!r} where {due!r} is due" for what, got, due in seen if got != due]
+    return found, len(seen)
+
+
+def main():
+    found, count = faults()
+    if found:
+        raise SystemExit("\n".join(found))
+    print(count, "checks")
+
+
+if __name__ == "__main__":
+    main()
