@@ -25,13 +25,13 @@ type Client struct {
 	timeout time.Duration
 	retry   bool
 
-	current  atomic.Pointer[connection]
-	isClosed atomic.Bool
-	// Has one word, which is taken by who connects.
-	dialling chan struct{}
-	// Used by who connects: when to try, and the connection whose end was noted last.
-	backoff backoff
-	noted   *connection
+	// Its first line connects anew where there is no connection, the others where all have much
+	// to do.
+	lines      []*line
+	isWidening atomic.Bool
+	// Ends as the client is closed.
+	lifetime context.Context
+	end      context.CancelFunc
 }
 
 // Option is a wish about a client.
@@ -49,9 +49,21 @@ func WithRetry() Option {
 	return func(c *Client) { c.retry = true }
 }
 
+// WithConnections says how many connections there are at most: 4 where it isn't said, and
+// never less than 1. Another one is opened where each that is there has 16 requests out, and
+// stays.
+func WithConnections(most int) Option {
+	return func(c *Client) {
+		if most < 1 {
+			most = 1
+		}
+		c.lines = newLines(most)
+	}
+}
+
 // Dial connects to the daemon at the socket of this path.
 func Dial(ctx context.Context, path string, options ...Option) (*Client, error) {
-	client := &Client{path: path, timeout: defaultTimeout, dialling: make(chan struct{}, 1)}
+	client := &Client{path: path, timeout: defaultTimeout, lines: newLines(defaultConnections)}
 	for _, option := range options {
 		option(client)
 	}
@@ -59,16 +71,23 @@ func Dial(ctx context.Context, path string, options ...Option) (*Client, error) 
 	if err != nil {
 		return nil, disconnected("%v", err)
 	}
-	client.current.Store(made)
+	client.lifetime, client.end = context.WithCancel(context.Background())
+	client.lines[0].current.Store(made)
 	return client, nil
 }
 
-// Close ends the connection, and with it all calls that wait.
+// Close ends the connections, and with them all calls that wait.
 func (c *Client) Close() error {
-	c.isClosed.Store(true)
-	c.current.Load().close()
+	c.end()
+	for _, line := range c.lines {
+		if current := line.current.Load(); current != nil {
+			current.close()
+		}
+	}
 	return nil
 }
+
+func (c *Client) isClosed() bool { return c.lifetime.Err() != nil }
 
 // Mint gives a new token.
 func (c *Client) Mint(ctx context.Context, mint Mint) (string, error) {
@@ -159,24 +178,42 @@ func (c *Client) ask(ctx context.Context, asked request) (reply, error) {
 	if err != nil {
 		return reply{}, err
 	}
-	sent, err := c.send(ctx, frame, 1)
+	came, err := c.exchange(ctx, frame)
+	if c.isToRepeat(err) && asked.mayRepeat() {
+		came, err = c.exchange(ctx, frame)
+	}
+	return came, err
+}
+
+// Batches of one request whose reply has come, for further calls.
+var calls = sync.Pool{New: func() any {
+	made := newPending(1, time.Hour)
+	made.expiry.Stop()
+	return made
+}}
+
+// exchange sends a request's frame, and gives the reply.
+func (c *Client) exchange(ctx context.Context, frame []byte) (reply, error) {
+	sent := calls.Get().(*pending)
+	sent.begin(c.timeout)
+	err := c.send(ctx, frame, sent)
 	if err == nil {
 		err = sent.wait(ctx)
-	}
-	if c.isToRepeat(err) && asked.mayRepeat() {
-		if sent, err = c.send(ctx, frame, 1); err == nil {
-			err = sent.wait(ctx)
-		}
 	}
 	if err != nil {
 		return reply{}, err
 	}
-	return sent.replies[0], nil
+	came := sent.replies[0]
+	sent.replies[0] = reply{}
+	if !sent.hasExpired {
+		calls.Put(sent)
+	}
+	return came, nil
 }
 
 // isToRepeat tells whether what came to this is sent once more.
 func (c *Client) isToRepeat(err error) bool {
-	return c.retry && errors.Is(err, ErrDisconnected) && !c.isClosed.Load()
+	return c.retry && errors.Is(err, ErrDisconnected) && !c.isClosed()
 }
 
 // run is checks that went out together.
@@ -201,8 +238,8 @@ func (c *Client) sendRun(ctx context.Context, key string, checks []Check) (*run,
 		count++
 	}
 	*kept = content[:0]
-	sent, err := c.send(ctx, content, count)
-	return &run{key, checks[:count], sent}, err
+	sent := newPending(count, c.timeout)
+	return &run{key, checks[:count], sent}, c.send(ctx, content, sent)
 }
 
 // appendVerdicts appends a run's verdicts, or, where it may be, those of the run sent once more.
@@ -229,119 +266,44 @@ func (c *Client) appendVerdicts(ctx context.Context, verdicts []Verdict, sent *r
 	return verdicts, nil
 }
 
-// pending is a batch that was sent, and when it is waited for no longer.
+// pending is a batch that is sent, and when it is waited for no longer.
 type pending struct {
 	*batch
 	expiry *time.Timer
+	// Whether the timer has gone off, and isn't to be used again.
+	hasExpired bool
+}
+
+func newPending(count int, timeout time.Duration) *pending {
+	return &pending{batch: newBatch(make([]reply, count)), expiry: time.NewTimer(timeout)}
+}
+
+// begin makes a batch whose replies have all come ready for others.
+func (p *pending) begin(timeout time.Duration) {
+	p.come, p.err = 0, nil
+	p.expiry.Reset(timeout)
 }
 
 // wait waits until all replies have come.
 func (p *pending) wait(ctx context.Context) error {
-	defer p.expiry.Stop()
-	select {
-	case <-p.done:
-		return p.err
-	default:
-	}
-	select {
-	case <-p.done:
-		return p.err
-	case <-ctx.Done():
-		return ctx.Err()
-	case <-p.expiry.C:
-		return errTimedOut
-	}
+	err := p.batch.wait(ctx, p.expiry.C)
+	p.hasExpired = !p.expiry.Stop()
+	return err
 }
 
-// send sends the frames of so many requests, over a new connection where the last one has ended.
-func (c *Client) send(ctx context.Context, frames []byte, count int) (*pending, error) {
-	sent := &pending{newBatch(make([]reply, count)), time.NewTimer(c.timeout)}
+// send sends the frames of a batch, over a new connection where there is none.
+func (c *Client) send(ctx context.Context, frames []byte, sent *pending) error {
 	for {
 		connection, err := c.connected(ctx)
 		if err == nil {
 			err = connection.send(ctx, sent.expiry.C, frames, sent.batch)
 		}
 		if err == nil {
-			return sent, nil
+			return nil
 		}
 		if err != errNotSent {
 			sent.expiry.Stop()
-			return nil, err
+			return err
 		}
-	}
-}
-
-// connected gives the connection, made anew where it has ended.
-func (c *Client) connected(ctx context.Context) (*connection, error) {
-	if current := c.current.Load(); !current.hasEnded() {
-		return current, nil
-	}
-	inTime, cancel := context.WithTimeout(ctx, c.timeout)
-	defer cancel()
-	made, err := c.dialled(inTime)
-	if err != nil && ctx.Err() != nil {
-		return nil, ctx.Err()
-	}
-	return made, err
-}
-
-// dialled gives the connection, for which one goroutine at a time tries until its context ends.
-func (c *Client) dialled(ctx context.Context) (*connection, error) {
-	select {
-	case c.dialling <- struct{}{}:
-		defer func() { <-c.dialling }()
-	case <-ctx.Done():
-		return nil, disconnected("there is no connection to %s", c.path)
-	}
-	current := c.current.Load()
-	if !current.hasEnded() {
-		return current, nil
-	}
-	c.noteEnd(current)
-	reason := current.fault
-	for !c.isClosed.Load() {
-		if !paused(ctx, c.backoff.left()) {
-			return nil, disconnected("there is no connection to %s: %v", c.path, reason)
-		}
-		made, err := connect(ctx, c.path)
-		if err == nil {
-			return c.taken(made), nil
-		}
-		reason = err
-		c.backoff.failed()
-	}
-	return nil, disconnected("the client was closed")
-}
-
-// noteEnd notes, once, whether a connection that has ended was of use.
-func (c *Client) noteEnd(ended *connection) {
-	switch {
-	case c.noted == ended:
-	case ended.wasAnswered.Load():
-		c.backoff.succeeded()
-	default:
-		c.backoff.failed()
-	}
-	c.noted = ended
-}
-
-// taken takes a connection into use, but for a client that was closed meanwhile.
-func (c *Client) taken(made *connection) *connection {
-	c.current.Store(made)
-	if c.isClosed.Load() {
-		made.close()
-	}
-	return made
-}
-
-// paused waits so long, and tells whether the context lasted.
-func paused(ctx context.Context, pause time.Duration) bool {
-	timer := time.NewTimer(pause)
-	defer timer.Stop()
-	select {
-	case <-timer.C:
-		return ctx.Err() == nil
-	case <-ctx.Done():
-		return false
 	}
 }

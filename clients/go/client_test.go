@@ -259,7 +259,8 @@ func TestRetry(t *testing.T) {
 			for _, script := range append(one.scripts, answers) {
 				scripts = append(scripts, counted(script))
 			}
-			err := one.ask(dialled(t, server(t, scripts...), one.options...))
+			// One connection, so that the scripts follow one another.
+			err := one.ask(dialled(t, server(t, scripts...), append(one.options, WithConnections(1))...))
 			if (err == nil) != one.isTold || err != nil && !errors.Is(err, ErrDisconnected) {
 				t.Errorf("came to %v", err)
 			}
@@ -314,7 +315,7 @@ func TestConnectsAgain(t *testing.T) {
 		if verdict, err := client.Verify(background, "bank", "!"); err != nil || !verdict.Granted() {
 			t.Error(verdict, err)
 		}
-		for left > 0 && !client.current.Load().hasEnded() {
+		for left > 0 && !client.lines[0].current.Load().hasEnded() {
 			time.Sleep(time.Millisecond)
 		}
 	}

@@ -35,6 +35,23 @@ func newBatch(replies []reply) *batch {
 	return &batch{replies: replies, done: make(chan struct{}, 1)}
 }
 
+// wait waits until all replies have come.
+func (b *batch) wait(ctx context.Context, expired <-chan time.Time) error {
+	select {
+	case <-b.done:
+		return b.err
+	default:
+	}
+	select {
+	case <-b.done:
+		return b.err
+	case <-ctx.Done():
+		return ctx.Err()
+	case <-expired:
+		return errTimedOut
+	}
+}
+
 func (b *batch) end(err error) {
 	b.err = err
 	b.done <- struct{}{}
@@ -46,9 +63,15 @@ type connection struct {
 	socket      net.Conn
 	wake        chan struct{}
 	wasAnswered atomic.Bool
+	// How many requests lack a reply, with those that wait to be sent.
+	out atomic.Int64
+	// Whether there is a fault.
+	ended atomic.Bool
 
 	mu     sync.Mutex
 	unsent []byte
+	// Whether the writer was woken for what is unsent.
+	isRung bool
 	// The batches whose requests were put behind one another into unsent, but for those that the reader has taken.
 	waiting []*batch
 	// Once it says why, nothing more is sent; replies may still come.
@@ -69,8 +92,19 @@ func connect(ctx context.Context, path string) (*connection, error) {
 	return made, nil
 }
 
-// send puts a batch's frames behind those that wait to be written.
+// send sends a batch's frames, or nothing of them where it gives an error.
 func (c *connection) send(ctx context.Context, expired <-chan time.Time, frames []byte, asked *batch) error {
+	count := int64(len(asked.replies))
+	c.out.Add(count)
+	err := c.put(ctx, expired, frames, asked)
+	if err != nil {
+		c.out.Add(-count)
+	}
+	return err
+}
+
+// put puts a batch's frames behind those that wait to be written.
+func (c *connection) put(ctx context.Context, expired <-chan time.Time, frames []byte, asked *batch) error {
 	c.mu.Lock()
 	for len(c.unsent) > unsentMax && c.fault == nil {
 		if err := c.waitForRoom(ctx, expired); err != nil {
@@ -84,7 +118,10 @@ func (c *connection) send(ctx context.Context, expired <-chan time.Time, frames 
 	}
 	c.unsent = append(c.unsent, frames...)
 	c.waiting = append(c.waiting, asked)
-	c.ring()
+	if !c.isRung {
+		c.isRung = true
+		c.ring()
+	}
 	return nil
 }
 
@@ -145,7 +182,7 @@ func (c *connection) takeUnsent(spare []byte) (taken []byte, isLast bool) {
 	if c.fault != nil || len(c.unsent) == 0 {
 		return nil, c.fault != nil
 	}
-	taken, c.unsent = c.unsent, spare
+	taken, c.unsent, c.isRung = c.unsent, spare, false
 	c.giveRoom()
 	return taken, false
 }
@@ -163,6 +200,7 @@ func (c *connection) sendNoMore(fault error) error {
 	defer c.mu.Unlock()
 	if c.fault == nil {
 		c.fault = fault
+		c.ended.Store(true)
 	}
 	c.unsent = nil
 	c.giveRoom()
@@ -171,11 +209,7 @@ func (c *connection) sendNoMore(fault error) error {
 }
 
 // hasEnded tells whether nothing more can be sent.
-func (c *connection) hasEnded() bool {
-	c.mu.Lock()
-	defer c.mu.Unlock()
-	return c.fault != nil
-}
+func (c *connection) hasEnded() bool { return c.ended.Load() }
 
 // close ends the connection; the reader tells all who wait.
 func (c *connection) close() {
@@ -185,7 +219,7 @@ func (c *connection) close() {
 
 // read hands each reply to the first request that has none, up to the end.
 func (c *connection) read() {
-	due := ledger{more: c.takeWaiting}
+	due := ledger{more: c.takeWaiting, out: &c.out}
 	fault := c.readInto(&due)
 	if errors.Is(fault, io.EOF) {
 		fault = disconnected("the daemon closed the connection")
@@ -235,6 +269,8 @@ type ledger struct {
 	place uint64
 	// Gives the batches that were sent since.
 	more func(spare []*batch) []*batch
+	// How many requests lack a reply, for those who choose a connection.
+	out *atomic.Int64
 }
 
 // take hands out the replies that are here whole, and tells how many bytes they have.
@@ -272,6 +308,7 @@ func (l *ledger) hand(payload []byte) bool {
 	if first.come == len(first.replies) {
 		l.batches[l.ended] = nil
 		l.ended++
+		l.out.Add(-int64(len(first.replies)))
 		first.end(nil)
 	}
 	return true

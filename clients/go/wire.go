@@ -57,6 +57,15 @@ func appendFrame(to []byte, asked request) ([]byte, error) {
 	return framed, nil
 }
 
+// frameOf gives the frame of a request that can be told.
+func frameOf(asked request) []byte {
+	frame, err := appendFrame(nil, asked)
+	if err != nil {
+		panic(err)
+	}
+	return frame
+}
+
 // appendSized appends a text behind its length, a number of so many bytes.
 func appendSized(to []byte, width int, text, name string) ([]byte, error) {
 	if len(text)>>(8*width) != 0 {
