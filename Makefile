@@ -1,5 +1,5 @@
 .PHONY: test wrong-bodies wrong-runs demo build build-runs install uninstall deb tarball reproduce completions
-.PHONY: clients faults bench load soak pages taken
+.PHONY: clients faults bench load soak soak-all pages taken
 
 # Every proof from nothing, the wrong bodies, every test and program; then the proved program beside its pages and the
 # work of others, over sockets, with memory refused and calls failed. It installs nothing: what isn't there is told as
@@ -114,3 +114,9 @@ MINUTES = 1
 soak:
 	scripts/faults/soak.sh
 	scripts/faults/hostile.py $(MINUTES)
+
+# nginx, HAProxy, three daemons, both faces and both clients together: keys change each ten seconds, a daemon is
+# replaced each minute, and nothing may be wrong, lost or grow. After make build.
+soak-all: MINUTES = 30
+soak-all:
+	scripts/faults/soak_all.py $(MINUTES)
