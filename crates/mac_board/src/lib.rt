@@ -2,9 +2,9 @@
 //! lock, while they go on answering.
 //!
 //! A [`Publisher`] puts tables up. A [`Follower`], which [`Followers`] makes, has the table that
-//! was up when it looked last. Who answers requests asks for [`Tables`], which a follower is, and so
-//! is one table that stays, as [`FixedTables`]. [`Moments`] tell the seconds, and [`TimedTables`]
-//! join both to an [`Outlook`], each look of which comes to a table and a moment.
+//! was up when it looked last. Who answers requests asks for [`Tables`], which a follower is, and
+//! so is one table that stays, as [`FixedTables`]. [`Moments`] tell the seconds, and
+//! [`TimedTables`] join both to an [`Outlook`], each look of which comes to a table and a moment.
 //!
 //! An [`Editor`] puts up the tables of a key file that changes. Its [`Watcher`] says when the file
 //! is read, when it is taken, and when it is told why not; the looks at the file are its caller's.

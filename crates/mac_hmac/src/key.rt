@@ -11,8 +11,8 @@ use std::marker::Model;
 /// libmacaroons' key generator: its 23 letters, filled with zero bytes to 32.
 const KEY_GENERATOR: [u8; 32] = *b"macaroons-key-generator\0\0\0\0\0\0\0\0\0";
 
-/// The key that signs a macaroon's identifier, derived from a secret. It keeps the hash values after
-/// its two pads' blocks, so that each HMAC under it costs two blocks less.
+/// The key that signs a macaroon's identifier, derived from a secret. It keeps the hash values
+/// after its two pads' blocks, so that each HMAC under it costs two blocks less.
 #[derive(Clone, Copy)]
 pub struct RootKey {
     bytes: [u8; 32],

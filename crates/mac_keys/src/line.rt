@@ -5,9 +5,11 @@
 //! name   = 1*64 (letter / digit / "." / "_" / "-")
 //! secret = 1* (digit digit), hexadecimal digits of either case
 //! ```
-ghost use Rattle.std.specs.Prelude.{◌≡◌, ◌+◌, ◌^◌, ◌<◌, length, position, option_map, IfSome, IsErrOf};
+ghost use Rattle.std.specs.Prelude.{◌≡◌, ◌+◌, ◌^◌, ◌<◌, length, position, option_map};
+ghost use Rattle.std.specs.Prelude.{IfSome, IsErrOf};
 ghost use Rattle.std.specs.List.{list_all};
-ghost use Rattle.mac_keys.specs.Line.{is_ignored, is_name_byte, is_name, is_space, parted, fields_of, secret_of, line_of};
+ghost use Rattle.mac_keys.specs.Line.{is_ignored, is_name_byte, is_name, is_space, parted};
+ghost use Rattle.mac_keys.specs.Line.{fields_of, secret_of, line_of};
 ghost use Rattle.mac_keys.specs.Found.{is_line_of};
 ghost use Rattle.mac_keys.specs.Meaning.{ArePairs, HasPairs};
 ghost use Rattle.mac_keys.specs.Answers.{Answers, seen};
@@ -134,8 +136,8 @@ fn first_space(rest: &[u8]) -> Option<usize>
     rest.iter().position(|byte| *byte == b' ')
 }
 
-/// Whether the bytes are a name that a key file may have: 1 to 64 letters and digits of ASCII, dots,
-/// underscores and dashes.
+/// Whether the bytes are a name that a key file may have: 1 to 64 letters and digits of ASCII,
+/// dots, underscores and dashes.
 pub fn is_name(name: &[u8]) -> bool
     ensures { result ≡ is_name name.now }
 {
