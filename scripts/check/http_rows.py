@@ -20,7 +20,8 @@ WHOSE = [("macaroon-identifier", "we%20used%20our%20secret%20key"),
          ("macaroon-location", "http://mybank/")]
 
 REASONS = {200: "OK", 204: "No Content", 400: "Bad Request", 401: "Unauthorized",
-           403: "Forbidden", 404: "Not Found", 413: "Payload Too Large",
+           403: "Forbidden", 404: "Not Found", 405: "Method Not Allowed",
+           413: "Payload Too Large",
            431: "Request Header Fields Too Large", 501: "Not Implemented",
            503: "Service Unavailable"}
 
@@ -84,6 +85,12 @@ def get(target, *fields, method="GET", version="1.1"):
     return [f"{method} {target} HTTP/{version}", "Host: macaroond", *fields, ""]
 
 
+def post(target, body):
+    """A call: its body is a line, whose end is white space of the JSON."""
+    length = f"Content-Length: {len(body.encode()) + 2}"
+    return [f"POST {target} HTTP/1.1", "Host: macaroond", length, "", body]
+
+
 def token(text, scheme="Macaroon"):
     return f"Authorization: {scheme} {text}"
 
@@ -124,6 +131,26 @@ def unsatisfied(index):
     body = '{"code":24,"caveat":%d,"reason":"caveat %d is not satisfied"}' % (index, index)
     fields = [("macaroon-reason", f"24 {index}"), ("content-type", "application/json")]
     return response(403, fields, body)
+
+
+JSON = ("content-type", "application/json")
+
+
+def told(text):
+    """The response to a call that is answered."""
+    return response(200, [JSON], text)
+
+
+def made(text):
+    return told('{"token":"%s"}' % text)
+
+
+def bad(reason):
+    return response(400, [JSON], '{"reason":"%s"}' % reason)
+
+
+def refused(code, reason):
+    return response(400, [JSON], '{"code":%d,"reason":"%s"}' % (code, reason))
 
 
 NO_TOKEN = asks("Macaroon")
@@ -267,6 +294,121 @@ ROWS = [
     ("", [(get("/verify/bank", "X: " + "x" * 50_000), response(431, close="first"))]),
     ("", [(get("/verify/bank", "Transfer-Encoding: gzip, chunked"),
            response(501, close="first"))]),
+]
+
+
+# ---- calls
+
+NO_OBJECT = bad("the body is no JSON object")
+UNKNOWN_MEMBER = bad("the body has a member that the call does not have")
+NO_IDENTIFIER = bad("there is to be one text, identifier or identifier64")
+NO_CAVEATS = bad("the caveats are no list of texts")
+NO_TEXT = bad("there is no text that is the token")
+TWO = [b"a = 1", b"b = 2"]
+
+
+def minted(body, want):
+    return "mint", [(post("/mint/bank", body), want)]
+
+
+def narrowed(body, want):
+    return "attenuate", [(post("/attenuate", body), want)]
+
+
+def inspected(body, want):
+    return "inspect", [(post("/inspect", body), want)]
+
+
+def whole_json(identifier, caveats=()):
+    """The base64 text of a V2 token in JSON, its members in order."""
+    listed = ",".join('{"i":"%s"}' % caveat.decode() for caveat in caveats)
+    return text_of(('{"c":[%s],"i":"%s","s64":"%s","v":2}' % (
+        listed, identifier.decode(), text_of(signature(identifier, caveats, SECRET)))).encode())
+
+
+def said(form, identifier, caveats, location, sig):
+    """What inspect tells, from members that are written already."""
+    return told('{"caveats":[%s],"form":"%s",%s,"location":"%s","signature":"%s"}' % (
+        ",".join("{%s}" % caveat for caveat in caveats), form, identifier, location, sig))
+
+
+ROWS += [
+    # ---- a mint: forms, parts that are left out, and what a text may hold
+    minted('{"identifier":"we used our secret key","location":"http://mybank/","form":"v1"}',
+           made(README)),
+    minted('{"identifier":"alice"}', made(plain)),
+    minted('{ "form" : "v2" , "caveats" : [ ] , "location" : "" , "identifier" : "alice" }',
+           made(plain)),
+    minted('{"identifier":"alice","caveats":["a = 1","b = 2"]}', made(v2(b"alice", TWO))),
+    minted('{"identifier":"alice","caveats":["a = 1","b = 2"],"form":"json"}',
+           made(whole_json(b"alice", TWO))),
+    minted('{"identifier64":"YWwl_wE"}', made(v2(b"al%\xff\x01"))),
+    minted('{"identifier64":"YWwl_wE="}', made(v2(b"al%\xff\x01"))),
+    minted('{"identifier":"\\u00e9\\"é","location":"ü"}',
+           made(v2("é\"é".encode(), location="ü".encode()))),
+    minted('{"identifier":"bob","identifier":"alice"}', made(plain)),
+    # ---- what is no mint
+    minted("alice", NO_OBJECT), minted("[]", NO_OBJECT), minted('{"identifier":"alice"', NO_OBJECT),
+    minted("{}", NO_IDENTIFIER), minted('{"identifier":7}', NO_IDENTIFIER),
+    minted('{"identifier":"alice","identifier64":"YQ"}', NO_IDENTIFIER),
+    minted('{"identifier64":"a+b/"}', bad("identifier64 is no base64url text")),
+    minted('{"identifier":"alice","key":"bank"}', UNKNOWN_MEMBER),
+    minted('{"identifier":"alice","location":null}', bad("the location is no text")),
+    minted('{"identifier":"alice","caveats":"a = 1"}', NO_CAVEATS),
+    minted('{"identifier":"alice","caveats":["a = 1",2]}', NO_CAVEATS),
+    minted('{"identifier":"alice","form":"v2-text"}', bad("the form is none of v1, v2 and json")),
+    minted('{"identifier":"%s"}' % ("a" * 4097), refused(22, "the token passes a limit")),
+    minted('{"identifier":"a","caveats":[%s]}' % ",".join(['"b"'] * 129),
+           refused(22, "the token passes a limit")),
+    minted('{"identifier":"a","form":"json","caveats":[%s]}' % ",".join(['"%s"' % ("b" * 4096)] * 6),
+           refused(22, "the token passes a limit")),
+    # ---- an attenuate
+    narrowed('{"token":"%s","caveats":["a = 1"]}' % README, made(v1(
+        b"we used our secret key", [b"a = 1"], location=b"http://mybank/"))),
+    narrowed('{"token":"%s","caveats":["a = 1","b = 2"]}' % plain, made(v2(b"alice", TWO))),
+    narrowed('{"token":"%s","caveats":["b = 2"]}' % v2(b"alice", TWO[:1]), made(v2(b"alice", TWO))),
+    narrowed('{"token":"%s","caveats":["a = 1"]}' % json_text(b"alice"),
+             made(whole_json(b"alice", TWO[:1]))),
+    narrowed('{"token":"%s"}' % plain, bad("there is no caveat to add")),
+    narrowed('{"token":"%s","caveats":[]}' % plain, bad("there is no caveat to add")),
+    narrowed('{"caveats":["a = 1"]}', NO_TEXT), narrowed('{"token":[],"caveats":["a"]}', NO_TEXT),
+    narrowed('{"token":"%s","caveats":["a"],"form":"v1"}' % plain, UNKNOWN_MEMBER),
+    narrowed('{"token":"?","caveats":["a = 1"]}',
+             refused(19, "the token is neither a bare form nor base64 text")),
+    narrowed('{"token":"AAAA","caveats":["a = 1"]}', refused(20, "the bytes are in no form of a token")),
+    narrowed('{"token":"%s","caveats":["a = 1"]}' % third_party(b"alice"),
+             refused(21, "a caveat of the token is third-party")),
+    narrowed('{"token":"%s","caveats":["%s"]}' % (plain, "a" * 4097),
+             refused(22, "the token passes a limit")),
+    # ---- an inspect
+    inspected('{"token":"%s"}' % README, said(
+        "v1", '"identifier":"we used our secret key"', [], "http://mybank/",
+        "e3d9e02908526c4c0039ae15114115d97fdd68bf2ba379b342aaf0f617d0552f")),
+    inspected('{"token":"%s"}' % v2(b"al\xff", [b"a \"b\"", b"\xff"]), said(
+        "v2", '"identifier64":"YWz_"', ['"text":"a \\"b\\""', '"bytes64":"_w"'], "",
+        signature(b"al\xff", [b"a \"b\"", b"\xff"], SECRET).hex())),
+    inspected('{"token":"%s"}' % json_text(b"alice", [b"a"]), said(
+        "json", '"identifier":"alice"', ['"text":"a"'], "",
+        signature(b"alice", [b"a"], SECRET).hex())),
+    inspected("{}", NO_TEXT), inspected('{"token":"?"}', refused(
+        19, "the token is neither a bare form nor base64 text")),
+    # ---- paths and methods of calls, and calls that aren't allowed
+    ("mint", [(post("/mint/none", '{"identifier":"alice"}'), UNKNOWN),
+              (post("/mint/", '{"identifier":"alice"}'), UNKNOWN),
+              (post("/mint/bank/a", '{"identifier":"alice"}'), UNKNOWN),
+              (post("/mint", '{"identifier":"alice"}'), UNKNOWN),
+              (post("/attenuate", '{"token":"%s","caveats":["a"]}' % plain), UNKNOWN),
+              (post("/inspect", '{"token":"%s"}' % plain), UNKNOWN),
+              (get("/mint/bank"), response(405, [("allow", "POST")])),
+              (get("/inspect"), UNKNOWN), (get("/verify/bank", token(plain)), ALICE),
+              (post("/mint/shop", '{"identifier":"alice"}'), made(v2(b"alice", secret=b"shop")))]),
+    ("attenuate inspect", [(post("/mint/bank", '{"identifier":"alice"}'), UNKNOWN),
+                           (post("/inspect/", '{"token":"%s"}' % plain), UNKNOWN),
+                           (get("/attenuate"), response(405, [("allow", "POST")])),
+                           (get("/inspect", method="PUT"), response(405, [("allow", "POST")]))]),
+    ("", [(post("/mint/bank", '{"identifier":"alice"}'), UNKNOWN),
+          (post("/attenuate", '{"token":"%s","caveats":["a"]}' % plain), UNKNOWN),
+          (post("/inspect", '{"token":"%s"}' % plain), UNKNOWN)]),
 ]
 
 

@@ -11,15 +11,19 @@ import tempfile
 import time
 
 sys.path.insert(0, str(pathlib.Path(__file__).resolve().parents[1]))
-from check.daemon_rows import NO_REQUEST
+from check.daemon_rows import HELLO, MINT, NO_REQUEST, SLOW_TOKEN, TOKEN, placed
 from common import KEYS, TOP, daemon, logged
 from common.daemon import connected, frame, received
+
+import request
 
 PAGE = TOP / "docs" / "OPERATING.md"
 # How many seconds a line may take, on a machine that is busy with other work.
 PATIENCE = 60
 # Lines that no test provokes: what leads to them is memory or a thread that is refused in the midst of a run.
 NOT_PROVOKED = {"connection_dropped"}
+# How many requests are sent one after the other, each of which has its line.
+EACH = 1_000
 # How many connections end at once inside a frame; of each kind so many lines a second are printed.
 TORN, LINES_MAX = 300, 10
 # The kinds that were seen, over all tests here.
@@ -122,7 +126,6 @@ def few_descriptors(folder):
     limited = lambda: resource.setrlimit(resource.RLIMIT_NOFILE, (128, 4096))
     with listening(log, "--loops", "1", preexec_fn=limited) as (path, run):
         yield "limit_low", told(log.first("limit_low"), "limit", "connections"), ("warning", "descriptors", "73")
-        await_operators(path)
         held = len(os.listdir(f"/proc/{run.pid}/fd"))
         resource.prlimit(run.pid, resource.RLIMIT_NOFILE, (held, 4096))
         with connected(path) as stream:
@@ -131,15 +134,6 @@ def few_descriptors(folder):
             stream.settimeout(PATIENCE)
             stream.sendall(frame(b""))
             yield "and then it is served", received(stream, len(NO_REQUEST)), NO_REQUEST
-
-
-def await_operators(path):
-    """Waits until the daemon has all descriptors that it holds without connections: its status socket is served last."""
-    asking = [daemon.PROGRAM, "status", "--socket", path]
-    until = time.monotonic() + PATIENCE
-    while subprocess.run(asking, capture_output=True).returncode != 0 and time.monotonic() < until:
-        time.sleep(0.02)
-    time.sleep(0.2)
 
 
 def key_files(folder):
@@ -168,6 +162,117 @@ def journal(folder):
     yield "priorities", (fronts["start"], fronts["connection_fault"]), ("<6>", "<4>")
 
 
+# Requests, the reply to each, and what its line says: what it asks for, which name, and what it was told.
+REQUESTS = (
+    (MINT, b"\x01" + TOKEN, ("mint", "bank", "token", None)),
+    (request.verify("bank", TOKEN.decode(), 0), b"\x00", ("verify", "bank", "granted", None)),
+    (request.verify("shop", TOKEN.decode()), bytes([23]), ("verify", "shop", "refused", "23")),
+    (request.verify("nobody", TOKEN.decode(), 0), bytes([18]), ("verify", "nobody", "refused", "18")),
+    (b"", bytes([16]), ("nothing", None, "refused", "16")),
+    # A dear one, for which the connection goes on in threads of its own.
+    (request.verify("bank", SLOW_TOKEN, 0), bytes([20]), ("verify", "bank", "refused", "20")),
+    (MINT, b"\x01" + TOKEN, ("mint", "bank", "token", None)),
+)
+
+
+def said_of(lines, connection):
+    """What lines say of the requests of a connection."""
+    keys = ("asks", "name", "verdict", "code")
+    of = [it.fields for it in lines if it.what == "request" and it.fields.get("connection") == connection]
+    return [tuple(map(fields.get, keys)) for fields in of]
+
+
+def awaited(log, connection, count):
+    """The same, once there are so many."""
+    until = time.monotonic() + PATIENCE
+    while len(told := said_of(log.lines(), connection)) < count and time.monotonic() < until:
+        time.sleep(0.02)
+    return told
+
+
+def left_out(log):
+    """How many lines of requests were left out."""
+    return sum(int(line.fields["count"]) for line in log.lines() if line.fields.get("kind") == "request")
+
+
+def requests(folder):
+    """Where that is asked for, each request has its line: on a stream of either version, in pieces, plain and wide."""
+    log = Log(folder)
+    frames = b"".join(frame(asked) for asked, _, _ in REQUESTS)
+    due = [told for _, _, told in REQUESTS]
+    with listening(log, "--log", "requests") as (path, _):
+        with connected(path) as stream:
+            for at in range(0, len(frames), 700):
+                stream.sendall(frames[at : at + 700])
+            replies = b"".join(frame(reply) for _, reply, _ in REQUESTS)
+            yield "replies", received(stream, len(replies)), replies
+            yield "a line for each request", awaited(log, "1", len(due)), due
+        with connected(path) as stream:
+            stream.sendall(HELLO + frames)
+            replies = placed(*(reply for _, reply, _ in REQUESTS))
+            yield "replies with their places", received(stream, len(replies)), replies
+            yield "the same of version two", awaited(log, "2", len(due)), due
+        with connected(path) as stream:
+            for _ in range(EACH):
+                stream.sendall(frame(b""))
+                received(stream, len(NO_REQUEST))
+            until = time.monotonic() + PATIENCE
+            while (there := len(said_of(log.lines(), "3")) + left_out(log)) < EACH and time.monotonic() < until:
+                time.sleep(0.05)
+            yield "each has its line, or is counted", there, EACH
+            yield "a bound for other kinds isn't theirs", len(said_of(log.lines(), "3")) > LINES_MAX, True
+    yield "no token", TOKEN.decode() in log.text(), False
+
+
+def requests_over_http(folder):
+    """The same of requests over HTTP, which have no number."""
+    log, web = Log(folder), f"{folder}/web"
+    words = ["--log", "requests", "--http", f"unix:{web}", "--http-allow", "mint,inspect"]
+    bearing = b"Authorization: Macaroon " + TOKEN + b"\r\n"
+    posts = lambda path, body: b"POST %b HTTP/1.1\r\nHost: x\r\nContent-Length: %d\r\n\r\n%b" % (path, len(body), body)
+    asked = (
+        (b"GET /verify/bank HTTP/1.1\r\nHost: x\r\n" + bearing + b"\r\n", ("verify", "bank", "granted", None)),
+        (b"GET /verify/shop HTTP/1.1\r\nHost: x\r\n" + bearing + b"\r\n", ("verify", "shop", "refused", "401")),
+        (posts(b"/mint/bank", b'{"identifier":"x"}'), ("mint", "bank", "token", None)),
+        (posts(b"/mint/bank", b"{}"), ("mint", "bank", "refused", "400")),
+        (posts(b"/inspect", b'{"token":"' + TOKEN + b'"}'), ("inspect", None, "told", None)),
+        (posts(b"/attenuate", b"{}"), ("verify", None, "refused", "404")),
+        (b"GET /healthz HTTP/1.1\r\nHost: x\r\nConnection: close\r\n\r\n", None),
+    )
+    due = [told for _, told in asked if told]
+    with listening(log, *words), connected(web) as stream:
+        stream.sendall(b"".join(request for request, _ in asked))
+        while stream.recv(65_536):
+            pass
+        yield "a line for each request", awaited(log, None, len(due)), due
+
+
+def no_requests(folder):
+    """Without that, none has; another word is refused."""
+    log = Log(folder)
+    with listening(log) as (path, run):
+        with connected(path) as stream:
+            stream.sendall(frame(b""))
+            received(stream, len(NO_REQUEST))
+        run.terminate()
+        log.first("end")
+    yield "no line", said_of(log.lines(), "1"), []
+    command = [daemon.PROGRAM, "listen", "--socket", f"{folder}/socket", "--keys", KEYS, "--log", "all"]
+    refused = subprocess.run(command, capture_output=True, text=True)
+    yield "another word", (refused.returncode, refused.stderr), (2, "error: what is logged besides is requests\n")
+
+
+def replaced(folder):
+    """A daemon whose place another one takes says so."""
+    log = Log(folder)
+    with listening(log) as (path, run):
+        command = [daemon.PROGRAM, "listen", "--socket", path, "--keys", KEYS, "--replace"]
+        with subprocess.Popen(command, stdout=subprocess.PIPE, stderr=subprocess.DEVNULL) as other:
+            yield "replaced", told(log.first("replaced"), "socket"), ("info", path)
+            yield "status", run.wait(PATIENCE), 0
+            other.kill()
+
+
 def page():
     """The lines that the page lists are those that were seen, and those that are named as not provoked."""
     listed = set(re.findall(r"^\| `(?:info|warning|error) ([a-z_]+)", PAGE.read_text(), re.M))
@@ -176,7 +281,8 @@ def page():
 
 def faults():
     seen = []
-    for part in (connections, many_torn, few_descriptors, key_files, journal):
+    of_requests = (requests, requests_over_http, no_requests)
+    for part in (connections, many_torn, few_descriptors, replaced, key_files, journal, *of_requests):
         with tempfile.TemporaryDirectory() as folder:
             seen += part(folder)
     seen += page()

@@ -105,7 +105,8 @@ where
 
 /// Accepts as many connections as the limits say, and hands each to a loop. Some may not have ended
 /// yet where it returns the number of those that were accepted. With a count, a socket that accepts
-/// nothing is an error; without one, it is asked again after a pause, until the entrance is shut.
+/// nothing is an error; without one, it is asked again after a pause, until the entrance is shut
+/// and nobody waits there.
 fn accept_each<R>(
     rt: &R,
     alloc: Global,
@@ -160,7 +161,7 @@ fn welcome<R: Wait + Clock>(
 ) {
     let life = Life { badge, answered: 0 };
     let Arrived { stream, rights, .. } = arrived;
-    let Ok(port) = SocketPort::new(stream) else {
+    let Ok(port) = SocketPort::new(stream, quay.transcript(alloc)) else {
         quay.end(rt, life, Some(Notice::System));
         return;
     };

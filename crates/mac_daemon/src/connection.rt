@@ -3,16 +3,15 @@ ghost use Rattle.std.specs.Prelude.{◌≡◌, IfErr, IfOk};
 ghost use Rattle.mac_queue.specs.Pass.{IsSamePass};
 
 use crate::quay::Mooring;
-use crate::stay::{StayReader, limit_waits};
+use crate::stay::{Stay, StayReader};
 use mac_board::{Follower, TimedTables};
 use mac_decide::{Macaroons, Rights};
-use mac_loop::{Badge, Handover, Life, SocketPort, microseconds};
+use mac_loop::{Badge, Handover, Life, microseconds};
 use mac_pool::Desk;
 use mac_serve::{ServeFault, Served, serve};
 use mac_system::SystemMoments;
 use mac_wire::{DeviceFault, Ending, NoMemory, ReaderSource, Session, Sink, WriterSink};
 use std::alloc::Global;
-use std::io;
 use std::io::Read;
 use std::net::Shutdown;
 use std::os::unix::net::UnixStream;
@@ -155,13 +154,13 @@ fn serve_client<R: Threads + Wait + Clock + Sync>(
         since,
         badge,
     } = client;
-    let Ok(stream) = open_stay(port) else {
+    let Ok(stay) = Stay::begin(port, badge) else {
         return Left {
             parting: Parting::Stuck(life),
             desk,
         };
     };
-    let (fault, served) = serve_stream(rt, alloc, &stream, keys, &rights, desk, session, mooring);
+    let (fault, served) = serve_stream(rt, alloc, &stay, keys, &rights, desk, session, mooring);
     let Served {
         arrived,
         sent,
@@ -174,11 +173,11 @@ fn serve_client<R: Threads + Wait + Clock + Sync>(
     let parting = match session {
         Some(session) => {
             let since = if arrived > 0 { microseconds(rt) } else { since };
-            go_back(stream, session, rights, since, badge)
+            go_back(rt, stay, session, rights, since, badge)
         }
         None => {
             if ending == Ending::Oversize {
-                drop_rest(&stream);
+                drop_rest(&stay.stream);
             }
             let answered = life.answered.saturating_add(sent);
             Parting::Over(Life { badge, answered }, fault)
@@ -187,23 +186,17 @@ fn serve_client<R: Threads + Wait + Clock + Sync>(
     Left { parting, desk }
 }
 
-/// The stream of a port, whose reads and writes wait, for so long.
-fn open_stay(port: SocketPort) -> io::Result<UnixStream> {
-    let stream = port.into_stream()?;
-    limit_waits(&stream)?;
-    Ok(stream)
-}
-
 /// A connection that goes on in a loop, if the system lets it.
-fn go_back(
-    stream: UnixStream,
+fn go_back<R: Wait>(
+    rt: &R,
+    stay: Stay,
     session: Session,
     rights: Arc<Rights, Global>,
     since: u64,
     badge: Badge,
 ) -> Parting {
     let answered = session.answered;
-    match SocketPort::new(stream) {
+    match stay.end(rt) {
         Ok(port) => Parting::Back(Handover {
             port,
             session,
@@ -219,7 +212,7 @@ fn go_back(
 fn serve_stream<R: Threads + Wait + Clock + Sync>(
     rt: &R,
     alloc: Global,
-    stream: &UnixStream,
+    stay: &Stay,
     keys: Follower,
     rights: &Rights,
     desk: Desk<Macaroons>,
@@ -229,8 +222,8 @@ fn serve_stream<R: Threads + Wait + Clock + Sync>(
     ensures { IsSamePass desk.putter result.1.desk.putter }
 {
     let mut outlook = TimedTables::new(keys, SystemMoments::new(rt));
-    let mut source = ReaderSource::new(StayReader::begin(rt, stream, mooring));
-    let mut sink = Outgoing::new(stream);
+    let mut source = ReaderSource::new(StayReader::begin(rt, stay, mooring));
+    let mut sink = Outgoing::new(rt, stay, mooring);
     match serve(
         rt,
         alloc,
@@ -267,21 +260,25 @@ fn drop_rest(stream: &UnixStream) {
 /// The writing half of a stream. Once nothing more is written, though more was to come, both halves
 /// are shut down, so that a read that waits for the peer returns.
 #[derive(Drop)]
-struct Outgoing<'a> {
-    stream: &'a UnixStream,
+struct Outgoing<'a, 'm, 'r, R> {
+    rt: &'r R,
+    stay: &'a Stay,
+    mooring: &'m Mooring,
     writer: WriterSink<&'a UnixStream>,
 }
 
-impl<'a> Outgoing<'a> {
-    fn new(stream: &'a UnixStream) -> Outgoing<'a> {
+impl<'a, 'm, 'r, R: Wait + Clock> Outgoing<'a, 'm, 'r, R> {
+    fn new(rt: &'r R, stay: &'a Stay, mooring: &'m Mooring) -> Outgoing<'a, 'm, 'r, R> {
         Outgoing {
-            stream,
-            writer: WriterSink::new(stream),
+            rt,
+            stay,
+            mooring,
+            writer: WriterSink::new(&stay.stream),
         }
     }
 }
 
-impl<'a> Sink for Outgoing<'a> {
+impl<'a, 'm, 'r, R: Wait + Clock + Sync> Sink for Outgoing<'a, 'm, 'r, R> {
     ghost use Rattle.std.specs.Prelude.{[], false};
 
     ghost tells = { false };
@@ -291,7 +288,10 @@ impl<'a> Sink for Outgoing<'a> {
     ghost faults = { λ s. s.writer.faults };
 
     fn write(&mut self, buf: &[u8]) -> Result<usize, DeviceFault> {
-        self.writer.write(buf)
+        let count = self.writer.write(buf)?;
+        self.stay
+            .note_went(self.rt, &self.mooring.quay, &buf[..count]);
+        Ok(count)
     }
 
     fn faults(&self) -> u64 {
@@ -299,6 +299,6 @@ impl<'a> Sink for Outgoing<'a> {
     }
 
     fn give_up(&self) {
-        let _ = self.stream.shutdown(Shutdown::Both);
+        let _ = self.stay.stream.shutdown(Shutdown::Both);
     }
 }

@@ -24,22 +24,29 @@ pub struct SideSocket<'a> {
 pub struct Door {
     listener: UnixListener,
     rights: Arc<Rights, Global>,
+    // Whether another process has it too, and goes on with those that wait there.
+    is_shared: bool,
 }
 
 impl Door {
     /// Adds the door of a socket, which is never waited for. The connections that come in through
-    /// it have these rights.
+    /// it have these rights. It may be shared with another process.
     pub fn add(
         doors: &mut Vec<Door>,
         alloc: Global,
         listener: UnixListener,
         rights: Rights,
+        is_shared: bool,
     ) -> Result<(), DaemonFault> {
         listener.set_nonblocking(true)?;
         let Ok(rights) = Arc::new(alloc, rights) else {
             return Err(DaemonFault::NoMemory);
         };
-        match doors.push(Door { listener, rights }) {
+        match doors.push(Door {
+            listener,
+            rights,
+            is_shared,
+        }) {
             Ok(()) => Ok(()),
             Err(_) => Err(DaemonFault::NoMemory),
         }
@@ -53,6 +60,11 @@ impl Door {
     /// What the requests of its connections may do.
     pub fn rights(&self) -> &Arc<Rights, Global> {
         &self.rights
+    }
+
+    /// Whether another process has it too.
+    pub fn is_shared(&self) -> bool {
+        self.is_shared
     }
 
     /// The next connection that waits here, or why the system gives none.

@@ -4,7 +4,8 @@ use crate::entrance::Shutter;
 use crate::fault::DaemonFault;
 use crate::numbers::Numbers;
 use crate::quay::Quay;
-use mac_count::{Counters, Told};
+use mac_count::{Counters, Request};
+use mac_loop::Exchange;
 use std::alloc::{AllocError, Global};
 use std::sync::{Arc, Condvar, CondvarTimeouts, Mutex, Wait};
 use std::time::{Clock, Duration};
@@ -72,6 +73,21 @@ impl Ending {
         drop(standing);
         self.shutter.shut();
         self.change.notify_all();
+    }
+
+    /// Tells a daemon to end that wasn't told before. Whether it was this call that told it.
+    pub fn tell_first<R: Wait>(&self, rt: &R) -> bool {
+        let mut standing = self.standing.lock(rt);
+        let is_first = standing.calls == 0;
+        if is_first {
+            standing.calls = 1;
+        }
+        drop(standing);
+        if is_first {
+            self.shutter.shut();
+            self.change.notify_all();
+        }
+        is_first
     }
 
     /// Tells the daemon to look.
@@ -187,9 +203,19 @@ impl Guests {
         self.ending.change.notify_all();
     }
 
-    /// Counts a verify that one of them asked for, by what it was told.
-    pub fn count_verify(&self, told: Told) {
-        self.numbers.count_verify(told);
+    /// Counts a request that one of them asked, by what it was told.
+    pub fn count_request(&self, request: Request) {
+        self.numbers.count_request(request);
+    }
+
+    /// Whether requests are logged.
+    pub fn has_requests(&self) -> bool {
+        self.quay.has_requests()
+    }
+
+    /// Logs a request that one of them asked, and what it was answered.
+    pub fn tell_exchange<R: Wait + Clock>(&self, rt: &R, exchange: Exchange) {
+        self.quay.say_exchange(rt, None, exchange);
     }
 
     /// What the daemon counts.

@@ -20,6 +20,10 @@ const SHUTTER: usize = 1 << 40;
 /// How many events are taken at a time.
 const EVENTS: usize = 3;
 
+/// How many connections are taken once it is shut, of those that wait already: as many as the
+/// system lets wait at a socket.
+const WAITING_MAX: usize = 4_096;
+
 /// Sockets that listen, and what the waits for their connections end by.
 #[derive(Drop)]
 pub struct Entrance {
@@ -30,6 +34,8 @@ pub struct Entrance {
     poll: Poll,
     events: Events,
     shutter: Arc<Shutter, Global>,
+    // How many connections it takes once it is shut.
+    waiting: usize,
 }
 
 /// Shuts an entrance, from any thread.
@@ -54,7 +60,7 @@ pub struct Arrived {
 pub type Welcome = io::Result<Arrived>;
 
 impl Shutter {
-    /// Has the entrance take no more connections.
+    /// Has the entrance take no more connections than those that wait.
     pub fn shut(&self) {
         self.is_shut.store(true, SeqCst);
         let _ = self.waker.wake();
@@ -91,6 +97,7 @@ impl Entrance {
             poll,
             events: Events::with_capacity(alloc, EVENTS)?,
             shutter,
+            waiting: WAITING_MAX,
         })
     }
 
@@ -99,13 +106,17 @@ impl Entrance {
         &self.shutter
     }
 
-    /// The next connection, or why the system gives none; nothing more once the entrance is shut.
+    /// The next connection, or why the system gives none. Once the entrance is shut, there are only
+    /// those that wait already, and none at a door that another process has too.
     pub fn accept<R: Wait>(&mut self, rt: &R) -> Option<Welcome> {
         for _ in rt.forever() {
-            if self.shutter.is_shut() || self.doors.is_empty() {
+            if self.doors.is_empty() {
                 return None;
             }
-            if let Some(welcome) = self.try_doors(rt) {
+            if self.shutter.is_shut() {
+                return self.take_waiting(rt);
+            }
+            if let Some(welcome) = self.try_doors(rt, false) {
                 return Some(welcome);
             }
             self.wait();
@@ -113,9 +124,15 @@ impl Entrance {
         unreachable!()
     }
 
+    /// The next connection that waits, while it may be taken.
+    fn take_waiting<R: Wait>(&mut self, rt: &R) -> Option<Welcome> {
+        self.waiting = self.waiting.checked_sub(1)?;
+        self.try_doors(rt, true)
+    }
+
     /// What waits at the first door that has something, from the next one on. So no door keeps
-    /// another from its turn.
-    fn try_doors<R: Wait>(&mut self, rt: &R) -> Option<Welcome> {
+    /// another from its turn. Doors of its own alone are looked at where that is asked for.
+    fn try_doors<R: Wait>(&mut self, rt: &R, is_own: bool) -> Option<Welcome> {
         for _ in 0..self.doors.len() {
             let number = if self.next < self.doors.len() {
                 self.next
@@ -124,6 +141,9 @@ impl Entrance {
             };
             self.next = number.saturating_add(1);
             let door = &self.doors[number];
+            if is_own && door.is_shared() {
+                continue;
+            }
             match door.accept(rt) {
                 None => {}
                 Some(Err(fault)) => return Some(Err(fault)),

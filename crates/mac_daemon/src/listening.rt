@@ -7,9 +7,10 @@ use crate::ending::{Call, Ending, Guests};
 use crate::entrance::Entrance;
 use crate::fault::DaemonFault;
 use crate::fleet::{Fleet, Idlers, Service, Shape};
+use crate::holding::Holdings;
 use crate::notices::{Beginning, Notices};
 use crate::numbers::Numbers;
-use crate::place::{Place, PlaceFault, bind_at};
+use crate::place::PlaceFault;
 use crate::quay::Quay;
 use crate::roster::Roster;
 use crate::surroundings::{Surroundings, heed_signals};
@@ -20,7 +21,6 @@ use std::alloc::{AllocError, Global};
 use std::fs::{File, Files};
 use std::net::Net;
 use std::os::unix::net::UnixListener;
-use std::process::Process;
 use std::sync::{Arc, Wait};
 use std::thread::{Builder, Threads};
 use std::time::{Clock, Duration};
@@ -45,6 +45,8 @@ pub struct Terms<'a> {
     pub drain: u64,
     /// How many descriptors of the process are others'.
     pub reserved: u64,
+    /// Whether each request is logged.
+    pub has_requests: bool,
 }
 
 /// A daemon that serves the connections of a socket, until it is told to end.
@@ -56,13 +58,11 @@ pub struct Daemon {
     numbers: Numbers,
     manager: Option<NotifySocket>,
     drain: u64,
-    // No other daemon has the path as long as this is kept.
-    _lock: Option<File>,
-    _side_lock: Option<File>,
 }
 
-/// Starts a daemon, in threads of its own. Clients can connect once it is there. The connections of
-/// its socket have these rights, and those of the side socket the ones that it tells.
+/// Starts a daemon, in threads of its own. Nobody can reach it before it is opened. The connections
+/// of its socket have these rights, and those of the side socket the ones that it tells. The
+/// sockets that it makes are among those that are held.
 pub fn listen<R>(
     rt: &R,
     alloc: Global,
@@ -71,20 +71,10 @@ pub fn listen<R>(
     side: Option<SideSocket<'_>>,
     followers: Followers,
     surroundings: Surroundings,
-    process: Process,
+    holdings: &mut Holdings,
 ) -> Result<Daemon, DaemonFault>
 where
-    R: Files<File = File>
-        + Net
-        + Threads
-        + Wait
-        + Clock
-        + Print
-        + Eprint
-        + Sync
-        + Copy
-        + Send
-        + 'static,
+    R: Files<File = File> + Net + Threads + Wait + Clock + Eprint + Sync + Copy + Send + 'static,
 {
     let Surroundings {
         listener,
@@ -92,17 +82,16 @@ where
         manager,
         is_journal,
     } = surroundings;
-    let Place { listener, lock } = take_place(rt, alloc, terms, listener, process)?;
     let mut doors = Vec::with_capacity(alloc, 2)?;
-    Door::add(&mut doors, alloc, listener, rights)?;
+    open_first(rt, alloc, terms, listener, rights, &mut doors, holdings)?;
     let side_path = side.as_ref().map(|side| side.path);
-    let side_lock = open_side(rt, alloc, side, &mut doors, process)?;
+    open_side(rt, alloc, side, &mut doors, holdings)?;
     let entrance = Entrance::open(rt, alloc, doors)?;
     let ending = Ending::new(alloc, entrance.shutter())?;
     if let Some(signals) = signals {
         heed_signals(*rt, signals, &ending)?;
     }
-    let notices = Notices::start(*rt, alloc, is_journal)?;
+    let notices = Notices::start(*rt, alloc, is_journal, terms.has_requests)?;
     let numbers = Numbers::begin(rt, alloc)?;
     numbers.set_keys(rt, terms.names);
     let limits = Limits {
@@ -121,9 +110,6 @@ where
     };
     start_serving(*rt, alloc, service, followers, &ending)?;
     ending.await_begin(rt)?;
-    say_listening(rt, terms, side_path)?;
-    notices.tell_begin(rt, beginning_of(terms, side_path));
-    tell_manager(manager, State::Ready);
     Ok(Daemon {
         ending,
         quay,
@@ -131,12 +117,35 @@ where
         numbers,
         manager,
         drain: terms.drain,
-        _lock: lock,
-        _side_lock: side_lock,
     })
 }
 
 impl Daemon {
+    /// Puts the sockets that are held in their places, so that clients can connect, and tells that.
+    pub fn open<R>(
+        &self,
+        rt: &R,
+        terms: Terms<'_>,
+        side: Option<&str>,
+        holdings: &mut Holdings,
+    ) -> Result<(), DaemonFault>
+    where
+        R: Files + Print + Wait + Clock,
+    {
+        holdings.place_all(rt)?;
+        say_listening(rt, terms, side)?;
+        self.notices.tell_begin(rt, beginning_of(terms, side));
+        tell_manager(self.manager, State::Ready);
+        Ok(())
+    }
+
+    /// Tells a daemon to end in whose place there is another one's socket.
+    pub fn end_replaced<R: Wait + Clock>(&self, rt: &R, path: &str) {
+        if self.ending.tell_first(rt) {
+            self.notices.tell_replaced(rt, path);
+        }
+    }
+
     /// Waits until the daemon is told something, for so long at most.
     pub fn await_call<R: Wait + Clock>(&self, rt: &R, patience: Duration) -> Call {
         self.ending.await_call(rt, patience)
@@ -166,23 +175,25 @@ impl Daemon {
     }
 }
 
-/// The socket that was handed over, or one that is made at the path.
-fn take_place<R>(
+/// Adds the door of the socket that was handed over, or of one that is made.
+fn open_first<R>(
     rt: &R,
     alloc: Global,
     terms: Terms<'_>,
-    listener: Option<UnixListener>,
-    process: Process,
-) -> Result<Place, DaemonFault>
+    handed: Option<UnixListener>,
+    rights: Rights,
+    doors: &mut Vec<Door>,
+    holdings: &mut Holdings,
+) -> Result<(), DaemonFault>
 where
-    R: Files<File = File> + Net,
+    R: Files<File = File> + Net + Clock + Wait,
 {
-    match listener {
-        Some(listener) => Ok(Place {
-            listener,
-            lock: None,
-        }),
-        None => Ok(bind_at(rt, alloc, terms.path, terms.permissions, process)?),
+    match handed {
+        Some(listener) => Door::add(doors, alloc, listener, rights, true),
+        None => {
+            let listener = holdings.bind(rt, terms.path, terms.permissions)?;
+            Door::add(doors, alloc, listener, rights, false)
+        }
     }
 }
 
@@ -192,10 +203,10 @@ fn open_side<R>(
     alloc: Global,
     side: Option<SideSocket<'_>>,
     doors: &mut Vec<Door>,
-    process: Process,
-) -> Result<Option<File>, DaemonFault>
+    holdings: &mut Holdings,
+) -> Result<(), DaemonFault>
 where
-    R: Files<File = File> + Net,
+    R: Files<File = File> + Net + Clock + Wait,
 {
     let Some(
         SideSocket {
@@ -205,13 +216,10 @@ where
         },
     ) = side
     else {
-        return Ok(None);
+        return Ok(());
     };
-    match bind_at(rt, alloc, path, permissions, process) {
-        Ok(Place { listener, lock }) => {
-            Door::add(doors, alloc, listener, rights)?;
-            Ok(lock)
-        }
+    match holdings.bind(rt, path, permissions) {
+        Ok(listener) => Door::add(doors, alloc, listener, rights, false),
         Err(PlaceFault::NoMemory) => Err(DaemonFault::NoMemory),
         Err(fault) => Err(DaemonFault::Side(fault)),
     }

@@ -5,25 +5,113 @@ use std::fs::{File, Files, TryLockError};
 use std::io::{ErrorKind, Read, Seek, SeekFrom, Write};
 use std::os::unix::fs::OpenOptionsExt;
 use std::process::Process;
-use std::{fs, process};
+use std::sync::Wait;
+use std::time::{Clock, Duration};
+use std::{fs, process, thread};
 
 /// A lock file has the number of a process, a line feed, and no more.
 const NUMBER_MAX: usize = 16;
 
-/// Takes the lock of a path, and writes into its file which process has it. The system gives a
-/// lock back as its process ends, however it ends; the file stays, and the next one takes it.
+/// How often the turn to have a lock next is asked for, and how many milliseconds pass between two
+/// tries. A daemon that has taken a path over gives the turn back half a second later.
+const TURN_TRIES: u64 = 20;
+
+const TURN_MILLIS: u64 = 100;
+
+/// How a process comes by a path.
+#[derive(Clone, Copy, Debug, PartialEq, Eq)]
+pub enum Claim {
+    /// Nobody else may have it.
+    Free,
+    /// A daemon that has it gives it up.
+    Replacing,
+}
+
+/// What a process has of a path. No other process has the same as long as it is kept.
+#[derive(Drop)]
+pub enum PathLock {
+    /// The lock of the path.
+    Own(File),
+    /// The turn to have that lock next, while another process has it.
+    Next(File),
+}
+
+impl PathLock {
+    /// Takes the lock of a path, or the turn to have it next where that may be.
+    pub fn take<R>(
+        rt: &R,
+        alloc: Global,
+        path: &str,
+        claim: Claim,
+        process: Process,
+    ) -> Result<PathLock, PlaceFault>
+    where
+        R: Files<File = File> + Clock + Wait,
+    {
+        match claim {
+            Claim::Free => Ok(PathLock::Own(lock_path(rt, alloc, path, process)?)),
+            Claim::Replacing => take_turn(rt, alloc, path, process),
+        }
+    }
+
+    /// Whether it is the lock of the path.
+    pub fn is_own(&self) -> bool {
+        matches!(self, PathLock::Own(_))
+    }
+}
+
+/// Takes the lock of a path, or the turn to have it next where another process has it.
+fn take_turn<R>(rt: &R, alloc: Global, path: &str, process: Process) -> Result<PathLock, PlaceFault>
+where
+    R: Files<File = File> + Clock + Wait,
+{
+    let name = format!(in alloc; "{path}.next.lock")?;
+    let turn = await_turn(rt, alloc, name.as_str(), process)?;
+    match lock_path(rt, alloc, path, process) {
+        Ok(own) => Ok(PathLock::Own(own)),
+        Err(fault) if fault.is_locked() => Ok(PathLock::Next(turn)),
+        Err(fault) => Err(fault),
+    }
+}
+
+/// Takes the turn, which another process may be about to give back.
+fn await_turn<R>(rt: &R, alloc: Global, name: &str, process: Process) -> Result<File, PlaceFault>
+where
+    R: Files<File = File> + Clock + Wait,
+{
+    for _ in 0..TURN_TRIES {
+        match lock_file(rt, alloc, name, process) {
+            Err(fault) if fault.is_locked() => {
+                thread::sleep(rt, Duration::from_millis(TURN_MILLIS));
+            }
+            settled => return settled,
+        }
+    }
+    Err(PlaceFault::Promised)
+}
+
+/// Takes the lock of a path.
 pub fn lock_path<R>(rt: &R, alloc: Global, path: &str, process: Process) -> Result<File, PlaceFault>
 where
     R: Files<File = File>,
 {
     let name = format!(in alloc; "{path}.lock")?;
-    check_plain(rt, name.as_str())?;
+    lock_file(rt, alloc, name.as_str(), process)
+}
+
+/// Locks a file, and writes into it which process has it. The system gives a lock back as its
+/// process ends, however it ends; the file stays, and the next one takes it.
+fn lock_file<R>(rt: &R, alloc: Global, name: &str, process: Process) -> Result<File, PlaceFault>
+where
+    R: Files<File = File>,
+{
+    check_plain(rt, name)?;
     let mut file = File::options()
         .read(true)
         .write(true)
         .create(true)
         .mode(0o600)
-        .open(rt, name.as_str())?;
+        .open(rt, name)?;
     let locked = file.try_lock();
     let holder = read_holder(&mut file)?;
     match locked {

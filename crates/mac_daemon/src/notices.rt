@@ -3,7 +3,7 @@
 use crate::fault::DaemonFault;
 use mac_board::{News, Refusal};
 use mac_log::{Fields, Key, Kind, Log, NoMemory, start_log};
-use mac_loop::{Life, PlainFault, microseconds};
+use mac_loop::{Badge, Exchange, Life, PlainFault, microseconds};
 use mac_serve::ServeFault;
 use std::alloc::Global;
 use std::sync::{Arc, Wait};
@@ -70,17 +70,28 @@ pub struct Beginning<'a> {
 pub struct Notices {
     alloc: Global,
     log: Arc<Log, Global>,
+    // Whether each request is told.
+    has_requests: bool,
 }
 
 impl Notices {
     /// Starts the thread that prints lines, each with its priority where systemd's journal reads
-    /// them.
-    pub fn start<R>(rt: R, alloc: Global, is_journal: bool) -> Result<Notices, DaemonFault>
+    /// them. There is one for each request where that is asked for.
+    pub fn start<R>(
+        rt: R,
+        alloc: Global,
+        is_journal: bool,
+        has_requests: bool,
+    ) -> Result<Notices, DaemonFault>
     where
         R: Threads + Wait + Clock + Eprint + Copy + Send + 'static,
     {
         match start_log(rt, alloc, is_journal) {
-            Some(log) => Ok(Notices { alloc, log }),
+            Some(log) => Ok(Notices {
+                alloc,
+                log,
+                has_requests,
+            }),
             None => Err(DaemonFault::NoThread),
         }
     }
@@ -90,7 +101,19 @@ impl Notices {
         Ok(Notices {
             alloc: self.alloc,
             log: Arc::try_clone(&self.log)?,
+            has_requests: self.has_requests,
         })
+    }
+
+    /// Whether each request is told.
+    pub fn has_requests(&self) -> bool {
+        self.has_requests
+    }
+
+    /// Tells a request, the connection that it came on, and what it was answered.
+    pub fn tell_exchange<R: Wait + Clock>(&self, rt: &R, badge: Option<Badge>, exchange: Exchange) {
+        let fields = exchange_fields(self.alloc, badge, exchange);
+        self.log.post(rt, Kind::Request, fields);
     }
 
     /// Tells that the daemon serves.
@@ -131,6 +154,12 @@ impl Notices {
             News::Refused(why) => (Kind::KeysRefused, refused_fields(self.alloc, file, why)),
         };
         self.log.post(rt, kind, fields);
+    }
+
+    /// Tells that another daemon's socket is in the place of this one's.
+    pub fn tell_replaced<R: Wait + Clock>(&self, rt: &R, path: &str) {
+        let fields = Fields::new(self.alloc).with_text(Key::Socket, path.as_bytes());
+        self.log.post(rt, Kind::Replaced, fields);
     }
 
     /// Tells that the daemon was told to end, and how many connections there are.
@@ -177,6 +206,27 @@ fn parting_fields<R: Clock>(
         Kind::ConnectionFault => fields.with_text(Key::Fault, why.as_bytes()),
         Kind::ConnectionDropped => fields.with_text(Key::Cause, why.as_bytes()),
         _ => Ok(fields),
+    }
+}
+
+/// What a request asked for, under which name, and what it was answered: no token and no fact.
+fn exchange_fields(
+    alloc: Global,
+    badge: Option<Badge>,
+    exchange: Exchange,
+) -> Result<Fields, NoMemory> {
+    let mut fields = Fields::new(alloc);
+    if let Some(badge) = badge {
+        fields = fields.with_number(alloc, Key::Connection, badge.number)?;
+    }
+    fields = fields.with_text(Key::Asks, exchange.asks.as_bytes())?;
+    if !exchange.name.is_empty() {
+        fields = fields.with_text(Key::Name, exchange.name.as_slice())?;
+    }
+    fields = fields.with_text(Key::Verdict, exchange.verdict.as_bytes())?;
+    match exchange.code {
+        Some(code) => fields.with_number(alloc, Key::Code, code as u64),
+        None => Ok(fields),
     }
 }
 

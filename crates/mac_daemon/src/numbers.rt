@@ -1,7 +1,7 @@
 //! What a daemon counts, for all its threads. No contract speaks of the counts.
 
 use mac_board::{Moments, News};
-use mac_count::{Asked, Counters, Number, Request, Told};
+use mac_count::{Counters, Number, Request};
 use mac_loop::Turn;
 use mac_system::SystemMoments;
 use std::alloc::{AllocError, Global};
@@ -93,10 +93,9 @@ impl Numbers {
         self.counters.take(Number::ConnectionsHttp, 1);
     }
 
-    /// A verify was told this over HTTP.
-    pub fn count_verify(&self, told: Told) {
-        let asked = Asked::Verify;
-        self.counters.answered(Request { asked, told });
+    /// A request was answered over HTTP.
+    pub fn count_request(&self, request: Request) {
+        self.counters.answered(request);
     }
 
     /// The keys that were read have so many names.

@@ -5,7 +5,9 @@ use crate::notices::{Notice, Notices};
 use crate::numbers::Numbers;
 use crate::roster::Roster;
 use crossbeam_queue::SegQueue;
-use mac_loop::{Badge, Handover, Life, PlainFault, Turn, Watch, microseconds};
+use mac_loop::{
+    Badge, Exchange, Handover, Life, PlainFault, Transcript, Turn, Watch, microseconds,
+};
 use mac_mail::Bell;
 use std::alloc::{AllocError, Global};
 use std::sync::atomic::Ordering::SeqCst;
@@ -86,6 +88,31 @@ impl Quay {
             number,
             accepted,
             place,
+        }
+    }
+
+    /// Whether requests are logged.
+    pub fn has_requests(&self) -> bool {
+        match &self.notices {
+            Some(notices) => notices.has_requests(),
+            None => false,
+        }
+    }
+
+    /// What a connection that begins is noted in, where requests are logged.
+    pub fn transcript(&self, alloc: Global) -> Option<Transcript> {
+        if self.has_requests() {
+            Some(Transcript::new(alloc))
+        } else {
+            None
+        }
+    }
+
+    /// Tells a request, the connection that it came on unless that is a guest, and what it was
+    /// answered.
+    pub fn say_exchange<R: Wait + Clock>(&self, rt: &R, badge: Option<Badge>, exchange: Exchange) {
+        if let Some(notices) = &self.notices {
+            notices.tell_exchange(rt, badge, exchange);
         }
     }
 
@@ -237,6 +264,10 @@ impl Watch for Quay {
 
     fn count(&self, turn: &Turn) {
         self.numbers.count_turn(turn);
+    }
+
+    fn tell<R: Wait + Clock>(&self, rt: &R, badge: Badge, exchange: Exchange) {
+        self.say_exchange(rt, Some(badge), exchange);
     }
 
     fn see(&self, life: Life, unsent: usize) {

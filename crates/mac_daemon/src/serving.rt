@@ -39,7 +39,7 @@ where
 {
     let listener = bind_new(rt, path)?;
     let mut doors = Vec::with_capacity(alloc, 1)?;
-    Door::add(&mut doors, alloc, listener, Rights::all())?;
+    Door::add(&mut doors, alloc, listener, Rights::all(), false)?;
     let roster = Roster::new(rt, alloc, shape.connections, Vec::new(alloc))?;
     let service = Service {
         workers: shape.workers,

@@ -2,7 +2,7 @@
 
 use crate::address::Address;
 use crate::stream::Stream;
-use mac_daemon::{Place, PlaceFault, bind_at};
+use mac_daemon::{Holdings, PlaceFault};
 use std::alloc::Global;
 use std::fs::{File, Files};
 use std::io;
@@ -10,8 +10,8 @@ use std::io::ErrorKind;
 use std::net::{Net, SocketAddr, TcpListener, TcpStream};
 use std::os::fd::AsRawFd;
 use std::os::unix::net::UnixListener;
-use std::process::Process;
 use std::sync::Wait;
+use std::time::Clock;
 use thiserror::Error;
 
 /// A socket that listens, and is never waited for.
@@ -23,11 +23,10 @@ pub enum Door {
     Tcp(TcpListener),
 }
 
-/// Doors that were opened one after another, with the locks of their paths.
+/// Doors that were opened one after another.
 #[derive(Drop)]
 pub struct Doors {
     pub(crate) doors: Vec<Door>,
-    pub(crate) locks: Vec<File>,
 }
 
 /// Why there is no door at an address.
@@ -114,7 +113,6 @@ impl Doors {
     pub fn new(alloc: Global) -> Doors {
         Doors {
             doors: Vec::new(alloc),
-            locks: Vec::new(alloc),
         }
     }
 
@@ -123,46 +121,39 @@ impl Doors {
         self.doors.is_empty()
     }
 
-    /// Opens a door at an address. A Unix socket has these permissions.
+    /// Opens a door at an address. A Unix socket has these permissions, and is among those that are
+    /// held.
     pub fn open<R>(
         &mut self,
         rt: &R,
-        alloc: Global,
         address: Address<'_>,
         permissions: u32,
-        process: Process,
+        holdings: &mut Holdings,
     ) -> Result<(), DoorFault>
     where
-        R: Files<File = File> + Net<Listener = TcpListener, Stream = TcpStream>,
+        R: Files<File = File> + Net<Listener = TcpListener, Stream = TcpStream> + Clock + Wait,
     {
         match address {
-            Address::Unix(path) => self.open_unix(rt, alloc, path, permissions, process),
+            Address::Unix(path) => self.open_unix(rt, path, permissions, holdings),
             Address::Tcp(address) => self.open_tcp(rt, address),
         }
     }
 
-    /// Opens the door of a Unix socket, which has these permissions.
+    /// Opens the door of a Unix socket, which has these permissions and is among those that are
+    /// held.
     pub fn open_unix<R>(
         &mut self,
         rt: &R,
-        alloc: Global,
         path: &str,
         permissions: u32,
-        process: Process,
+        holdings: &mut Holdings,
     ) -> Result<(), DoorFault>
     where
-        R: Files<File = File> + Net,
+        R: Files<File = File> + Net + Clock + Wait,
     {
-        let Place { listener, lock } = bind_at(rt, alloc, path, permissions, process)?;
+        let listener = holdings.bind(rt, path, permissions)?;
         listener.set_nonblocking(true)?;
-        self.keep(Door::Unix(listener))?;
-        let Some(lock) = lock else {
-            return Ok(());
-        };
-        match self.locks.push(lock) {
-            Ok(()) => Ok(()),
-            Err(_) => Err(DoorFault::NoMemory),
-        }
+        self.keep(Door::Unix(listener))
     }
 
     fn open_tcp<R>(&mut self, rt: &R, address: SocketAddr) -> Result<(), DoorFault>

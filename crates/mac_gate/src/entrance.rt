@@ -16,6 +16,10 @@ const WAKER: usize = 1 << 40;
 /// How many events are taken at a time.
 const EVENTS: usize = 8;
 
+/// How many connections are taken once the house ends, of those that wait already: as many as the
+/// system lets wait at a socket.
+const WAITING_MAX: usize = 4_096;
+
 /// Doors, and what waits for connections there.
 #[derive(Drop)]
 pub struct Entrance {
@@ -24,6 +28,8 @@ pub struct Entrance {
     next: usize,
     poll: Poll,
     events: Events,
+    // How many connections it takes once the house ends.
+    waiting: usize,
 }
 
 impl Entrance {
@@ -45,11 +51,13 @@ impl Entrance {
             next: 0,
             poll,
             events,
+            waiting: WAITING_MAX,
         };
         Ok((entrance, waker))
     }
 
-    /// The next connection, or why the system gives none; nothing more once the house ends.
+    /// The next connection, or why the system gives none. Once the house ends, there are only those
+    /// that wait already.
     pub fn accept<R: Wait>(
         &mut self,
         rt: &R,
@@ -57,7 +65,7 @@ impl Entrance {
     ) -> Option<io::Result<Stream>> {
         for _ in rt.forever() {
             if house.is_ending() {
-                return None;
+                return self.take_waiting(rt);
             }
             if let Some(welcome) = self.try_doors(rt) {
                 return Some(welcome);
@@ -65,6 +73,12 @@ impl Entrance {
             let _ = self.poll.poll(&mut self.events, None);
         }
         unreachable!()
+    }
+
+    /// The next connection that waits, while it may be taken.
+    fn take_waiting<R: Wait>(&mut self, rt: &R) -> Option<io::Result<Stream>> {
+        self.waiting = self.waiting.checked_sub(1)?;
+        self.try_doors(rt)
     }
 
     /// What waits at the first door that has something, from the next one on. So no door keeps

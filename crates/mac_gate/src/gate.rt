@@ -8,7 +8,6 @@ use crate::welcoming::start_welcoming;
 use mac_board::Followers;
 use mac_daemon::Guests;
 use std::alloc::{AllocError, Global};
-use std::fs::File;
 use std::io;
 use std::net::Net;
 use std::random::RandomSource;
@@ -47,8 +46,6 @@ impl From<io::Error> for GateFault {
 #[derive(Drop)]
 pub struct Gate {
     house: Arc<House, Global>,
-    // No other process has the paths as long as these are kept.
-    _locks: Vec<File>,
 }
 
 /// Has the connections that come in through these doors served. The daemon counts them as guests.
@@ -63,17 +60,14 @@ pub fn open_gate<R>(
 where
     R: Net + Threads + Wait + Clock + RandomSource + Sync + Copy + Send + 'static,
 {
-    let Doors { doors, locks } = doors;
+    let Doors { doors } = doors;
     let (entrance, waker) = Entrance::open(rt, alloc, doors)?;
     let house = House::new(alloc, terms, guests, waker)?;
     let own = Arc::try_clone(&house)?;
     if !start_welcoming(*rt, alloc, entrance, own, followers, terms) {
         return Err(GateFault::NoThread);
     }
-    Ok(Gate {
-        house,
-        _locks: locks,
-    })
+    Ok(Gate { house })
 }
 
 impl Gate {

@@ -1,10 +1,13 @@
 //! What the threads of a gate share: its connections, and whether it ends.
 
 use crate::line::Line;
+use crate::noting::exchange_of;
 use crate::places::Places;
 use crate::serving::Terms;
-use mac_count::{Number, Told, append_metrics, append_status, append_version};
+use http::StatusCode;
+use mac_count::{Number, Request, append_metrics, append_status, append_version};
 use mac_daemon::Guests;
+use mac_http::Noted;
 use mio::Waker;
 use std::alloc::{AllocError, Global};
 use std::sync::atomic::AtomicBool;
@@ -73,9 +76,22 @@ impl House {
         self.guests.append_connections(rt, self.alloc, text)
     }
 
-    /// Counts a verify by what it was told.
-    pub fn count_verify(&self, told: Told) {
-        self.guests.count_verify(told);
+    /// Counts a request that was answered.
+    pub fn count_request(&self, request: Request) {
+        self.guests.count_request(request);
+    }
+
+    /// Logs a request and the status that it was answered with, where requests are logged. Without
+    /// memory for its name it isn't logged.
+    pub fn tell_request<R: Wait + Clock>(&self, rt: &R, noted: Noted<'_>, status: StatusCode) {
+        if !self.guests.has_requests() {
+            return;
+        }
+        let Ok(name) = Vec::from_slice(self.alloc, noted.name) else {
+            return;
+        };
+        self.guests
+            .tell_exchange(rt, exchange_of(noted.asks, name, status));
     }
 
     /// Whether the last key file that its daemon read was refused.

@@ -11,6 +11,7 @@ mod entrance;
 mod gate;
 mod house;
 mod line;
+mod noting;
 mod patience;
 mod places;
 mod serving;

@@ -9,7 +9,8 @@ use std::io;
 use std::io::ErrorKind;
 use std::time::{Clock, Duration, Instant};
 
-/// Drops a peer that brings no whole request in time, and an idle one once its gate ends.
+/// Drops a peer that brings no whole request in time. Once its gate ends, nothing more is read than
+/// what has come.
 #[derive(Drop)]
 pub struct Patience<'a, R> {
     rt: &'a R,
@@ -18,6 +19,10 @@ pub struct Patience<'a, R> {
     limit: Duration,
     // When the last response was written, or the connection began.
     since: Instant,
+    // Whether nothing was read since.
+    is_fresh: bool,
+    // Whether a read waits for the whole limit.
+    is_whole: bool,
 }
 
 impl<'a, R: Clock> Patience<'a, R> {
@@ -36,23 +41,47 @@ impl<'a, R: Clock> Patience<'a, R> {
             house,
             limit,
             since: Instant::now(rt)?,
+            is_fresh: true,
+            is_whole: false,
         })
     }
-}
 
-impl<'a, R: Clock> Watch for Patience<'a, R> {
-    fn before_read(&mut self) -> io::Result<()> {
-        if self.house.is_ending() && self.line.is_idle() {
-            return Err(ErrorKind::ConnectionAborted.into());
+    /// Bounds the first read behind a response: by the whole limit, of which the system is told
+    /// once for many requests.
+    fn limit_first(&mut self) -> io::Result<()> {
+        self.is_fresh = false;
+        if self.is_whole {
+            return Ok(());
         }
+        self.is_whole = true;
+        self.line.stream().limit_reads(self.limit)
+    }
+
+    /// Bounds a further read by what is left.
+    fn limit_next(&mut self) -> io::Result<()> {
+        self.is_whole = false;
         match left_of(self.limit, self.since.elapsed(self.rt)?) {
             Some(left) => self.line.stream().limit_reads(left),
             None => Err(ErrorKind::TimedOut.into()),
         }
     }
+}
+
+impl<'a, R: Clock> Watch for Patience<'a, R> {
+    fn before_read(&mut self) -> io::Result<()> {
+        if self.house.is_ending() {
+            self.line.end_if_idle();
+        }
+        if self.is_fresh {
+            self.limit_first()
+        } else {
+            self.limit_next()
+        }
+    }
 
     fn after_write(&mut self) -> io::Result<()> {
         self.since = Instant::now(self.rt)?;
+        self.is_fresh = true;
         self.line.rest();
         Ok(())
     }

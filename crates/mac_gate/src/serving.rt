@@ -70,12 +70,12 @@ where
 }
 
 /// Serves a connection to its end.
-fn serve_line<R: Clock + RandomSource>(
-    rt: &R,
+fn serve_line<'x, R: Wait + Clock + RandomSource>(
+    rt: &'x R,
     alloc: Global,
-    line: &Line,
+    line: &'x Line,
     keys: Follower,
-    house: &House,
+    house: &'x House,
     terms: Terms,
 ) -> io::Result<()> {
     let secrets = RandomState::new(rt)?;

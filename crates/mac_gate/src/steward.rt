@@ -1,10 +1,12 @@
 //! What the pages of the HTTP face tell of the daemon.
 
 use crate::house::House;
+use crate::noting::request_of;
 use crate::serving::Pages;
 use http::StatusCode;
-use mac_http::{Page, Steward, Told};
+use mac_http::{Noted, Page, Steward, Told};
 use std::alloc::AllocError;
+use std::sync::Wait;
 use std::time::Clock;
 
 /// Speaks for the daemon of a gate that has these pages.
@@ -25,7 +27,7 @@ impl Pages {
     }
 }
 
-impl<'a, R: Clock> Steward for Speaker<'a, R> {
+impl<'a, R: Wait + Clock> Steward for Speaker<'a, R> {
     fn is_ending(&self) -> bool {
         self.house.is_ending()
     }
@@ -43,8 +45,11 @@ impl<'a, R: Clock> Steward for Speaker<'a, R> {
         Ok(Told::Well)
     }
 
-    fn note(&self, status: StatusCode) {
-        self.house.count_verify(told_by(status));
+    fn note(&self, noted: Noted<'_>, status: StatusCode) {
+        if let Some(request) = request_of(noted.asks, status) {
+            self.house.count_request(request);
+        }
+        self.house.tell_request(self.rt, noted, status);
     }
 }
 
@@ -60,15 +65,4 @@ fn tell_health(house: &House, text: &mut Vec<u8>) -> Result<Told, AllocError> {
     }
     text.extend_from_slice(b"ok\n")?;
     Ok(Told::Well)
-}
-
-/// What a verify was told by a status.
-fn told_by(status: StatusCode) -> mac_count::Told {
-    if status == StatusCode::OK || status == StatusCode::NO_CONTENT {
-        mac_count::Told::Granted
-    } else if status == StatusCode::FORBIDDEN {
-        mac_count::Told::Unsatisfied
-    } else {
-        mac_count::Told::Refused
-    }
 }

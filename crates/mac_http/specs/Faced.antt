@@ -3,31 +3,48 @@ use Rattle.std.specs.Prelude.{◌≡◌, ◌⊎◌, ℕ, Bool, List, [], ◌∷�
 use Rattle.std.specs.Io.KnownBytes.{Appends, Consumes}
 use Rattle.std.specs.List.{AllZip}
 use Rattle.http.specs.Request.{head_of}
-use Rattle.http.specs.declared.request.Parts.{Parts}
-use Rattle.http_server.specs.Exchange.{Call}
+use Rattle.http.specs.declared.request.Request.{Request}
+use Rattle.http_server.specs.Exchange.{Call as Exchanged}
 use Rattle.http_server.specs.History.{History, IsServed}
 use Rattle.http_server.specs.Response.{fields_of}
 use Rattle.http_server.specs.declared.response.Response.{Response}
 use Rattle.http_uri.specs.Uri.{uri_path}
 use Rattle.mac_board.specs.Follows.{Known, Takes}
+use Rattle.mac_calls.specs.declared.call.Call.{Call}
 use Rattle.mac_keys.specs.Table.{Table}
 use Rattle.mac_http.specs.declared.attending.TheConstants.{CONFIG}
 use Rattle.mac_http.specs.declared.page.Page.{Page}
 use Rattle.mac_http.specs.declared.rules.Rules.{Rules}
+use Rattle.mac_http.specs.Calling.{RespondsToCall, call_in}
 use Rattle.mac_http.specs.Found.{found_of}
 use Rattle.mac_http.specs.Page.{TellsPage, page_in}
 use Rattle.mac_http.specs.Saying.{Responds}
 
+-- the response to a request whose path names no page: to this call, or to a verify
+abbrev pub IsAnswerToCall : Option (Call × List ℕ) → Table → Rules → Option ℕ
+    → Request (List ℕ) → Response → Type 0
+IsAnswerToCall (Some asked) table rules moment request response =
+    RespondsToCall table asked request response
+IsAnswerToCall None table rules moment request response =
+    Responds rules.granted (found_of table rules.sources moment (head_of request)) response
+
+-- the same, to the call that the path asks for, if the rules allow it
+abbrev pub IsPlainAnswer : Table → Rules → Option ℕ → Request (List ℕ) → Response → Type 0
+IsPlainAnswer table rules moment request =
+    IsAnswerToCall (call_in rules.calls (uri_path (head_of request).uri))
+    table rules moment request
+
 -- the response to a request whose path names this page, or none
-abbrev pub IsAnswerTo : Option Page → Table → Rules → Option ℕ → Parts → Response → Type 0
-IsAnswerTo (Some page) table rules moment head response = TellsPage response
-IsAnswerTo None table rules moment head response =
-    Responds rules.granted (found_of table rules.sources moment head) response
+abbrev pub IsAnswerTo : Option Page → Table → Rules → Option ℕ → Request (List ℕ) → Response
+    → Type 0
+IsAnswerTo (Some page) table rules moment request response = TellsPage response
+IsAnswerTo None table rules moment request response =
+    IsPlainAnswer table rules moment request response
 
 -- the response is the one that comes of the request under the keys at the moment
-abbrev pub IsAnswer : Table → Rules → Option ℕ → Parts → Response → Type 0
-IsAnswer table rules moment head =
-    IsAnswerTo (page_in (uri_path head.uri)) table rules moment head
+abbrev pub IsAnswer : Table → Rules → Option ℕ → Request (List ℕ) → Response → Type 0
+IsAnswer table rules moment request =
+    IsAnswerTo (page_in (uri_path (head_of request).uri)) table rules moment request
 
 -- the response is the first one, and may tell besides that the connection is closed
 pub record MayClose (plain response : Response) : Type 0 where
@@ -37,9 +54,9 @@ pub record MayClose (plain response : Response) : Type 0 where
       ⊎ (fields_of response ≡ fields_of plain ++ (codes "connection", codes "close") ∷ [])
 
 -- the same, where the connection may be closed behind it
-abbrev pub IsRight : Rules → Table × Option ℕ → Call → Type 0
+abbrev pub IsRight : Rules → Table × Option ℕ → Exchanged → Type 0
 IsRight rules under c = (plain : Response)
-    × IsAnswer under.0 rules under.1 (head_of c.0) plain × MayClose plain c.1
+    × IsAnswer under.0 rules under.1 c.0 plain × MayClose plain c.1
 
 -- What was written are HTTP's answers to the requests that were read, in order. For each call of
 -- the service there was one look at the tables and one at the clock, and the response is right under

@@ -1,12 +1,13 @@
 //! The service of one connection.
 
 ghost use Rattle.std.specs.Prelude.{◌≡◌, [], ◌++◌, ◌∷◌, ℕ, Option};
-ghost use Rattle.http.specs.Request.{head_of};
 ghost use Rattle.http_server.specs.Response.{IsBlank};
 ghost use Rattle.mac_board.specs.Follows.{IsUp, Looks};
 ghost use Rattle.mac_keys.specs.Table.{Table};
-ghost use Rattle.mac_http.specs.Faced.{IsAnswer, IsRight};
+ghost use Rattle.mac_http.specs.Faced.{IsAnswer, IsPlainAnswer, IsRight};
 
+use crate::calling::{call_in, respond_to_call};
+use crate::noted::{note_of_call, note_of_path};
 use crate::page::{Steward, announce_close, page_in, tell_page};
 use crate::rules::Rules;
 use crate::saying::respond;
@@ -89,13 +90,37 @@ fn answer<S: Steward>(
     response: &mut Response,
 )
     requires { IsBlank response.old }
-    ensures { IsAnswer keys.now rules moment (head_of request.now) response.new }
+    ensures { IsAnswer keys.now rules moment request.now response.new }
 {
     match page_in(request.uri().path().as_bytes()) {
         Some(page) => tell_page(alloc, steward, page, response),
+        None => answer_plain(alloc, keys, rules, moment, steward, request, response),
+    }
+}
+
+/// Fills a blank response with what comes of a request that names no page: of a call that is
+/// allowed, or of a verify. Either is noted.
+fn answer_plain<S: Steward>(
+    alloc: Global,
+    keys: &KeyTable,
+    rules: Rules,
+    moment: Option<u64>,
+    steward: &S,
+    request: &Request<Bytes>,
+    response: &mut Response,
+)
+    requires { IsBlank response.old }
+    ensures { IsPlainAnswer keys.now rules moment request.now response.new }
+{
+    match call_in(rules.calls, request.uri().path().as_bytes()) {
+        Some(asked) => {
+            respond_to_call(alloc, keys, asked, request, response);
+            steward.note(note_of_call(asked), response.status);
+        }
         None => {
             respond(alloc, keys, rules, moment, request, response);
-            steward.note(response.status);
+            let noted = note_of_path(request.uri().path().as_bytes());
+            steward.note(noted, response.status);
         }
     }
 }

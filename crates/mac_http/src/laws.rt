@@ -1,9 +1,13 @@
 //! Laws of the definitions, as functions whose contracts state them.
 
-ghost use Rattle.std.specs.Prelude.{◌≡◌, ◌↔◌, ◌<◌, ℕ, List, Option, Contains, All, Some, true, false};
+ghost use Rattle.std.specs.Prelude.{◌≡◌, ◌↔◌, ◌<◌, ◌++◌, ◌⊎◌, [], ℕ, List, Option, Some, codes};
+ghost use Rattle.std.specs.Prelude.{All, Contains, true, false};
+ghost use Rattle.http.specs.Request.{head_of};
 ghost use Rattle.http.specs.declared.request.Parts.{Parts};
+ghost use Rattle.http.specs.declared.request.Request.{Request as PlainRequest};
 ghost use Rattle.http_server.specs.declared.response.Response.{Response};
-ghost use Rattle.http_server.specs.Response.{fields_of};
+ghost use Rattle.http_server.specs.Response.{IsResponse, fields_of};
+ghost use Rattle.http_uri.specs.Uri.{uri_path};
 ghost use Rattle.mac_decide.specs.Reading.{verdict_of};
 ghost use Rattle.mac_keys.specs.Table.{Table, listed};
 ghost use Rattle.mac_keys.specs.declared.keys.Keys.{Keys};
@@ -12,12 +16,14 @@ ghost use Rattle.percent_encoding.specs.Percent.{percent_decode};
 ghost use Rattle.mac_http.specs.declared.authorization.Scheme.{Scheme as PlainScheme};
 ghost use Rattle.mac_http.specs.declared.finding.Finding.{Finding as PlainFinding};
 ghost use Rattle.mac_http.specs.declared.rules.Granted.{Granted as PlainGranted};
+ghost use Rattle.mac_http.specs.declared.rules.Rules.{Rules as PlainRules};
 ghost use Rattle.mac_http.specs.declared.rules.Sources.{Sources as PlainSources};
 ghost use Rattle.mac_http.specs.Escaped.{escaped};
+ghost use Rattle.mac_http.specs.Faced.{IsAnswer};
 ghost use Rattle.mac_http.specs.Facts.{are_few, facts_of, tells_unsafe};
 ghost use Rattle.mac_http.specs.Found.{found_of, found_with, context_of, IsGrantedBy};
 ghost use Rattle.mac_http.specs.Path.{steps, IsStep};
-ghost use Rattle.mac_http.specs.Saying.{Tells};
+ghost use Rattle.mac_http.specs.Saying.{IsOverloaded, Tells};
 
 use crate::finding::Finding;
 
@@ -35,6 +41,17 @@ pub fn response_tells_the_finding()
     ensures { (granted : PlainGranted) (f : PlainFinding) (r s : Response)
         → Tells granted f r → Tells granted f s
         → (r.status ≡ s.status) × (fields_of r ≡ fields_of s) × (r.body.items ≡ s.body.items) }
+{}
+
+/// Where a mint isn't allowed, a path below `/mint/` is answered with a bare 404, or a response
+/// that tells that there was no memory.
+pub fn no_mint_unless_allowed()
+    ensures { (table : Table) (rules : PlainRules) (moment : Option ℕ)
+        (request : PlainRequest (List ℕ)) (below : List ℕ) (response : Response)
+        → rules.calls.mint ≡ false
+        → uri_path (head_of request).uri ≡ codes "/mint/" ++ below
+        → IsAnswer table rules moment request response
+        → IsResponse 404 [] [] response ⊎ IsOverloaded response }
 {}
 
 /// Facts are told by the verdict alone: where two requests with one token under one name's keys

@@ -3,18 +3,21 @@
 //!
 //! [`Face`] is a [`Service`](http_server::Service): the path names a key, `Authorization` brings
 //! the token, the [`Sources`] that are named bring facts, and [`Moments`](mac_board::Moments) the
-//! moment. A [`Steward`] fills the pages that tell of the daemon. [`attend`] serves it all over a
-//! reader and a writer. No sockets are opened here.
+//! moment. A [`Steward`] fills the pages that tell of the daemon. The [`Calls`] that are allowed
+//! bring JSON, which `mac_calls` answers. [`attend`] serves it all over a reader and a writer. No
+//! sockets are opened here.
 #![tactic(auto)]
 
 mod attending;
 mod authorization;
+mod calling;
 mod counted;
 mod escaped;
 mod face;
 mod facts;
 mod finding;
 pub mod laws;
+mod noted;
 mod page;
 mod path;
 mod rules;
@@ -26,7 +29,8 @@ pub use authorization::Scheme;
 pub use counted::FACT_MAX;
 pub use face::Face;
 pub use finding::{Finding, find};
+pub use noted::{Asks, Noted};
 pub use page::{Page, Steward, Told};
 pub use path::{PATH_MAX, SEGMENTS_MAX};
-pub use rules::{Granted, Rules, Sources};
+pub use rules::{Calls, Granted, Rules, Sources};
 pub use saying::respond;

@@ -5,6 +5,7 @@ ghost use Rattle.http_server.specs.Response.{IsBlank, IsResponse};
 ghost use Rattle.mac_http.specs.Faced.{MayClose};
 ghost use Rattle.mac_http.specs.Page.{TellsPage, is_text, page_in};
 
+use crate::noted::Noted;
 use bytes::BufMut;
 use http::StatusCode;
 use http::header::{CONNECTION, CONTENT_TYPE, HeaderValue};
@@ -53,7 +54,7 @@ pub trait Steward {
     fn tell(&self, page: Page, text: &mut Vec<u8>) -> Result<Told, AllocError>;
 
     /// A request for anything but a page was answered with this status.
-    fn note(&self, status: StatusCode);
+    fn note(&self, noted: Noted<'_>, status: StatusCode);
 }
 
 /// The page that a path names.

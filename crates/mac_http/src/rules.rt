@@ -22,11 +22,40 @@ pub enum Granted {
     NoContent,
 }
 
+/// The calls that a face answers besides. Whoever may connect may call, so none is allowed by
+/// default.
+#[derive(Clone, Copy, PartialEq, Eq)]
+pub struct Calls {
+    /// New tokens, under each name's first key.
+    pub mint: bool,
+    /// Tokens with further caveats.
+    pub attenuate: bool,
+    /// What tokens say.
+    pub inspect: bool,
+}
+
+impl Calls {
+    ghost use Rattle.std.specs.Prelude.{◌≡◌};
+    ghost use Rattle.mac_http.specs.Calling.{no_calls};
+
+    /// No call at all.
+    pub fn none() -> Calls
+        ensures { result ≡ no_calls }
+    {
+        Calls {
+            mint: false,
+            attenuate: false,
+            inspect: false,
+        }
+    }
+}
+
 /// What a face does with a request.
 #[derive(Clone, Copy, PartialEq, Eq)]
 pub struct Rules {
     pub sources: Sources,
     pub granted: Granted,
+    pub calls: Calls,
 }
 
 impl Granted {

@@ -107,6 +107,7 @@ safe-key key.Cause = refl
 safe-key key.Asks = refl
 safe-key key.Name = refl
 safe-key key.Verdict = refl
+safe-key key.Code = refl
 safe-key key.Unsent = refl
 safe-key key.Form = refl
 
@@ -122,6 +123,7 @@ printed-kind_bytes kind.LimitReached = refl
 printed-kind_bytes kind.LimitLow = refl
 printed-kind_bytes kind.AcceptFault = refl
 printed-kind_bytes kind.Request = refl
+printed-kind_bytes kind.Replaced = refl
 printed-kind_bytes kind.Drain = refl
 printed-kind_bytes kind.End = refl
 printed-kind_bytes kind.LeftOut = refl

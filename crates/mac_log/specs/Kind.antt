@@ -1,5 +1,5 @@
 -- What lines tell of: the word of each kind, and how grave it is.
-use Rattle.std.specs.Prelude.{ℕ, List, codes}
+use Rattle.std.specs.Prelude.{ℕ, Bool, List, codes, false, true}
 use Rattle.mac_log.specs.declared.kind.Kind.{Kind}
 use Rattle.mac_log.specs.declared.kind.Kind.TheVariants as kind
 use Rattle.mac_log.specs.declared.level.Level.{Level}
@@ -18,6 +18,7 @@ kind_word kind.LimitReached = codes "limit_reached"
 kind_word kind.LimitLow = codes "limit_low"
 kind_word kind.AcceptFault = codes "accept_fault"
 kind_word kind.Request = codes "request"
+kind_word kind.Replaced = codes "replaced"
 kind_word kind.Drain = codes "drain"
 kind_word kind.End = codes "end"
 kind_word kind.LeftOut = codes "left_out"
@@ -36,6 +37,12 @@ kind_level kind.LimitReached = Warning
 kind_level kind.LimitLow = Warning
 kind_level kind.AcceptFault = Error
 kind_level kind.Request = Info
+kind_level kind.Replaced = Info
 kind_level kind.Drain = Info
 kind_level kind.End = Info
 kind_level kind.LeftOut = Warning
+
+-- whether few of its lines are printed in a second
+abbrev pub is_bounded : Kind → Bool
+is_bounded kind.Request = false
+is_bounded _ = true

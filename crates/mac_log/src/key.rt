@@ -46,6 +46,8 @@ pub enum Key {
     Name,
     /// What a request was answered.
     Verdict,
+    /// The number of a refusal.
+    Code,
     /// How many bytes a peer hasn't taken.
     Unsent,
     /// Which of several ways something has.
@@ -78,6 +80,7 @@ impl Key {
             Key::Asks => "asks",
             Key::Name => "name",
             Key::Verdict => "verdict",
+            Key::Code => "code",
             Key::Unsent => "unsent",
             Key::Form => "form",
         }

@@ -1,12 +1,12 @@
 //! What lines tell of.
 
 ghost use Rattle.std.specs.Prelude.{◌≡◌, ◌<◌};
-ghost use Rattle.mac_log.specs.Kind.{kind_level, kind_word};
+ghost use Rattle.mac_log.specs.Kind.{is_bounded, kind_level, kind_word};
 
 use crate::level::Level;
 
 /// How many kinds of lines there are.
-pub const KINDS: usize = 14;
+pub const KINDS: usize = 15;
 
 /// What a line tells of.
 #[derive(Clone, Copy, Debug, PartialEq, Eq)]
@@ -33,6 +33,8 @@ pub enum Kind {
     AcceptFault,
     /// A request was answered.
     Request,
+    /// Another daemon's socket is in the place of the daemon's own.
+    Replaced,
     /// The daemon was told to end, and answers what it has read.
     Drain,
     /// The daemon ends.
@@ -55,6 +57,7 @@ impl Kind {
         Kind::LimitLow,
         Kind::AcceptFault,
         Kind::Request,
+        Kind::Replaced,
         Kind::Drain,
         Kind::End,
         Kind::LeftOut,
@@ -76,6 +79,7 @@ impl Kind {
             Kind::LimitLow => "limit_low",
             Kind::AcceptFault => "accept_fault",
             Kind::Request => "request",
+            Kind::Replaced => "replaced",
             Kind::Drain => "drain",
             Kind::End => "end",
             Kind::LeftOut => "left_out",
@@ -98,9 +102,18 @@ impl Kind {
             | Kind::KeysRead
             | Kind::ConnectionIdle
             | Kind::Request
+            | Kind::Replaced
             | Kind::Drain
             | Kind::End => Level::Info,
         }
+    }
+
+    /// Whether few of its lines are printed in a second. Of requests each is, where that was asked
+    /// for.
+    pub fn is_bounded(self) -> bool
+        ensures { result ≡ is_bounded self }
+    {
+        self != Kind::Request
     }
 
     /// Its place among the kinds.

@@ -2,8 +2,8 @@
 //! happened.
 //!
 //! Who posts a line never waits for who reads it: one thread prints what waits in a bounded queue.
-//! Of each kind at most ten lines a second are printed, and then one that says how many were left
-//! out. No value can end a line or pass for a key of it ([`laws`]).
+//! Of each kind but that of requests at most ten lines a second are printed, and then one that says
+//! how many were left out. No value can end a line or pass for a key of it ([`laws`]).
 #![tactic(auto)]
 
 mod clock;

@@ -15,7 +15,7 @@ use std::time::{Clock, Duration};
 use std::{array, thread};
 
 /// The most lines that wait to be printed.
-pub const WAITING_MAX: usize = 256;
+pub const WAITING_MAX: usize = 1_024;
 
 /// How many milliseconds a look at what waits is behind the one before, while lines are left out
 /// of which nobody was told yet, and while somebody waits for the last line.

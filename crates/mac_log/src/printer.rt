@@ -14,7 +14,8 @@ use std::thread;
 use std::thread::Threads;
 use std::time::{Clock, Instant};
 
-/// What prints lines on standard error: of each kind ten a second, and then how many were left out.
+/// What prints lines on standard error: of each bounded kind ten a second, and then how many were
+/// left out.
 #[derive(Drop)]
 struct Printer {
     alloc: Global,
@@ -51,13 +52,23 @@ impl Printer {
             let Some(line) = log.next(rt) else {
                 return;
             };
-            if let Some(count) = self.quotas[line.kind.place()].admit(now) {
+            if let Some(count) = self.admit(line.kind, now) {
                 if count > 0 {
                     self.print_left_out(rt, line.kind, line.millis, count);
                 }
                 self.print(rt, &line);
             }
             log.settle_one();
+        }
+    }
+
+    /// Whether a line of a kind may be printed now: how many were left out of which is to be told
+    /// in front of it.
+    fn admit(&mut self, kind: Kind, now: u64) -> Option<u64> {
+        if kind.is_bounded() {
+            self.quotas[kind.place()].admit(now)
+        } else {
+            Some(0)
         }
     }
 

@@ -14,6 +14,7 @@ mod looping;
 mod members;
 mod meter;
 mod port;
+mod transcript;
 mod watch;
 
 pub use fault::LoopFault;
@@ -22,4 +23,5 @@ pub use inbox::Loops;
 pub use looping::{Loop, make_loops};
 pub use meter::microseconds;
 pub use port::{SocketPort, Traffic};
+pub use transcript::{Exchange, Transcript};
 pub use watch::{PlainFault, Turn, Watch};

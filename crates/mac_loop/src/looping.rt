@@ -280,6 +280,7 @@ impl Loop {
         loops: &Loops,
         watch: &W,
     ) {
+        self.tell_exchanges(rt, slot, &client, watch);
         if client.is_over() {
             loops.count_unsent(client.unsent(), 0);
             let life = self.members.life(slot, &client);
@@ -296,6 +297,22 @@ impl Loop {
         watch.see(self.members.life(slot, &client), client.unsent());
         self.note_turn(slot, &mut client, unsent_max);
         self.members.put(slot, client);
+    }
+
+    /// Tells the replies that have gone out to a client, where they are logged.
+    fn tell_exchanges<R: Wait + Clock, W: Watch>(
+        &self,
+        rt: &R,
+        slot: usize,
+        client: &Client<SocketPort>,
+        watch: &W,
+    ) {
+        for _ in rt.forever() {
+            let Some(exchange) = client.port().next_exchange() else {
+                return;
+            };
+            watch.tell(rt, self.members.badge(slot), exchange);
+        }
     }
 
     /// A client that leaves its slot and the loop's poll.

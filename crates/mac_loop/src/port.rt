@@ -3,10 +3,12 @@
 ghost use Rattle.std.specs.Prelude.{length};
 ghost use Rattle.mac_plain.specs.Port.{FitsCame, FitsWent};
 
+use crate::transcript::{Exchange, Transcript};
 use mac_plain::{Came, Port, Went};
 use mio::net::UnixStream;
 use mio::unix::SourceFd;
 use mio::{Interest, Registry, Token};
+use std::cell::RefCell;
 use std::io;
 use std::io::{ErrorKind, Read, Write};
 use std::net::Shutdown;
@@ -50,29 +52,52 @@ pub struct SocketPort {
     // Whether the last read gave bytes.
     has_read: bool,
     traffic: Traffic,
+    // What comes and goes on it, where that is logged.
+    transcript: Option<RefCell<Transcript>>,
 }
 
 impl SocketPort {
-    /// A port at a stream, whose reads and writes wait no more.
-    pub fn new(stream: net::UnixStream) -> io::Result<SocketPort> {
+    /// A port at a stream, whose reads and writes wait no more, and which goes on with a transcript
+    /// where there is one.
+    pub fn new(stream: net::UnixStream, transcript: Option<Transcript>) -> io::Result<SocketPort> {
         stream.set_nonblocking(true)?;
         Ok(SocketPort {
             stream: UnixStream::from_std(stream),
             has_read: false,
             traffic: Traffic::NONE,
+            transcript: transcript.map(|transcript| RefCell::new(transcript)),
         })
     }
 
-    /// The stream, whose reads and writes wait again.
-    pub fn into_stream(self) -> io::Result<net::UnixStream> {
+    /// The stream, whose reads and writes wait again, and the transcript.
+    pub fn into_stream(self) -> io::Result<(net::UnixStream, Option<Transcript>)> {
         let SocketPort {
             stream,
             has_read: _,
             traffic: _,
+            transcript,
         } = self;
         let stream = net::UnixStream::from(stream);
         stream.set_nonblocking(false)?;
-        Ok(stream)
+        Ok((stream, transcript.map(|transcript| transcript.into_inner())))
+    }
+
+    /// The next request whose reply has gone out whole, where that is logged.
+    pub fn next_exchange(&self) -> Option<Exchange> {
+        let transcript = self.transcript.as_ref()?;
+        let mut transcript = transcript.try_borrow_mut().ok()?;
+        transcript.next_exchange()
+    }
+
+    /// Takes note of bytes that came, or went.
+    fn note(&self, came: &[u8], went: &[u8]) {
+        let Some(transcript) = &self.transcript else {
+            return;
+        };
+        if let Ok(mut transcript) = transcript.try_borrow_mut() {
+            transcript.hear(came);
+            transcript.speak(went);
+        }
     }
 
     /// Whether the last read gave bytes.
@@ -129,6 +154,7 @@ impl Port for SocketPort {
         self.has_read = matches!(came, Came::Bytes(_));
         if let Came::Bytes(count) = came {
             self.traffic.came = self.traffic.came.saturating_add(count as u64);
+            self.note(buf.get(..count).unwrap_or(&[]), &[]);
         }
         came
     }
@@ -137,6 +163,7 @@ impl Port for SocketPort {
         let went = write_past_signals(&mut self.stream, buf);
         if let Went::Bytes(count) = went {
             self.traffic.went = self.traffic.went.saturating_add(count as u64);
+            self.note(&[], buf.get(..count).unwrap_or(&[]));
         }
         went
     }

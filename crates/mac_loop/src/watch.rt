@@ -1,7 +1,8 @@
 //! What loops ask of the daemon around them.
 
-use crate::handover::{Handover, Life};
+use crate::handover::{Badge, Handover, Life};
 use crate::port::{SocketPort, Traffic};
+use crate::transcript::Exchange;
 use mac_count::REQUESTS;
 use mac_plain::{Client, Course, Ended, Fall};
 use std::sync::Wait;
@@ -62,6 +63,9 @@ pub trait Watch: Send + Sync {
 
     /// A turn has ended.
     fn count(&self, turn: &Turn);
+
+    /// A client of this badge was sent the reply to a request, and that is logged.
+    fn tell<R: Wait + Clock>(&self, rt: &R, badge: Badge, exchange: Exchange);
 
     /// A client that stays has had a turn, and so many bytes are unsent.
     fn see(&self, life: Life, unsent: usize);

@@ -11,7 +11,7 @@ use Rattle.clap.specs.Takes.{is_given}
 use Rattle.clap.specs.Simple.{App, HasMatchesOf, Shape, argument_words, built, built_leaf, entered, inherited, label_of, marked_built, names_of, rows_at, subcommand_of, subcommand_rows_of, with_leaf_noted}
 use Rattle.clap.specs.Faults.{check_fault, defaults_fault, entered_fault, fault_of, level_fault, settle_fault, walk_fault}
 use Rattle.clap.specs.declared.builder.action.ArgAction.{ArgAction}
-use Rattle.clap.specs.declared.builder.action.ArgAction.TheVariants.{Set, Help}
+use Rattle.clap.specs.declared.builder.action.ArgAction.TheVariants.{Set, SetTrue, Help}
 use Rattle.clap.specs.declared.builder.range.ValueRange.{ValueRange}
 use Rattle.clap.specs.declared.builder.value_parser.Reading.{Reading}
 use Rattle.clap.specs.declared.builder.value_parser.Reading.TheVariants.{AsWritten}
@@ -38,40 +38,57 @@ listen = built_leaf (inherited (with_leaf_noted (marked_built command_line.top))
 
 -- what is looked at of an argument
 abbrev Looks : Type 0
-Looks = ArgAction × Option ValueRange × Option ℕ × List Text × Option ℕ × List ℕ × Reading × Option Rule
+Looks = ArgAction × Option ValueRange × Option ℕ × List Text × Option ℕ × List ℕ × Reading × Option Rule × List Text
 
 abbrev looks : List Rule → Rule → Looks
-looks c a = (action_of a, a.range, a.index, a.defaults, a.short, a.short_aliases, reading_by a, arg_by_id c a.id)
+looks c a = (action_of a, a.range, a.index, a.defaults, a.short, a.short_aliases, reading_by a, arg_by_id c a.id, a.missing)
 
--- and how it should look: `--help` apart, it takes one value, has no letter, and has the id to itself
+-- and how it should look: `--help` apart, it is a flag or takes one value, has no letter, and has the id to itself
 abbrev due : ArgAction → List Rule → Rule → Looks
-due Help c a = (Help, Some no_value, None, [], a.short, a.short_aliases, reading_by a, arg_by_id c a.id)
-due _ c a = (Set, Some one_value, None, [], None, [], AsWritten, Some a)
+due Help c a = (Help, Some no_value, None, [], a.short, a.short_aliases, reading_by a, arg_by_id c a.id, a.missing)
+due SetTrue c a = (SetTrue, Some no_value, None, codes "false" ∷ [], None, [], AsWritten, Some a, codes "true" ∷ [])
+due _ c a = (Set, Some one_value, None, [], None, [], AsWritten, Some a, a.missing)
 
 looks_known : (c : List Rule) (a : Rule) → looks c a ≡ due (action_of a) c a → IsKnown c a
 looks_known c a same = go (action_of a) same
   where
+    letters : a.short ≡ None → a.short_aliases ≡ [] → (x : ℕ) → has_short a x ≡ false
+    letters none others x = ap₂ (λ (s : Option ℕ) (more : List ℕ). option_map_or (λ k. k == x) s false || list_any (λ k. k == x) more) none others
+
+    flag : looks c a ≡ due SetTrue c a → IsKnown c a
+    flag e =
+        inr (inl (record {
+          action = ap (λ (l : Looks). l.0) e;
+          range = ap (λ (l : Looks). l.1) e;
+          index = ap (λ (l : Looks). l.2) e;
+          defaults = ap (λ (l : Looks). l.3) e;
+          missing = ap (λ (l : Looks). l.8) e;
+          short = letters (ap (λ (l : Looks). l.4) e) (ap (λ (l : Looks). l.5) e);
+          reading = ap (λ (l : Looks). l.6) e;
+          own = ap (λ (l : Looks). l.7) e;
+        }))
+
     option : looks c a ≡ due Set c a → IsKnown c a
     option e =
-        let letters : (x : ℕ) → has_short a x ≡ false = λ x. ap₂ (λ (s : Option ℕ) (more : List ℕ). option_map_or (λ k. k == x) s false || list_any (λ k. k == x) more) (ap (λ (l : Looks). l.4) e) (ap (λ (l : Looks). l.5) e) in
         inl (record {
           action = ap (λ (l : Looks). l.0) e;
           range = ap (λ (l : Looks). l.1) e;
           index = ap (λ (l : Looks). l.2) e;
           defaults = ap (λ (l : Looks). l.3) e;
-          short = letters;
+          short = letters (ap (λ (l : Looks). l.4) e) (ap (λ (l : Looks). l.5) e);
           reading = ap (λ (l : Looks). l.6) e;
           own = ap (λ (l : Looks). l.7) e;
         })
 
     go : (x : ArgAction) → looks c a ≡ due x c a → IsKnown c a
     go Help e =
-        inr (record {
+        inr (inr (record {
           action = ap (λ (l : Looks). l.0) e;
           range = ap (λ (l : Looks). l.1) e;
           index = ap (λ (l : Looks). l.2) e;
           defaults = ap (λ (l : Looks). l.3) e;
-        })
+        }))
+    go SetTrue e = flag e
     go _ e = option e
 
 -- arguments that look so are known

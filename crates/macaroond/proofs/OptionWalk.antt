@@ -1,5 +1,5 @@
--- What `clap` finds in words that it takes, where a subcommand's arguments are options that take one value each.
-use Rattle.std.proofs.Common.{◌≡◌, ◌∙◌, ◌==◌, ◌⊎◌, ◌&&◌, inl, inr, ℕ, Bool, cond, true, false, refl, sym, ap, subst, arith, List, [], ◌∷◌, ◌++◌, length, not, Option, Some, None, is_some, append-nil}
+-- What `clap` finds in words that it takes, where a subcommand's arguments are flags, and options that take one value each.
+use Rattle.std.proofs.Common.{◌≡◌, ◌∙◌, ◌==◌, ◌⊎◌, ◌&&◌, ◌||◌, inl, inr, ℕ, Bool, cond, true, false, refl, sym, ap, subst, arith, List, [], ◌∷◌, ◌++◌, codes, length, not, Option, Some, None, is_some, append-nil}
 use Rattle.std.specs.Prelude.{if◌then◌else◌, drop, encode_utf8, find, slice_get, option_map}
 use Rattle.std.specs.List.{fold, list_any}
 use Rattle.std.specs.Option.{option_map_or}
@@ -10,19 +10,20 @@ use Rattle.clap.specs.Lexer.{long_of, short_of}
 use Rattle.clap.specs.Facts.{parser_of_value, unwrap_or_range}
 use Rattle.clap.specs.Values.{read_as, refused_kind}
 use Rattle.clap.specs.ValueTests.{accepts}
-use Rattle.clap.specs.Kinds.{Kinds, or_else, range_kinds, value_kinds, values_kinds}
-use Rattle.clap.specs.Walk.{Held, Outcome, Row, Rule, Step, Text, Waiting, Walk, action_of, after_flag, after_step, arg_by_id, arg_by_index, arg_by_long, arg_by_short, at_row, bundle, bundle_met, default_rows, first_of, has_long, has_row, has_short, idle, long_met, long_or_other, more_values, next, nothing_held, one_of, option, option_met, option_word, plain, plain_word, positional, reacted, reading_by, row_text, rows_after, settled, settled_rows, short_or_plain, subcommand, takes_values, trailing, used, used_as, used_by_id, value, values_or_missing, walk, walk_from, walked, walked_from, with_default, with_values, without, word_met}
+use Rattle.clap.specs.Kinds.{Kinds, or_else, range_kinds, request_kinds, value_kinds}
+use Rattle.clap.specs.Walk.{Held, Outcome, Row, Rule, Step, Text, Waiting, Walk, action_of, after_flag, after_step, arg_by_id, arg_by_index, arg_by_long, arg_by_short, at_row, bundle, bundle_met, default_rows, first_of, flag_met, has_long, has_row, has_short, idle, is_empty, long_met, long_or_other, more_values, next, nothing_held, one_of, option, option_met, option_word, plain, plain_word, positional, reacted, reading_by, row_text, rows_after, settled, settled_rows, short_or_plain, subcommand, takes_values, trailing, used, used_as, used_by_id, value, values_or_missing, walk, walk_from, walked, walked_from, with_default, with_values, without, word_met}
 use Rattle.clap.specs.Takes.{is_given}
 use Rattle.clap.specs.Simple.{Shape}
-use Rattle.clap.specs.Faults.{action_fault, bundle_fault, bundle_step_fault, defaults_fault, flag_word_fault, flags_fault, level_fault, long_fault, option_fault, react_fault, settle_fault, short_fault, step_fault, stray_fault, turn_fault, use_fault, walk_fault, word_fault}
+use Rattle.clap.specs.Faults.{action_fault, bundle_fault, bundle_step_fault, default_fault, defaults_fault, flag_word_fault, flags_fault, given_default_fault, level_fault, long_fault, option_fault, react_fault, set_fault, settle_fault, short_fault, step_fault, stray_fault, turn_fault, use_fault, values_fault, walk_fault, word_fault}
 use Rattle.clap.specs.declared.builder.action.ArgAction.{ArgAction}
-use Rattle.clap.specs.declared.builder.action.ArgAction.TheVariants.{Set, Help}
+use Rattle.clap.specs.declared.builder.action.ArgAction.TheVariants.{Set, SetTrue, Help}
 use Rattle.clap.specs.declared.builder.range.ValueRange.{ValueRange}
 use Rattle.clap.specs.declared.builder.value_parser.ValueParser.{ValueParser}
 use Rattle.clap.specs.declared.builder.value_parser.Reading.TheVariants.{AsWritten}
 use Rattle.clap.specs.declared.error.kind.ErrorKind.{ErrorKind}
 use Rattle.clap.specs.declared.error.kind.ErrorKind.TheVariants.{ArgumentConflict, DisplayHelp, InvalidSubcommand, MissingRequiredArgument, TooManyValues, UnknownArgument, WrongNumberOfValues}
-use Rattle.clap.specs.declared.parser.matches.ValueSource.TheVariants.{CommandLine}
+use Rattle.clap.specs.declared.parser.matches.ValueSource.{ValueSource}
+use Rattle.clap.specs.declared.parser.matches.ValueSource.TheVariants.{CommandLine, DefaultValue}
 use Rattle.clap.proofs.WalkLemmas.{bundle_ends}
 
 -- ---- lists of kinds
@@ -56,6 +57,17 @@ pub record IsOption (c : List Rule) (a : Rule) : Type 0 where
   pub reading : reading_by a ≡ AsWritten
   pub own : arg_by_id c a.id ≡ Some a
 
+-- a flag, which has the id to itself: its value is `true` where it is used, else `false`
+pub record IsFlag (c : List Rule) (a : Rule) : Type 0 where
+  pub action : action_of a ≡ SetTrue
+  pub range : a.range ≡ Some no_value
+  pub index : a.index ≡ None
+  pub defaults : a.defaults ≡ codes "false" ∷ []
+  pub missing : a.missing ≡ codes "true" ∷ []
+  pub short : (x : ℕ) → has_short a x ≡ false
+  pub reading : reading_by a ≡ AsWritten
+  pub own : arg_by_id c a.id ≡ Some a
+
 -- `--help`
 pub record IsHelp (a : Rule) : Type 0 where
   pub action : action_of a ≡ Help
@@ -64,7 +76,7 @@ pub record IsHelp (a : Rule) : Type 0 where
   pub defaults : a.defaults ≡ []
 
 abbrev pub IsKnown : List Rule → Rule → Type 0
-IsKnown c a = IsOption c a ⊎ IsHelp a
+IsKnown c a = IsOption c a ⊎ (IsFlag c a ⊎ IsHelp a)
 
 abbrev pub Each : {X : Type 0} → (X → Type 0) → List X → Type 0
 Each P [] = Unit {0}
@@ -84,7 +96,7 @@ found_in P t (y ∷ ys) x all e = go (t y) refl e (λ rest. found_in P t ys x al
 
 -- ---- one use of an argument
 
--- a row of an option has one value, which the option's parser takes
+-- a row of an option or a flag has one value, which the argument's parser takes
 abbrev pub IsRow : List Rule → Row → Type 0
 IsRow c r = (a : Rule) × (arg_by_id c r.id ≡ Some a) × (v : Text) × (r.values ≡ v ∷ []) × (r.reading ≡ AsWritten)
     × (accepts a.ignore_case (parser_of_value a.parser) v ≡ true)
@@ -122,41 +134,66 @@ never_help a values rows h e =
     let asked : or_else (range_kinds 0 0 (length values)) (DisplayHelp ∷ []) ≡ [] = sym (use_is a values rows (Some no_value) Help h.range h.action) ∙ e in
     nothing _ _ (second_none (range_kinds 0 0 (length values)) (DisplayHelp ∷ []) asked)
 
-abbrev row_of_option : Rule → Text → Row
-row_of_option a v = record { id = a.id; values = v ∷ []; count = None; source = Some CommandLine; reading = AsWritten }
+abbrev row_with : Rule → ValueSource → Text → Row
+row_with a s v = record { id = a.id; values = v ∷ []; count = None; source = Some s; reading = AsWritten }
 
-use_adds : (c : List Rule) (a : Rule) (v : Text) (rows : List Row) → IsOption c a → has_row a.id rows ≡ false → used a (v ∷ []) rows ≡ rows ++ row_of_option a v ∷ []
-use_adds c a v rows o none =
-    let set : used a (v ∷ []) rows ≡ used_as Set a.id AsWritten (v ∷ []) rows = λ i. used_as (o.action i) a.id (o.reading i) (v ∷ []) rows in
-    let gone : without a.id rows ≡ rows = at_none a.id (λ _. []) [] rows none ∙ append-nil rows in
-    set ∙ ap (λ rs. with_values a.id AsWritten CommandLine (v ∷ []) rs) gone ∙ at_none a.id (more_values CommandLine (v ∷ [])) (row_of_option a v ∷ []) rows none
+-- a value that the parser takes adds a row, where there is none yet
+value_adds : (c : List Rule) (a : Rule) (s : ValueSource) (v : Text) (rows : List Row) → arg_by_id c a.id ≡ Some a → has_row a.id rows ≡ false → Each (IsRow c) rows
+    → values_fault a (v ∷ []) ≡ [] → Each (IsRow c) (with_values a.id AsWritten s (v ∷ []) rows)
+value_adds c a s v rows own no_row all e =
+    let passed = accepted a.ignore_case (parser_of_value a.parser) v (first_none _ [] e) in
+    let row : IsRow c (row_with a s v) = (a, own, v, refl, refl, passed) in
+    let adds : with_values a.id AsWritten s (v ∷ []) rows ≡ rows ++ row_with a s v ∷ [] = at_none a.id (more_values s (v ∷ [])) (row_with a s v ∷ []) rows no_row in
+    subst (Each (IsRow c)) (sym adds) (each_more (IsRow c) rows (row_with a s v) all row)
 
--- a use that passes adds a row
+-- a value that is set, and passes
+set_passes : (c : List Rule) (a : Rule) (v : Text) (rows : List Row) → arg_by_id c a.id ≡ Some a → Each (IsRow c) rows → set_fault false a (v ∷ []) rows ≡ []
+    → Each (IsRow c) (used_as Set a.id AsWritten (v ∷ []) rows)
+set_passes c a v rows own all e = go (has_row a.id rows) refl e
+  where
+    go : (b : Bool) → has_row a.id rows ≡ b → or_else (if b && true then ArgumentConflict ∷ [] else []) (values_fault a (v ∷ [])) ≡ []
+        → Each (IsRow c) (used_as Set a.id AsWritten (v ∷ []) rows)
+    go true has none = absurd (nothing _ _ none)
+    go false has none =
+        let gone : without a.id rows ≡ rows = at_none a.id (λ _. []) [] rows has ∙ append-nil rows in
+        subst (λ rs. Each (IsRow c) (with_values a.id AsWritten CommandLine (v ∷ []) rs)) (sym gone) (value_adds c a CommandLine v rows own has all none)
+
+-- a use of an option that passes adds a row
 use_passes : (c : List Rule) (a : Rule) (values : List Text) (rows : List Row) → IsOption c a → Each (IsRow c) rows → use_fault false a values rows ≡ []
     → Each (IsRow c) (used a values rows)
 use_passes c a values rows o all e = go values (sym (use_is a values rows (Some one_value) Set o.range o.action) ∙ e)
   where
-    one : (v : Text) (b : Bool) → has_row a.id rows ≡ b → or_else (if b && true then ArgumentConflict ∷ [] else []) (values_kinds a.ignore_case (parser_of_value a.parser) (v ∷ [])) ≡ []
-        → Each (IsRow c) (used a (v ∷ []) rows)
-    one v true has none = absurd (nothing _ _ none)
-    one v false has none =
-        let passed = accepted a.ignore_case (parser_of_value a.parser) v (first_none _ [] none) in
-        let row : IsRow c (row_of_option a v) = (a, o.own, v, refl, refl, passed) in
-        subst (Each (IsRow c)) (sym (use_adds c a v rows o has)) (each_more (IsRow c) rows (row_of_option a v) all row)
-
     go : (values : List Text) → or_else (range_kinds 1 1 (length values)) (action_fault Set false a (values_or_missing a values) rows) ≡ []
         → Each (IsRow c) (used a values rows)
     go [] none = absurd (nothing _ _ none)
-    go (v ∷ []) none = one v (has_row a.id rows) refl none
+    go (v ∷ []) none =
+        let set : used a (v ∷ []) rows ≡ used_as Set a.id AsWritten (v ∷ []) rows = λ i. used_as (o.action i) a.id (o.reading i) (v ∷ []) rows in
+        subst (Each (IsRow c)) (sym set) (set_passes c a v rows o.own all none)
     go (v ∷ w ∷ rest) none =
         let more : (1 == length (v ∷ w ∷ rest)) ≡ false = ne_eqb _ _ (λ same. omega arith) in
         let some : (length (v ∷ w ∷ rest) == 0) ≡ false = ne_eqb _ _ (λ same. omega arith) in
         let wrong : range_kinds 1 1 (length (v ∷ w ∷ rest)) ≡ WrongNumberOfValues ∷ [] = rw (some, more) refl in
         absurd (nothing _ _ (sym wrong ∙ first_none _ _ none))
 
+-- and so does one of a flag
+flag_passes : (c : List Rule) (a : Rule) (values : List Text) (rows : List Row) → IsFlag c a → Each (IsRow c) rows → use_fault false a values rows ≡ []
+    → Each (IsRow c) (used a values rows)
+flag_passes c a values rows f all e = go values (sym (use_is a values rows (Some no_value) SetTrue f.range f.action) ∙ e)
+  where
+    go : (values : List Text) → or_else (range_kinds 0 0 (length values)) (action_fault SetTrue false a (values_or_missing a values) rows) ≡ []
+        → Each (IsRow c) (used a values rows)
+    go [] none =
+        let set : used a [] rows ≡ used_as Set a.id AsWritten (codes "true" ∷ []) rows = λ i. used_as (f.action i) a.id (f.reading i) (f.missing i) rows in
+        let passes : set_fault false a (codes "true" ∷ []) rows ≡ [] = subst (λ vs. set_fault false a vs rows ≡ []) f.missing none in
+        subst (Each (IsRow c)) (sym set) (set_passes c a (codes "true") rows f.own all passes)
+    go (v ∷ rest) none =
+        let some : (0 == length (v ∷ rest)) ≡ false = ne_eqb _ _ (λ same. omega arith) in
+        let wrong : range_kinds 0 0 (length (v ∷ rest)) ≡ WrongNumberOfValues ∷ [] = rw some refl in
+        absurd (nothing _ _ (sym wrong ∙ first_none _ _ none))
+
 -- ---- the walk
 
--- what stands between two words: rows of options
+-- what stands between two words: rows of options and flags
 pub record IsHeld (c : List Rule) (h : Held) : Type 0 where
   pub rows : Each (IsRow c) h.rows
   pub skip : h.skip ≡ 0
@@ -166,7 +203,8 @@ settle_passes c h known is e = pending h.pending e
   where
     known_use : (a : Rule) (values : List Text) → IsKnown c a → use_fault false a values h.rows ≡ [] → Each (IsRow c) (used a values h.rows)
     known_use a values (inl o) none = use_passes c a values h.rows o is.rows none
-    known_use a values (inr help) none = absurd (never_help a values h.rows help none)
+    known_use a values (inr (inl f)) none = flag_passes c a values h.rows f is.rows none
+    known_use a values (inr (inr help)) none = absurd (never_help a values h.rows help none)
 
     named : (p : Text × List Text) (o : Option Rule) → arg_by_id c p.0 ≡ o → option_map_or (λ a. use_fault false a p.1 h.rows) o [] ≡ []
         → Each (IsRow c) (used_by_id o p.1 h.rows)
@@ -210,13 +248,26 @@ long_passes c waiting word name v h known is e = go (arg_by_long c name) refl e
         (held_as c h is _ uses None, refl)
     valued a o None none = (held_as c h is _ (settle_passes c h known is none) _, refl)
 
+    flagged : (a : Rule) → IsFlag c a → (v : Option Text) → (if is_some v then TooManyValues ∷ [] else react_fault c false a [] h) ≡ []
+        → IsMet c (after_flag c waiting word (flag_met c a v h).0 (flag_met c a v h).1)
+    flagged a f (Some t) none = absurd (nothing _ _ none)
+    flagged a f None none =
+        let settles = settle_passes c h known is (first_none _ _ none) in
+        let uses = flag_passes c a [] (settled c h).rows f settles (second_none (settle_fault c false h) _ none) in
+        (held_as c h is _ uses None, refl)
+
     takes : (a : Rule) → IsKnown c a → long_fault c false (Some a) v h ≡ [] → IsMet c (after_flag c waiting word (long_met c (Some a) v h).0 (long_met c (Some a) v h).1)
     takes a (inl o) none =
         let takes_one : takes_values a ≡ true = λ i. takes_by (o.range i) in
         let asks : option_fault c false a v h ≡ [] = rw takes_one at none in
         let met : long_met c (Some a) v h ≡ option_met c a v h = rw takes_one refl in
         subst (λ (m : Held × Outcome). IsMet c (after_flag c waiting word m.0 m.1)) (sym met) (valued a o v asks)
-    takes a (inr help) none =
+    takes a (inr (inl f)) none =
+        let takes_none : takes_values a ≡ false = λ i. takes_by (f.range i) in
+        let asks : (if is_some v then TooManyValues ∷ [] else react_fault c false a [] h) ≡ [] = rw takes_none at none in
+        let met : long_met c (Some a) v h ≡ flag_met c a v h = rw takes_none refl in
+        subst (λ (m : Held × Outcome). IsMet c (after_flag c waiting word m.0 m.1)) (sym met) (flagged a f v asks)
+    takes a (inr (inr help)) none =
         let takes_none : takes_values a ≡ false = λ i. takes_by (help.range i) in
         let asks : (if is_some v then TooManyValues ∷ [] else react_fault c false a [] h) ≡ [] = rw takes_none at none in
         absurd (flag_never a help (is_some v) asks)
@@ -243,19 +294,23 @@ bundle_passes c flags h known is e = start flags (slice_get (chars flags) 0) ref
         let in_list = found_in (IsKnown c) (λ a. not (is_some a.index) && has_short a x) c a known found in
         which in_list.0 in_list.1
       where
-        flag : IsHelp a → ⊥
-        flag help =
+        asked : IsHelp a → ⊥
+        asked help =
             let takes_none : takes_values a ≡ false = λ i. takes_by (help.range i) in
             let asks : or_else (react_fault c false a [] at) (more (reacted c a [] at)) ≡ [] = rw takes_none at none in
             never_help a [] (settled c at).rows help (second_none (settle_fault c false at) _ (first_none _ _ asks))
 
+        never : (b : Bool) → (b && false) ≡ true → ⊥
+        never true bad = cc
+        never false bad = cc
+
+        without_letter : has_short a x ≡ false → (not (is_some a.index) && has_short a x) ≡ true → ⊥
+        without_letter none passes = let bad : (not (is_some a.index) && false) ≡ true = rw none at passes in never (not (is_some a.index)) bad
+
         which : IsKnown c a → (not (is_some a.index) && has_short a x) ≡ true → ⊥
-        which (inr help) passes = flag help
-        which (inl o) passes = let bad : (not (is_some a.index) && false) ≡ true = rw (o.short x) at passes in never (not (is_some a.index)) bad
-          where
-            never : (b : Bool) → (b && false) ≡ true → ⊥
-            never true bad = cc
-            never false bad = cc
+        which (inl o) passes = without_letter (o.short x) passes
+        which (inr (inl f)) passes = without_letter (f.short x) passes
+        which (inr (inr help)) passes = asked help
 
     start : (flags : Text) (first : Option ℕ) → slice_get (chars flags) 0 ≡ first → flags_fault c false (length flags) flags 0 at ≡ []
         → bundle_met c (length flags) flags h.skip plain at ≡ (at, plain)
@@ -317,7 +372,8 @@ no_place c (a ∷ rest) i known = go known.0 (no_place c rest i known.1)
 
     go : IsKnown c a → arg_by_index rest i ≡ None → arg_by_index (a ∷ rest) i ≡ None
     go (inl o) none = at a.index o.index none
-    go (inr help) none = at a.index help.index none
+    go (inr (inl f)) none = at a.index f.index none
+    go (inr (inr help)) none = at a.index help.index none
 
 record IsWalk (c : List Rule) (w : Walk) : Type 0 where
   held : IsHeld c w.held
@@ -357,18 +413,34 @@ walk_passes c s w (word ∷ rest) known is e =
 
 -- ---- the rows at the end
 
-no_defaults : (c xs : List Rule) (rows : List Row) → Each (IsKnown c) xs → fold with_default rows xs ≡ rows
-no_defaults c [] rows known = refl
-no_defaults c (a ∷ rest) rows known = ap (λ rs. fold with_default rs rest) (same known.0) ∙ no_defaults c rest rows known.1
+-- an argument that was not used gets no row but that of a flag
+default_passes : (c : List Rule) (a : Rule) (rows : List Row) → IsKnown c a → Each (IsRow c) rows → default_fault rows a ≡ [] → Each (IsRow c) (with_default rows a)
+default_passes c a rows known all e = which known
   where
-    go : (ds : List Text) → ds ≡ [] → (b : Bool) → (if b then rows else default_rows a.id (reading_by a) ds rows) ≡ rows
-    go [] none true = refl
-    go [] none false = refl
-    go (d ∷ ds) none b = absurd (cc)
+    unchanged : (ds : List Text) → ds ≡ [] → (b : Bool) → (if b then rows else default_rows a.id (reading_by a) ds rows) ≡ rows
+    unchanged [] none true = refl
+    unchanged [] none false = refl
+    unchanged (d ∷ ds) none b = absurd (cc)
 
-    same : IsKnown c a → with_default rows a ≡ rows
-    same (inl o) = go a.defaults o.defaults (has_row a.id rows)
-    same (inr help) = go a.defaults help.defaults (has_row a.id rows)
+    flag : IsFlag c a → (b : Bool) → has_row a.id rows ≡ b → (if b || is_empty a.defaults then [] else given_default_fault a a.defaults) ≡ []
+        → Each (IsRow c) (if b then rows else default_rows a.id (reading_by a) a.defaults rows)
+    flag f true has none = all
+    flag f false has none =
+        let asks : (if is_empty a.defaults then [] else given_default_fault a a.defaults) ≡ values_fault a (codes "false" ∷ []) =
+        λ i. if is_empty (f.defaults i) then [] else or_else (request_kinds (f.action i)) (values_fault a (f.defaults i)) in
+        let set : default_rows a.id (reading_by a) a.defaults rows ≡ with_values a.id AsWritten DefaultValue (codes "false" ∷ []) rows = λ i. default_rows a.id (f.reading i) (f.defaults i) rows in
+        subst (Each (IsRow c)) (sym set) (value_adds c a DefaultValue (codes "false") rows f.own has all (sym asks ∙ none))
+
+    which : IsKnown c a → Each (IsRow c) (with_default rows a)
+    which (inl o) = subst (Each (IsRow c)) (sym (unchanged a.defaults o.defaults (has_row a.id rows))) all
+    which (inr (inl f)) = flag f (has_row a.id rows) refl e
+    which (inr (inr help)) = subst (Each (IsRow c)) (sym (unchanged a.defaults help.defaults (has_row a.id rows))) all
+
+defaults_pass : (c xs : List Rule) (rows : List Row) → Each (IsKnown c) xs → Each (IsRow c) rows → defaults_fault rows xs ≡ [] → Each (IsRow c) (fold with_default rows xs)
+unfolding defaults_fault
+defaults_pass c [] rows known all e = all
+defaults_pass c (a ∷ rest) rows known all e =
+    defaults_pass c rest (with_default rows a) known.1 (default_passes c a rows known.0 all (first_none _ _ e)) (second_none (default_fault rows a) _ e)
 
 -- the rows of such a subcommand on words that it takes, and that no option is missing
 pub leaf_rows : (c : List Rule) (s : Shape) (words : List Text) → Each (IsKnown c) c → level_fault (leaf c s) [] nothing_held words false [] ≡ []
@@ -380,7 +452,7 @@ leaf_rows c s words known e =
     let settles = settle_passes c end known walks.held (first_none _ _ e1) in
     let e2 = second_none (settle_fault c false end) _ e1 in
     let e3 = second_none (defaults_fault (settled c end).rows c) _ e2 in (
-      subst (Each (IsRow c)) (sym (no_defaults c c (settled c end).rows known)) settles,
+      defaults_pass c c (settled c end).rows known settles (first_none _ _ e2),
       third (list_any (λ a. a.required && not (is_given a.id (rows_after c [] words))) c) refl e3,
     )
   where
@@ -389,9 +461,9 @@ leaf_rows c s words known e =
     third true is none = absurd (nothing _ _ none)
     third false is none = is
 
--- ---- what the rows have for one option
+-- ---- what the rows have for one argument
 
--- the option has a value, which its parser takes
+-- the argument has a value, which its parser takes
 abbrev pub HasValue : List Rule → Text → List Row → Type 0
 HasValue c id rows = (a : Rule) × (arg_by_id c id ≡ Some a) × (v : Text) × (first_of id rows ≡ Some v) × (one_of id rows ≡ Some v)
     × (accepts a.ignore_case (parser_of_value a.parser) v ≡ true)

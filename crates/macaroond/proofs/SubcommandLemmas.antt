@@ -1,5 +1,5 @@
 -- The names of subcommands, told apart by their letters.
-use Rattle.std.proofs.Common.{◌≡◌, ◌∙◌, ◌==◌, ◌||◌, ◌⊎◌, inl, inr, ℕ, Bool, codes, true, false, refl, sym, ap, ap₂, subst, List, Option, Some, None, option_map, slice_index}
+use Rattle.std.proofs.Common.{◌≡◌, ◌∙◌, ◌==◌, ◌||◌, ◌⊎◌, inl, inr, Bool, codes, true, false, refl, sym, ap, ap₂, subst, List, Option, Some, None, option_map, slice_index}
 use Rattle.clap.specs.Walk.{Row, Text}
 use Rattle.macaroond.specs.Options.{HasCommand, HasOptions}
 use Rattle.macaroond.specs.People.{IsTaskName}

@@ -24,8 +24,8 @@ use Rattle.macaroond.specs.declared.choices.Mode.TheVariants.{Owner, Group, Ever
 use Rattle.macaroond.specs.declared.choices.ServeOptions.{ServeOptions}
 use Rattle.macaroond.specs.declared.status.Status.{Status}
 use Rattle.macaroond.specs.declared.status.Status.TheVariants.{Done, BadLine, NoMemory}
-use Rattle.macaroond.specs.Arguments.{number, option, required, with_rules}
-use Rattle.macaroond.specs.People.{IsOptionalText, IsTask, with_people}
+use Rattle.macaroond.specs.Arguments.{flag, number, option, required, with_rules}
+use Rattle.macaroond.specs.People.{IsOptionalText, IsTask, is_set, with_people}
 
 -- ---- what `clap` is told
 
@@ -62,6 +62,7 @@ http_rules = option (codes "http")
     ∷ number 3600 (option (codes "http-patience"))
     ∷ option (codes "http-granted")
     ∷ option (codes "http-facts")
+    ∷ option (codes "http-allow")
     ∷ option (codes "http-admin")
     ∷ []
 
@@ -80,6 +81,8 @@ listen_command = with_rules (with_rules (new_app (codes "listen"))
     ∷ option (codes "verify-socket")
     ∷ option (codes "verify-mode")
     ∷ option (codes "verify-names")
+    ∷ flag (codes "replace")
+    ∷ option (codes "log")
     ∷ [])) http_rules
 
 -- the whole command line
@@ -164,6 +167,7 @@ HasHttp options rows = IsOptionalText options.here (codes "http") rows
     × IsNumberOrNone 3600 options.patience (first_of (codes "http-patience") rows)
     × IsOptionalText options.granted (codes "http-granted") rows
     × IsOptionalText options.facts (codes "http-facts") rows
+    × IsOptionalText options.allow (codes "http-allow") rows
     × IsOptionalText options.admin (codes "http-admin") rows
 
 -- the values of the options of `listen`
@@ -180,6 +184,8 @@ HasListen options rows = IsText options.socket (first_of (codes "socket") rows)
     × IsOptionalText options.verify_socket (codes "verify-socket") rows
     × (mode_given (first_of (codes "verify-mode") rows) ≡ Some options.verify_mode)
     × IsOptionalText options.verify_names (codes "verify-names") rows
+    × (options.replace ≡ is_set (codes "replace") rows)
+    × IsOptionalText options.log (codes "log") rows
     × HasHttp options.http rows
 
 -- the choice has the values of a subcommand's options

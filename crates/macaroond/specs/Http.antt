@@ -13,6 +13,7 @@ use Rattle.mac_gate.specs.declared.address.Reach.{Reach}
 use Rattle.mac_gate.specs.declared.address.Reach.TheVariants.{Loopback, Anywhere}
 use Rattle.mac_gate.specs.declared.serving.Pages.{Pages}
 use Rattle.mac_gate.specs.declared.serving.Pages.TheVariants as pages
+use Rattle.mac_http.specs.declared.rules.Calls.{Calls}
 use Rattle.mac_http.specs.declared.rules.Granted.{Granted}
 use Rattle.mac_http.specs.declared.rules.Granted.TheVariants as granted
 use Rattle.mac_http.specs.declared.rules.Sources.{Sources}
@@ -72,6 +73,26 @@ GivesSources list (Err fault.Source) = list_all is_source (words_of list) ≡ fa
 GivesSources list (Err fault.NoMemory) = Unit {0}
 GivesSources list (Err _) = ⊥
 
+abbrev pub is_call : List ℕ → Bool
+is_call word = bytes_eq word (codes "mint") || (bytes_eq word (codes "attenuate")
+    || bytes_eq word (codes "inspect"))
+
+-- the calls that these words name
+abbrev pub calls_in : List (List ℕ) → Calls
+calls_in words = record {
+  mint = list_any (λ word. bytes_eq word (codes "mint")) words;
+  attenuate = list_any (λ word. bytes_eq word (codes "attenuate")) words;
+  inspect = list_any (λ word. bytes_eq word (codes "inspect")) words;
+}
+
+-- the calls that a list names, or one of its words names none
+abbrev pub GivesCalls : Option (String Global) → Result Calls HttpFault → Type 0
+GivesCalls list (Ok calls) =
+    (list_all is_call (words_of list) ≡ true) × (calls ≡ calls_in (words_of list))
+GivesCalls list (Err fault.Call) = list_all is_call (words_of list) ≡ false
+GivesCalls list (Err fault.NoMemory) = Unit {0}
+GivesCalls list (Err _) = ⊥
+
 -- the connections over HTTP that may be live at a time
 abbrev pub http_connections_of : Option ℕ → ℕ
 http_connections_of None = 256
@@ -93,6 +114,7 @@ pub record IsPlan (options : HttpOptions) (plan : HttpPlan) : Type 0 where
   pub mode : plan.permissions ≡ permissions options.mode
   pub status : granted_of options.granted ≡ Some plan.terms.rules.granted
   pub sources : GivesSources options.facts (Ok plan.terms.rules.sources)
+  pub calls : GivesCalls options.allow (Ok plan.terms.rules.calls)
   pub connections : plan.terms.connections ≡ http_connections_of options.connections
   pub patience : as_nanos plan.terms.patience ≡ http_patience_of options.patience * 10 ^ 9
   pub pages : plan.terms.pages ≡ pages_beside options.admin
@@ -101,5 +123,6 @@ pub record IsPlan (options : HttpOptions) (plan : HttpPlan) : Type 0 where
 abbrev pub IsRefused : HttpOptions → HttpFault → Type 0
 IsRefused options fault.Granted = granted_of options.granted ≡ None
 IsRefused options fault.Source = list_all is_source (words_of options.facts) ≡ false
+IsRefused options fault.Call = list_all is_call (words_of options.allow) ≡ false
 IsRefused options (fault.Address word why) = Unit {0}
 IsRefused options fault.NoMemory = Unit {0}

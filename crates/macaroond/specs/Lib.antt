@@ -5,6 +5,7 @@ pub mod Doing
 pub mod Http
 pub mod Inner
 pub mod Lines
+pub mod Logging
 pub mod Options
 pub mod Output
 pub mod People

@@ -64,6 +64,10 @@ pub struct ListenOptions {
     pub verify_mode: Mode,
     /// The names that its connections may use, with commas between them; else all.
     pub verify_names: Option<String>,
+    /// Whether it takes its sockets over from a daemon that listens there.
+    pub replace: bool,
+    /// What is logged beside the usual: the word `requests`.
+    pub log: Option<String>,
     /// Its sockets over HTTP.
     pub http: HttpOptions,
 }
@@ -85,6 +89,9 @@ pub struct HttpOptions {
     pub granted: Option<String>,
     /// Where facts are taken from, with commas between the words.
     pub facts: Option<String>,
+    /// What may be asked over HTTP beside verify: mint, attenuate, inspect, with commas between
+    /// them.
+    pub allow: Option<String>,
     /// Addresses of this machine where operators ask, with commas between them.
     pub admin: Option<String>,
 }

@@ -5,7 +5,9 @@ ghost use Rattle.macaroond.specs.Arguments.{number, option, required, with_rules
 ghost use Rattle.macaroond.specs.CommandLine.{command_line, http_rules, listen_command};
 ghost use Rattle.macaroond.specs.CommandLine.{pipe_command, serve_command};
 
-use crate::parts::{KEYS_HELP, add_arg, add_subcommand, build_option, build_subcommand};
+use crate::parts::{
+    KEYS_HELP, add_arg, add_subcommand, build_flag, build_option, build_subcommand,
+};
 use crate::people::add_people;
 use clap::builder::ValueParser;
 use clap::{Arg, Command};
@@ -148,6 +150,12 @@ const VERIFY_MODE_HELP: &str =
 const VERIFY_NAMES_HELP: &str =
     "The key names that may be used at the second socket [default: all]";
 
+const REPLACE_HELP: &str =
+    "Takes the sockets over from a daemon that listens there; that one ends without loss";
+
+const LOG_HELP: &str =
+    "What is logged besides: requests, a line for each request [default: nothing]";
+
 const HTTP_HELP: &str =
     "Where gateways ask over HTTP: unix:PATH, 127.0.0.1:PORT or [::1]:PORT, with commas between";
 
@@ -166,6 +174,9 @@ const HTTP_GRANTED_HELP: &str = "The status that grants: 200 or 204 [default: 20
 
 const HTTP_FACTS_HELP: &str =
     "Where facts are taken from: header, query, forwarded, with commas between [default: none]";
+
+const HTTP_ALLOW_HELP: &str = "What may be asked over HTTP besides: mint, attenuate, inspect, \
+    with commas between [default: nothing]";
 
 const HTTP_ADMIN_HELP: &str =
     "Where operators ask over HTTP, at addresses of this machine; gateways get no page then";
@@ -237,6 +248,8 @@ fn build_listen<'a>(alloc: Global) -> Result<Command<'a>, AllocError>
         listen,
         build_option(alloc, "verify-names", "NAMES", VERIFY_NAMES_HELP),
     )?;
+    let listen = add_arg(listen, build_flag(alloc, "replace", REPLACE_HELP))?;
+    let listen = add_arg(listen, build_option(alloc, "log", "WORDS", LOG_HELP))?;
     add_http(alloc, listen)
 }
 
@@ -257,6 +270,10 @@ fn add_http<'a>(alloc: Global, listen: Command<'a>) -> Result<Command<'a>, Alloc
         HTTP_PATIENCE_MAX,
         HTTP_PATIENCE_HELP,
     );
+    let granted = build_option(alloc, "http-granted", "STATUS", HTTP_GRANTED_HELP);
+    let facts = build_option(alloc, "http-facts", "SOURCES", HTTP_FACTS_HELP);
+    let allow = build_option(alloc, "http-allow", "CALLS", HTTP_ALLOW_HELP);
+    let admin = build_option(alloc, "http-admin", "ADDRESSES", HTTP_ADMIN_HELP);
     let listen = add_arg(listen, build_option(alloc, "http", "ADDRESSES", HTTP_HELP))?;
     let listen = add_arg(listen, anywhere)?;
     let listen = add_arg(
@@ -265,18 +282,10 @@ fn add_http<'a>(alloc: Global, listen: Command<'a>) -> Result<Command<'a>, Alloc
     )?;
     let listen = add_arg(listen, most)?;
     let listen = add_arg(listen, patience)?;
-    let listen = add_arg(
-        listen,
-        build_option(alloc, "http-granted", "STATUS", HTTP_GRANTED_HELP),
-    )?;
-    let listen = add_arg(
-        listen,
-        build_option(alloc, "http-facts", "SOURCES", HTTP_FACTS_HELP),
-    )?;
-    add_arg(
-        listen,
-        build_option(alloc, "http-admin", "ADDRESSES", HTTP_ADMIN_HELP),
-    )
+    let listen = add_arg(listen, granted)?;
+    let listen = add_arg(listen, facts)?;
+    let listen = add_arg(listen, allow)?;
+    add_arg(listen, admin)
 }
 
 /// A required option that takes a path.

@@ -3,22 +3,23 @@
 ghost use Rattle.std.specs.Prelude.{◌≡◌, IfErr, IfOk, map};
 ghost use Rattle.std.specs.List.{list_all, list_any, slice_split};
 ghost use Rattle.std.specs.Str.{bytes_eq};
-ghost use Rattle.macaroond.specs.Http.{GivesAddresses, GivesSources, IsPlan, IsRefused};
-ghost use Rattle.macaroond.specs.Http.{granted_of, is_source, pages_beside, words_of};
+ghost use Rattle.macaroond.specs.Http.{GivesAddresses, GivesCalls, GivesSources, IsPlan, IsRefused};
+ghost use Rattle.macaroond.specs.Http.{granted_of, is_call, is_source, pages_beside, words_of};
 ghost use Rattle.macaroond.specs.Rights.{is_comma};
 
 use crate::choices::HttpOptions;
 use crate::commands::VERSION;
 use crate::operating::OPERATORS_MAX;
+use mac_daemon::Holdings;
 use mac_gate::{
     Address, AddressFault, DoorFault, Doors, ListFault, Pages, Reach, Terms, read_addresses,
 };
-use mac_http::{Granted, Rules, Sources};
+use mac_http::{Calls, Granted, Rules, Sources};
 use std::alloc::{AllocError, Global};
 use std::fs::{File, Files};
 use std::net::{Net, TcpListener, TcpStream};
-use std::process::Process;
-use std::time::Duration;
+use std::sync::Wait;
+use std::time::{Clock, Duration};
 
 /// How many connections over HTTP there are at a time, where nothing else is asked for.
 const CONNECTIONS: u64 = 256;
@@ -32,6 +33,13 @@ const HEADER: &[u8] = b"header";
 const QUERY: &[u8] = b"query";
 
 const FORWARDED: &[u8] = b"forwarded";
+
+/// The words that name calls.
+const MINT: &[u8] = b"mint";
+
+const ATTENUATE: &[u8] = b"attenuate";
+
+const INSPECT: &[u8] = b"inspect";
 
 /// Sockets over HTTP, as options name them.
 #[derive(Drop)]
@@ -84,6 +92,8 @@ pub enum HttpFault<'a> {
     Granted,
     /// A word of `--http-facts` is no source.
     Source,
+    /// A word of `--http-allow` is no call.
+    Call,
     /// Memory ran out.
     NoMemory,
 }
@@ -112,12 +122,17 @@ pub fn plan_http<'a>(alloc: Global, options: &'a HttpOptions) -> Result<HttpPlan
         return Err(HttpFault::Granted);
     };
     let sources = read_sources(alloc, &options.facts)?;
+    let calls = read_calls(alloc, &options.allow)?;
     Ok(HttpPlan {
         addresses,
         admin,
         permissions: options.mode.permissions(),
         terms: Terms {
-            rules: Rules { sources, granted },
+            rules: Rules {
+                sources,
+                granted,
+                calls,
+            },
             connections: options.connections.unwrap_or(CONNECTIONS) as usize,
             patience: Duration::from_secs(options.patience.unwrap_or(PATIENCE)),
             pages: pages_beside(&options.admin),
@@ -183,6 +198,21 @@ fn read_sources<'a>(alloc: Global, list: &Option<String>) -> Result<Sources, Htt
     })
 }
 
+/// The calls that a list allows, which may be left out.
+fn read_calls<'a>(alloc: Global, list: &Option<String>) -> Result<Calls, HttpFault<'a>>
+    ensures { GivesCalls list.now result }
+{
+    let words = list_words(alloc, list)?;
+    if !are_calls(&words) {
+        return Err(HttpFault::Call);
+    }
+    Ok(Calls {
+        mint: has_word(&words, MINT),
+        attenuate: has_word(&words, ATTENUATE),
+        inspect: has_word(&words, INSPECT),
+    })
+}
+
 /// The words of a list that may be left out.
 fn list_words(alloc: Global, list: &Option<String>) -> Result<Vec<&[u8]>, AllocError>
     ensures { IfOk result (λ words. map (λ word. word.now) words.items ≡ words_of list.now) }
@@ -218,6 +248,19 @@ fn is_source(word: &[u8]) -> bool
     word == HEADER || word == QUERY || word == FORWARDED
 }
 
+/// Whether each word names a call.
+fn are_calls(words: &[&[u8]]) -> bool
+    ensures { result ≡ list_all (λ word. is_call word.now) words.now }
+{
+    words.iter().all(|word| is_call(word))
+}
+
+fn is_call(word: &[u8]) -> bool
+    ensures { result ≡ is_call word.now }
+{
+    word == MINT || word == ATTENUATE || word == INSPECT
+}
+
 /// Whether a word is among these.
 fn has_word(words: &[&[u8]], sought: &[u8]) -> bool
     ensures { result ≡ list_any (λ word. bytes_eq word.now sought.now) words.now }
@@ -225,45 +268,20 @@ fn has_word(words: &[&[u8]], sought: &[u8]) -> bool
     words.iter().any(|word| *word == sought)
 }
 
-/// Opens the doors of a plan, in the order of its addresses. At a fault it tells the address.
+/// Opens the doors of a plan at these addresses, in their order. At a fault it tells the address.
 pub fn open_doors<'a, R>(
-    rt: &R,
-    alloc: Global,
-    plan: &HttpPlan<'a>,
-    process: Process,
-) -> Result<Doors, (Address<'a>, DoorFault)>
-where
-    R: Files<File = File> + Net<Listener = TcpListener, Stream = TcpStream>,
-{
-    open_each(rt, alloc, &plan.addresses, plan.permissions, process)
-}
-
-/// The same of the doors for operators.
-pub fn open_admin<'a, R>(
-    rt: &R,
-    alloc: Global,
-    plan: &HttpPlan<'a>,
-    process: Process,
-) -> Result<Doors, (Address<'a>, DoorFault)>
-where
-    R: Files<File = File> + Net<Listener = TcpListener, Stream = TcpStream>,
-{
-    open_each(rt, alloc, &plan.admin, plan.permissions, process)
-}
-
-fn open_each<'a, R>(
     rt: &R,
     alloc: Global,
     addresses: &[Address<'a>],
     permissions: u32,
-    process: Process,
+    holdings: &mut Holdings,
 ) -> Result<Doors, (Address<'a>, DoorFault)>
 where
-    R: Files<File = File> + Net<Listener = TcpListener, Stream = TcpStream>,
+    R: Files<File = File> + Net<Listener = TcpListener, Stream = TcpStream> + Clock + Wait,
 {
     let mut doors = Doors::new(alloc);
     for address in addresses {
-        if let Err(fault) = doors.open(rt, alloc, *address, permissions, process) {
+        if let Err(fault) = doors.open(rt, *address, permissions, holdings) {
             return Err((*address, fault));
         }
     }

@@ -3,12 +3,13 @@ ghost use Rattle.std.specs.Prelude.{◌<◌, ◌^◌};
 ghost use Rattle.macaroond.specs.Watching.{Watches};
 
 use crate::commands::HTTP_CONNECTIONS_MAX;
-use crate::http::{HttpPlan, open_admin, open_doors};
+use crate::http::{HttpPlan, open_doors};
 use crate::key_store::{FirstKeys, look_at};
-use crate::operating::{open_status, start_operators, warn_of_no_status};
+use crate::operating::{OperatorsGate, open_status, start_operators, warn_of_no_status};
 use mac_board::Editor;
 use mac_daemon::{
-    Call, Daemon, DaemonFault, FOLLOWERS_MAX, SideSocket, Surroundings, Terms, listen,
+    Call, Claim, Daemon, DaemonFault, FOLLOWERS_MAX, Holdings, SideSocket, Surroundings, Terms,
+    listen,
 };
 use mac_decide::Rights;
 use mac_gate::{Address, DoorFault, Doors, Gate, GateFault, open_gate};
@@ -69,14 +70,38 @@ impl<'a> From<GateFault> for ListenFault<'a> {
 }
 
 /// Listens until it is told to end, under the table that the key file at a path has at each moment.
-/// Other threads serve, and this one watches the file.
+/// Other threads serve, and this one watches the file. What it made of its sockets and didn't put
+/// in their places is removed.
 pub(crate) fn listen_and_watch<'a, R>(
     rt: &R,
     terms: Terms<'_>,
     sockets: Sockets<'a>,
     keys: &str,
     first: FirstKeys,
+    claim: Claim,
     process: Process,
+) -> Result<(), ListenFault<'a>>
+where
+    R: Env + Alloc<A = Global> + Print + Eprint + Files<File = File> + Clock + RandomSource,
+    R: Net<Listener = TcpListener, Stream = TcpStream>,
+    R: Threads + Wait + Sync + Copy + Send + 'static,
+{
+    let surroundings = Surroundings::find(rt, process)?;
+    let mut holdings = Holdings::new(rt.alloc(), claim, process);
+    let outcome = listen_holding(rt, terms, sockets, keys, first, surroundings, &mut holdings);
+    holdings.clear(rt);
+    outcome
+}
+
+/// The same, with what is held of the sockets' paths.
+fn listen_holding<'a, R>(
+    rt: &R,
+    terms: Terms<'_>,
+    sockets: Sockets<'a>,
+    keys: &str,
+    first: FirstKeys,
+    surroundings: Surroundings,
+    holdings: &mut Holdings,
 ) -> Result<(), ListenFault<'a>>
 where
     R: Env + Alloc<A = Global> + Print + Eprint + Files<File = File> + Clock + RandomSource,
@@ -88,36 +113,78 @@ where
         before,
         after,
     } = first;
-    let Sockets { rights, side, http } = sockets;
-    let room = followers_of(http.connections());
+    let room = followers_of(sockets.http.connections());
     let editor = Editor::new(rt.alloc(), *rt, table, room, before, after)?;
-    let surroundings = Surroundings::find(rt, process)?;
-    let doors = match open_doors(rt, rt.alloc(), &http, process) {
-        Ok(doors) => doors,
-        Err((address, fault)) => return Err(ListenFault::Door(address, fault)),
+    let side_path = sockets.side.as_ref().map(|side| side.path);
+    let started = start_all(rt, terms, sockets, &editor, surroundings, holdings)?;
+    started.daemon.open(rt, terms, side_path, holdings)?;
+    let watched = Watched {
+        keys,
+        socket: terms.path,
     };
-    let mut operators_doors = match open_admin(rt, rt.alloc(), &http, process) {
-        Ok(doors) => doors,
-        Err((address, fault)) => return Err(ListenFault::Door(address, fault)),
-    };
-    let status = open_status(rt, rt.alloc(), terms.path, &mut operators_doors, process);
+    let _kept_up = watch(rt, watched, editor, &started.daemon, holdings);
+    end_all(rt, started);
+    Ok(())
+}
+
+/// A daemon with its gates.
+#[derive(Drop)]
+struct Started<R: Wait + Drop> {
+    daemon: Daemon,
+    gate: Option<Gate>,
+    operators: Option<OperatorsGate<R>>,
+}
+
+/// Makes the sockets of a daemon and starts the threads that serve them. Nobody can reach a Unix
+/// socket yet.
+fn start_all<'a, R>(
+    rt: &R,
+    terms: Terms<'_>,
+    sockets: Sockets<'a>,
+    editor: &Editor<R>,
+    surroundings: Surroundings,
+    holdings: &mut Holdings,
+) -> Result<Started<R>, ListenFault<'a>>
+where
+    R: Alloc<A = Global> + Eprint + Files<File = File> + Clock + RandomSource,
+    R: Net<Listener = TcpListener, Stream = TcpStream>,
+    R: Threads + Wait + Sync + Copy + Send + 'static,
+{
+    let Sockets { rights, side, http } = sockets;
+    let alloc = rt.alloc();
+    let doors = open_gateways(rt, &http, holdings)?;
+    let mut for_operators = open_operators(rt, &http, holdings)?;
+    let status = open_status(rt, alloc, terms.path, &mut for_operators, holdings);
     let followers = editor.followers()?;
     let daemon = listen(
         rt,
-        rt.alloc(),
+        alloc,
         terms,
         rights,
         side,
         followers,
         surroundings,
-        process,
+        holdings,
     )?;
     if let Err(fault) = status {
         warn_of_no_status(rt, terms.path, &fault);
     }
-    let gate = start_gate(rt, doors, &editor, &daemon, http.terms)?;
-    let operators = start_operators(rt, operators_doors, &daemon)?;
-    let _kept_up = watch(rt, keys, editor, &daemon);
+    let gate = start_gate(rt, doors, editor, &daemon, http.terms)?;
+    let operators = start_operators(rt, for_operators, &daemon)?;
+    Ok(Started {
+        daemon,
+        gate,
+        operators,
+    })
+}
+
+/// Sees a daemon off with its gates.
+fn end_all<R: Wait + Clock + Drop>(rt: &R, started: Started<R>) {
+    let Started {
+        daemon,
+        gate,
+        operators,
+    } = started;
     if let Some(gate) = gate {
         gate.end(rt);
     }
@@ -125,7 +192,38 @@ where
         operators.end(rt);
     }
     daemon.see_off(rt);
-    Ok(())
+}
+
+/// Opens the doors of gateways.
+fn open_gateways<'a, R>(
+    rt: &R,
+    http: &HttpPlan<'a>,
+    holdings: &mut Holdings,
+) -> Result<Doors, ListenFault<'a>>
+where
+    R: Alloc<A = Global> + Files<File = File> + Clock + Wait,
+    R: Net<Listener = TcpListener, Stream = TcpStream>,
+{
+    match open_doors(rt, rt.alloc(), &http.addresses, http.permissions, holdings) {
+        Ok(doors) => Ok(doors),
+        Err((address, fault)) => Err(ListenFault::Door(address, fault)),
+    }
+}
+
+/// Opens the doors of operators.
+fn open_operators<'a, R>(
+    rt: &R,
+    http: &HttpPlan<'a>,
+    holdings: &mut Holdings,
+) -> Result<Doors, ListenFault<'a>>
+where
+    R: Alloc<A = Global> + Files<File = File> + Clock + Wait,
+    R: Net<Listener = TcpListener, Stream = TcpStream>,
+{
+    match open_doors(rt, rt.alloc(), &http.admin, http.permissions, holdings) {
+        Ok(doors) => Ok(doors),
+        Err((address, fault)) => Err(ListenFault::Door(address, fault)),
+    }
 }
 
 /// How many followers of the key tables there are at most, with so many connections over HTTP.
@@ -159,9 +257,22 @@ where
     Ok(Some(gate))
 }
 
-/// Watches a key file until the daemon is told to end. At a call to look there are two looks, so
-/// that a file that rests between them is taken.
-fn watch<R>(rt: &R, path: &str, editor: Editor<R>, daemon: &Daemon) -> Editor<R>
+/// What a daemon looks at now and then, by their paths.
+#[derive(Clone, Copy)]
+struct Watched<'a> {
+    keys: &'a str,
+    socket: &'a str,
+}
+
+/// Watches a key file until the daemon is told to end, or another one's socket is in its place. At
+/// a call to look there are two looks, so that a file that rests between them is taken.
+fn watch<R>(
+    rt: &R,
+    watched: Watched<'_>,
+    editor: Editor<R>,
+    daemon: &Daemon,
+    holdings: &mut Holdings,
+) -> Editor<R>
 where
     R: Alloc<A = Global> + Files<File = File> + Clock + Wait + Drop,
 {
@@ -169,10 +280,13 @@ where
     for _ in rt.forever() {
         match daemon.await_call(rt, Duration::from_millis(PAUSE_MILLIS)) {
             Call::End => return editor,
-            Call::Look => editor = look_once(rt, path, editor, daemon),
+            Call::Look => editor = look_once(rt, watched.keys, editor, daemon),
             Call::Nothing => {}
         }
-        editor = look_once(rt, path, editor, daemon);
+        if holdings.look(rt) {
+            daemon.end_replaced(rt, watched.socket);
+        }
+        editor = look_once(rt, watched.keys, editor, daemon);
     }
     unreachable!()
 }

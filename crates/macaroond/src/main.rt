@@ -4,12 +4,11 @@
 //! [`choose`] and [`pipe`].
 #![tactic(auto)]
 
-ghost use Rattle.std.specs.Prelude.{◌≡◌, ◌≤◌, IfErr};
+ghost use Rattle.std.specs.Prelude.{◌≡◌, ◌≤◌, if◌then◌else◌, IfErr};
 ghost use Rattle.mac_pool.specs.declared.pool.TheConstants.{WORKERS_MAX};
 ghost use Rattle.macaroond.specs.CommandLine.{permissions};
 ghost use Rattle.macaroond.specs.Shape.{HasCount, connections_of, drain_of};
-ghost use Rattle.macaroond.specs.Status.{IsShown, daemon_status, door_status, gate_status};
-ghost use Rattle.macaroond.specs.Status.{http_status, listen_status, pipe_status, run_status};
+ghost use Rattle.macaroond.specs.Status.{IsShown};
 ghost use Rattle.macaroond.specs.declared.commands.TheConstants.{LOOPS_MAX};
 
 mod arrived;
@@ -26,6 +25,7 @@ mod key_store;
 mod key_watch;
 pub mod laws;
 mod lines;
+mod logging;
 mod operating;
 mod options;
 mod parts;
@@ -34,6 +34,7 @@ mod piping;
 mod reply_line;
 mod rights;
 mod status;
+mod telling;
 
 pub use choices::{Choice, Chosen, HttpOptions, ListenOptions, Mode, ServeOptions};
 pub use command_line::{choose, read_words};
@@ -42,17 +43,16 @@ pub use commands::{
     ACCEPT_MAX, CONNECTIONS_MAX, DRAIN_MAX, HTTP_CONNECTIONS_MAX, HTTP_PATIENCE_MAX, IDLE_MAX,
     LOOPS_MAX,
 };
-use descriptors::{NOWHERE, open_standard};
+use descriptors::open_standard;
 pub use fault::PipeFault;
-use http::{HttpFault, plan_http};
+use http::plan_http;
 pub use input::INPUT_MAX;
-use key_fault::say_key_fault;
 use key_file::read_keys;
 use key_store::read_first;
-use key_watch::{ListenFault, Sockets, listen_and_watch};
+use key_watch::{Sockets, listen_and_watch};
+use logging::read_log;
 use mac_board::Publisher;
-use mac_daemon::{DaemonFault, FOLLOWERS_MAX, Shape, Terms, accept_all};
-use mac_gate::{DoorFault, GateFault};
+use mac_daemon::{Claim, DaemonFault, FOLLOWERS_MAX, Shape, Terms, accept_all};
 use mac_pool::WORKERS_MAX;
 use mac_system::SystemMoments;
 use mac_wire::{ReaderSource, WriterSink};
@@ -71,6 +71,10 @@ use std::sync::Wait;
 use std::thread::Threads;
 use std::time::Clock;
 use std::{io, thread};
+use telling::{
+    show, tell_daemon, tell_ending, tell_fault, tell_http, tell_key_file, tell_listen, tell_log,
+    tell_nowhere, tell_served_keys,
+};
 
 /// How many connections there are at a time, where nothing else is asked for.
 const CONNECTIONS: u64 = 10_000;
@@ -212,6 +216,9 @@ where
         Ok(http) => http,
         Err(fault) => return tell_http(rt, fault),
     };
+    let Some(has_requests) = read_log(&options.log) else {
+        return tell_log(rt);
+    };
     if let Err(refused) = open_standard(rt) {
         return tell_nowhere(rt, &refused);
     }
@@ -222,133 +229,32 @@ where
     };
     warn_of_readers(rt, keys);
     warn_of_no_keys(rt, keys, first.table.len());
-    let terms = name_terms(rt, options, first.table.len(), http.descriptors());
+    let terms = name_terms(
+        rt,
+        options,
+        first.table.len(),
+        http.descriptors(),
+        has_requests,
+    );
     let Ok((rights, side)) = read_sockets(rt.alloc(), options) else {
         return tell_fault(rt, Status::NoMemory);
     };
     let sockets = Sockets { rights, side, http };
-    match listen_and_watch(rt, terms, sockets, keys, first, process) {
+    let claim = claim_of(options.replace);
+    match listen_and_watch(rt, terms, sockets, keys, first, claim, process) {
         Ok(()) => Status::Done,
         Err(fault) => tell_listen(rt, options, fault),
     }
 }
 
-/// Says why the options for HTTP can't be followed, and how the run ends.
-fn tell_http<R: Eprint>(rt: &R, fault: HttpFault<'_>) -> Status
-    ensures { result ≡ http_status fault.entry }
+/// How a daemon comes by the paths of its sockets.
+fn claim_of(is_replacing: bool) -> Claim
+    ensures { result ≡ (if is_replacing then Claim.Replacing else Claim.Free) }
 {
-    match fault {
-        HttpFault::Address { word, fault } => {
-            let word = str::from_utf8(word).unwrap_or("a word that is no text");
-            let _ = eprintln!(rt; "error: {word}: {fault}");
-            Status::BadLine
-        }
-        HttpFault::Granted => {
-            let _ = eprintln!(rt; "error: the status that grants is 200 or 204");
-            Status::BadLine
-        }
-        HttpFault::Source => {
-            let _ = eprintln!(rt; "error: a source of facts is header, query or forwarded");
-            Status::BadLine
-        }
-        HttpFault::NoMemory => tell_fault(rt, Status::NoMemory),
-    }
-}
-
-/// Says why `listen` can't begin or go on, and how the run ends.
-fn tell_listen<R: Eprint>(rt: &R, options: &ListenOptions, fault: ListenFault<'_>) -> Status
-    ensures { result ≡ listen_status fault.entry }
-{
-    match fault {
-        ListenFault::Daemon(fault) => tell_daemon(rt, faulty_path(options, &fault), &fault),
-        ListenFault::Door(address, fault) => {
-            let _ = eprintln!(rt; "error: {address}: {fault}");
-            status_of_door(&fault)
-        }
-        ListenFault::Gate(fault) => {
-            let _ = eprintln!(rt; "error: {fault}");
-            status_of_gate(&fault)
-        }
-    }
-}
-
-/// How a run ends for which there is no socket over HTTP.
-fn status_of_door(fault: &DoorFault) -> Status
-    ensures { result ≡ door_status fault.now }
-{
-    match fault {
-        DoorFault::NoMemory => Status::NoMemory,
-        DoorFault::Place(_) | DoorFault::System(_) => Status::DeviceFault,
-        DoorFault::Taken | DoorFault::Forbidden | DoorFault::NotHere => Status::DeviceFault,
-    }
-}
-
-/// How a run ends in which nobody accepts connections over HTTP.
-fn status_of_gate(fault: &GateFault) -> Status
-    ensures { result ≡ gate_status fault.now }
-{
-    match fault {
-        GateFault::NoThread | GateFault::NoMemory => Status::NoMemory,
-        GateFault::System(_) => Status::DeviceFault,
-    }
-}
-
-/// The path of the socket that a fault is about.
-fn faulty_path<'a>(options: &'a ListenOptions, fault: &DaemonFault) -> &'a str {
-    match (fault, &options.verify_socket) {
-        (DaemonFault::Side(_), Some(path)) => path.as_str(),
-        _ => options.socket.as_str(),
-    }
-}
-
-/// Says in words why the key file at a path gives no table, and how the run ends.
-fn tell_key_file<R: Eprint + Files>(rt: &R, path: &str, fault: PipeFault) -> Status
-    ensures { result ≡ pipe_status fault }
-{
-    say_key_fault(rt, path, fault);
-    fault.status()
-}
-
-/// The same for `serve`, which names a faulty line by numbers, as scripts read it.
-fn tell_served_keys<R: Eprint + Files>(rt: &R, path: &str, fault: PipeFault) -> Status
-    ensures { result ≡ pipe_status fault }
-{
-    match fault {
-        PipeFault::Keys { .. } => tell_ending(rt, Err(fault)),
-        _ => tell_key_file(rt, path, fault),
-    }
-}
-
-/// Says why a standard descriptor that is closed can't be opened, and how the run ends.
-fn tell_nowhere<R: Eprint>(rt: &R, refused: &io::Error) -> Status
-    ensures { result ≡ Status.DeviceFault }
-{
-    let _ = eprintln!(rt; "error: {NOWHERE}: {refused}; open standard input, output and error");
-    Status::DeviceFault
-}
-
-/// Says why the daemon whose socket is to be at a path can't begin or go on, and how the run ends.
-fn tell_daemon<R: Eprint>(rt: &R, path: &str, fault: &DaemonFault) -> Status
-    ensures { result ≡ daemon_status fault.now }
-{
-    let _ = match fault {
-        DaemonFault::Place(place) | DaemonFault::Side(place) => {
-            eprintln!(rt; "error: {path}: {place}")
-        }
-        other => eprintln!(rt; "error: {other}"),
-    };
-    status_of_daemon(fault)
-}
-
-/// How a run ends that a daemon ended with this fault.
-fn status_of_daemon(fault: &DaemonFault) -> Status
-    ensures { result ≡ daemon_status fault.now }
-{
-    match fault {
-        DaemonFault::NoThread | DaemonFault::NoMemory => Status::NoMemory,
-        DaemonFault::Place(_) | DaemonFault::Side(_) => Status::DeviceFault,
-        DaemonFault::System(_) | DaemonFault::Handed(_) => Status::DeviceFault,
-        DaemonFault::Output => Status::DeviceFault,
+    if is_replacing {
+        Claim::Replacing
+    } else {
+        Claim::Free
     }
 }
 
@@ -358,6 +264,7 @@ fn name_terms<'a, R: Threads>(
     options: &'a ListenOptions,
     names: usize,
     reserved: u64,
+    has_requests: bool,
 ) -> Terms<'a>
     ensures mode { result.permissions ≡ permissions options.now.mode }
     ensures idle { result.shape.idle ≡ options.now.idle }
@@ -365,6 +272,7 @@ fn name_terms<'a, R: Threads>(
     ensures connections { result.shape.connections ≡ connections_of options.now.connections }
     ensures loops { HasCount LOOPS_MAX options.now.loops result.shape.loops }
     ensures workers { HasCount WORKERS_MAX options.now.workers result.shape.workers }
+    ensures requests { result.has_requests ≡ has_requests }
 {
     Terms {
         path: options.socket.as_str(),
@@ -379,6 +287,7 @@ fn name_terms<'a, R: Threads>(
         },
         drain: options.drain.unwrap_or(DRAIN),
         reserved,
+        has_requests,
     }
 }
 
@@ -392,41 +301,4 @@ where
     let mut clock = SystemMoments::new(rt);
     let ending = pipe(rt.alloc(), &mut source, &mut clock, &mut sink);
     tell_ending(rt, ending)
-}
-
-/// Names the fault that a run ended with on standard error, and says how the run ended.
-fn tell_ending<R: Eprint>(rt: &R, ending: Result<(), PipeFault>) -> Status
-    ensures { result ≡ run_status ending }
-{
-    match ending {
-        Ok(()) => Status::Done,
-        Err(fault) => {
-            let _ = eprintln!(rt; "{fault}");
-            fault.status()
-        }
-    }
-}
-
-/// Shows what came of a line that asks for no work, and says how the run ended.
-fn show<R: Print + Eprint>(rt: &R, status: Status, text: &str) -> Status
-    ensures { IsShown status result }
-{
-    match status {
-        Status::Done if print!(rt; "{text}").is_err() => tell_fault(rt, Status::DeviceFault),
-        Status::Done => Status::Done,
-        Status::NoMemory => tell_fault(rt, Status::NoMemory),
-        _ => {
-            let _ = eprint!(rt; "{text}");
-            status
-        }
-    }
-}
-
-/// Names the number of a status on standard error, where there is no more to say.
-fn tell_fault<R: Eprint>(rt: &R, status: Status) -> Status
-    ensures { result ≡ status }
-{
-    let number = status.code();
-    let _ = eprintln!(rt; "fault {number}");
-    status
 }

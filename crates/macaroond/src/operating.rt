@@ -3,14 +3,13 @@
 use crate::commands::VERSION;
 use crate::key_watch::ListenFault;
 use mac_board::Publisher;
-use mac_daemon::{Daemon, DaemonFault};
+use mac_daemon::{Daemon, DaemonFault, Holdings};
 use mac_gate::{DoorFault, Doors, Gate, Pages, Terms, open_gate};
-use mac_http::{Granted, Rules, Sources};
+use mac_http::{Calls, Granted, Rules, Sources};
 use mac_keys::KeyTable;
 use std::alloc::{Alloc, AllocError, Global};
 use std::fs::{File, Files};
 use std::net::{Net, TcpListener, TcpStream};
-use std::process::Process;
 use std::random::RandomSource;
 use std::sync::Wait;
 use std::thread::Threads;
@@ -51,15 +50,15 @@ pub(crate) fn open_status<R>(
     alloc: Global,
     socket: &str,
     doors: &mut Doors,
-    process: Process,
+    holdings: &mut Holdings,
 ) -> Result<(), DoorFault>
 where
-    R: Files<File = File> + Net<Listener = TcpListener, Stream = TcpStream>,
+    R: Files<File = File> + Net<Listener = TcpListener, Stream = TcpStream> + Clock + Wait,
 {
     let Ok(path) = status_path(alloc, socket) else {
         return Err(DoorFault::NoMemory);
     };
-    doors.open_unix(rt, alloc, path.as_str(), STATUS_PERMISSIONS, process)
+    doors.open_unix(rt, path.as_str(), STATUS_PERMISSIONS, holdings)
 }
 
 /// Warns of a daemon that has no status socket. Nobody is kept from what it is for.
@@ -112,6 +111,7 @@ fn operators_terms() -> Terms {
                 forwarded: false,
             },
             granted: Granted::Ok,
+            calls: Calls::none(),
         },
         connections: OPERATORS_MAX,
         patience: Duration::from_secs(PATIENCE),

@@ -8,7 +8,7 @@ ghost use Rattle.macaroond.specs.Options.{IsGiven, MayRead, Reads};
 ghost use Rattle.macaroond.specs.declared.options.OptionFault.TheVariants.{NoMemory};
 
 use crate::choices::{Choice, HttpOptions, ListenOptions, Mode, ServeOptions};
-use crate::people::read_optional_text;
+use crate::people::{read_flag, read_optional_text};
 use clap::ArgMatches;
 use std::alloc::{AllocError, Global};
 
@@ -84,6 +84,8 @@ fn read_listen(alloc: Global, options: &ArgMatches<'_>) -> Result<Choice, Option
         verify_socket: read_optional_text(alloc, options, "verify-socket")?,
         verify_mode,
         verify_names: read_optional_text(alloc, options, "verify-names")?,
+        replace: read_flag(options, "replace"),
+        log: read_optional_text(alloc, options, "log")?,
         http,
     }))
 }
@@ -104,6 +106,7 @@ fn read_http(alloc: Global, options: &ArgMatches<'_>) -> Result<HttpOptions, Opt
         patience: read_optional_number(options, "http-patience"),
         granted: read_optional_text(alloc, options, "http-granted")?,
         facts: read_optional_text(alloc, options, "http-facts")?,
+        allow: read_optional_text(alloc, options, "http-allow")?,
         admin: read_optional_text(alloc, options, "http-admin")?,
     })
 }

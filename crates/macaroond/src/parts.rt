@@ -1,9 +1,9 @@
 //! What the command line is built of, as `clap` is told it.
 ghost use Rattle.std.specs.Prelude.{◌≡◌, false, true, IfOk};
 ghost use Rattle.clap.specs.Words.{app_of, new_app, rule_of, with_rule, with_subcommand};
-ghost use Rattle.macaroond.specs.Arguments.{option};
+ghost use Rattle.macaroond.specs.Arguments.{flag, option};
 
-use clap::{Arg, Command};
+use clap::{Arg, ArgAction, Command};
 use std::alloc::{AllocError, Global};
 
 /// What the help says of `--keys`.
@@ -40,6 +40,17 @@ pub(crate) fn add_arg<'a>(command: Command<'a>, arg: Arg<'a>) -> Result<Command<
         app_of whole ≡ with_rule (app_of command.entry) (rule_of arg.entry)) }
 {
     command.arg(arg)
+}
+
+/// An option without a value.
+pub(crate) fn build_flag<'a>(alloc: Global, name: &'a str, help: &'a str) -> Arg<'a>
+    ensures rule { rule_of result ≡ flag name.entry.now }
+    ensures local { result.global ≡ false }
+{
+    Arg::new(alloc, name)
+        .long(name)
+        .action(ArgAction::SetTrue)
+        .help(help)
 }
 
 /// An option that takes a value.

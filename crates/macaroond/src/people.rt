@@ -11,7 +11,7 @@ mod subcommands;
 
 pub use answering::run_task;
 pub use asking::Task;
-pub(crate) use asking::{read_optional_text, read_task};
+pub(crate) use asking::{read_flag, read_optional_text, read_task};
 pub use fault::PersonFault;
 pub(crate) use readers::{warn_of_no_keys, warn_of_readers};
 pub(crate) use subcommands::add_people;

@@ -2,7 +2,7 @@
 
 use crate::fixed::{FixedMoment, FixedSteward, NoWatch};
 use mac_board::FixedTables;
-use mac_http::{Face, Granted, Rules, Sources, attend};
+use mac_http::{Calls, Face, Granted, Rules, Sources, attend};
 use mac_keys::KeyTable;
 use std::alloc::Global;
 use std::hash::RandomState;
@@ -118,5 +118,14 @@ fn rules_of(words: &[u8]) -> Rules {
     } else {
         Granted::Ok
     };
-    Rules { sources, granted }
+    let calls = Calls {
+        mint: has(words, b"mint"),
+        attenuate: has(words, b"attenuate"),
+        inspect: has(words, b"inspect"),
+    };
+    Rules {
+        sources,
+        granted,
+        calls,
+    }
 }

@@ -3,7 +3,7 @@
 use http::StatusCode;
 use http_server::Log;
 use mac_board::Moments;
-use mac_http::{Page, Steward, Told, Watch};
+use mac_http::{Noted, Page, Steward, Told, Watch};
 use std::alloc::AllocError;
 use std::io;
 
@@ -62,7 +62,7 @@ impl Steward for FixedSteward {
         }
     }
 
-    fn note(&self, _status: StatusCode) {}
+    fn note(&self, _noted: Noted<'_>, _status: StatusCode) {}
 }
 
 /// A watch that drops nobody.

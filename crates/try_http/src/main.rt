@@ -1,8 +1,8 @@
 //! `try_http`: HTTP requests on standard input, and on standard output what the face answers.
 //!
 //! The input begins with a key file. Each line `== WORD..` begins a connection, whose requests are
-//! the lines behind it, each ended by CR and LF. The words name sources of facts, and `204`. The
-//! moment is the same for all.
+//! the lines behind it, each ended by CR and LF. The words name sources of facts, calls, and `204`.
+//! The moment is the same for all.
 #![tactic(auto)]
 
 mod connections;

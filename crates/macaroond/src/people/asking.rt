@@ -200,7 +200,7 @@ fn read_status(alloc: Global, options: &ArgMatches<'_>) -> Result<StatusWords, A
 }
 
 /// Whether a flag was set: `clap` gives it the value `true` then.
-fn read_flag(options: &ArgMatches<'_>, name: &str) -> bool
+pub(crate) fn read_flag(options: &ArgMatches<'_>, name: &str) -> bool
     ensures { result ≡ is_set name.now (rows_of (found_of options.now)) }
 {
     match options.get_str(name) {

@@ -1,12 +1,14 @@
 //! The subcommands for people, as `clap` is told them.
 ghost use Rattle.std.specs.Prelude.{◌≡◌, false, true, IfOk};
 ghost use Rattle.clap.specs.Words.{app_of, rule_of};
-ghost use Rattle.macaroond.specs.Arguments.{flag, option, required};
+ghost use Rattle.macaroond.specs.Arguments.{option, required};
 ghost use Rattle.macaroond.specs.People.{attenuate_command, check_command, inspect_command};
 ghost use Rattle.macaroond.specs.People.{keygen_command, mint_command, repeated, verify_command};
 ghost use Rattle.macaroond.specs.People.{status_command, with_key, with_people, word};
 
-use crate::parts::{KEYS_HELP, add_arg, add_subcommand, build_option, build_subcommand};
+use crate::parts::{
+    KEYS_HELP, add_arg, add_subcommand, build_flag, build_option, build_subcommand,
+};
 use clap::builder::ValueParser;
 use clap::{Arg, ArgAction, Command};
 use std::alloc::{AllocError, Global};
@@ -290,17 +292,6 @@ fn build_repeated<'a>(alloc: Global, name: &'a str, help: &'a str) -> Arg<'a>
     build_option(alloc, name, "TEXT", help)
         .action(ArgAction::Append)
         .value_parser(ValueParser::NonEmptyString)
-}
-
-/// An option without a value.
-fn build_flag<'a>(alloc: Global, name: &'a str, help: &'a str) -> Arg<'a>
-    ensures rule { rule_of result ≡ flag name.entry.now }
-    ensures local { result.global ≡ false }
-{
-    Arg::new(alloc, name)
-        .long(name)
-        .action(ArgAction::SetTrue)
-        .help(help)
 }
 
 /// An option that has to be given.

@@ -11,6 +11,7 @@ returns c =
     let mode = c.in_ok-listen-3.ensures ∙ ap₂ with_rule anywhere c.build_option-2.ensures.rule in
     let most = c.in_ok-listen-4.ensures ∙ ap₂ with_rule mode c.build_count-most.ensures.rule in
     let patience = c.in_ok-listen-5.ensures ∙ ap₂ with_rule most c.build_count-patience.ensures.rule in
-    let granted = c.in_ok-listen-6.ensures ∙ ap₂ with_rule patience c.build_option-3.ensures.rule in
-    let facts = c.in_ok-listen-7.ensures ∙ ap₂ with_rule granted c.build_option-4.ensures.rule in
-    IfOk-weaker c.add_arg-8.result _ _ (λ listen last. last ∙ ap₂ with_rule facts c.build_option-5.ensures.rule) c.add_arg-8.ensures
+    let granted = c.in_ok-listen-6.ensures ∙ ap₂ with_rule patience c.build_option-granted.ensures.rule in
+    let facts = c.in_ok-listen-7.ensures ∙ ap₂ with_rule granted c.build_option-facts.ensures.rule in
+    let allow = c.in_ok-listen-8.ensures ∙ ap₂ with_rule facts c.build_option-allow.ensures.rule in
+    IfOk-weaker c.add_arg-9.result _ _ (λ listen last. last ∙ ap₂ with_rule allow c.build_option-admin.ensures.rule) c.add_arg-9.ensures

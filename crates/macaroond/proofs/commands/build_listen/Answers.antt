@@ -20,4 +20,6 @@ returns c =
     let socket_too = c.in_ok-listen-10.ensures ∙ ap₂ with_rule names c.build_option-3.ensures.rule in
     let mode_too = c.in_ok-listen-11.ensures ∙ ap₂ with_rule socket_too c.build_option-4.ensures.rule in
     let names_too = c.in_ok-listen-12.ensures ∙ ap₂ with_rule mode_too c.build_option-5.ensures.rule in
-    IfOk-weaker c.add_http.result _ _ (λ listen last. last ∙ ap (λ (app : App). with_rules app http_rules) names_too) c.add_http.ensures
+    let replace = c.in_ok-listen-13.ensures ∙ ap₂ with_rule names_too c.build_flag.ensures.rule in
+    let log = c.in_ok-listen-14.ensures ∙ ap₂ with_rule replace c.build_option-6.ensures.rule in
+    IfOk-weaker c.add_http.result _ _ (λ listen last. last ∙ ap (λ (app : App). with_rules app http_rules) log) c.add_http.ensures

@@ -11,4 +11,5 @@ returns c = (
   c.in_ok-read_optional_text-3.ensures,
   c.in_ok-read_optional_text-4.ensures,
   c.in_ok-read_optional_text-5.ensures,
+  c.in_ok-read_optional_text-6.ensures,
 )

@@ -17,6 +17,8 @@ returns c = (
     c.in_ok-read_optional_text-2.ensures,
     sym c.read_mode-2.ensures ∙ c.in-Some-Some.is-1,
     c.in_ok-read_optional_text-3.ensures,
+    c.read_flag.ensures,
+    c.in_ok-read_optional_text-4.ensures,
     c.in_ok-http.ensures,
   ),
 )

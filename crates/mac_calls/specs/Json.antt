@@ -1,0 +1,55 @@
+-- The JSON of replies (this project's own).
+use Rattle.std.specs.Prelude.{ℕ, List, ◌++◌, map, codes, if◌then◌else◌}
+use Rattle.std.specs.Fmt.{decimal}
+use Rattle.std.specs.Str.{is_utf8}
+use Rattle.hex.specs.Hex.{encode_lower}
+use Rattle.serde_json.specs.Data.{Data, string, array, object, Members, no_members, put}
+use Rattle.serde_json.specs.View.{items_of}
+use Rattle.serde_json.specs.Written.{compact_text}
+use Rattle.mac_token.specs.Base64Text.{base64_of}
+use Rattle.mac_token.specs.Fault.{refusal_code}
+use Rattle.mac_token.specs.RawToken.{TokenParts}
+use Rattle.mac_calls.specs.declared.fault.CallRefusal.{CallRefusal}
+use Rattle.mac_calls.specs.declared.fault.CallRefusal.TheVariants.{Body, Token}
+use Rattle.mac_calls.specs.declared.form.CallForm.{CallForm}
+use Rattle.mac_calls.specs.Fault.{body_reason, token_reason}
+use Rattle.mac_calls.specs.Form.{form_of_text, form_word}
+use Rattle.mac_calls.specs.Members.{token_in}
+use Rattle.mac_calls.specs.Received.{received}
+use Rattle.mac_calls.specs.Steps.{Step, ◌>>=◌}
+use Rattle.std.specs.Prelude.{Ok}
+
+-- the text of a token, whose letters need no escape
+abbrev pub token_json : List ℕ → List ℕ
+token_json text = codes "{\"token\":\"" ++ (text ++ codes "\"}")
+
+-- a refusal: of a token with its number
+abbrev pub refusal_json : CallRefusal → List ℕ
+refusal_json (Body why) = codes "{\"reason\":\"" ++ (body_reason why ++ codes "\"}")
+refusal_json (Token why) = codes "{\"code\":" ++ (decimal (refusal_code why)
+    ++ (codes ",\"reason\":\"" ++ (token_reason why ++ codes "\"}")))
+
+-- the members, and bytes: a text by its name where they are UTF-8, else base64 by the other
+abbrev pub put_bytes : List ℕ → List ℕ → List ℕ → Members → Members
+put_bytes plain coded bytes members = if is_utf8 bytes then put plain (string bytes) members
+    else put coded (string (base64_of bytes)) members
+
+-- a caveat as an object
+abbrev pub caveat_object : List ℕ → Data
+caveat_object caveat = object (put_bytes (codes "text") (codes "bytes64") caveat no_members)
+
+-- what a token says that came in a form, its members sorted by name
+unfoldable pub inspect_object : CallForm → TokenParts → Data
+inspect_object form t =
+    object (put (codes "caveats") (array (items_of (map caveat_object t.caveats)))
+    (put (codes "form") (string (form_word form))
+    (put_bytes (codes "identifier") (codes "identifier64") t.identifier
+    (put (codes "location") (string t.location)
+    (put (codes "signature") (string (encode_lower t.sig)) no_members)))))
+
+-- what an object's token says, without white space, as `serde_json` writes it
+abbrev pub inspected : Data → Step (List ℕ)
+inspected d = do
+  text ← token_in d
+  t ← received text
+  Ok (compact_text (inspect_object (form_of_text text) t))

@@ -1,0 +1,10 @@
+pub mod Fault
+pub mod Steps
+pub mod Gives
+pub mod Form
+pub mod Object
+pub mod Members
+pub mod Received
+pub mod Made
+pub mod Json
+pub mod Outcome

@@ -1,0 +1,34 @@
+//! What is called for.
+
+ghost use Rattle.std.specs.Prelude.{◌≡◌};
+ghost use Rattle.mac_calls.specs.Object.{is_known};
+
+/// A call.
+#[derive(Clone, Copy, Debug, PartialEq, Eq)]
+pub enum Call {
+    /// A new token under the key of a name.
+    Mint,
+    /// A token with further caveats.
+    Attenuate,
+    /// What a token says. It asks for no key, and tells nothing of one.
+    Inspect,
+}
+
+impl Call {
+    /// Whether the body of the call may have a member of this name.
+    pub(crate) fn knows(self, name: &str) -> bool
+        ensures { result ≡ is_known self name.now }
+    {
+        match self {
+            Call::Mint => {
+                name == "identifier"
+                    || name == "identifier64"
+                    || name == "location"
+                    || name == "caveats"
+                    || name == "form"
+            }
+            Call::Attenuate => name == "token" || name == "caveats",
+            Call::Inspect => name == "token",
+        }
+    }
+}

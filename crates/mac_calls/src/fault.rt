@@ -1,0 +1,117 @@
+//! Why a call is refused.
+
+ghost use Rattle.std.specs.Prelude.{◌≡◌};
+ghost use Rattle.mac_calls.specs.Fault.{body_reason, fault_of_token, token_reason};
+ghost use Rattle.mac_calls.specs.declared.fault.CallFault.TheVariants as fault;
+ghost use Rattle.mac_calls.specs.declared.fault.CallRefusal.TheVariants as refusal;
+
+use mac_token::{TokenFault, TokenRefusal};
+use std::alloc::{AllocError, AllocFailed};
+
+/// Why a body is none of its call.
+#[derive(Clone, Copy, Debug, PartialEq, Eq)]
+pub enum BodyFault {
+    /// It is no JSON object.
+    NoObject,
+    /// It has a member that the call hasn't.
+    UnknownMember,
+    /// It has no identifier, or both, or one that is no text.
+    Identifier,
+    /// `identifier64` is no base64 text.
+    Base64,
+    /// The location is no text.
+    Location,
+    /// The caveats are no list of texts.
+    Caveats,
+    /// There is no caveat to add.
+    NoCaveat,
+    /// The form is none.
+    Form,
+    /// It has no token, or one that is no text.
+    Token,
+}
+
+impl BodyFault {
+    /// The reason in words.
+    pub fn reason(self) -> &'static str
+        ensures { result.now ≡ body_reason self }
+    {
+        match self {
+            BodyFault::NoObject => "the body is no JSON object",
+            BodyFault::UnknownMember => "the body has a member that the call does not have",
+            BodyFault::Identifier => "there is to be one text, identifier or identifier64",
+            BodyFault::Base64 => "identifier64 is no base64url text",
+            BodyFault::Location => "the location is no text",
+            BodyFault::Caveats => "the caveats are no list of texts",
+            BodyFault::NoCaveat => "there is no caveat to add",
+            BodyFault::Form => "the form is none of v1, v2 and json",
+            BodyFault::Token => "there is no text that is the token",
+        }
+    }
+}
+
+/// Why a call is refused.
+#[derive(Clone, Copy, Debug, PartialEq, Eq)]
+pub enum CallRefusal {
+    /// The body is none of the call.
+    Body(BodyFault),
+    /// The token is refused, or none is made.
+    Token(TokenRefusal),
+}
+
+/// The reason of a token's refusal in words.
+pub(crate) fn token_reason(why: TokenRefusal) -> &'static str
+    ensures { result.now ≡ token_reason why }
+{
+    match why {
+        TokenRefusal::Transport => "the token is neither a bare form nor base64 text",
+        TokenRefusal::Malformed => "the bytes are in no form of a token",
+        TokenRefusal::ThirdParty => "a caveat of the token is third-party",
+        TokenRefusal::Limit => "the token passes a limit",
+        TokenRefusal::CaveatLocation => "a first-party caveat of the token has a location",
+    }
+}
+
+/// Why a call has no reply: it is refused, or memory was.
+#[derive(Clone, Copy)]
+pub(crate) enum CallFault {
+    /// The call is refused.
+    Refused(CallRefusal),
+    /// Memory was refused.
+    Memory,
+}
+
+impl From<BodyFault> for CallFault {
+    ghost from_gives = { λ why made. made ≡ fault.Refused (refusal.Body why) };
+
+    fn from(why: BodyFault) -> CallFault {
+        CallFault::Refused(CallRefusal::Body(why))
+    }
+}
+
+impl From<TokenFault> for CallFault {
+    ghost from_gives = { λ why made. made ≡ fault_of_token why };
+
+    fn from(why: TokenFault) -> CallFault {
+        match why {
+            TokenFault::Refused(why) => CallFault::Refused(CallRefusal::Token(why)),
+            TokenFault::Memory => CallFault::Memory,
+        }
+    }
+}
+
+impl From<AllocError> for CallFault {
+    ghost from_gives = { λ _ made. made ≡ fault.Memory };
+
+    fn from(_refused: AllocError) -> CallFault {
+        CallFault::Memory
+    }
+}
+
+impl<T: Drop> From<AllocFailed<T>> for CallFault {
+    ghost from_gives = { λ _ made. made ≡ fault.Memory };
+
+    fn from(_refused: AllocFailed<T>) -> CallFault {
+        CallFault::Memory
+    }
+}

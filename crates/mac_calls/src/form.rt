@@ -1,0 +1,64 @@
+//! The forms of tokens in calls.
+
+ghost use Rattle.std.specs.Prelude.{◌≡◌};
+ghost use Rattle.mac_calls.specs.Form.{form_named, form_of_bare, form_word, written_form};
+
+use mac_token::Form;
+
+/// The form of a token. Its text is base64url in each, without padding.
+#[derive(Clone, Copy, Debug, PartialEq, Eq)]
+pub enum CallForm {
+    /// V1 packets.
+    V1,
+    /// V2 binary.
+    V2,
+    /// V2 JSON.
+    Json,
+}
+
+impl CallForm {
+    /// The form that a word names.
+    pub fn named(word: &str) -> Option<CallForm>
+        ensures { result ≡ form_named word.now }
+    {
+        match word {
+            "v1" => Some(CallForm::V1),
+            "v2" => Some(CallForm::V2),
+            "json" => Some(CallForm::Json),
+            _ => None,
+        }
+    }
+
+    /// The word that names it.
+    pub fn word(self) -> &'static str
+        ensures { result.now ≡ form_word self }
+    {
+        match self {
+            CallForm::V1 => "v1",
+            CallForm::V2 => "v2",
+            CallForm::Json => "json",
+        }
+    }
+
+    /// What is written of a token in it, before that is made base64 where it isn't.
+    pub(crate) fn written(self) -> Form
+        ensures { result ≡ written_form self }
+    {
+        match self {
+            CallForm::V1 => Form::V1Text,
+            CallForm::V2 => Form::V2Text,
+            CallForm::Json => Form::V2Json,
+        }
+    }
+
+    /// The form that the first byte of a bare token calls for.
+    pub(crate) fn of_bare(bare: &[u8]) -> CallForm
+        ensures { result ≡ form_of_bare bare.now }
+    {
+        match bare {
+            [b'0', ..] => CallForm::V1,
+            [b'{', ..] => CallForm::Json,
+            _ => CallForm::V2,
+        }
+    }
+}

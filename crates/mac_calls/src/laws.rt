@@ -1,0 +1,35 @@
+//! Laws of the definitions, as functions whose contracts state them.
+
+ghost use Rattle.std.specs.Prelude.{◌≡◌, ℕ, List, Option, Some, true};
+ghost use Rattle.mac_decide.specs.Answer.{request_reply};
+ghost use Rattle.mac_keys.specs.declared.keys.Keys.{Keys};
+ghost use Rattle.mac_token.specs.RawToken.{TokenParts};
+ghost use Rattle.mac_token.specs.Read.{read_of};
+ghost use Rattle.mac_wire.specs.Request.{attenuate, mint};
+ghost use Rattle.mac_wire.specs.declared.reply.Reply.TheVariants as reply;
+ghost use Rattle.mac_decide.specs.declared.job.Basis.{Basis};
+ghost use Rattle.mac_calls.specs.declared.form.CallForm.{CallForm};
+ghost use Rattle.mac_calls.specs.Form.{wire_form};
+ghost use Rattle.mac_calls.specs.Made.{narrowed, new_text, text_of_written};
+
+/// What a mint is answered with is the text of the token that the wire's request is replied with.
+pub fn mints_as_the_wire()
+    ensures { (keys : Keys) (form : CallForm) (name location identifier : List ℕ)
+        (caveats : List (List ℕ)) (moment : Option ℕ) (text : List ℕ)
+        → new_text keys form location identifier caveats ≡ Ok text
+        → (written : List ℕ) × (text_of_written form written ≡ Ok text)
+        × (request_reply (mint (wire_form form) name location identifier caveats)
+        (record { keys = Some keys; may_mint = true; moment = moment })
+        ≡ reply.Token written) }
+{}
+
+/// What an attenuate is answered with is the text of the token that the wire's request is replied
+/// with.
+pub fn attenuates_as_the_wire()
+    ensures { (form : CallForm) (token : List ℕ) (t : TokenParts) (caveats : List (List ℕ))
+        (basis : Basis) (text : List ℕ)
+        → read_of token ≡ Ok t → narrowed form t caveats ≡ Ok text
+        → (written : List ℕ) × (text_of_written form written ≡ Ok text)
+        × (request_reply (attenuate (wire_form form) token caveats) basis
+        ≡ reply.Token written) }
+{}

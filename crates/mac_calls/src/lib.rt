@@ -1,0 +1,23 @@
+//! Calls that bring JSON: a token minted, narrowed or looked at.
+//!
+//! [`answer`] takes a [`Call`] with the bytes of its body, and gives the [`Outcome`]: the JSON text
+//! of a reply, or of a refusal, or that the key isn't there. `docs/FORMATS.md` has the members.
+//! Nothing here knows of HTTP, and nothing reads a device.
+#![tactic(auto)]
+
+mod answering;
+mod call;
+mod fault;
+mod form;
+mod inspect;
+mod json;
+pub mod laws;
+mod make;
+mod members;
+mod object;
+mod received;
+
+pub use answering::{Outcome, answer};
+pub use call::Call;
+pub use fault::{BodyFault, CallRefusal};
+pub use form::CallForm;

@@ -1,0 +1,230 @@
+//! What a process has of the paths of its sockets. Each socket is made out of reach, and all are
+//! put in their places once the daemon serves them.
+use crate::lock::{Claim, PathLock, lock_path};
+use crate::place::{PATH_MAX, PlaceFault, check_length};
+use std::alloc::Global;
+use std::fs::{DirBuilder, File, Files, Metadata, Permissions};
+use std::io::ErrorKind;
+use std::net::Net;
+use std::os::unix::fs::{DirBuilderExt, FileTypeExt, MetadataExt, PermissionsExt};
+use std::os::unix::net::{UnixListener, UnixStream};
+use std::process::Process;
+use std::sync::Wait;
+use std::time::Clock;
+use std::{fs, io, process};
+
+/// How many bytes stand behind the path while the socket is made: `.new/s`.
+const INSIDE: usize = 6;
+
+/// Which file something is.
+#[derive(Clone, Copy, PartialEq, Eq)]
+struct FileId {
+    device: u64,
+    inode: u64,
+}
+
+impl FileId {
+    fn of(found: &Metadata) -> FileId {
+        FileId {
+            device: found.dev(),
+            inode: found.ino(),
+        }
+    }
+}
+
+/// A path, and the socket of this process that has it or is to have it.
+#[derive(Drop)]
+struct Holding {
+    path: String,
+    // The folder in which the socket is made, and its path there.
+    folder: String,
+    inside: String,
+    lock: PathLock,
+    socket: FileId,
+    is_placed: bool,
+}
+
+/// The paths of the sockets that a process makes.
+#[derive(Drop)]
+pub struct Holdings {
+    alloc: Global,
+    claim: Claim,
+    process: Process,
+    held: Vec<Holding>,
+}
+
+impl Holdings {
+    /// No path yet. Those that come are claimed so.
+    pub fn new(alloc: Global, claim: Claim, process: Process) -> Holdings {
+        Holdings {
+            alloc,
+            claim,
+            process,
+            held: Vec::new(alloc),
+        }
+    }
+
+    /// A listener whose socket is to be at a path, with these permissions. Nobody can reach it
+    /// before it is put in its place. One process at a time has a path; a socket on which nobody
+    /// listens is taken over.
+    pub fn bind<R>(
+        &mut self,
+        rt: &R,
+        path: &str,
+        permissions: u32,
+    ) -> Result<UnixListener, PlaceFault>
+    where
+        R: Files<File = File> + Net + Clock + Wait,
+    {
+        let alloc = self.alloc;
+        check_length(path, PATH_MAX - INSIDE)?;
+        if self.has(path) {
+            return Err(PlaceFault::Locked(process::id(self.process)));
+        }
+        self.held.reserve(1)?;
+        let lock = PathLock::take(rt, alloc, path, self.claim, self.process)?;
+        check_place(rt, path, &lock)?;
+        let folder = format!(in alloc; "{path}.new")?;
+        let inside = format!(in alloc; "{folder}/s")?;
+        let path = String::from_str(alloc, path)?;
+        let (listener, socket) = make_inside(rt, folder.as_str(), inside.as_str(), permissions)?;
+        let holding = Holding {
+            path,
+            folder,
+            inside,
+            lock,
+            socket,
+            is_placed: false,
+        };
+        match self.held.push(holding) {
+            Ok(()) => Ok(listener),
+            Err(_) => Err(PlaceFault::NoMemory),
+        }
+    }
+
+    /// Whether a path is among them.
+    fn has(&self, path: &str) -> bool {
+        self.held
+            .iter()
+            .any(|holding| holding.path.as_str() == path)
+    }
+
+    /// Puts each socket in its place.
+    pub fn place_all<R: Files>(&mut self, rt: &R) -> Result<(), PlaceFault> {
+        for holding in self.held.iter_mut() {
+            holding.place(rt)?;
+        }
+        Ok(())
+    }
+
+    /// Removes the sockets that were not put in their places.
+    pub fn clear<R: Files>(&self, rt: &R) {
+        for holding in &self.held {
+            if !holding.is_placed {
+                remove_made(rt, holding.folder.as_str(), holding.inside.as_str());
+            }
+        }
+    }
+
+    /// Takes each lock that was given up since. Whether another socket is in the place of one of
+    /// these.
+    pub fn look<R: Files<File = File>>(&mut self, rt: &R) -> bool {
+        let mut is_replaced = false;
+        for holding in self.held.iter_mut() {
+            holding.take_lock(rt, self.alloc, self.process);
+            is_replaced = is_replaced || holding.is_replaced(rt);
+        }
+        is_replaced
+    }
+}
+
+impl Holding {
+    fn place<R: Files>(&mut self, rt: &R) -> Result<(), PlaceFault> {
+        fs::rename(rt, self.inside.as_str(), self.path.as_str())?;
+        self.is_placed = true;
+        let _ = fs::remove_dir(rt, self.folder.as_str());
+        Ok(())
+    }
+
+    /// Takes the lock of the path, where only the turn to have it was had.
+    fn take_lock<R: Files<File = File>>(&mut self, rt: &R, alloc: Global, process: Process) {
+        if self.lock.is_own() {
+            return;
+        }
+        if let Ok(own) = lock_path(rt, alloc, self.path.as_str(), process) {
+            self.lock = PathLock::Own(own);
+        }
+    }
+
+    /// Whether another socket is in its place.
+    fn is_replaced<R: Files>(&self, rt: &R) -> bool {
+        self.is_placed
+            && fs::symlink_metadata(rt, self.path.as_str()).is_ok_and(|found| {
+                found.file_type().is_socket() && FileId::of(&found) != self.socket
+            })
+    }
+}
+
+/// Whether who has such a lock may put a socket at the path: there is nothing, or a socket on which
+/// nobody listens but the process that is replaced.
+fn check_place<R: Files + Net>(rt: &R, path: &str, lock: &PathLock) -> Result<(), PlaceFault> {
+    match fs::symlink_metadata(rt, path) {
+        Err(refused) if refused.kind() == ErrorKind::NotFound => Ok(()),
+        Err(refused) => Err(PlaceFault::from(refused)),
+        Ok(found) if !found.file_type().is_socket() => Err(PlaceFault::NoSocket),
+        Ok(_) if lock.is_own() => check_deserted(rt, path),
+        Ok(_) => Ok(()),
+    }
+}
+
+/// Whether nobody listens at a socket.
+fn check_deserted<R: Net>(rt: &R, path: &str) -> Result<(), PlaceFault> {
+    match UnixStream::connect(rt, path) {
+        Ok(_) => Err(PlaceFault::Taken),
+        Err(refused) if refused.kind() == ErrorKind::ConnectionRefused => Ok(()),
+        Err(refused) => Err(PlaceFault::from(refused)),
+    }
+}
+
+/// A listener whose socket is made in a fresh folder, with its mode from the first moment that it
+/// can be reached.
+fn make_inside<R: Files + Net>(
+    rt: &R,
+    folder: &str,
+    inside: &str,
+    permissions: u32,
+) -> io::Result<(UnixListener, FileId)> {
+    make_fresh(rt, folder, inside)?;
+    let made = bind_with_mode(rt, inside, permissions);
+    if made.is_err() {
+        remove_made(rt, folder, inside);
+    }
+    made
+}
+
+/// Makes the folder in which a socket is made. Who makes it has the path's lock or the turn to have
+/// it, so that a folder that is there was left by a run that was killed, and is removed.
+fn make_fresh<R: Files>(rt: &R, folder: &str, inside: &str) -> io::Result<()> {
+    if fs::symlink_metadata(rt, folder).is_ok_and(|found| found.file_type().is_dir()) {
+        let _ = fs::remove_file(rt, inside);
+        fs::remove_dir(rt, folder)?;
+    }
+    DirBuilder::new().mode(0o700).create(rt, folder)
+}
+
+fn bind_with_mode<R: Files + Net>(
+    rt: &R,
+    inside: &str,
+    permissions: u32,
+) -> io::Result<(UnixListener, FileId)> {
+    let listener = UnixListener::bind(rt, inside)?;
+    fs::set_permissions(rt, inside, Permissions::from_mode(permissions))?;
+    let found = fs::symlink_metadata(rt, inside)?;
+    Ok((listener, FileId::of(&found)))
+}
+
+/// Removes a socket that was made in a folder, and the folder.
+fn remove_made<R: Files>(rt: &R, folder: &str, inside: &str) {
+    let _ = fs::remove_file(rt, inside);
+    let _ = fs::remove_dir(rt, folder);
+}

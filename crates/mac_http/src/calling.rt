@@ -1,0 +1,130 @@
+//! Calls that bring JSON.
+
+ghost use Rattle.std.specs.Prelude.{◌≡◌, ◌∷◌, [], OnOk, bytes_eq, codes, option_map};
+ghost use Rattle.http.specs.Request.{body_of, head_of};
+ghost use Rattle.http_server.specs.Response.{IsBlank, IsResponse, fields_of};
+ghost use Rattle.mac_calls.specs.Outcome.{outcome_of};
+ghost use Rattle.mac_http.specs.Calling.{RespondsToCall, TellsCall, TellsOutcome};
+ghost use Rattle.mac_http.specs.Calling.{call_in, is_json, takes_post};
+
+use crate::rules::Calls;
+use bytes::{BufMut, Bytes};
+use http::header::{ALLOW, CONTENT_TYPE, HeaderValue};
+use http::{Method, Request, StatusCode};
+use http_server::Response;
+use mac_calls::{Call, Outcome, answer};
+use mac_keys::KeyTable;
+use std::alloc::{AllocError, Global};
+
+/// The paths of calls.
+const ATTENUATE: &[u8] = b"/attenuate";
+
+const INSPECT: &[u8] = b"/inspect";
+
+/// What stands before the name of a key in the path of a mint.
+const MINT: &[u8] = b"/mint/";
+
+/// A call that a path asks for.
+#[derive(Clone, Copy)]
+pub(crate) struct Asked<'a> {
+    pub(crate) call: Call,
+    /// The name of the key, empty where the call is about none.
+    pub(crate) name: &'a [u8],
+}
+
+/// The call that a path asks for, where it is allowed.
+pub(crate) fn call_in(calls: Calls, path: &[u8]) -> Option<Asked<'_>>
+    ensures { option_map (λ asked. (asked.call, asked.name.now)) result ≡ call_in calls path.now }
+{
+    if path == ATTENUATE && calls.attenuate {
+        Some(Asked {
+            call: Call::Attenuate,
+            name: b"",
+        })
+    } else if path == INSPECT && calls.inspect {
+        Some(Asked {
+            call: Call::Inspect,
+            name: b"",
+        })
+    } else if calls.mint {
+        let name = path.strip_prefix(MINT)?;
+        Some(Asked {
+            call: Call::Mint,
+            name,
+        })
+    } else {
+        None
+    }
+}
+
+/// Fills a blank response to a request for a call. Where memory is refused it is a 503 without
+/// fields.
+pub(crate) fn respond_to_call(
+    alloc: Global,
+    keys: &KeyTable,
+    asked: Asked<'_>,
+    request: &Request<Bytes>,
+    response: &mut Response,
+)
+    requires { IsBlank response.old }
+    ensures { RespondsToCall keys.now (asked.entry.call, asked.entry.name.now) request.now
+        response.new }
+{
+    if fill(alloc, keys, asked, request, response).is_err() {
+        response.clear();
+        response.status = StatusCode::SERVICE_UNAVAILABLE;
+    }
+}
+
+fn fill(
+    alloc: Global,
+    keys: &KeyTable,
+    asked: Asked<'_>,
+    request: &Request<Bytes>,
+    response: &mut Response,
+) -> Result<(), AllocError>
+    requires { IsBlank response.old }
+    ensures { OnOk result (TellsCall (bytes_eq (head_of request.now).method (codes "POST"))
+        (outcome_of keys.now asked.entry.name.now asked.entry.call (body_of request.now))
+        response.new) }
+{
+    if *request.method() != Method::POST {
+        return refuse_method(response);
+    }
+    let outcome = answer(alloc, keys, asked.name, asked.call, request.body())?;
+    tell(&outcome, response)
+}
+
+/// Fills a blank response with the method that is taken.
+fn refuse_method(response: &mut Response) -> Result<(), AllocError>
+    requires { IsBlank response.old }
+    ensures { OnOk result (IsResponse 405 takes_post [] response.new) }
+{
+    response.status = StatusCode::METHOD_NOT_ALLOWED;
+    response.add_header(ALLOW, HeaderValue::from_static("POST"))
+}
+
+/// Fills a blank response with what came of a call.
+fn tell(outcome: &Outcome, response: &mut Response) -> Result<(), AllocError>
+    requires { IsBlank response.old }
+    ensures { OnOk result (TellsOutcome outcome.now response.new) }
+{
+    match outcome {
+        Outcome::NoKey => {
+            response.status = StatusCode::NOT_FOUND;
+            Ok(())
+        }
+        Outcome::Reply(json) => put_json(StatusCode::OK, json.as_slice(), response),
+        Outcome::Refused(json) => put_json(StatusCode::BAD_REQUEST, json.as_slice(), response),
+    }
+}
+
+/// Fills a blank response with JSON.
+fn put_json(status: StatusCode, json: &[u8], response: &mut Response) -> Result<(), AllocError>
+    requires { IsBlank response.old }
+    ensures { OnOk result (IsResponse status is_json json.now response.new) }
+{
+    response.status = status;
+    response.add_header(CONTENT_TYPE, HeaderValue::from_static("application/json"))?;
+    response.body.put_slice(json)
+}

@@ -1,0 +1,52 @@
+//! What a request is noted as, for who counts and logs requests.
+
+use crate::calling::Asked;
+use crate::target::target_in;
+use mac_calls::Call;
+
+/// What a request asks for that names no page.
+#[derive(Clone, Copy, Debug, PartialEq, Eq)]
+pub enum Asks {
+    /// Whether a token is granted. What asks for nothing that is served counts as that.
+    Verify,
+    /// A new token.
+    Mint,
+    /// A token with further caveats.
+    Attenuate,
+    /// What a token says.
+    Inspect,
+}
+
+/// A request that names no page.
+#[derive(Clone, Copy)]
+pub struct Noted<'a> {
+    /// What it asks for.
+    pub asks: Asks,
+    /// The name of the key that it names, empty where it names none.
+    pub name: &'a [u8],
+}
+
+/// That of a call.
+pub(crate) fn note_of_call(asked: Asked<'_>) -> Noted<'_> {
+    let asks = match asked.call {
+        Call::Mint => Asks::Mint,
+        Call::Attenuate => Asks::Attenuate,
+        Call::Inspect => Asks::Inspect,
+    };
+    Noted {
+        asks,
+        name: asked.name,
+    }
+}
+
+/// That of any other path.
+pub(crate) fn note_of_path(path: &[u8]) -> Noted<'_> {
+    let name: &[u8] = match target_in(path) {
+        Some(target) => target.name,
+        None => &[],
+    };
+    Noted {
+        asks: Asks::Verify,
+        name,
+    }
+}

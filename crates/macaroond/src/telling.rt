@@ -1,0 +1,185 @@
+//! What is said of a run that didn't go well, and how it ends.
+
+ghost use Rattle.std.specs.Prelude.{◌≡◌};
+ghost use Rattle.macaroond.specs.Status.{IsShown, daemon_status, door_status, gate_status};
+ghost use Rattle.macaroond.specs.Status.{http_status, listen_status, pipe_status, run_status};
+
+use crate::choices::ListenOptions;
+use crate::descriptors::NOWHERE;
+use crate::fault::PipeFault;
+use crate::http::HttpFault;
+use crate::key_fault::say_key_fault;
+use crate::key_watch::ListenFault;
+use crate::status::Status;
+use mac_daemon::DaemonFault;
+use mac_gate::{DoorFault, GateFault};
+use std::fs::Files;
+use std::io;
+
+/// Says why the options for HTTP can't be followed, and how the run ends.
+pub fn tell_http<R: Eprint>(rt: &R, fault: HttpFault<'_>) -> Status
+    ensures { result ≡ http_status fault.entry }
+{
+    match fault {
+        HttpFault::Address { word, fault } => {
+            let word = str::from_utf8(word).unwrap_or("a word that is no text");
+            let _ = eprintln!(rt; "error: {word}: {fault}");
+            Status::BadLine
+        }
+        HttpFault::Granted => {
+            let _ = eprintln!(rt; "error: the status that grants is 200 or 204");
+            Status::BadLine
+        }
+        HttpFault::Source => {
+            let _ = eprintln!(rt; "error: a source of facts is header, query or forwarded");
+            Status::BadLine
+        }
+        HttpFault::Call => {
+            let _ = eprintln!(rt; "error: a call is mint, attenuate or inspect");
+            Status::BadLine
+        }
+        HttpFault::NoMemory => tell_fault(rt, Status::NoMemory),
+    }
+}
+
+/// Says what may be logged besides, and how the run ends.
+pub fn tell_log<R: Eprint>(rt: &R) -> Status
+    ensures { result ≡ Status.BadLine }
+{
+    let _ = eprintln!(rt; "error: what is logged besides is requests");
+    Status::BadLine
+}
+
+/// Says why `listen` can't begin or go on, and how the run ends.
+pub fn tell_listen<R: Eprint>(rt: &R, options: &ListenOptions, fault: ListenFault<'_>) -> Status
+    ensures { result ≡ listen_status fault.entry }
+{
+    match fault {
+        ListenFault::Daemon(fault) => tell_daemon(rt, faulty_path(options, &fault), &fault),
+        ListenFault::Door(address, fault) => {
+            let _ = eprintln!(rt; "error: {address}: {fault}");
+            status_of_door(&fault)
+        }
+        ListenFault::Gate(fault) => {
+            let _ = eprintln!(rt; "error: {fault}");
+            status_of_gate(&fault)
+        }
+    }
+}
+
+/// How a run ends for which there is no socket over HTTP.
+fn status_of_door(fault: &DoorFault) -> Status
+    ensures { result ≡ door_status fault.now }
+{
+    match fault {
+        DoorFault::NoMemory => Status::NoMemory,
+        DoorFault::Place(_) | DoorFault::System(_) => Status::DeviceFault,
+        DoorFault::Taken | DoorFault::Forbidden | DoorFault::NotHere => Status::DeviceFault,
+    }
+}
+
+/// How a run ends in which nobody accepts connections over HTTP.
+fn status_of_gate(fault: &GateFault) -> Status
+    ensures { result ≡ gate_status fault.now }
+{
+    match fault {
+        GateFault::NoThread | GateFault::NoMemory => Status::NoMemory,
+        GateFault::System(_) => Status::DeviceFault,
+    }
+}
+
+/// The path of the socket that a fault is about.
+fn faulty_path<'a>(options: &'a ListenOptions, fault: &DaemonFault) -> &'a str {
+    match (fault, &options.verify_socket) {
+        (DaemonFault::Side(_), Some(path)) => path.as_str(),
+        _ => options.socket.as_str(),
+    }
+}
+
+/// Says in words why the key file at a path gives no table, and how the run ends.
+pub fn tell_key_file<R: Eprint + Files>(rt: &R, path: &str, fault: PipeFault) -> Status
+    ensures { result ≡ pipe_status fault }
+{
+    say_key_fault(rt, path, fault);
+    fault.status()
+}
+
+/// The same for `serve`, which names a faulty line by numbers, as scripts read it.
+pub fn tell_served_keys<R: Eprint + Files>(rt: &R, path: &str, fault: PipeFault) -> Status
+    ensures { result ≡ pipe_status fault }
+{
+    match fault {
+        PipeFault::Keys { .. } => tell_ending(rt, Err(fault)),
+        _ => tell_key_file(rt, path, fault),
+    }
+}
+
+/// Says why a standard descriptor that is closed can't be opened, and how the run ends.
+pub fn tell_nowhere<R: Eprint>(rt: &R, refused: &io::Error) -> Status
+    ensures { result ≡ Status.DeviceFault }
+{
+    let _ = eprintln!(rt; "error: {NOWHERE}: {refused}; open standard input, output and error");
+    Status::DeviceFault
+}
+
+/// Says why the daemon whose socket is to be at a path can't begin or go on, and how the run ends.
+pub fn tell_daemon<R: Eprint>(rt: &R, path: &str, fault: &DaemonFault) -> Status
+    ensures { result ≡ daemon_status fault.now }
+{
+    let _ = match fault {
+        DaemonFault::Place(place) | DaemonFault::Side(place) => {
+            eprintln!(rt; "error: {path}: {place}")
+        }
+        other => eprintln!(rt; "error: {other}"),
+    };
+    status_of_daemon(fault)
+}
+
+/// How a run ends that a daemon ended with this fault.
+fn status_of_daemon(fault: &DaemonFault) -> Status
+    ensures { result ≡ daemon_status fault.now }
+{
+    match fault {
+        DaemonFault::NoThread | DaemonFault::NoMemory => Status::NoMemory,
+        DaemonFault::Place(_) | DaemonFault::Side(_) => Status::DeviceFault,
+        DaemonFault::System(_) | DaemonFault::Handed(_) => Status::DeviceFault,
+        DaemonFault::Output => Status::DeviceFault,
+    }
+}
+
+/// Names the fault that a run ended with on standard error, and says how the run ended.
+pub fn tell_ending<R: Eprint>(rt: &R, ending: Result<(), PipeFault>) -> Status
+    ensures { result ≡ run_status ending }
+{
+    match ending {
+        Ok(()) => Status::Done,
+        Err(fault) => {
+            let _ = eprintln!(rt; "{fault}");
+            fault.status()
+        }
+    }
+}
+
+/// Shows what came of a line that asks for no work, and says how the run ended.
+pub fn show<R: Print + Eprint>(rt: &R, status: Status, text: &str) -> Status
+    ensures { IsShown status result }
+{
+    match status {
+        Status::Done if print!(rt; "{text}").is_err() => tell_fault(rt, Status::DeviceFault),
+        Status::Done => Status::Done,
+        Status::NoMemory => tell_fault(rt, Status::NoMemory),
+        _ => {
+            let _ = eprint!(rt; "{text}");
+            status
+        }
+    }
+}
+
+/// Names the number of a status on standard error, where there is no more to say.
+pub fn tell_fault<R: Eprint>(rt: &R, status: Status) -> Status
+    ensures { result ≡ status }
+{
+    let number = status.code();
+    let _ = eprintln!(rt; "fault {number}");
+    status
+}

@@ -1,0 +1,222 @@
+#!/usr/bin/env python3
+"""How `macaroond listen --replace` takes the sockets of a daemon over: under load, without a daemon, with a fault, and
+twice at once. Nobody is refused, and each request is answered."""
+import contextlib
+import http.client
+import os
+import pathlib
+import signal
+import socket
+import subprocess
+import sys
+import tempfile
+import time
+
+sys.path.insert(0, str(pathlib.Path(__file__).resolve().parents[1]))
+from check.daemon_rows import MINT, NO_REQUEST, TOKEN
+from check.ending import Asking, ended, started
+from common import KEYS, logged
+from common.daemon import PROGRAM, connected, frame, received
+
+# How many requests are answered over all replacements at least, by how many clients, and how many replacements.
+ALL, CLIENTS, REPLACED = 50_000, 4, 6
+# How many seconds anything may take, on a machine that is busy with other work.
+PATIENCE = 60
+# How many clients wait at a socket that is replaced.
+WAITING = 50
+MINTING, MINTED = frame(MINT), frame(b"\x01" + TOKEN)
+
+
+def lines(run):
+    """How a run ended, and what it said but for its start: `replaced` first, which another thread says."""
+    status, _, said = ended(run)
+    return status, sorted(said, key=lambda line: line[0] != "replaced")
+
+
+def replaced(path, left):
+    """How a daemon ends whose place another one takes, and what it says."""
+    return 0, [("replaced", {"socket": path}), ("drain", {"connections": str(left)}), ("end", {"connections": "0"})]
+
+
+def left_behind(folder):
+    """What lies in a folder but sockets and their locks."""
+    return sorted(it.name for it in pathlib.Path(folder).iterdir() if not it.is_socket() and it.suffix != ".lock")
+
+
+def under_load(folder):
+    """One daemon after the other takes a socket, while clients ask."""
+    path = f"{folder}/load"
+    run = started(path)
+    clients = [Asking(path) for _ in range(CLIENTS)]
+    for one in clients:
+        one.start()
+    endings, until = [], time.monotonic() + PATIENCE
+    while (len(endings) < REPLACED or sum(one.answered for one in clients) < ALL) and time.monotonic() < until:
+        run, before = started(path, "--replace"), run
+        endings.append(ended(before)[0])
+    for one in clients:
+        one.is_over = True
+    for one in clients:
+        one.join()
+    yield "how the daemons ended", endings, [0] * len(endings)
+    yield "what clients met", [one.fault for one in clients], [None] * CLIENTS
+    yield "requests without a reply", [one.owed for one in clients], [0] * CLIENTS
+    yield "as many as were to be asked", sum(one.answered for one in clients) >= ALL, True
+    yield "nothing is left behind", left_behind(folder), []
+    run.send_signal(signal.SIGTERM)
+    yield "how the last one ends", ended(run)[0], 0
+
+
+def alone(folder):
+    """Where nobody has the path, it is as without the option; who comes without it is refused."""
+    path = f"{folder}/alone"
+    run = started(path, "--replace")
+    yield "its first line", run.first.startswith(f"listening at {path}: "), True
+    command = [PROGRAM, "listen", "--socket", path, "--keys", KEYS]
+    second = subprocess.run(command, capture_output=True, text=True)
+    due = f"error: {path}: process {child_of(run)} has it; end that process first, or give another path\n"
+    yield "one without the option", (second.returncode, second.stderr), (3, due)
+    run.send_signal(signal.SIGTERM)
+    yield "how it ends", ended(run)[0], 0
+
+
+def child_of(run):
+    """The process that listens: that of the launcher itself."""
+    return run.pid
+
+
+def faulty(folder):
+    """A daemon that can't begin takes nothing from the one that is there."""
+    path = f"{folder}/faulty"
+    run = started(path)
+    keys = pathlib.Path(folder) / "keys"
+    keys.write_text("key bank\n")
+    occupied = socket.create_server(("127.0.0.1", 0))
+    port = occupied.getsockname()[1]
+    rows = (["--keys", keys], 1), (["--keys", KEYS, "--http", f"127.0.0.1:{port}"], 3), (
+        ["--keys", KEYS, "--verify-socket", f"{folder}/none/side"], 3)
+    for words, status in rows:
+        again = subprocess.run([PROGRAM, "listen", "--socket", path, "--replace", *words], capture_output=True)
+        yield f"it is refused: {words[-1]}", again.returncode, status
+    time.sleep(1.2)
+    with connected(path) as stream:
+        stream.sendall(frame(b""))
+        yield "the first one answers", received(stream, len(NO_REQUEST)), NO_REQUEST
+    keys.unlink()
+    yield "nothing is left behind", left_behind(folder), []
+    run.send_signal(signal.SIGTERM)
+    yield "and ends as ever", ended(run)[0], 0
+
+
+def twice(folder):
+    """While one waits for the lock of a daemon that drains, a further one is refused; then it may."""
+    path = f"{folder}/twice"
+    run = started(path, "--drain", "12")
+    with connected(path) as stream:
+        fill(stream)
+        second = started(path, "--replace")
+        third = subprocess.run(
+            [PROGRAM, "listen", "--socket", path, "--keys", KEYS, "--replace"], capture_output=True, text=True
+        )
+        due = f"error: {path}: another daemon is taking it over; wait until that is done\n"
+        yield "a third one", (third.returncode, third.stderr), (3, due)
+        yield "the first one", lines(run)[0], 0
+    time.sleep(1.2)
+    last = started(path, "--replace")
+    yield "the second one", lines(second), replaced(path, 0)
+    last.send_signal(signal.SIGTERM)
+    yield "the last one", ended(last)[0], 0
+
+
+def fill(stream):
+    """Sends requests and takes no reply, until no more goes."""
+    stream.setblocking(False)
+    until = time.monotonic() + 2
+    while time.monotonic() < until:
+        try:
+            stream.send(MINTING * 100)
+        except BlockingIOError:
+            time.sleep(0.05)
+
+
+def all_sockets(folder):
+    """The second socket, the one over HTTP and the one for operators go over with the first."""
+    path, side, web = (f"{folder}/{it}" for it in ("first", "side", "web"))
+    words = ["--verify-socket", side, "--http", f"unix:{web}"]
+    run = started(path, *words)
+    with connected(path) as stream:
+        stream.sendall(frame(b""))
+        received(stream, len(NO_REQUEST))
+        second = started(path, *words, "--replace")
+        yield "the first one", lines(run), replaced(path, 1)
+        yield "its connection ends", stream.recv(1), b""
+    for one in (path, side):
+        with connected(one) as stream:
+            stream.sendall(frame(b""))
+            yield f"a reply at {pathlib.Path(one).name}", received(stream, len(NO_REQUEST)), NO_REQUEST
+    yield "over HTTP", health(web), 200
+    asking = subprocess.run([PROGRAM, "status", "--socket", path], capture_output=True, text=True)
+    yield "its status", asking.returncode, 0
+    second.send_signal(signal.SIGTERM)
+    yield "the second one", ended(second)[0], 0
+
+
+def health(path):
+    """The status of the page that tells how a daemon is."""
+    asked = http.client.HTTPConnection("localhost", timeout=PATIENCE)
+    asked.sock = socket.socket(socket.AF_UNIX)
+    asked.sock.connect(path)
+    with contextlib.closing(asked):
+        asked.request("GET", "/healthz")
+        return asked.getresponse().status
+
+
+def waiting(folder):
+    """Who waits at the socket that is replaced is answered there."""
+    path = f"{folder}/waiting"
+    run = started(path)
+    os.kill(run.pid, signal.SIGSTOP)
+    streams = [connected(path) for _ in range(WAITING)]
+    for stream in streams:
+        stream.sendall(MINTING)
+    second = started(path, "--replace")
+    os.kill(run.pid, signal.SIGCONT)
+    yield "each is answered", {received(stream, len(MINTED)) for stream in streams}, {MINTED}
+    for stream in streams:
+        stream.close()
+    yield "the first one ends", ended(run)[0], 0
+    second.send_signal(signal.SIGTERM)
+    yield "the second one", ended(second)[0], 0
+
+
+def moved(folder):
+    """A daemon whose socket is moved away, with nothing in its place, goes on."""
+    path = f"{folder}/moved"
+    run = started(path)
+    os.rename(path, path + ".away")
+    time.sleep(1.2)
+    with connected(path + ".away") as stream:
+        stream.sendall(frame(b""))
+        yield "a reply", received(stream, len(NO_REQUEST)), NO_REQUEST
+    run.send_signal(signal.SIGTERM)
+    yield "how it ends", ended(run)[0], 0
+
+
+def faults():
+    seen = []
+    for part in (under_load, alone, faulty, twice, all_sockets, waiting, moved):
+        with tempfile.TemporaryDirectory() as folder:
+            seen += [(f"{part.__name__}: {what}", got, due) for what, got, due in part(folder)]
+    found = [f"replacing: {what}: {got!r} where {due!r} is due" for what, got, due in seen if got != due]
+    return found, len(seen)
+
+
+def main():
+    found, count = faults()
+    if found:
+        raise SystemExit("\n".join(found))
+    print(count, "checks")
+
+
+if __name__ == "__main__":
+    main()
