@@ -50,7 +50,7 @@ func WithRetry() Option {
 }
 
 // WithConnections says how many connections there are at most: 4 where it isn't said, and
-// never less than 1. Another one is opened where each that is there has 16 requests out, and
+// never less than 1. Another one is opened where each that is there has 32 requests out, and
 // stays.
 func WithConnections(most int) Option {
 	return func(c *Client) {
@@ -91,7 +91,7 @@ func (c *Client) isClosed() bool { return c.lifetime.Err() != nil }
 
 // Mint gives a new token.
 func (c *Client) Mint(ctx context.Context, mint Mint) (string, error) {
-	return c.token(ctx, mint)
+	return c.token(ctx, mint.appendPayload, false)
 }
 
 // Attenuate gives the token with these caveats behind its own, in its own form.
@@ -101,7 +101,7 @@ func (c *Client) Attenuate(ctx context.Context, token string, caveats ...string)
 
 // AttenuateTo gives the token with these caveats behind its own, in this form.
 func (c *Client) AttenuateTo(ctx context.Context, form Form, token string, caveats ...string) (string, error) {
-	return c.token(ctx, attenuation{form, token, caveats})
+	return c.token(ctx, attenuation{form, token, caveats}.appendPayload, true)
 }
 
 // Verify tells whether the daemon's key of this name grants the token now, given
@@ -112,7 +112,8 @@ func (c *Client) Verify(ctx context.Context, key, token string, facts ...string)
 
 // VerifyCheck is Verify, at a moment that may be told.
 func (c *Client) VerifyCheck(ctx context.Context, key string, check Check) (Verdict, error) {
-	came, err := c.ask(ctx, &verification{key, check})
+	asked := verification{key, check}
+	came, err := c.ask(ctx, asked.appendPayload, true)
 	if err != nil {
 		return Verdict{}, err
 	}
@@ -149,15 +150,15 @@ func (c *Client) VerifyMany(ctx context.Context, key string, checks []Check) ([]
 // Ask gives the reply's payload to any request's payload (docs/FORMATS.md); it is
 // never sent twice.
 func (c *Client) Ask(ctx context.Context, payload []byte) ([]byte, error) {
-	came, err := c.ask(ctx, raw(payload))
+	came, err := c.ask(ctx, raw(payload).appendPayload, false)
 	if err != nil {
 		return nil, err
 	}
 	return append([]byte{came.code}, came.rest...), nil
 }
 
-func (c *Client) token(ctx context.Context, asked request) (string, error) {
-	came, err := c.ask(ctx, asked)
+func (c *Client) token(ctx context.Context, asked payload, mayRepeat bool) (string, error) {
+	came, err := c.ask(ctx, asked, mayRepeat)
 	if err != nil {
 		return "", err
 	}
@@ -167,48 +168,35 @@ func (c *Client) token(ctx context.Context, asked request) (string, error) {
 	return came.rest, nil
 }
 
-var frames = sync.Pool{New: func() any { return new([]byte) }}
-
-// ask gives the reply to one request.
-func (c *Client) ask(ctx context.Context, asked request) (reply, error) {
-	kept := frames.Get().(*[]byte)
-	defer frames.Put(kept)
-	frame, err := appendFrame((*kept)[:0], asked)
-	*kept = frame[:0]
+// ask gives the reply to one request, and sends it once more where that is wished and may be.
+func (c *Client) ask(ctx context.Context, asked payload, mayRepeat bool) (reply, error) {
+	sent := singles.Get().(*single)
+	framed, err := appendFrame(sent.frame[:0], asked)
 	if err != nil {
+		singles.Put(sent)
 		return reply{}, err
 	}
-	came, err := c.exchange(ctx, frame)
-	if c.isToRepeat(err) && asked.mayRepeat() {
-		came, err = c.exchange(ctx, frame)
+	sent.frame = framed
+	came, err := c.exchange(ctx, sent)
+	if mayRepeat && c.isToRepeat(err) {
+		again := singles.Get().(*single)
+		again.frame = append(again.frame[:0], framed...)
+		came, err = c.exchange(ctx, again)
 	}
 	return came, err
 }
 
-// Batches of one request whose reply has come, for further calls.
-var calls = sync.Pool{New: func() any {
-	made := newPending(1, time.Hour)
-	made.expiry.Stop()
-	return made
-}}
-
-// exchange sends a request's frame, and gives the reply.
-func (c *Client) exchange(ctx context.Context, frame []byte) (reply, error) {
-	sent := calls.Get().(*pending)
-	sent.begin(c.timeout)
-	err := c.send(ctx, frame, sent)
+// exchange sends a request, and gives its reply. The single is the caller's no more.
+func (c *Client) exchange(ctx context.Context, sent *single) (reply, error) {
+	sent.due = in(c.timeout)
+	err := c.send(ctx, sent.frame, &sent.batch)
 	if err == nil {
 		err = sent.wait(ctx)
 	}
 	if err != nil {
 		return reply{}, err
 	}
-	came := sent.replies[0]
-	sent.replies[0] = reply{}
-	if !sent.hasExpired {
-		calls.Put(sent)
-	}
-	return came, nil
+	return sent.take(), nil
 }
 
 // isToRepeat tells whether what came to this is sent once more.
@@ -220,37 +208,36 @@ func (c *Client) isToRepeat(err error) bool {
 type run struct {
 	key    string
 	checks []Check
-	*pending
+	*batch
 }
+
+var frames = sync.Pool{New: func() any { return new([]byte) }}
 
 // sendRun sends as many of the checks as go out together.
 func (c *Client) sendRun(ctx context.Context, key string, checks []Check) (*run, error) {
 	kept := frames.Get().(*[]byte)
 	defer frames.Put(kept)
-	content, asked := (*kept)[:0], &verification{key: key}
-	count := 0
+	content, count := (*kept)[:0], 0
 	for count < len(checks) && count < runRequests && len(content) < runBytes {
 		var err error
-		asked.Check = checks[count]
-		if content, err = appendFrame(content, asked); err != nil {
+		asked := verification{key, checks[count]}
+		if content, err = appendFrame(content, asked.appendPayload); err != nil {
 			return nil, fmt.Errorf("check %d of a run: %w", count, err)
 		}
 		count++
 	}
 	*kept = content[:0]
-	sent := newPending(count, c.timeout)
+	sent := newBatch(count, c.timeout)
 	return &run{key, checks[:count], sent}, c.send(ctx, content, sent)
 }
 
 // appendVerdicts appends a run's verdicts, or, where it may be, those of the run sent once more.
 func (c *Client) appendVerdicts(ctx context.Context, verdicts []Verdict, sent *run) ([]Verdict, error) {
 	// Its time begins once those before it are answered.
-	sent.expiry.Stop()
-	sent.expiry = time.NewTimer(c.timeout)
-	err := sent.wait(ctx)
+	err := sent.waitFor(ctx, c.timeout)
 	if c.isToRepeat(err) {
 		if sent, err = c.sendRun(ctx, sent.key, sent.checks); err == nil {
-			err = sent.wait(ctx)
+			err = sent.waitFor(ctx, c.timeout)
 		}
 	}
 	if err != nil {
@@ -266,43 +253,14 @@ func (c *Client) appendVerdicts(ctx context.Context, verdicts []Verdict, sent *r
 	return verdicts, nil
 }
 
-// pending is a batch that is sent, and when it is waited for no longer.
-type pending struct {
-	*batch
-	expiry *time.Timer
-	// Whether the timer has gone off, and isn't to be used again.
-	hasExpired bool
-}
-
-func newPending(count int, timeout time.Duration) *pending {
-	return &pending{batch: newBatch(make([]reply, count)), expiry: time.NewTimer(timeout)}
-}
-
-// begin makes a batch whose replies have all come ready for others.
-func (p *pending) begin(timeout time.Duration) {
-	p.come, p.err = 0, nil
-	p.expiry.Reset(timeout)
-}
-
-// wait waits until all replies have come.
-func (p *pending) wait(ctx context.Context) error {
-	err := p.batch.wait(ctx, p.expiry.C)
-	p.hasExpired = !p.expiry.Stop()
-	return err
-}
-
 // send sends the frames of a batch, over a new connection where there is none.
-func (c *Client) send(ctx context.Context, frames []byte, sent *pending) error {
+func (c *Client) send(ctx context.Context, frames []byte, sent *batch) error {
 	for {
 		connection, err := c.connected(ctx)
 		if err == nil {
-			err = connection.send(ctx, sent.expiry.C, frames, sent.batch)
-		}
-		if err == nil {
-			return nil
+			err = connection.send(ctx, frames, sent)
 		}
 		if err != errNotSent {
-			sent.expiry.Stop()
 			return err
 		}
 	}

@@ -5,6 +5,7 @@ import (
 	"context"
 	"errors"
 	"fmt"
+	"math"
 	"math/rand"
 	"path/filepath"
 	"strings"
@@ -393,6 +394,43 @@ func TestCancelled(t *testing.T) {
 				t.Errorf("%q, %v", came, err)
 			}
 		})
+	}
+}
+
+// Calls that are out together end each in its own time, also where the first of them were
+// answered, and where none was out for a while.
+func TestEachInItsTime(t *testing.T) {
+	const timeout = 200 * time.Millisecond
+	answersThree := func(s *stream) {
+		for range s.requests(3) {
+			s.reply(granted)
+		}
+		s.requests(100)
+	}
+	client := dialled(t, server(t, answersThree), WithTimeout(timeout), WithConnections(1))
+	for round := 0; round < 3; round++ {
+		var all sync.WaitGroup
+		for number := 0; number < 7; number++ {
+			all.Add(1)
+			go func(isAnswered bool) {
+				defer all.Done()
+				begin := time.Now()
+				_, err := client.Ask(background, nil)
+				if took := time.Since(begin); isAnswered != (err == nil) || !isAnswered && took < timeout {
+					t.Errorf("took %v: %v", took, err)
+				}
+			}(round == 0 && number < 3)
+			time.Sleep(timeout / 10)
+		}
+		all.Wait()
+		time.Sleep(timeout / 2)
+	}
+}
+
+func TestNoTimeout(t *testing.T) {
+	client := dialled(t, server(t, echoes), WithTimeout(math.MaxInt64))
+	if _, err := client.Ask(background, nil); err != nil {
+		t.Error(err)
 	}
 }
 

@@ -2,7 +2,6 @@ package macaroond
 
 import (
 	"context"
-	"encoding/binary"
 	"errors"
 	"io"
 	"net"
@@ -21,42 +20,6 @@ const (
 // errNotSent tells that the connection had ended before anything of a request was sent.
 var errNotSent = errors.New("macaroond: the connection had ended")
 
-// batch is requests that went out together, and the replies that have come to them.
-type batch struct {
-	replies []reply
-	// How many have come.
-	come int
-	err  error
-	// Takes one word, once all have come or err says why they won't.
-	done chan struct{}
-}
-
-func newBatch(replies []reply) *batch {
-	return &batch{replies: replies, done: make(chan struct{}, 1)}
-}
-
-// wait waits until all replies have come.
-func (b *batch) wait(ctx context.Context, expired <-chan time.Time) error {
-	select {
-	case <-b.done:
-		return b.err
-	default:
-	}
-	select {
-	case <-b.done:
-		return b.err
-	case <-ctx.Done():
-		return ctx.Err()
-	case <-expired:
-		return errTimedOut
-	}
-}
-
-func (b *batch) end(err error) {
-	b.err = err
-	b.done <- struct{}{}
-}
-
 // connection is a connection from the hello to its end. One goroutine writes, and
 // gathers what is waiting into one write; another reads.
 type connection struct {
@@ -67,13 +30,19 @@ type connection struct {
 	out atomic.Int64
 	// Whether there is a fault.
 	ended atomic.Bool
+	owed  ledger
 
+	// Is taken while owed's lock is held, where both are.
 	mu     sync.Mutex
 	unsent []byte
 	// Whether the writer was woken for what is unsent.
 	isRung bool
-	// The batches whose requests were put behind one another into unsent, but for those that the reader has taken.
+	// The batches whose requests were put behind one another into unsent, but for those
+	// that owed has taken.
 	waiting []*batch
+	// Goes off at nextDue, when the first watched batch is due.
+	watch   *time.Timer
+	nextDue moment
 	// Once it says why, nothing more is sent; replies may still come.
 	fault error
 	// Closed once there is room in unsent, where somebody waits for that.
@@ -86,43 +55,49 @@ func connect(ctx context.Context, path string) (*connection, error) {
 	if err != nil {
 		return nil, err
 	}
-	made := &connection{socket: socket, wake: make(chan struct{}, 1), unsent: []byte{hello}}
+	made := &connection{
+		socket: socket, wake: make(chan struct{}, 1), unsent: []byte{hello}, nextDue: never,
+	}
+	made.owed.more, made.owed.out = made.takeWaiting, &made.out
 	go made.write()
 	go made.read()
 	return made, nil
 }
 
 // send sends a batch's frames, or nothing of them where it gives an error.
-func (c *connection) send(ctx context.Context, expired <-chan time.Time, frames []byte, asked *batch) error {
+func (c *connection) send(ctx context.Context, frames []byte, asked *batch) error {
 	count := int64(len(asked.replies))
 	c.out.Add(count)
-	err := c.put(ctx, expired, frames, asked)
+	isFirst, err := c.put(ctx, frames, asked)
 	if err != nil {
 		c.out.Add(-count)
+	} else if isFirst {
+		c.ring()
 	}
 	return err
 }
 
-// put puts a batch's frames behind those that wait to be written.
-func (c *connection) put(ctx context.Context, expired <-chan time.Time, frames []byte, asked *batch) error {
+// put puts a batch's frames behind those that wait to be written, and tells whether the
+// writer is to be woken for them.
+func (c *connection) put(ctx context.Context, frames []byte, asked *batch) (bool, error) {
 	c.mu.Lock()
+	defer c.mu.Unlock()
 	for len(c.unsent) > unsentMax && c.fault == nil {
-		if err := c.waitForRoom(ctx, expired); err != nil {
-			c.mu.Unlock()
-			return err
+		if err := c.waitForRoom(ctx, asked.due.left()); err != nil {
+			return false, err
 		}
 	}
-	defer c.mu.Unlock()
 	if c.fault != nil {
-		return errNotSent
+		return false, errNotSent
 	}
 	c.unsent = append(c.unsent, frames...)
 	c.waiting = append(c.waiting, asked)
-	if !c.isRung {
-		c.isRung = true
-		c.ring()
+	if asked.isWatched && asked.due < c.nextDue {
+		c.watchFor(asked.due)
 	}
-	return nil
+	isFirst := !c.isRung
+	c.isRung = true
+	return isFirst, nil
 }
 
 // ring wakes the writer.
@@ -133,20 +108,22 @@ func (c *connection) ring() {
 	}
 }
 
-// waitForRoom lets go of the lock while it waits.
-func (c *connection) waitForRoom(ctx context.Context, expired <-chan time.Time) error {
+// waitForRoom waits for so long at most, and lets go of the lock meanwhile.
+func (c *connection) waitForRoom(ctx context.Context, timeout time.Duration) error {
 	if c.room == nil {
 		c.room = make(chan struct{})
 	}
 	room := c.room
 	c.mu.Unlock()
 	defer c.mu.Lock()
+	expiry := time.NewTimer(timeout)
+	defer expiry.Stop()
 	select {
 	case <-room:
 		return nil
 	case <-ctx.Done():
 		return ctx.Err()
-	case <-expired:
+	case <-expiry.C:
 		return errTimedOut
 	}
 }
@@ -219,8 +196,7 @@ func (c *connection) close() {
 
 // read hands each reply to the first request that has none, up to the end.
 func (c *connection) read() {
-	due := ledger{more: c.takeWaiting, out: &c.out}
-	fault := c.readInto(&due)
+	fault := c.readReplies()
 	if errors.Is(fault, io.EOF) {
 		fault = disconnected("the daemon closed the connection")
 	} else if !errors.Is(fault, ErrDisconnected) {
@@ -228,10 +204,11 @@ func (c *connection) read() {
 	}
 	fault = c.sendNoMore(fault)
 	c.socket.Close()
-	due.end(fault)
+	c.owed.end(fault)
+	c.endWatch()
 }
 
-func (c *connection) readInto(due *ledger) error {
+func (c *connection) readReplies() error {
 	buffer := make([]byte, readSize)
 	end := 0
 	for {
@@ -240,7 +217,7 @@ func (c *connection) readInto(due *ledger) error {
 			return err
 		}
 		end += count
-		used, err := due.take(buffer[:end])
+		used, err := c.owed.take(buffer[:end])
 		if err != nil {
 			return err
 		}
@@ -260,63 +237,35 @@ func (c *connection) takeWaiting(spare []*batch) []*batch {
 	return taken
 }
 
-// ledger is the batches to which replies are due, in order.
-type ledger struct {
-	batches []*batch
-	// How many of the batches have all their replies.
-	ended int
-	// The place of the next reply.
-	place uint64
-	// Gives the batches that were sent since.
-	more func(spare []*batch) []*batch
-	// How many requests lack a reply, for those who choose a connection.
-	out *atomic.Int64
+// expire ends the batches that are due.
+func (c *connection) expire() {
+	c.owed.mu.Lock()
+	defer c.owed.mu.Unlock()
+	c.mu.Lock()
+	defer c.mu.Unlock()
+	next := expire(c.owed.open())
+	if other := expire(c.waiting); other < next {
+		next = other
+	}
+	c.watchFor(next)
 }
 
-// take hands out the replies that are here whole, and tells how many bytes they have.
-func (l *ledger) take(received []byte) (used int, err error) {
-	for len(received)-used >= replyFront {
-		size := binary.BigEndian.Uint32(received[used:])
-		place := binary.BigEndian.Uint64(received[used+lengthOfSize:])
-		if place != l.place || size < replyMin || size > replyMax {
-			return used, disconnected("a reply of place %d and %d bytes came where that of place %d was due", place, size, l.place)
-		}
-		end := used + lengthOfSize + int(size)
-		if end > len(received) {
-			break
-		}
-		if !l.hand(received[used+replyFront : end]) {
-			return used, disconnected("a reply came to no request")
-		}
-		used = end
+func (c *connection) endWatch() {
+	c.mu.Lock()
+	defer c.mu.Unlock()
+	if c.watch != nil {
+		c.watch.Stop()
 	}
-	return used, nil
 }
 
-// hand hands a reply to the first batch that lacks one, where there is one.
-func (l *ledger) hand(payload []byte) bool {
-	if l.ended == len(l.batches) {
-		l.batches, l.ended = l.more(l.batches), 0
-		if len(l.batches) == 0 {
-			return false
-		}
-	}
-	first := l.batches[l.ended]
-	first.replies[first.come] = reply{payload[0], string(payload[1:])}
-	first.come++
-	l.place++
-	if first.come == len(first.replies) {
-		l.batches[l.ended] = nil
-		l.ended++
-		l.out.Add(-int64(len(first.replies)))
-		first.end(nil)
-	}
-	return true
-}
-
-// end tells all that wait that no reply will come.
-func (l *ledger) end(fault error) {
-	for _, one := range append(l.batches[l.ended:], l.more(nil)...) {
-		one.end(fault)
+// watchFor has the batches looked at once one is due.
+func (c *connection) watchFor(due moment) {
+	c.nextDue = due
+	switch {
+	case due == never:
+	case c.watch == nil:
+		c.watch = time.AfterFunc(due.left(), c.expire)
+	default:
+		c.watch.Reset(due.left())
 	}
 }

@@ -10,7 +10,7 @@ import (
 const (
 	defaultConnections = 4
 	// Another connection is opened where each that is there has so many requests out.
-	fewOut = 16
+	fewOut = 32
 )
 
 // What a connection is asked before calls depend on it: an attenuate that adds nothing
@@ -18,7 +18,7 @@ const (
 var probe = frameOf(attenuation{
 	form:  V2Binary,
 	token: "\x02\x02\x05probe\x00\x00\x06\x20" + string(make([]byte, signatureSize)),
-})
+}.appendPayload)
 
 // line is a place for a connection, which is made, and made anew once it has ended.
 type line struct {
@@ -188,9 +188,9 @@ func probed(ctx context.Context, path string) (*connection, error) {
 	if err != nil {
 		return nil, err
 	}
-	asked := newBatch(make([]reply, 1))
-	if err = made.send(ctx, nil, probe, asked); err == nil {
-		err = asked.wait(ctx, nil)
+	asked := newBatch(1, 0)
+	if err = made.send(ctx, probe, asked); err == nil {
+		err = asked.wait(ctx)
 	}
 	if err != nil {
 		made.close()

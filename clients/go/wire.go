@@ -2,6 +2,7 @@ package macaroond
 
 import (
 	"encoding/binary"
+	"math"
 	"time"
 )
 
@@ -35,17 +36,13 @@ const (
 	V2Text   Form = 4 // base64 of version 2 binary
 )
 
-// A request, whose frame is written behind what is there already.
-type request interface {
-	appendPayload(to []byte) ([]byte, error)
-	// mayRepeat tells whether it comes to the same where it is sent twice.
-	mayRepeat() bool
-}
+// payload appends a request's payload to what is there already.
+type payload func(to []byte) ([]byte, error)
 
 // appendFrame appends a request's frame, or leaves what is there as it was.
-func appendFrame(to []byte, asked request) ([]byte, error) {
+func appendFrame(to []byte, asked payload) ([]byte, error) {
 	begin := len(to)
-	framed, err := asked.appendPayload(append(to, 0, 0, 0, 0))
+	framed, err := asked(append(to, 0, 0, 0, 0))
 	if err != nil {
 		return to, err
 	}
@@ -58,7 +55,7 @@ func appendFrame(to []byte, asked request) ([]byte, error) {
 }
 
 // frameOf gives the frame of a request that can be told.
-func frameOf(asked request) []byte {
+func frameOf(asked payload) []byte {
 	frame, err := appendFrame(nil, asked)
 	if err != nil {
 		panic(err)
@@ -66,26 +63,35 @@ func frameOf(asked request) []byte {
 	return frame
 }
 
-// appendSized appends a text behind its length, a number of so many bytes.
-func appendSized(to []byte, width int, text, name string) ([]byte, error) {
-	if len(text)>>(8*width) != 0 {
-		return to, badRequest("the %s has %d bytes, more than a request can tell", name, len(text))
+// appendShort appends a text behind its length, a number of one byte.
+func appendShort(to []byte, text, name string) ([]byte, error) {
+	if len(text) > math.MaxUint8 {
+		return to, tooLong(text, name)
 	}
-	for at := width - 1; at >= 0; at-- {
-		to = append(to, byte(len(text)>>(8*at)))
+	return append(append(to, byte(len(text))), text...), nil
+}
+
+// appendLong appends a text behind its length, a number of two bytes.
+func appendLong(to []byte, text, name string) ([]byte, error) {
+	if len(text) > math.MaxUint16 {
+		return to, tooLong(text, name)
 	}
-	return append(to, text...), nil
+	return append(append(to, byte(len(text)>>8), byte(len(text))), text...), nil
+}
+
+func tooLong(text, name string) error {
+	return badRequest("the %s has %d bytes, more than a request can tell", name, len(text))
 }
 
 // appendList appends how many texts there are, and each behind its length.
 func appendList(to []byte, texts []string, name string) ([]byte, error) {
-	if len(texts) > 255 {
+	if len(texts) > math.MaxUint8 {
 		return to, badRequest("%d are more %ss than a request can tell", len(texts), name)
 	}
 	to = append(to, byte(len(texts)))
 	for _, text := range texts {
 		var err error
-		if to, err = appendSized(to, 2, text, name); err != nil {
+		if to, err = appendLong(to, text, name); err != nil {
 			return to, err
 		}
 	}
@@ -98,7 +104,7 @@ func appendToken(to []byte, token string) ([]byte, error) {
 	if len(token) > tokenMax+1 {
 		token = token[:tokenMax+1]
 	}
-	return appendSized(to, 2, token, "token")
+	return appendLong(to, token, "token")
 }
 
 // Mint is what a new token is made of.
@@ -115,21 +121,19 @@ type Mint struct {
 	Form Form
 }
 
-func (m Mint) mayRepeat() bool { return false }
-
 func (m Mint) appendPayload(to []byte) ([]byte, error) {
 	form := m.Form
 	if form == 0 {
 		form = V2Text
 	}
-	to, err := appendSized(append(to, 0x01, byte(form)), 1, m.Key, "key's name")
+	to, err := appendShort(append(to, 0x01, byte(form)), m.Key, "key's name")
 	if err != nil {
 		return to, err
 	}
-	if to, err = appendSized(to, 2, m.Location, "location"); err != nil {
+	if to, err = appendLong(to, m.Location, "location"); err != nil {
 		return to, err
 	}
-	if to, err = appendSized(to, 2, m.Identifier, "identifier"); err != nil {
+	if to, err = appendLong(to, m.Identifier, "identifier"); err != nil {
 		return to, err
 	}
 	return appendList(to, m.Caveats, "caveat")
@@ -140,8 +144,6 @@ type attenuation struct {
 	token   string
 	caveats []string
 }
-
-func (a attenuation) mayRepeat() bool { return true }
 
 func (a attenuation) appendPayload(to []byte) ([]byte, error) {
 	to, err := appendToken(append(to, 0x02, byte(a.form)), a.token)
@@ -166,14 +168,12 @@ type verification struct {
 	Check
 }
 
-func (v *verification) mayRepeat() bool { return true }
-
 func (v *verification) appendPayload(to []byte) ([]byte, error) {
 	kind := byte(verifyAt)
 	if v.At.IsZero() {
 		kind = verifyOwner
 	}
-	to, err := appendSized(append(to, kind), 1, v.key, "key's name")
+	to, err := appendShort(append(to, kind), v.key, "key's name")
 	if err != nil {
 		return to, err
 	}
@@ -214,8 +214,6 @@ func factsThatCount(facts []string) []string {
 
 // raw is a request's payload as it is.
 type raw string
-
-func (r raw) mayRepeat() bool { return false }
 
 func (r raw) appendPayload(to []byte) ([]byte, error) { return append(to, r...), nil }
 
