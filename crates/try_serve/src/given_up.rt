@@ -15,7 +15,8 @@ use std::alloc::Global;
 use std::sync::{Arc, Wait};
 use std::thread::Threads;
 
-/// Fails at its first call. The second flag tells that nothing more comes.
+/// Fails at its first call, once the source was asked for more. The second flag tells that nothing
+/// more comes.
 #[derive(Drop)]
 struct Failing<'a> {
     inner: MemSink,
@@ -30,6 +31,7 @@ impl<'a> Sink for Failing<'a> {
     ghost faults = { λ s. s.inner.fault_count };
 
     fn write(&mut self, buf: &[u8]) -> Result<usize, DeviceFault> {
+        self.flags.await_first();
         self.inner.write(buf)
     }
 
