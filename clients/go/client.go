@@ -11,7 +11,8 @@ import (
 
 const (
 	defaultTimeout = 5 * time.Second
-	// How many requests, and about how many bytes, go out together where many are asked; and how many such runs at most are out.
+	// How many requests, and about how many bytes, go out together where many are asked;
+	// and how many such runs are out at most.
 	runRequests = 256
 	runBytes    = 65_536
 	runsOut     = 8
@@ -100,7 +101,9 @@ func (c *Client) Attenuate(ctx context.Context, token string, caveats ...string)
 }
 
 // AttenuateTo gives the token with these caveats behind its own, in this form.
-func (c *Client) AttenuateTo(ctx context.Context, form Form, token string, caveats ...string) (string, error) {
+func (c *Client) AttenuateTo(
+	ctx context.Context, form Form, token string, caveats ...string,
+) (string, error) {
 	return c.token(ctx, attenuation{form, token, caveats}.appendPayload, true)
 }
 
@@ -232,7 +235,9 @@ func (c *Client) sendRun(ctx context.Context, key string, checks []Check) (*run,
 }
 
 // appendVerdicts appends a run's verdicts, or, where it may be, those of the run sent once more.
-func (c *Client) appendVerdicts(ctx context.Context, verdicts []Verdict, sent *run) ([]Verdict, error) {
+func (c *Client) appendVerdicts(
+	ctx context.Context, verdicts []Verdict, sent *run,
+) ([]Verdict, error) {
 	// Its time begins once those before it are answered.
 	err := sent.waitFor(ctx, c.timeout)
 	if c.isToRepeat(err) {

@@ -3,11 +3,12 @@
 
     http_load.py [ROUNDS [SECONDS]]
 
-In each of so many rounds (5) both are asked over a port of loopback, for so many seconds (4), by 64
-connections that are kept: a verify of 3 caveats. Told are requests a second, the processor time a
-request, and the middle of each round's ratios to Go's. Then, of macaroond alone, the processor time
-of /healthz, and what 256 idle connections cost. Asks for bin/macaroond, or the program that MACAROOND
-names, for bin/go_http (bench/go_http/build.sh), and for Debian's wrk.
+In each of so many rounds (5) they are asked over a port of loopback, for so many seconds (4), by 64
+connections that are kept: a verify of 3 caveats. macaroond is asked with `--remember 0`, which hashes
+each token anew as Go does, and without. Told are requests a second, the processor time a request, and
+the middle of each round's ratios to Go's. Then, of macaroond alone, the processor time of /healthz,
+and what 256 idle connections cost. Asks for bin/macaroond, or the program that MACAROOND names, for
+bin/go_http (bench/go_http/build.sh), and for Debian's wrk.
 """
 import contextlib
 import os
@@ -45,9 +46,16 @@ class Figure(typing.NamedTuple):
     cost: float
 
 
-def macaroond(folder, port):
+def remembering(folder, port):
+    """A daemon that remembers tokens: the one that is asked for here is hashed twice."""
     words = ["listen", "--socket", f"{folder}/socket", "--keys", f"{folder}/keys", "--http", f"127.0.0.1:{port}"]
     return [PROGRAM, *words, "--http-facts", "header"], None
+
+
+def macaroond(folder, port):
+    """One that hashes each token anew, as the service in Go does."""
+    words, environment = remembering(folder, port)
+    return [*words, "--remember", "0"], environment
 
 
 def go(folder, port):
@@ -111,11 +119,12 @@ def idle():
 
 def main():
     rounds, seconds = [int(word) for word in sys.argv[1:3]] + [5, 4][len(sys.argv[1:3]) :]
-    pairs = [tuple(measured(it, "/verify/bank", seconds, FIELDS) for it in (macaroond, go)) for _ in range(rounds)]
-    for name, figures in zip(("macaroond", "Go"), zip(*pairs)):
+    services = {"macaroond --remember 0": macaroond, "macaroond": remembering, "Go": go}
+    found = [[measured(it, "/verify/bank", seconds, FIELDS) for it in services.values()] for _ in range(rounds)]
+    for name, figures in zip(services, zip(*found)):
         told(f"{name}, a verify of 3 caveats", middle(figures))
-    ratios = middle([Figure(ours.rate / theirs.rate, ours.cost / theirs.cost) for ours, theirs in pairs])
-    print(f"of Go's: {ratios.rate:.2f} times the rate, {ratios.cost:.2f} of the processor time")
+        ratios = middle([Figure(own.rate / all[-1].rate, own.cost / all[-1].cost) for own, all in zip(figures, found)])
+        print(f"of Go's: {ratios.rate:.2f} times the rate, {ratios.cost:.2f} of the processor time")
     told("/healthz", middle([measured(macaroond, "/healthz", seconds, []) for _ in range(rounds)]))
     idle()
 

@@ -5,6 +5,7 @@ use crate::fault::DaemonFault;
 use crate::numbers::Numbers;
 use crate::quay::Quay;
 use mac_count::{Counters, Request};
+use mac_decide::SeenTokens;
 use mac_loop::Exchange;
 use std::alloc::{AllocError, Global};
 use std::sync::{Arc, Condvar, CondvarTimeouts, Mutex, Wait};
@@ -170,21 +171,29 @@ pub struct Guests {
     ending: Arc<Ending, Global>,
     quay: Arc<Quay, Global>,
     numbers: Numbers,
+    seen: SeenTokens,
 }
 
 impl Guests {
-    /// The guests of this daemon's end, which are among its numbers. Its own connections are those
-    /// of the quay.
+    /// The guests of this daemon's end, which are among its numbers and share its memory of tokens.
+    /// Its own connections are those of the quay.
     pub fn of(
         ending: &Arc<Ending, Global>,
         quay: &Arc<Quay, Global>,
         numbers: &Numbers,
+        seen: &SeenTokens,
     ) -> Result<Guests, AllocError> {
         Ok(Guests {
             ending: Arc::try_clone(ending)?,
             quay: Arc::try_clone(quay)?,
             numbers: numbers.share()?,
+            seen: seen.share()?,
         })
+    }
+
+    /// The memory of tokens.
+    pub fn seen(&self) -> &SeenTokens {
+        &self.seen
     }
 
     /// Counts one more.

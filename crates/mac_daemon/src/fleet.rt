@@ -9,10 +9,13 @@ use crate::fault::DaemonFault;
 use crate::keeping::keep_desks;
 use crate::quay::Quay;
 use mac_board::{Follower, Followers, TimedTables};
+use mac_decide::SeenTokens;
 use mac_loop::{Loop, Loops, make_loops};
 use mac_system::SystemMoments;
 use std::alloc::Global;
+use std::hash::RandomState;
 use std::net::Net;
+use std::random::RandomSource;
 use std::sync::{Arc, Wait};
 use std::thread::{Builder, JoinHandle, Threads};
 use std::time::Clock;
@@ -35,6 +38,8 @@ pub struct Shape {
     pub connections: u64,
     /// The seconds after which a connection that makes no progress is ended.
     pub idle: Option<u64>,
+    /// How many bytes tokens are remembered in that were found to be minted: none where it is 0.
+    pub remembered: u64,
 }
 
 /// What a run did.
@@ -54,11 +59,28 @@ pub struct Idlers {
 }
 
 impl Idlers {
-    /// As many loops as a daemon of this shape has.
-    pub fn make<R: Net>(rt: &R, alloc: Global, shape: Shape) -> Result<Idlers, DaemonFault> {
-        let (loops, made) = make_loops(rt, alloc, shape.loops, shape.idle)?;
+    /// As many loops as a daemon of this shape has, which share a memory of tokens.
+    pub fn make<R: Net>(
+        rt: &R,
+        alloc: Global,
+        shape: Shape,
+        seen: &SeenTokens,
+    ) -> Result<Idlers, DaemonFault> {
+        let (loops, made) = make_loops(rt, alloc, shape.loops, shape.idle, seen)?;
         Ok(Idlers { loops, made })
     }
+}
+
+/// The memory of tokens of a daemon of this shape. There is none where the system gives no random
+/// bytes for it, or no memory.
+pub fn make_memory<R: RandomSource>(rt: &R, alloc: Global, shape: Shape) -> SeenTokens {
+    if shape.remembered == 0 {
+        return SeenTokens::none();
+    }
+    let Ok(hashes) = RandomState::new(rt) else {
+        return SeenTokens::none();
+    };
+    SeenTokens::new(alloc, hashes, shape.remembered as usize).unwrap_or(SeenTokens::none())
 }
 
 /// What the threads of a daemon are started with.

@@ -6,7 +6,7 @@ use crate::door::{Door, SideSocket};
 use crate::ending::{Call, Ending, Guests};
 use crate::entrance::Entrance;
 use crate::fault::DaemonFault;
-use crate::fleet::{Fleet, Idlers, Service, Shape};
+use crate::fleet::{Fleet, Idlers, Service, Shape, make_memory};
 use crate::holding::Holdings;
 use crate::notices::{Beginning, Notices};
 use crate::numbers::Numbers;
@@ -15,12 +15,13 @@ use crate::quay::Quay;
 use crate::roster::Roster;
 use crate::surroundings::{Surroundings, heed_signals};
 use mac_board::{Followers, News};
-use mac_decide::Rights;
+use mac_decide::{Rights, SeenTokens};
 use mac_system::{NotifySocket, State};
 use std::alloc::{AllocError, Global};
 use std::fs::{File, Files};
 use std::net::Net;
 use std::os::unix::net::UnixListener;
+use std::random::RandomSource;
 use std::sync::{Arc, Wait};
 use std::thread::{Builder, Threads};
 use std::time::{Clock, Duration};
@@ -58,6 +59,7 @@ pub struct Daemon {
     numbers: Numbers,
     manager: Option<NotifySocket>,
     drain: u64,
+    seen: SeenTokens,
 }
 
 /// Starts a daemon, in threads of its own. Nobody can reach it before it is opened. The connections
@@ -74,7 +76,8 @@ pub fn listen<R>(
     holdings: &mut Holdings,
 ) -> Result<Daemon, DaemonFault>
 where
-    R: Files<File = File> + Net + Threads + Wait + Clock + Eprint + Sync + Copy + Send + 'static,
+    R: Files<File = File> + Net + Threads + Wait + Clock + RandomSource + Eprint,
+    R: Sync + Copy + Send + 'static,
 {
     let Surroundings {
         listener,
@@ -101,9 +104,10 @@ where
     let paths = socket_paths(alloc, terms.path, side_path)?;
     let roster = Roster::new(rt, alloc, limits.connections, paths)?;
     let quay = Quay::new(alloc, Some(notices.share()?), numbers.share()?, roster)?;
+    let seen = make_memory(rt, alloc, terms.shape);
     let service = Service {
         workers: terms.shape.workers,
-        idlers: Idlers::make(rt, alloc, terms.shape)?,
+        idlers: Idlers::make(rt, alloc, terms.shape, &seen)?,
         entrance,
         limits,
         quay: Arc::try_clone(&quay)?,
@@ -117,6 +121,7 @@ where
         numbers,
         manager,
         drain: terms.drain,
+        seen,
     })
 }
 
@@ -159,7 +164,7 @@ impl Daemon {
 
     /// Who counts connections that aren't its own, which are seen off with it.
     pub fn guests(&self) -> Result<Guests, AllocError> {
-        Guests::of(&self.ending, &self.quay, &self.numbers)
+        Guests::of(&self.ending, &self.quay, &self.numbers, &self.seen)
     }
 
     /// Sees a daemon off that was told to end. It takes no further connection, answers what has

@@ -5,7 +5,7 @@ use crate::accepting::Limits;
 use crate::door::Door;
 use crate::entrance::Entrance;
 use crate::fault::DaemonFault;
-use crate::fleet::{Day, Fleet, Idlers, Service, Shape};
+use crate::fleet::{Day, Fleet, Idlers, Service, Shape, make_memory};
 use crate::numbers::Numbers;
 use crate::place::bind_new;
 use crate::quay::Quay;
@@ -16,6 +16,7 @@ use mac_wire::{Sink, send_all};
 use std::alloc::Global;
 use std::fs::Files;
 use std::net::Net;
+use std::random::RandomSource;
 use std::sync::Wait;
 use std::thread::Threads;
 use std::time::Clock;
@@ -32,7 +33,7 @@ pub fn accept_all<R, W>(
     out: &mut W,
 ) -> Result<Day, DaemonFault>
 where
-    R: Files + Net + Threads + Wait + Clock + Sync + Copy + Send + 'static,
+    R: Files + Net + Threads + Wait + Clock + RandomSource + Sync + Copy + Send + 'static,
     W: Sink,
     requires writable { W.faults out.old < u64.MAX }
     ensures served { IfOk result (λ day. day.served ≡ accept) }
@@ -43,7 +44,7 @@ where
     let roster = Roster::new(rt, alloc, shape.connections, Vec::new(alloc))?;
     let service = Service {
         workers: shape.workers,
-        idlers: Idlers::make(rt, alloc, shape)?,
+        idlers: Idlers::make(rt, alloc, shape, &make_memory(rt, alloc, shape))?,
         entrance: Entrance::open(rt, alloc, doors)?,
         limits: Limits {
             count: Some(accept),

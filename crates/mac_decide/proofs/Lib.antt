@@ -18,3 +18,4 @@ pub mod FoldingLemmas
 pub mod SigningLemmas
 pub mod PreparedLemmas
 pub mod DraftingLemmas
+pub mod SeenLemmas

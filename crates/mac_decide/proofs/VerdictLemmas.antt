@@ -93,7 +93,7 @@ minted-verdict keys t x (Unsatisfied n) minted (k, same, first) =
     let index : n ≡ k = omega arith in (minted, rw index first)
 
 -- the test of the keys is the statement
-minted-tested : (keys : List (List ℕ)) (t : TokenParts) → is_minted keys t ≡ true → Minted keys t
+pub minted-tested : (keys : List (List ℕ)) (t : TokenParts) → is_minted keys t ≡ true → Minted keys t
 minted-tested [] t e = absurd (false≢true e)
 minted-tested (key ∷ keys) t e =
     elim (or-cases (bytes_eq t.sig (chain key t.identifier t.caveats)) (is_minted keys t) e) [

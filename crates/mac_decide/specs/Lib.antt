@@ -5,6 +5,7 @@ pub mod Minted
 pub mod Prepared
 pub mod Reading
 pub mod SameJobs
+pub mod Seen
 pub mod Terms
 pub mod Time
 pub mod Verdict

@@ -21,6 +21,8 @@ pub struct Question<'a> {
     pub second: Option<RootKey>,
     pub token: TokenView<'a>,
     pub context: Context<'a>,
+    /// By what a memory may be told that the token is minted.
+    pub mark: Option<u64>,
 }
 
 impl<'a> Question<'a> {
@@ -100,6 +102,14 @@ pub struct Signing<'a> {
 }
 
 impl<'a> Signing<'a> {
+    /// The mark of the token of a verify.
+    fn mark(&self) -> Option<u64> {
+        match &self.purpose {
+            Purpose::Verdict(question) => question.mark,
+            _ => None,
+        }
+    }
+
     /// Takes the signature after the next text. After the last one under a first key that doesn't
     /// sign the token, the token's texts are left anew, for the second key.
     fn fold(&mut self, signature: Sig)
@@ -141,6 +151,14 @@ impl Default for Prepared<'_> {
 }
 
 impl<'a> Prepared<'a> {
+    /// By what a memory may be told that the token of a verify is minted.
+    pub fn mark(&self) -> Option<u64> {
+        match self {
+            Prepared::Pending(signing) => signing.mark(),
+            Prepared::Told(_) => None,
+        }
+    }
+
     /// How many texts are still to be folded on.
     pub fn left(&self) -> usize
         ensures { result ≡ length (left_of self.now) }

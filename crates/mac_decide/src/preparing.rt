@@ -1,44 +1,43 @@
 //! A job, up to what its reply waits for.
 
 ghost use Rattle.std.specs.Prelude.{◌≡◌, ◌++◌, IfOk};
-ghost use Rattle.mac_keys.specs.Keys.{listed};
 ghost use Rattle.mac_token.specs.Answers.{Answers as IsMade};
 ghost use Rattle.mac_token.specs.Limits.{token_or_limit};
 ghost use Rattle.mac_token.specs.Push.{with_sig};
 ghost use Rattle.mac_token.specs.RawToken.{TokenParts, byte_lists};
 ghost use Rattle.mac_token.specs.Read.{bare_of, or_malformed, read_of, token_of_read};
-ghost use Rattle.mac_token.specs.Spells.{BeginsWith};
 ghost use Rattle.mac_wire.specs.Reading.{request_of};
 ghost use Rattle.mac_wire.specs.Request.{asked as asked_of};
 ghost use Rattle.mac_decide.specs.Answer as answers;
 ghost use Rattle.mac_decide.specs.Folding.{end_of, texts_of};
 ghost use Rattle.mac_decide.specs.Minted.{add, minted};
 ghost use Rattle.mac_decide.specs.Prepared.{comes_to};
-ghost use Rattle.mac_decide.specs.Reading.{verdict_of};
 
 use crate::context::Context;
 use crate::drafting::{draft_narrowed, draft_of_parts, draft_to_sign};
 use crate::folding::{Folding, Texts};
 use crate::job::Basis;
 use crate::minting::token_of_parts;
-use crate::prepared::{Prepared, Purpose, Question, Signing};
-use crate::reply::{form_of, refusal_of, refused, verdict_reply};
-use crate::verdict::{Verdict, other_key, verify};
+use crate::prepared::{Prepared, Purpose, Signing};
+use crate::reply::{form_of, refusal_of, refused};
+use crate::seen::SeenTokens;
+use crate::verifying::prepare_verify;
 use mac_hmac::{RootKey, Sig};
-use mac_keys::Keys;
 use mac_token::{DraftForm, Token, TokenFault, TokenView, bare, read_bare};
 use mac_wire::{FieldList, Grant, NoMemory, Refusal, Request, TokenForm, parse_request};
 use std::alloc::{AllocError, Global};
 
-fn told(reason: Refusal) -> Prepared<'static>
+pub(crate) fn told(reason: Refusal) -> Prepared<'static>
     ensures { comes_to result ≡ answers.refused reason }
 {
     Prepared::Told(refused(reason))
 }
 
-/// What the reply to a payload waits for. The room is for a token that comes as base64 text.
+/// What the reply to a payload waits for. The room is for a token that comes as base64 text. Where
+/// the memory has the token, the reply waits for no signature.
 pub fn prepare<'a>(
     room: &'a mut Vec<u8>,
+    seen: &SeenTokens,
     alloc: Global,
     payload: &'a [u8],
     basis: Basis,
@@ -47,13 +46,14 @@ pub fn prepare<'a>(
         comes_to p ≡ answers.asked_reply (request_of payload.now) basis) }
 {
     match parse_request(payload) {
-        Some(request) => prepare_request(room, alloc, request, basis),
+        Some(request) => prepare_request(room, seen, alloc, request, basis),
         None => Ok(told(Refusal::BadRequest)),
     }
 }
 
 fn prepare_request<'a>(
     room: &'a mut Vec<u8>,
+    seen: &SeenTokens,
     alloc: Global,
     request: Request<'a>,
     basis: Basis,
@@ -88,7 +88,8 @@ fn prepare_request<'a>(
         } => match basis.keys {
             Some(keys) => {
                 let context = Context { moment, facts };
-                prepare_verify(room, alloc, Grant::Bare, keys, token, context)
+                let sighting = seen.find(&keys, token);
+                prepare_verify(room, alloc, sighting, Grant::Bare, keys, token, context)
             }
             None => Ok(told(Refusal::UnknownKey)),
         },
@@ -102,7 +103,8 @@ fn prepare_request<'a>(
             (Some(_), None) => Ok(told(Refusal::NoClock)),
             (Some(keys), Some(moment)) => {
                 let context = Context { moment, facts };
-                prepare_verify(room, alloc, grant, keys, token, context)
+                let sighting = seen.find(&keys, token);
+                prepare_verify(room, alloc, sighting, grant, keys, token, context)
             }
         },
     }
@@ -285,94 +287,4 @@ fn to_sign<'a>(
         Err(TokenFault::Refused(reason)) => Ok(told(refusal_of(reason))),
         Err(TokenFault::Memory) => Err(AllocError),
     }
-}
-
-fn prepare_verify<'a>(
-    room: &'a mut Vec<u8>,
-    alloc: Global,
-    grant: Grant,
-    keys: Keys,
-    token: &'a [u8],
-    context: Context<'a>,
-) -> Result<Prepared<'a>, NoMemory>
-    ensures { IfOk result (λ p.
-        comes_to p ≡ answers.verify_reply grant token.now context.entry keys) }
-{
-    match bare(room, token) {
-        Ok(bytes) => prepare_bare(alloc, grant, keys, bytes, context),
-        Err(TokenFault::Refused(reason)) => Ok(told(refusal_of(reason))),
-        Err(TokenFault::Memory) => Err(AllocError),
-    }
-}
-
-/// The same, where these are the bytes that the token carries. Only JSON is read with memory.
-fn prepare_bare<'a>(
-    alloc: Global,
-    grant: Grant,
-    keys: Keys,
-    bytes: &'a [u8],
-    context: Context<'a>,
-) -> Result<Prepared<'a>, NoMemory>
-    ensures { IfOk result (λ p. comes_to p
-        ≡ answers.told (token_of_read (or_malformed (bare_of bytes.now)))
-        (λ t. answers.verdict_reply grant t (verdict_of (listed keys) t context.entry))) }
-{
-    match bytes {
-        [b'{', ..] => prepare_json(alloc, grant, keys, bytes, &context),
-        _ => Ok(prepare_view(grant, keys, bytes, context)),
-    }
-}
-
-fn prepare_view<'a>(grant: Grant, keys: Keys, bytes: &'a [u8], context: Context<'a>) -> Prepared<'a>
-    requires { ¬ BeginsWith 123 bytes.now }
-    ensures { comes_to result ≡ answers.told (token_of_read (or_malformed (bare_of bytes.now)))
-        (λ t. answers.verdict_reply grant t (verdict_of (listed keys) t context.entry)) }
-{
-    match TokenView::of(bytes) {
-        Ok(token) => {
-            let folding = Folding::of_token(keys.first, &token);
-            let question = Question {
-                grant,
-                second: other_key(&keys),
-                token,
-                context,
-            };
-            let purpose = Purpose::Verdict(question);
-            Prepared::Pending(Signing { folding, purpose })
-        }
-        Err(reason) => told(refusal_of(reason)),
-    }
-}
-
-/// A verify of a token in JSON, whose parts lie in no bytes, is answered at once.
-fn prepare_json(
-    alloc: Global,
-    grant: Grant,
-    keys: Keys,
-    bytes: &[u8],
-    context: &Context<'_>,
-) -> Result<Prepared<'static>, NoMemory>
-    ensures { IfOk result (λ p. comes_to p
-        ≡ answers.told (token_of_read (or_malformed (bare_of bytes.now)))
-        (λ t. answers.verdict_reply grant t (verdict_of (listed keys) t context.now))) }
-{
-    match read_bare(alloc, bytes) {
-        Ok(token) => told_verdict(alloc, grant, &token, verify(&keys, &token, context)),
-        Err(TokenFault::Refused(reason)) => Ok(told(refusal_of(reason))),
-        Err(TokenFault::Memory) => Err(AllocError),
-    }
-}
-
-/// What is told of a token at once.
-fn told_verdict(
-    alloc: Global,
-    grant: Grant,
-    token: &Token,
-    verdict: Verdict,
-) -> Result<Prepared<'static>, NoMemory>
-    ensures { IfOk result (λ p. comes_to p ≡ answers.verdict_reply grant token.now verdict) }
-{
-    let identifier = token.identifier();
-    let reply = verdict_reply(alloc, grant, identifier, token.location(), verdict)?;
-    Ok(Prepared::Told(reply))
 }

@@ -11,6 +11,7 @@ ghost use Rattle.mac_decide.specs.Prepared.{signed_reply};
 
 use crate::job::{Basis, Job};
 use crate::preparing::prepare;
+use crate::seen::SeenTokens;
 use crate::verdict::Verdict;
 use mac_hmac::Sig;
 use mac_token::{Draft, Form, Token, TokenFault, TokenRefusal, write};
@@ -40,7 +41,8 @@ fn arrival_reply(alloc: Global, arrival: &Arrival, basis: Basis) -> Result<Reply
     match arrival {
         Arrival::Payload(payload) => {
             let mut room = Vec::new(alloc);
-            prepare(&mut room, alloc, payload.as_slice(), basis)?.into_reply(alloc)
+            let seen = SeenTokens::none();
+            prepare(&mut room, &seen, alloc, payload.as_slice(), basis)?.into_reply(alloc)
         }
         Arrival::Oversize => Ok(refused(Refusal::FrameTooLong)),
     }

@@ -1,5 +1,6 @@
 //! What answering keeps from one run of jobs to the next.
 
+use crate::seen::SeenTokens;
 use std::alloc::Global;
 use std::array;
 
@@ -9,19 +10,26 @@ pub const RUN: usize = 32;
 /// The greatest room that is kept for the next run, in bytes.
 const ROOM_KEPT: usize = 65_536;
 
-/// A room for each job of a run, for the token that comes as base64 text. A room takes memory at
-/// its first token, and keeps it.
+/// A room for each job of a run, for the token that comes as base64 text, and a memory of tokens. A
+/// room takes memory at its first token, and keeps it.
 #[derive(Drop)]
 pub struct Rooms {
     pub(crate) held: [Vec<u8>; RUN],
+    seen: SeenTokens,
 }
 
 impl Rooms {
-    /// Rooms that hold nothing, and take no memory.
-    pub fn new(alloc: Global) -> Rooms {
+    /// Rooms that hold nothing and take no memory, beside a memory of tokens.
+    pub fn new(alloc: Global, seen: SeenTokens) -> Rooms {
         Rooms {
             held: array::from_fn(|_| Vec::new(alloc)),
+            seen,
         }
+    }
+
+    /// The rooms and the memory of tokens, lent.
+    pub(crate) fn lend(&mut self) -> (&mut [Vec<u8>; RUN], &SeenTokens) {
+        (&mut self.held, &self.seen)
     }
 
     /// Gives back the memory of each room that has grown large.

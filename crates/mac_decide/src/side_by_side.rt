@@ -11,8 +11,10 @@ use crate::job_view::{ArrivalView, JobView};
 use crate::keyed::keys_at;
 use crate::prepared::Prepared;
 use crate::preparing::prepare;
+use crate::remembering::remember;
 use crate::reply::refused;
 use crate::rooms::{RUN, Rooms};
+use crate::seen::SeenTokens;
 use arrayvec::ArrayVec;
 use mac_hmac::{Sig, extend_each, start_each};
 use mac_wire::{NoMemory, Refusal, Reply};
@@ -27,7 +29,7 @@ pub fn answer_all(alloc: Global, jobs: &[Job]) -> Result<Vec<Reply>, NoMemory>
     ensures { IfOk result (λ replies. replies.items ≡ map reply_to_job jobs.now) }
 {
     let mut replies = Vec::with_capacity(alloc, jobs.len())?;
-    let mut rooms = Rooms::new(alloc);
+    let mut rooms = Rooms::new(alloc, SeenTokens::none());
     for run in jobs.chunks(RUN) {
         let views = views_of(run);
         let answered = answer_run(&mut rooms, alloc, views.as_slice())?;
@@ -70,7 +72,8 @@ pub fn answer_run(
         replies.items ≡ map reply_to_job (map viewed jobs.now)) }
     ensures sendable { IfOk result (λ replies. All IsReply replies.items) }
 {
-    let replies = replies_to(&mut rooms.held, alloc, jobs);
+    let (held, seen) = rooms.lend();
+    let replies = replies_to(held, seen, alloc, jobs);
     rooms.give_back(alloc);
     replies
 }
@@ -78,6 +81,7 @@ pub fn answer_run(
 /// The same in these rooms.
 fn replies_to(
     rooms: &mut [Vec<u8>],
+    seen: &SeenTokens,
     alloc: Global,
     jobs: &[JobView<'_>],
 ) -> Result<ArrayVec<Reply, RUN>, NoMemory>
@@ -87,9 +91,9 @@ fn replies_to(
         replies.items ≡ map reply_to_job (map viewed jobs.now)) }
 {
     if asking(jobs) < FEWEST {
-        replies_one_by_one(rooms, alloc, jobs)
+        replies_one_by_one(rooms, seen, alloc, jobs)
     } else {
-        replies_side_by_side(rooms, alloc, jobs)
+        replies_side_by_side(rooms, seen, alloc, jobs)
     }
 }
 
@@ -107,6 +111,7 @@ fn asking(jobs: &[JobView<'_>]) -> usize {
 /// The same where few ask for a hash: a run with all its places costs more than they do.
 fn replies_one_by_one(
     rooms: &mut [Vec<u8>],
+    seen: &SeenTokens,
     alloc: Global,
     jobs: &[JobView<'_>],
 ) -> Result<ArrayVec<Reply, RUN>, NoMemory>
@@ -117,13 +122,18 @@ fn replies_one_by_one(
 {
     let mut replies = ArrayVec::new();
     for (room, job) in rooms.iter_mut().zip(jobs) {
-        replies.push(prepare_job(room, alloc, job)?.into_reply(alloc)?);
+        let prepared = prepare_job(room, seen, alloc, job)?;
+        let mark = prepared.mark();
+        let reply = prepared.into_reply(alloc)?;
+        remember(seen, alloc, mark, job, &reply);
+        replies.push(reply);
     }
     Ok(replies)
 }
 
 fn replies_side_by_side(
     rooms: &mut [Vec<u8>],
+    seen: &SeenTokens,
     alloc: Global,
     jobs: &[JobView<'_>],
 ) -> Result<ArrayVec<Reply, RUN>, NoMemory>
@@ -133,19 +143,50 @@ fn replies_side_by_side(
         replies.items ≡ map reply_to_job (map viewed jobs.now)) }
 {
     let mut run = ArrayVec::new();
-    prepare_all(&mut run, rooms, alloc, jobs)?;
+    prepare_all(&mut run, rooms, seen, alloc, jobs)?;
     walk(run.as_mut_slice());
+    let marks = marks_of(run.as_slice());
     let mut replies = ArrayVec::new();
     for prepared in run {
         replies.push(prepared.into_reply(alloc)?);
     }
+    remember_run(seen, alloc, &marks, jobs, replies.as_slice());
     Ok(replies)
+}
+
+/// The marks of the tokens of a run.
+fn marks_of(run: &[Prepared<'_>]) -> [Option<u64>; RUN] {
+    let mut marks = [None; RUN];
+    for place in 0..run.len().min(RUN) {
+        marks[place] = run[place].mark();
+    }
+    marks
+}
+
+/// Remembers the tokens of a run that are minted by the replies.
+fn remember_run(
+    seen: &SeenTokens,
+    alloc: Global,
+    marks: &[Option<u64>; RUN],
+    jobs: &[JobView<'_>],
+    replies: &[Reply],
+)
+    requires { replies.now ≡ map reply_to_job (map viewed jobs.now) }
+{
+    for place in 0..RUN {
+        if let Some(job) = jobs.get(place) {
+            if let Some(reply) = replies.get(place) {
+                remember(seen, alloc, marks[place], job, reply);
+            }
+        }
+    }
 }
 
 /// Puts what the replies to the jobs wait for into an empty run.
 fn prepare_all<'a>(
     run: &mut ArrayVec<Prepared<'a>, RUN>,
     rooms: &'a mut [Vec<u8>],
+    seen: &SeenTokens,
     alloc: Global,
     jobs: &[JobView<'a>],
 ) -> Result<(), NoMemory>
@@ -155,7 +196,7 @@ fn prepare_all<'a>(
     ensures { OnOk result (map comes_to run.new.items ≡ map reply_to_job (map viewed jobs.now)) }
 {
     for (room, job) in rooms.iter_mut().zip(jobs) {
-        run.push(prepare_job(room, alloc, job)?);
+        run.push(prepare_job(room, seen, alloc, job)?);
     }
     Ok(())
 }
@@ -164,13 +205,14 @@ fn prepare_all<'a>(
 #[tactic(auto, unfolding(crate::specs::Answer::reply_of))]
 fn prepare_job<'a>(
     room: &'a mut Vec<u8>,
+    seen: &SeenTokens,
     alloc: Global,
     job: &JobView<'a>,
 ) -> Result<Prepared<'a>, NoMemory>
     ensures { IfOk result (λ prepared. comes_to prepared ≡ reply_to_job (viewed job.now)) }
 {
     match job.arrival {
-        ArrivalView::Payload(payload) => prepare(room, alloc, payload, job.basis()),
+        ArrivalView::Payload(payload) => prepare(room, seen, alloc, payload, job.basis()),
         ArrivalView::Oversize => Ok(Prepared::Told(refused(Refusal::FrameTooLong))),
     }
 }

@@ -1,16 +1,20 @@
 //! Whether a name's keys grant a token.
 
-ghost use Rattle.std.specs.Prelude.{◌≡◌, ◌↔◌, ◌∷◌, All, IfSome, IsTrue, MatchOption, option_to_list};
+ghost use Rattle.std.specs.Prelude.{◌≡◌, ◌↔◌, ◌∷◌, All, IfSome, IsTrue, MatchOption, Ok};
+ghost use Rattle.std.specs.Prelude.{option_to_list};
 ghost use Rattle.mac_hmac.specs.Chain.{chain};
 ghost use Rattle.mac_keys.specs.Keys.{listed};
 ghost use Rattle.mac_token.specs.RawToken.{TokenParts};
+ghost use Rattle.mac_token.specs.Read.{read_of};
 ghost use Rattle.mac_decide.specs.Minted.{Signs, Minted};
 ghost use Rattle.mac_decide.specs.Verdict.{Satisfied, IsFirstUnsatisfied, IsVerdict, found_verdict};
 
 use crate::context::{Context, satisfied};
+use crate::seen::{SeenTokens, Sighting};
 use mac_hmac::{Chain, RootKey, Sig, same};
 use mac_keys::Keys;
 use mac_token::Token;
+use std::alloc::Global;
 
 /// The verdict on a token.
 #[derive(Clone, Copy, Debug, PartialEq, Eq)]
@@ -33,6 +37,32 @@ pub fn verify(keys: &Keys, token: &Token, context: &Context<'_>) -> Verdict
         found_verdict(unsatisfied_of(token, context))
     } else {
         Verdict::BadSignature
+    }
+}
+
+/// The verdict on the token that a text spells. No signature is computed where the memory has the
+/// text.
+pub fn verify_read(
+    seen: &SeenTokens,
+    alloc: Global,
+    keys: &Keys,
+    text: &[u8],
+    token: &Token,
+    context: &Context<'_>,
+) -> Verdict
+    requires { read_of text.now ≡ Ok token.now }
+    ensures { IsVerdict (listed keys.now) token.now context.now result }
+{
+    match seen.find(keys, text) {
+        Sighting::Minted => found_verdict(unsatisfied_of(token, context)),
+        Sighting::Unwatched => verify(keys, token, context),
+        Sighting::Unknown(mark) => {
+            let verdict = verify(keys, token, context);
+            if verdict != Verdict::BadSignature && seen.is_again(mark) {
+                seen.keep(alloc, mark, keys, text);
+            }
+            verdict
+        }
     }
 }
 

@@ -57,7 +57,7 @@ fn is_given(signature: Sig, second: Option<RootKey>, token: &TokenView<'_>) -> b
 }
 
 /// The index of the first caveat that isn't satisfied.
-fn unsatisfied_caveat(token: &TokenView<'_>, context: &Context<'_>) -> Option<u16>
+pub(crate) fn unsatisfied_caveat(token: &TokenView<'_>, context: &Context<'_>) -> Option<u16>
     ensures { MatchOption result (All (λ caveat. Satisfied caveat context.now) token.now.caveats)
         (IsFirstUnsatisfied token.now.caveats context.now) }
 {

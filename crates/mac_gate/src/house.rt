@@ -7,6 +7,7 @@ use crate::serving::Terms;
 use http::StatusCode;
 use mac_count::{Number, Request, append_metrics, append_status, append_version};
 use mac_daemon::Guests;
+use mac_decide::SeenTokens;
 use mac_http::Noted;
 use mio::Waker;
 use std::alloc::{AllocError, Global};
@@ -53,6 +54,11 @@ impl House {
     /// Whether its connections are to end.
     pub fn is_ending(&self) -> bool {
         self.is_ending.load(SeqCst)
+    }
+
+    /// The memory of tokens of its daemon.
+    pub fn seen(&self) -> &SeenTokens {
+        self.guests.seen()
     }
 
     /// Appends the version and the numbers of its daemon, as Prometheus reads them.

@@ -4,6 +4,7 @@ use crate::house::House;
 use crate::noting::request_of;
 use crate::serving::Pages;
 use http::StatusCode;
+use mac_decide::SeenTokens;
 use mac_http::{Noted, Page, Steward, Told};
 use std::alloc::AllocError;
 use std::sync::Wait;
@@ -30,6 +31,10 @@ impl Pages {
 impl<'a, R: Wait + Clock> Steward for Speaker<'a, R> {
     fn is_ending(&self) -> bool {
         self.house.is_ending()
+    }
+
+    fn seen(&self) -> &SeenTokens {
+        self.house.seen()
     }
 
     fn tell(&self, page: Page, text: &mut Vec<u8>) -> Result<Told, AllocError> {

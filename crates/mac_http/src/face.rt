@@ -118,7 +118,15 @@ fn answer_plain<S: Steward>(
             steward.note(note_of_call(asked), response.status);
         }
         None => {
-            respond(alloc, keys, rules, moment, request, response);
+            respond(
+                alloc,
+                steward.seen(),
+                keys,
+                rules,
+                moment,
+                request,
+                response,
+            );
             let noted = note_of_path(request.uri().path().as_bytes());
             steward.note(noted, response.status);
         }

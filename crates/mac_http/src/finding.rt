@@ -16,7 +16,7 @@ use crate::rules::Sources;
 use crate::target::{Target, target_in};
 use bytes::Bytes;
 use http::Request;
-use mac_decide::{Context, Verdict, verify};
+use mac_decide::{Context, SeenTokens, Verdict, verify_read};
 use mac_keys::{KeyTable, Keys};
 use mac_token::{Token, TokenFault, read};
 use mac_wire::FieldList;
@@ -43,9 +43,11 @@ pub enum Finding {
     Granted(Token),
 }
 
-/// What is found of a request under a table of keys at a moment, in seconds since 1970.
+/// What is found of a request under a table of keys at a moment, in seconds since 1970. No signature
+/// is computed of a token that the memory has.
 pub fn find(
     alloc: Global,
+    seen: &SeenTokens,
     keys: &KeyTable,
     sources: Sources,
     moment: Option<u64>,
@@ -57,7 +59,7 @@ pub fn find(
         return Ok(Finding::Unknown);
     };
     match keys.find(target.name) {
-        Some(keys) => find_under(alloc, keys, sources, moment, request, target.behind),
+        Some(keys) => find_under(alloc, seen, keys, sources, moment, request, target.behind),
         None => Ok(Finding::Unknown),
     }
 }
@@ -65,6 +67,7 @@ pub fn find(
 /// What is found of a request that names these keys.
 fn find_under(
     alloc: Global,
+    seen: &SeenTokens,
     keys: &Keys,
     sources: Sources,
     moment: Option<u64>,
@@ -76,7 +79,16 @@ fn find_under(
 {
     match credentials_in(request.headers()) {
         Some(credentials) => {
-            find_with(alloc, keys, sources, moment, request, behind, credentials)
+            find_with(
+                alloc,
+                seen,
+                keys,
+                sources,
+                moment,
+                request,
+                behind,
+                credentials,
+            )
         }
         None => Ok(Finding::NoToken),
     }
@@ -85,6 +97,7 @@ fn find_under(
 /// What is found of a request that brings a token.
 fn find_with(
     alloc: Global,
+    seen: &SeenTokens,
     keys: &Keys,
     sources: Sources,
     moment: Option<u64>,
@@ -99,12 +112,13 @@ fn find_with(
         return Ok(Finding::UnsafePath);
     }
     let facts = facts_of(alloc, sources, request, behind)?;
-    find_few(alloc, keys, credentials, &facts, moment)
+    find_few(alloc, seen, keys, credentials, &facts, moment)
 }
 
 /// What is found of a token with these facts, if they are few.
 fn find_few(
     alloc: Global,
+    seen: &SeenTokens,
     keys: &Keys,
     credentials: Credentials<'_>,
     facts: &[Vec<u8>],
@@ -114,7 +128,7 @@ fn find_few(
         (credentials.entry.scheme, credentials.entry.token.now) (byte_lists facts.now) moment) }
 {
     match counted_facts(alloc, facts)? {
-        Some(counted) => find_at(alloc, keys, credentials, &counted, moment),
+        Some(counted) => find_at(alloc, seen, keys, credentials, &counted, moment),
         None => Ok(Finding::ManyFacts),
     }
 }
@@ -122,6 +136,7 @@ fn find_few(
 /// What is found of a token with counted facts.
 fn find_at(
     alloc: Global,
+    seen: &SeenTokens,
     keys: &Keys,
     credentials: Credentials<'_>,
     counted: &[u8],
@@ -135,7 +150,7 @@ fn find_at(
         return Ok(Finding::ManyFacts);
     };
     match moment {
-        Some(moment) => find_in(alloc, keys, credentials, &Context { moment, facts }),
+        Some(moment) => find_in(alloc, seen, keys, credentials, &Context { moment, facts }),
         None => Ok(Finding::NoMoment),
     }
 }
@@ -143,6 +158,7 @@ fn find_at(
 /// What is found of a token in a context.
 fn find_in(
     alloc: Global,
+    seen: &SeenTokens,
     keys: &Keys,
     credentials: Credentials<'_>,
     context: &Context<'_>,
@@ -151,7 +167,10 @@ fn find_in(
         (read_of credentials.entry.token.now)) }
 {
     match read(alloc, credentials.token) {
-        Ok(token) => Ok(found_by(credentials.scheme, verify(keys, &token, context), token)),
+        Ok(token) => {
+            let verdict = verify_read(seen, alloc, keys, credentials.token, &token, context);
+            Ok(found_by(credentials.scheme, verdict, token))
+        }
         Err(TokenFault::Refused(_)) => Ok(Finding::Invalid(credentials.scheme)),
         Err(TokenFault::Memory) => Err(AllocError),
     }

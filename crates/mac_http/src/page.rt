@@ -10,6 +10,7 @@ use bytes::BufMut;
 use http::StatusCode;
 use http::header::{CONNECTION, CONTENT_TYPE, HeaderValue};
 use http_server::Response;
+use mac_decide::SeenTokens;
 use std::alloc::{AllocError, Global};
 
 /// The paths of the pages.
@@ -49,6 +50,9 @@ pub enum Told {
 pub trait Steward {
     /// Whether its connections are to end.
     fn is_ending(&self) -> bool;
+
+    /// The memory of tokens of the daemon.
+    fn seen(&self) -> &SeenTokens;
 
     /// Appends the text of a page, where there is one.
     fn tell(&self, page: Page, text: &mut Vec<u8>) -> Result<Told, AllocError>;

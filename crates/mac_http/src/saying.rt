@@ -14,6 +14,7 @@ use bytes::{BufMut, Bytes};
 use http::header::{CONTENT_TYPE, HeaderName, HeaderValue, HeaderValueError, WWW_AUTHENTICATE};
 use http::{Request, StatusCode};
 use http_server::{Response, Rope};
+use mac_decide::SeenTokens;
 use mac_keys::KeyTable;
 use mac_token::Token;
 use std::alloc::{AllocError, Global};
@@ -29,6 +30,7 @@ const LOCATION: &str = "macaroon-location";
 /// Where memory is refused it is a 503 without fields.
 pub fn respond(
     alloc: Global,
+    seen: &SeenTokens,
     keys: &KeyTable,
     rules: Rules,
     moment: Option<u64>,
@@ -39,7 +41,7 @@ pub fn respond(
     ensures { Responds rules.granted
         (found_of keys.now rules.sources moment (head_of request.now)) response.new }
 {
-    if fill(alloc, keys, rules, moment, request, response).is_err() {
+    if fill(alloc, seen, keys, rules, moment, request, response).is_err() {
         response.clear();
         response.status = StatusCode::SERVICE_UNAVAILABLE;
     }
@@ -47,6 +49,7 @@ pub fn respond(
 
 fn fill(
     alloc: Global,
+    seen: &SeenTokens,
     keys: &KeyTable,
     rules: Rules,
     moment: Option<u64>,
@@ -57,7 +60,7 @@ fn fill(
     ensures { OnOk result (Tells rules.granted
         (found_of keys.now rules.sources moment (head_of request.now)) response.new) }
 {
-    let finding = find(alloc, keys, rules.sources, moment, request)?;
+    let finding = find(alloc, seen, keys, rules.sources, moment, request)?;
     say(alloc, rules.granted, &finding, response)
 }
 

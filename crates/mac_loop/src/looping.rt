@@ -10,6 +10,7 @@ use crate::meter::{Shares, microseconds};
 use crate::port::{SocketPort, Traffic};
 use crate::watch::{PlainFault, Turn, Watch};
 use mac_board::Outlook;
+use mac_decide::SeenTokens;
 use mac_plain::{Client, Course, Round};
 use mio::{Events, Poll, Token, Waker};
 use std::alloc::Global;
@@ -71,12 +72,14 @@ pub struct Loop {
 }
 
 /// As many loops as are asked for, which end a client that makes no progress for so many seconds.
-/// Where none are asked for, they end one that has sent nothing whole for five minutes.
+/// Where none are asked for, they end one that has sent nothing whole for five minutes. They share a
+/// memory of tokens.
 pub fn make_loops<R: Net>(
     rt: &R,
     alloc: Global,
     count: usize,
     idle: Option<u64>,
+    seen: &SeenTokens,
 ) -> Result<(Arc<Loops, Global>, Vec<Loop>), LoopFault> {
     let mut loops = Loops::new(alloc);
     let mut made = Vec::with_capacity(alloc, count)?;
@@ -91,7 +94,7 @@ pub fn make_loops<R: Net>(
             members: Members::new(alloc),
             turn: Vec::with_capacity(alloc, PARTS_MAX)?,
             batch: Vec::with_capacity(alloc, PARTS_MAX)?,
-            round: Round::new(alloc)?,
+            round: Round::new(alloc, seen.share()?)?,
             parts: PARTS_MAX,
             shares: Shares::new(alloc, count)?,
             idle,

@@ -16,7 +16,7 @@ use crate::request::Request;
 use crate::tally::Tally;
 use mac_board::Outlook;
 use mac_count::REQUESTS;
-use mac_decide::Rooms;
+use mac_decide::{Rooms, SeenTokens};
 use std::alloc::Global;
 
 /// How many bytes a read asks for.
@@ -36,8 +36,8 @@ pub struct Round {
 }
 
 impl Round {
-    /// Room for a round.
-    pub fn new(alloc: Global) -> Result<Round, NoMemory> {
+    /// Room for a round, beside a memory of tokens.
+    pub fn new(alloc: Global, seen: SeenTokens) -> Result<Round, NoMemory> {
         let mut piece = Vec::new(alloc);
         piece.resize(PIECE, 0)?;
         Ok(Round {
@@ -46,7 +46,7 @@ impl Round {
             arena: Vec::with_capacity(alloc, ROUND_MAX + PIECE)?,
             requests: Vec::new(alloc),
             bench: Bench {
-                rooms: Rooms::new(alloc),
+                rooms: Rooms::new(alloc, seen),
                 tally: Tally::new(),
             },
         })

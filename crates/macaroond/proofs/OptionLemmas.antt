@@ -22,7 +22,7 @@ use Rattle.clap.specs.declared.builder.value_parser.ValueParser.TheVariants.{Uns
 use Rattle.clap.proofs.ValueTestLemmas.{accepts-Accepts}
 use Rattle.macaroond.specs.CommandLine.{command_line, listen_command, pipe_command, serve_command}
 use Rattle.macaroond.specs.People.{IsTaskName, attenuate_command, check_command, inspect_command, keygen_command, mint_command, status_command, verify_command}
-use Rattle.macaroond.specs.Options.{HasCommand, HasListenOptions, HasServeOptions, IsGiven, IsGivenNumber, MayBeNumber}
+use Rattle.macaroond.specs.Options.{HasCommand, HasListenOptions, HasServeOptions, IsGiven, IsGivenNumberFrom, MayBeNumberFrom}
 use Rattle.macaroond.proofs.OptionWalk.{Each, HasValue, IsKnown, first_none, leaf_rows, no_value, one_value, second_none, value_given, value_or_none}
 
 -- ---- the subcommands, built
@@ -112,16 +112,17 @@ wanted false e = cc
 text_of : (c : List Rule) (id : Text) (rows : List Row) → HasValue c id rows → IsGiven id rows
 text_of c id rows v = (v.2, (v.3, v.4))
 
-number_of : (c : List Rule) (id : Text) (rows : List Row) (most : ℕ) (b : Rule) → arg_by_id c id ≡ Some b → b.parser ≡ Some (Unsigned 1 most) → HasValue c id rows → IsGivenNumber most id rows
-number_of c id rows most b own parser (a, found, v, first, one, passes) =
+number_of : (c : List Rule) (id : Text) (rows : List Row) (least most : ℕ) (b : Rule) → arg_by_id c id ≡ Some b → b.parser ≡ Some (Unsigned least most) → HasValue c id rows
+    → IsGivenNumberFrom least most id rows
+number_of c id rows least most b own parser (a, found, v, first, one, passes) =
     let same : a ≡ b = cc in
-    let reads : parser_of_value a.parser ≡ Unsigned 1 most = ap (λ (r : Rule). parser_of_value r.parser) same ∙ ap parser_of_value parser in
-    (v, (first, one), accepts-Accepts a.ignore_case (Unsigned 1 most) v (subst (λ (p : ValueParser). accepts a.ignore_case p v ≡ true) reads passes))
+    let reads : parser_of_value a.parser ≡ Unsigned least most = ap (λ (r : Rule). parser_of_value r.parser) same ∙ ap parser_of_value parser in
+    (v, (first, one), accepts-Accepts a.ignore_case (Unsigned least most) v (subst (λ (p : ValueParser). accepts a.ignore_case p v ≡ true) reads passes))
 
-maybe_number : (c : List Rule) (id : Text) (rows : List Row) (most : ℕ) (b : Rule) → arg_by_id c id ≡ Some b → b.parser ≡ Some (Unsigned 1 most)
-    → ((first_of id rows ≡ None) × (one_of id rows ≡ None) × (is_given id rows ≡ false)) ⊎ HasValue c id rows → MayBeNumber most id rows
-maybe_number c id rows most b own parser (inl none) = inl (none.0, none.1)
-maybe_number c id rows most b own parser (inr v) = inr (number_of c id rows most b own parser v)
+maybe_number : (c : List Rule) (id : Text) (rows : List Row) (least most : ℕ) (b : Rule) → arg_by_id c id ≡ Some b → b.parser ≡ Some (Unsigned least most)
+    → ((first_of id rows ≡ None) × (one_of id rows ≡ None) × (is_given id rows ≡ false)) ⊎ HasValue c id rows → MayBeNumberFrom least most id rows
+maybe_number c id rows least most b own parser (inl none) = inl (none.0, none.1)
+maybe_number c id rows least most b own parser (inr v) = inr (number_of c id rows least most b own parser v)
 
 -- ---- the options of a subcommand
 
@@ -136,8 +137,8 @@ serve_options words e =
     let accept = neither (not (is_given (codes "accept") rows)) _ workers.1 in (
       text_of c (codes "socket") rows (value_given c (codes "socket") rows found.0 (wanted _ socket.0)),
       text_of c (codes "keys") rows (value_given c (codes "keys") rows found.0 (wanted _ keys.0)),
-      number_of c (codes "workers") rows 16 _ refl refl (value_given c (codes "workers") rows found.0 (wanted _ workers.0)),
-      number_of c (codes "accept") rows 1000 _ refl refl (value_given c (codes "accept") rows found.0 (wanted _ accept.0)),
+      number_of c (codes "workers") rows 1 16 _ refl refl (value_given c (codes "workers") rows found.0 (wanted _ workers.0)),
+      number_of c (codes "accept") rows 1 1000 _ refl refl (value_given c (codes "accept") rows found.0 (wanted _ accept.0)),
     )
 
 pub listen_options : (words : List Text) → level_fault listen [] nothing_held words false [] ≡ [] → HasListenOptions (rows_after listen.rules [] words)
@@ -150,14 +151,15 @@ listen_options words e =
     record {
       socket = text_of c (codes "socket") rows (value_given c (codes "socket") rows found.0 (wanted _ socket.0));
       keys = text_of c (codes "keys") rows (value_given c (codes "keys") rows found.0 (wanted _ keys.0));
-      workers = maybe_number c (codes "workers") rows 16 _ refl refl (value_or_none c (codes "workers") rows found.0);
-      idle = maybe_number c (codes "idle") rows 86400 _ refl refl (value_or_none c (codes "idle") rows found.0);
-      loops = maybe_number c (codes "loops") rows 64 _ refl refl (value_or_none c (codes "loops") rows found.0);
-      connections = maybe_number c (codes "connections") rows 1000000 _ refl refl (value_or_none c (codes "connections") rows found.0);
-      drain = maybe_number c (codes "drain") rows 3600 _ refl refl (value_or_none c (codes "drain") rows found.0);
+      workers = maybe_number c (codes "workers") rows 1 16 _ refl refl (value_or_none c (codes "workers") rows found.0);
+      idle = maybe_number c (codes "idle") rows 1 86400 _ refl refl (value_or_none c (codes "idle") rows found.0);
+      loops = maybe_number c (codes "loops") rows 1 64 _ refl refl (value_or_none c (codes "loops") rows found.0);
+      connections = maybe_number c (codes "connections") rows 1 1000000 _ refl refl (value_or_none c (codes "connections") rows found.0);
+      drain = maybe_number c (codes "drain") rows 1 3600 _ refl refl (value_or_none c (codes "drain") rows found.0);
+      remember = maybe_number c (codes "remember") rows 0 1073741824 _ refl refl (value_or_none c (codes "remember") rows found.0);
       http = (
-        maybe_number c (codes "http-connections") rows 1024 _ refl refl (value_or_none c (codes "http-connections") rows found.0),
-        maybe_number c (codes "http-patience") rows 3600 _ refl refl (value_or_none c (codes "http-patience") rows found.0),
+        maybe_number c (codes "http-connections") rows 1 1024 _ refl refl (value_or_none c (codes "http-connections") rows found.0),
+        maybe_number c (codes "http-patience") rows 1 3600 _ refl refl (value_or_none c (codes "http-patience") rows found.0),
       );
     }
 

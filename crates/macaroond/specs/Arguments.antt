@@ -17,9 +17,13 @@ flag name = record (new_rule name) { long = Some name; action = Some SetTrue }
 abbrev pub required : Rule → Rule
 required rule = record rule { required = true }
 
--- the same, where the value is a number from 1 to `most`
+-- the same, where the value is a number from `least` to `most`
+abbrev pub number_from : ℕ → ℕ → Rule → Rule
+number_from least most rule = record rule { parser = Some (Unsigned least most) }
+
+-- the same, where it is a number from 1 to `most`
 abbrev pub number : ℕ → Rule → Rule
-number most rule = record rule { parser = Some (Unsigned 1 most) }
+number most rule = number_from 1 most rule
 
 -- a subcommand with the arguments, in order
 abbrev pub with_rules : App → List Rule → App

@@ -24,7 +24,7 @@ use Rattle.macaroond.specs.declared.choices.Mode.TheVariants.{Owner, Group, Ever
 use Rattle.macaroond.specs.declared.choices.ServeOptions.{ServeOptions}
 use Rattle.macaroond.specs.declared.status.Status.{Status}
 use Rattle.macaroond.specs.declared.status.Status.TheVariants.{Done, BadLine, NoMemory}
-use Rattle.macaroond.specs.Arguments.{flag, number, option, required, with_rules}
+use Rattle.macaroond.specs.Arguments.{flag, number, number_from, option, required, with_rules}
 use Rattle.macaroond.specs.People.{IsOptionalText, IsTask, is_set, with_people}
 
 -- ---- what `clap` is told
@@ -77,6 +77,7 @@ listen_command = with_rules (with_rules (new_app (codes "listen"))
     ∷ number 64 (option (codes "loops"))
     ∷ number 1000000 (option (codes "connections"))
     ∷ number 3600 (option (codes "drain"))
+    ∷ number_from 0 1073741824 (option (codes "remember"))
     ∷ option (codes "names")
     ∷ option (codes "verify-socket")
     ∷ option (codes "verify-mode")
@@ -121,15 +122,22 @@ LeadsTo (Some status) (kind ∷ rest) = AllLeadTo status (kind ∷ rest)
 abbrev pub number_in : Text → ℕ
 number_in text = digits_value 10 (without_leading_plus text)
 
--- the option was given, with the number n from 1 to `most`
-abbrev pub IsNumber : ℕ → ℕ → Option Text → Type 0
-IsNumber most n given = (text : Text) × (given ≡ Some text)
-    × IsNumeral 10 (without_leading_plus text) × (n ≡ number_in text) × (1 ≤ n) × (n ≤ most)
+-- the option was given, with the number n from `least` to `most`
+abbrev pub IsNumberFrom : ℕ → ℕ → ℕ → Option Text → Type 0
+IsNumberFrom least most n given = (text : Text) × (given ≡ Some text)
+    × IsNumeral 10 (without_leading_plus text) × (n ≡ number_in text) × (least ≤ n) × (n ≤ most)
 
 -- the same, where the option may be left out
+abbrev pub IsNumberFromOrNone : ℕ → ℕ → Option ℕ → Option Text → Type 0
+IsNumberFromOrNone least most (Some n) given = IsNumberFrom least most n given
+IsNumberFromOrNone least most None given = given ≡ None
+
+-- both, where it is a number from 1 to `most`
+abbrev pub IsNumber : ℕ → ℕ → Option Text → Type 0
+IsNumber most n given = IsNumberFrom 1 most n given
+
 abbrev pub IsNumberOrNone : ℕ → Option ℕ → Option Text → Type 0
-IsNumberOrNone most (Some n) given = IsNumber most n given
-IsNumberOrNone most None given = given ≡ None
+IsNumberOrNone most n given = IsNumberFromOrNone 1 most n given
 
 -- the mode that three octal digits name
 abbrev pub mode_of : Text → Option Mode
@@ -180,6 +188,7 @@ HasListen options rows = IsText options.socket (first_of (codes "socket") rows)
     × IsNumberOrNone 64 options.loops (first_of (codes "loops") rows)
     × IsNumberOrNone 1000000 options.connections (first_of (codes "connections") rows)
     × IsNumberOrNone 3600 options.drain (first_of (codes "drain") rows)
+    × IsNumberFromOrNone 0 1073741824 options.remember (first_of (codes "remember") rows)
     × IsOptionalText options.names (codes "names") rows
     × IsOptionalText options.verify_socket (codes "verify-socket") rows
     × (mode_given (first_of (codes "verify-mode") rows) ≡ Some options.verify_mode)

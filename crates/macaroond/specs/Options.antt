@@ -7,8 +7,8 @@ use Rattle.macaroond.specs.declared.choices.Choice.{Choice}
 use Rattle.macaroond.specs.declared.choices.HttpOptions.{HttpOptions}
 use Rattle.macaroond.specs.declared.options.OptionFault.{OptionFault}
 use Rattle.macaroond.specs.declared.options.OptionFault.TheVariants as fault
-use Rattle.macaroond.specs.CommandLine.{HasHttp, HasValues, IsNumber, IsNumberOrNone, choice_name}
-use Rattle.macaroond.specs.CommandLine.{NamesNoMode, mode_given}
+use Rattle.macaroond.specs.CommandLine.{HasHttp, HasValues, IsNumber, IsNumberFromOrNone}
+use Rattle.macaroond.specs.CommandLine.{NamesNoMode, choice_name, mode_given}
 use Rattle.macaroond.specs.People.{IsTaskName}
 
 -- the option has a value, as text and as it is read
@@ -18,16 +18,24 @@ IsGivenAs text id rows = (first_of id rows ≡ Some text) × (one_of id rows ≡
 abbrev pub IsGiven : Text → List Row → Type 0
 IsGiven id rows = (text : Text) × IsGivenAs text id rows
 
+-- and it is a number from `least` to `most`
+abbrev pub IsGivenNumberFrom : ℕ → ℕ → Text → List Row → Type 0
+IsGivenNumberFrom least most id rows =
+    (text : Text) × IsGivenAs text id rows × IsUnsignedIn least most text
+
 -- and it is a number from 1 to `most`
 abbrev pub IsGivenNumber : ℕ → Text → List Row → Type 0
-IsGivenNumber most id rows = (text : Text) × IsGivenAs text id rows × IsUnsignedIn 1 most text
+IsGivenNumber most id rows = IsGivenNumberFrom 1 most id rows
 
 -- or the option was left out
 abbrev pub IsLeftOut : Text → List Row → Type 0
 IsLeftOut id rows = (first_of id rows ≡ None) × (one_of id rows ≡ None)
 
+abbrev pub MayBeNumberFrom : ℕ → ℕ → Text → List Row → Type 0
+MayBeNumberFrom least most id rows = IsLeftOut id rows ⊎ IsGivenNumberFrom least most id rows
+
 abbrev pub MayBeNumber : ℕ → Text → List Row → Type 0
-MayBeNumber most id rows = IsLeftOut id rows ⊎ IsGivenNumber most id rows
+MayBeNumber most id rows = MayBeNumberFrom 1 most id rows
 
 -- a number was given, within some bound
 abbrev pub HasNumber : Text → List Row → Type 0
@@ -38,9 +46,10 @@ abbrev pub Reads : Text → List Row → ℕ → Type 0
 Reads id rows n =
     (most : ℕ) → IsGivenNumber most id rows → IsNumber most n (first_of id rows)
 
+-- the same of an option that may be left out, and whose least number is known
 abbrev pub MayRead : Text → List Row → Option ℕ → Type 0
-MayRead id rows n = (most : ℕ) → MayBeNumber most id rows
-    → IsNumberOrNone most n (first_of id rows)
+MayRead id rows n = (least most : ℕ) → MayBeNumberFrom least most id rows
+    → IsNumberFromOrNone least most n (first_of id rows)
 
 abbrev pub HasServeOptions : List Row → Type 0
 HasServeOptions rows = IsGiven (codes "socket") rows × IsGiven (codes "keys") rows
@@ -59,6 +68,7 @@ pub record HasListenOptions (rows : List Row) : Type 0 where
   pub loops : MayBeNumber 64 (codes "loops") rows
   pub connections : MayBeNumber 1000000 (codes "connections") rows
   pub drain : MayBeNumber 3600 (codes "drain") rows
+  pub remember : MayBeNumberFrom 0 1073741824 (codes "remember") rows
   pub http : HasHttpOptions rows
 
 -- the rows are those of one of the three subcommands

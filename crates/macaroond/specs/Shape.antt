@@ -16,3 +16,8 @@ connections_of (Some asked) = asked
 abbrev pub drain_of : Option ℕ → ℕ
 drain_of None = 10
 drain_of (Some asked) = asked
+
+-- the bytes that tokens found good are remembered in: 16 MiB, where no other number is asked for
+abbrev pub remember_of : Option ℕ → ℕ
+remember_of None = 16777216
+remember_of (Some asked) = asked

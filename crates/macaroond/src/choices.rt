@@ -56,6 +56,9 @@ pub struct ListenOptions {
     pub connections: Option<u64>,
     /// How many seconds connections have to end once the daemon is told to, from 1 to 3,600.
     pub drain: Option<u64>,
+    /// How many bytes its memory of tokens that it found good may take, from 0 (none) to
+    /// 1,073,741,824.
+    pub remember: Option<u64>,
     /// The names that its connections may use, with commas between them; else all.
     pub names: Option<String>,
     /// The path of a second socket, whose connections may not mint.

@@ -1,7 +1,7 @@
 //! The command line as `clap` is told it, and what its options say.
 ghost use Rattle.std.specs.Prelude.{◌≡◌, false, IfOk};
 ghost use Rattle.clap.specs.Words.{app_of, rule_of};
-ghost use Rattle.macaroond.specs.Arguments.{number, option, required, with_rules};
+ghost use Rattle.macaroond.specs.Arguments.{number, number_from, option, required, with_rules};
 ghost use Rattle.macaroond.specs.CommandLine.{command_line, http_rules, listen_command};
 ghost use Rattle.macaroond.specs.CommandLine.{pipe_command, serve_command};
 
@@ -28,6 +28,9 @@ pub const CONNECTIONS_MAX: u64 = 1_000_000;
 
 /// The most seconds that `--drain` takes: an hour.
 pub const DRAIN_MAX: u64 = 3600;
+
+/// The most bytes that `--remember` takes: a gibibyte.
+pub const REMEMBER_MAX: u64 = 1_073_741_824;
 
 /// The most connections that `--http-connections` takes.
 pub const HTTP_CONNECTIONS_MAX: u64 = 1024;
@@ -138,6 +141,9 @@ const CONNECTIONS_HELP: &str =
 const DRAIN_HELP: &str =
     "How many seconds connections get once the daemon is told to end, 1 to 3600 [default: 10]";
 
+const REMEMBER_HELP: &str = "How many bytes tokens found good are remembered in, from 0 (none) \
+    to 1073741824 [default: 16777216]";
+
 const NAMES_HELP: &str =
     "The key names that may be used at the socket, with commas between them [default: all]";
 
@@ -226,6 +232,7 @@ fn build_listen<'a>(alloc: Global) -> Result<Command<'a>, AllocError>
     let workers = build_count(alloc, "workers", WORKERS_MAX as u64, LISTEN_WORKERS_HELP);
     let connections = build_count(alloc, "connections", CONNECTIONS_MAX, CONNECTIONS_HELP);
     let drain = build_count(alloc, "drain", DRAIN_MAX, DRAIN_HELP);
+    let remember = build_bytes(alloc, "remember", REMEMBER_MAX, REMEMBER_HELP);
     let listen = build_subcommand(alloc, "listen", about, LISTEN_HELP);
     let listen = add_arg(listen, build_path(alloc, "socket", SOCKET_HELP))?;
     let listen = add_arg(listen, build_path(alloc, "keys", KEYS_HELP))?;
@@ -235,6 +242,7 @@ fn build_listen<'a>(alloc: Global) -> Result<Command<'a>, AllocError>
     let listen = add_arg(listen, build_count(alloc, "loops", LOOPS_MAX, LOOPS_HELP))?;
     let listen = add_arg(listen, connections)?;
     let listen = add_arg(listen, drain)?;
+    let listen = add_arg(listen, remember)?;
     let listen = add_arg(listen, build_option(alloc, "names", "NAMES", NAMES_HELP))?;
     let listen = add_arg(
         listen,
@@ -302,4 +310,12 @@ fn build_count<'a>(alloc: Global, name: &'a str, most: u64, help: &'a str) -> Ar
     ensures local { result.global ≡ false }
 {
     build_option(alloc, name, "COUNT", help).value_parser(ValueParser::unsigned(1, most))
+}
+
+/// An option that takes a number of bytes from 0 to `most`.
+fn build_bytes<'a>(alloc: Global, name: &'a str, most: u64, help: &'a str) -> Arg<'a>
+    ensures rule { rule_of result ≡ number_from 0 most (option name.entry.now) }
+    ensures local { result.global ≡ false }
+{
+    build_option(alloc, name, "BYTES", help).value_parser(ValueParser::unsigned(0, most))
 }

@@ -7,7 +7,7 @@
 ghost use Rattle.std.specs.Prelude.{◌≡◌, ◌≤◌, if◌then◌else◌, IfErr};
 ghost use Rattle.mac_pool.specs.declared.pool.TheConstants.{WORKERS_MAX};
 ghost use Rattle.macaroond.specs.CommandLine.{permissions};
-ghost use Rattle.macaroond.specs.Shape.{HasCount, connections_of, drain_of};
+ghost use Rattle.macaroond.specs.Shape.{HasCount, connections_of, drain_of, remember_of};
 ghost use Rattle.macaroond.specs.Status.{IsShown};
 ghost use Rattle.macaroond.specs.declared.commands.TheConstants.{LOOPS_MAX};
 
@@ -41,7 +41,7 @@ pub use command_line::{choose, read_words};
 use commands::VERSION;
 pub use commands::{
     ACCEPT_MAX, CONNECTIONS_MAX, DRAIN_MAX, HTTP_CONNECTIONS_MAX, HTTP_PATIENCE_MAX, IDLE_MAX,
-    LOOPS_MAX,
+    LOOPS_MAX, REMEMBER_MAX,
 };
 use descriptors::open_standard;
 pub use fault::PipeFault;
@@ -81,6 +81,9 @@ const CONNECTIONS: u64 = 10_000;
 
 /// How many seconds they have to end, where nothing else is asked for.
 const DRAIN: u64 = 10;
+
+/// How many bytes tokens that were found good are remembered in, where nothing else is asked for.
+const REMEMBER: u64 = 16_777_216;
 
 fn main(rt: HostRuntime) -> ExitCode {
     ExitCode::from(run(&rt, rt.process()).code())
@@ -173,7 +176,7 @@ fn count_threads<R: Threads>(rt: &R, asked: Option<u64>, most: usize) -> usize
 /// Serves so many connections, and says how the run ended.
 fn run_serve<R>(rt: &R, options: &ServeOptions) -> Status
 where
-    R: Alloc<A = Global> + Print + Eprint + Files<File = File> + Net + Clock,
+    R: Alloc<A = Global> + Print + Eprint + Files<File = File> + Net + Clock + RandomSource,
     R: Threads + Wait + Sync + Copy + Send + 'static,
 {
     let path = options.socket.as_str();
@@ -197,6 +200,7 @@ where
         workers: count_workers(rt, Some(options.workers)),
         connections: ACCEPT_MAX,
         idle: None,
+        remembered: REMEMBER,
     };
     let mut out = WriterSink::new(io::writer(rt));
     match accept_all(rt, rt.alloc(), path, &followers, shape, accept, &mut out) {
@@ -228,14 +232,9 @@ where
         Err(fault) => return tell_key_file(rt, keys, fault),
     };
     warn_of_readers(rt, keys);
-    warn_of_no_keys(rt, keys, first.table.len());
-    let terms = name_terms(
-        rt,
-        options,
-        first.table.len(),
-        http.descriptors(),
-        has_requests,
-    );
+    let names = first.table.len();
+    warn_of_no_keys(rt, keys, names);
+    let terms = name_terms(rt, options, names, http.descriptors(), has_requests);
     let Ok((rights, side)) = read_sockets(rt.alloc(), options) else {
         return tell_fault(rt, Status::NoMemory);
     };
@@ -270,6 +269,7 @@ fn name_terms<'a, R: Threads>(
     ensures idle { result.shape.idle ≡ options.now.idle }
     ensures drain { result.drain ≡ drain_of options.now.drain }
     ensures connections { result.shape.connections ≡ connections_of options.now.connections }
+    ensures remembered { result.shape.remembered ≡ remember_of options.now.remember }
     ensures loops { HasCount LOOPS_MAX options.now.loops result.shape.loops }
     ensures workers { HasCount WORKERS_MAX options.now.workers result.shape.workers }
     ensures requests { result.has_requests ≡ has_requests }
@@ -284,6 +284,7 @@ fn name_terms<'a, R: Threads>(
             workers: count_workers(rt, options.workers),
             connections: options.connections.unwrap_or(CONNECTIONS),
             idle: options.idle,
+            remembered: options.remember.unwrap_or(REMEMBER),
         },
         drain: options.drain.unwrap_or(DRAIN),
         reserved,

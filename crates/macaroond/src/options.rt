@@ -80,6 +80,7 @@ fn read_listen(alloc: Global, options: &ArgMatches<'_>) -> Result<Choice, Option
         loops: read_optional_number(options, "loops"),
         connections: read_optional_number(options, "connections"),
         drain: read_optional_number(options, "drain"),
+        remember: read_optional_number(options, "remember"),
         names: read_optional_text(alloc, options, "names")?,
         verify_socket: read_optional_text(alloc, options, "verify-socket")?,
         verify_mode,

@@ -8,8 +8,8 @@ use crate::token::{next_token, say_parts, say_refusal, say_written, token_of};
 use crate::verdicts::say_verdicts;
 use arrayvec::ArrayVec;
 use mac_decide::{
-    Context, RUN, Rights, Rooms, Terms, answer, answer_all, answer_run, attenuate, job_of,
-    job_view_of, mint, satisfied, time_limit, time_since,
+    Context, RUN, Rights, Rooms, SeenTokens, Terms, answer, answer_all, answer_run, attenuate,
+    job_of, job_view_of, mint, satisfied, time_limit, time_since,
 };
 use mac_hmac::root_key;
 use mac_token::{Form, Token, TokenFault, write};
@@ -150,7 +150,7 @@ fn replies_in_runs<'a>(
     terms: Terms<'a>,
     payloads: &'a [Vec<u8>],
 ) -> Result<Vec<Reply>, NoMemory> {
-    let mut rooms = Rooms::new(alloc);
+    let mut rooms = Rooms::new(alloc, SeenTokens::none());
     let mut replies = Vec::with_capacity(alloc, payloads.len())?;
     for run in payloads.chunks(RUN) {
         let mut views: ArrayVec<_, RUN> = ArrayVec::new();

@@ -2,12 +2,16 @@
 
 use crate::fixed::{FixedMoment, FixedSteward, NoWatch};
 use mac_board::FixedTables;
+use mac_decide::SeenTokens;
 use mac_http::{Calls, Face, Granted, Rules, Sources, attend};
 use mac_keys::KeyTable;
 use std::alloc::Global;
 use std::hash::RandomState;
 use std::io;
 use std::random::RandomSource;
+
+/// How many bytes all connections together remember tokens in.
+const MEMORY: usize = 1_048_576;
 
 /// What begins the line of a connection.
 const BEGIN: &[u8] = b"== ";
@@ -33,11 +37,12 @@ where
     R: Print + RandomSource,
 {
     let lines = input.strip_suffix(b"\n").unwrap_or(input);
+    let seen = SeenTokens::new(alloc, RandomState::new(rt)?, MEMORY)?;
     let mut words: &[u8] = b"";
     let mut requests = Vec::new(alloc);
     for line in lines.split(|byte| *byte == b'\n') {
         if line.starts_with(BEGIN) {
-            answer_one(rt, alloc, keys, words, &requests)?;
+            answer_one(rt, alloc, keys, &seen, words, &requests)?;
             words = line;
             requests.clear();
         } else {
@@ -45,7 +50,7 @@ where
             requests.extend_from_slice(b"\r\n")?;
         }
     }
-    answer_one(rt, alloc, keys, words, &requests)
+    answer_one(rt, alloc, keys, &seen, words, &requests)
 }
 
 /// Answers a connection, if its line is there.
@@ -53,6 +58,7 @@ fn answer_one<R>(
     rt: &R,
     alloc: Global,
     keys: &KeyTable,
+    seen: &SeenTokens,
     words: &[u8],
     requests: &[u8],
 ) -> io::Result<()>
@@ -67,7 +73,7 @@ where
         FixedTables(keys),
         rules_of(words),
         FixedMoment::new(),
-        steward_of(words),
+        steward_of(words, seen.share()?),
     );
     let mut answers = Vec::new(alloc);
     let mut reader = requests;
@@ -99,10 +105,11 @@ fn has(words: &[u8], word: &[u8]) -> bool {
 }
 
 /// The daemon that the words name.
-fn steward_of(words: &[u8]) -> FixedSteward {
+fn steward_of(words: &[u8], seen: SeenTokens) -> FixedSteward {
     FixedSteward {
         is_ending: has(words, b"ending"),
         is_well: !has(words, b"unwell"),
+        seen,
     }
 }
 

@@ -3,6 +3,7 @@
 use http::StatusCode;
 use http_server::Log;
 use mac_board::Moments;
+use mac_decide::SeenTokens;
 use mac_http::{Noted, Page, Steward, Told, Watch};
 use std::alloc::AllocError;
 use std::io;
@@ -41,11 +42,17 @@ pub struct FixedSteward {
     pub is_ending: bool,
     /// Whether it is well.
     pub is_well: bool,
+    /// Its memory of tokens.
+    pub seen: SeenTokens,
 }
 
 impl Steward for FixedSteward {
     fn is_ending(&self) -> bool {
         self.is_ending
+    }
+
+    fn seen(&self) -> &SeenTokens {
+        &self.seen
     }
 
     fn tell(&self, page: Page, text: &mut Vec<u8>) -> Result<Told, AllocError> {

@@ -16,10 +16,11 @@ returns c =
     let loops = c.in_ok-listen-6.ensures ∙ ap₂ with_rule idle c.build_count-2.ensures.rule in
     let connections = c.in_ok-listen-7.ensures ∙ ap₂ with_rule loops c.build_count-connections.ensures.rule in
     let drain = c.in_ok-listen-8.ensures ∙ ap₂ with_rule connections c.build_count-drain.ensures.rule in
-    let names = c.in_ok-listen-9.ensures ∙ ap₂ with_rule drain c.build_option-2.ensures.rule in
-    let socket_too = c.in_ok-listen-10.ensures ∙ ap₂ with_rule names c.build_option-3.ensures.rule in
-    let mode_too = c.in_ok-listen-11.ensures ∙ ap₂ with_rule socket_too c.build_option-4.ensures.rule in
-    let names_too = c.in_ok-listen-12.ensures ∙ ap₂ with_rule mode_too c.build_option-5.ensures.rule in
-    let replace = c.in_ok-listen-13.ensures ∙ ap₂ with_rule names_too c.build_flag.ensures.rule in
-    let log = c.in_ok-listen-14.ensures ∙ ap₂ with_rule replace c.build_option-6.ensures.rule in
+    let remember = c.in_ok-listen-9.ensures ∙ ap₂ with_rule drain c.build_bytes-remember.ensures.rule in
+    let names = c.in_ok-listen-10.ensures ∙ ap₂ with_rule remember c.build_option-2.ensures.rule in
+    let socket_too = c.in_ok-listen-11.ensures ∙ ap₂ with_rule names c.build_option-3.ensures.rule in
+    let mode_too = c.in_ok-listen-12.ensures ∙ ap₂ with_rule socket_too c.build_option-4.ensures.rule in
+    let names_too = c.in_ok-listen-13.ensures ∙ ap₂ with_rule mode_too c.build_option-5.ensures.rule in
+    let replace = c.in_ok-listen-14.ensures ∙ ap₂ with_rule names_too c.build_flag.ensures.rule in
+    let log = c.in_ok-listen-15.ensures ∙ ap₂ with_rule replace c.build_option-6.ensures.rule in
     IfOk-weaker c.add_http.result _ _ (λ listen last. last ∙ ap (λ (app : App). with_rules app http_rules) log) c.add_http.ensures

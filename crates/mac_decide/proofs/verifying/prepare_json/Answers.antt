@@ -3,7 +3,7 @@ use Rattle.mac_keys.specs.Keys.{listed}
 use Rattle.mac_decide.specs.Answer.{verdict_reply}
 use Rattle.mac_decide.specs.Reading.{verdict_of}
 use Rattle.mac_decide.proofs.VerdictLemmas.{verdict_of-is, one_verdict}
-use Rattle.mac_decide.proofs.preparing.prepare_json.Goals as goal
+use Rattle.mac_decide.proofs.verifying.prepare_json.Goals as goal
 
 pub returns-in-Ok : goal.returns-in-Ok
 returns-in-Ok c =
