@@ -98,8 +98,8 @@ bench:
 
 # The daemon under load: requests a second, waits, processor time, memory. After make build.
 load:
-	scripts/measure/load.py
-	scripts/measure/load.py --window 1
+	scripts/measure/load.py -- --remember 0
+	scripts/measure/load.py --window 1 -- --remember 0
 
 # The clients for Python and Go: their tests, 100,000 requests of each beside the daemon and the macaroons of others, and
 # how fast they are. After make build.
