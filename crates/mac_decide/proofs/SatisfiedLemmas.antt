@@ -1,5 +1,5 @@
 -- When a caveat is satisfied.
-use Rattle.std.proofs.Common.{◌≡◌, ◌↔◌, ℕ, ℤ, pos, negsuc, unsigned_abs, ◌<ℤ◌, ◌≤ℤ◌, nat_lt, nat_le, FitsSigned, w64, List, codes, true, IsTrue, arith}
+use Rattle.std.proofs.Common.{◌≡◌, ◌↔◌, ℕ, ℤ, pos, negsuc, unsigned_abs, ◌<ℤ◌, ◌≤ℤ◌, nat_lt, nat_le, FitsSigned, w64, List, ◌∷◌, codes, true, IsTrue, arith, subst}
 use Rattle.std.specs.List.{list_any, Contains}
 use Rattle.std.specs.Str.{bytes_eq}
 use Rattle.std.specs.Cmp.Lexicographic.{nat_list_eq_equiv}
@@ -7,9 +7,10 @@ use Rattle.std.specs.Int.{FitsUnsignedBits}
 use Rattle.std.proofs.lemmas.Bool.Decides.{nat_tests}
 use Rattle.std.proofs.lemmas.Int.{ints}
 use Rattle.std.proofs.lemmas.Slice.Eq.{bytes_eq-Decides}
+use Rattle.std.proofs.lemmas.List.Elements.{All-head, All-tail}
 use Rattle.std.proofs.lemmas.Map.Views.{list_any-from_Contains, Contains-from_any}
 use Rattle.mac_decide.specs.Time.{IsTimeLimit, IsLowerBound}
-use Rattle.mac_decide.specs.Verdict.{IsBefore, IsSince}
+use Rattle.mac_decide.specs.Verdict.{AreAmong, IsBefore, IsSince}
 use Rattle.mac_decide.proofs.TimeLemmas.{one_bound}
 
 -- a limit that is known decides whether the moment is before it
@@ -26,6 +27,12 @@ Contains-found facts caveat e = Contains-from_any (λ x y. (bytes_eq-Decides x y
 
 pub found-Contains : (facts : List (List ℕ)) (caveat : List ℕ) → Contains facts caveat → list_any (bytes_eq caveat) facts ≡ true
 found-Contains facts caveat has = list_any-from_Contains nat_list_eq_equiv caveat facts has
+
+-- the first of some facts is one of all, and so are those behind it
+pub among-first : (facts ahead others : List (List ℕ)) (fact : List ℕ) → AreAmong ahead facts → ahead ≡ fact ∷ others → Contains facts fact × AreAmong others facts
+among-first facts ahead others fact among is =
+    let all = subst (λ some. AreAmong some facts) is among in
+    (All-head (Contains facts) fact others all, All-tail (Contains facts) fact others all)
 
 -- no moment is below a limit that no unsigned number is
 pub too_low : (limit : ℤ) → FitsSigned w64 limit → ¬ (FitsUnsignedBits 64 limit) → (moment : ℕ) → ¬ (pos moment <ℤ limit)

@@ -1,6 +1,7 @@
 -- What is known of a token that was seen.
-use Rattle.std.proofs.Common.{◌≡◌, ℕ, List, Option, Some, None, IfSome, MatchOption, option_and_then, Result, Ok, Err, Bool, true, false, if◌then◌else◌, Bor, refl, ap, subst}
+use Rattle.std.proofs.Common.{◌≡◌, ◌<◌, ◌+◌, ◌∙◌, sym, ℕ, List, [], ◌∷◌, ◌++◌, map, take, length, get_or, Option, Some, None, IfSome, MatchOption, option_and_then, Result, Ok, Err, Bool, true, false, if◌then◌else◌, Bor, refl, ap, subst}
 use Rattle.std.specs.List.{All}
+use Rattle.std.proofs.lemmas.List.{map-append, take_more}
 use Rattle.std.specs.Option.{option_copied}
 use Rattle.std.proofs.lemmas.Bool.{false≢true}
 use Rattle.mac_keys.specs.Keys.{listed}
@@ -16,13 +17,14 @@ use Rattle.mac_wire.specs.declared.request.Grant.TheVariants as grant
 use Rattle.mac_decide.specs.Answer.{asked_reply, keyed, reply_of, request_reply, timed, told, verdict_reply, verify_reply}
 use Rattle.mac_decide.specs.Prepared.{reply_to_job}
 use Rattle.mac_decide.specs.Reading.{caveats_verdict, is_minted, verdict_of}
-use Rattle.mac_decide.specs.Seen.{is_minted_read, is_minted_text, tells_minted, verified}
+use Rattle.mac_decide.specs.Seen.{AreRight, IsRight, is_minted_read, is_minted_text, tells_minted, verified}
 use Rattle.mac_decide.specs.Verdict.{IsFirstUnsatisfied, Satisfied, found_verdict}
 use Rattle.mac_decide.specs.Viewed.{arrival_of, viewed, viewed_basis}
 use Rattle.mac_decide.specs.declared.context.Context.{Context}
 use Rattle.mac_decide.specs.declared.job.Basis.{Basis}
 use Rattle.mac_decide.specs.declared.job_view.ArrivalView.TheVariants as view
 use Rattle.mac_decide.specs.declared.job_view.JobView.{JobView}
+use Rattle.mac_decide.specs.declared.looking.Sight.{Sight}
 use Rattle.mac_decide.specs.declared.verdict.Verdict.TheVariants.{BadSignature}
 use Rattle.mac_decide.proofs.VerdictLemmas.{found-caveats}
 
@@ -79,3 +81,18 @@ job-minted job payload keys token r came named asks is e =
     = subst (λ a. tells_minted (reply_of (arrival_of a) basis) ≡ true) came (subst (λ s. tells_minted s ≡ true) is e) in
     subst (λ o. IfSome o (λ t. is_minted_text keys.now t ≡ true)) asks
     (asked-minted (request_of payload.now) basis keys.now (ap option_copied named) there)
+
+-- one more sight that is right
+pub right-push : (sights : List Sight) (dues : List Reply) (sight : Sight) (due : Reply) → AreRight sights dues → IsRight sight due → AreRight (sights ++ sight ∷ []) (dues ++ due ∷ [])
+right-push [] [] sight due are is = (is, tt)
+right-push (s ∷ ss) (d ∷ ds) sight due (here, others) is = (here, right-push ss ds sight due others is)
+right-push [] (d ∷ ds) sight due are is = absurd are
+right-push (s ∷ ss) [] sight due are is = absurd are
+
+-- the replies due to one more job
+pub dues-next : (jobs : List JobView) (i : ℕ) (job : JobView) → i < length jobs → job ≡ get_or jobs i job
+    → map reply_to_job (map viewed (take (i + 1) jobs)) ≡ map reply_to_job (map viewed (take i jobs)) ++ reply_to_job (viewed job) ∷ []
+dues-next jobs i job within is =
+    ap (λ js. map reply_to_job (map viewed js)) (take_more jobs i job within ∙ ap (λ j. take i jobs ++ j ∷ []) (sym is))
+    ∙ ap (map reply_to_job) (map-append viewed (take i jobs) (job ∷ []))
+    ∙ map-append reply_to_job (map viewed (take i jobs)) (viewed job ∷ [])

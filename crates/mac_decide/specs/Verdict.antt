@@ -21,6 +21,10 @@ abbrev pub Satisfied : List ℕ → Context → Type 0
 Satisfied caveat x =
     Contains x.facts caveat ⊎ IsBefore x.moment caveat ⊎ IsSince x.moment caveat
 
+-- each of these is one of the facts
+abbrev pub AreAmong : List (List ℕ) → List (List ℕ) → Type 0
+AreAmong some facts = All (Contains facts) some
+
 -- the keys grant the token in the context: one of them gives the signature, and each caveat is
 -- satisfied
 pub record Accepts (keys : List (List ℕ)) (t : TokenParts) (x : Context) : Type 0 where

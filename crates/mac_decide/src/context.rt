@@ -3,7 +3,7 @@
 ghost use Rattle.std.specs.Prelude.{◌≡◌, ◌↔◌, ◌⊎◌, IsTrue};
 ghost use Rattle.std.specs.List.{list_any};
 ghost use Rattle.std.specs.Str.{bytes_eq};
-ghost use Rattle.mac_decide.specs.Verdict.{IsBefore, IsSince, Satisfied};
+ghost use Rattle.mac_decide.specs.Verdict.{AreAmong, IsBefore, IsSince, Satisfied};
 
 use crate::time::{time_limit, time_since};
 use mac_wire::FieldList;
@@ -63,5 +63,26 @@ fn is_fact(caveat: &[u8], facts: &FieldList<'_>) -> bool
 pub fn satisfied(caveat: &[u8], context: &Context<'_>) -> bool
     ensures { IsTrue result ↔ Satisfied caveat.now context.now }
 {
-    is_fact(caveat, &context.facts) || is_in_time(context.moment, caveat)
+    is_in_time(context.moment, caveat) || is_fact(caveat, &context.facts)
+}
+
+/// Whether the caveat is satisfied; `ahead` are some of the facts, in order. Where caveats come in
+/// the order of their facts, each costs a look at one fact, which is taken from those ahead.
+pub(crate) fn satisfied_in_order(
+    caveat: &[u8],
+    context: &Context<'_>,
+    ahead: &mut FieldList<'_>,
+) -> bool
+    requires { AreAmong ahead.old context.now.facts }
+    ensures satisfied { IsTrue result ↔ Satisfied caveat.now context.now }
+    ensures ahead { AreAmong ahead.new context.now.facts }
+{
+    let mut others = ahead.walk();
+    match others.next() {
+        Some(fact) if fact == caveat => {
+            *ahead = others;
+            true
+        }
+        _ => satisfied(caveat, context),
+    }
 }

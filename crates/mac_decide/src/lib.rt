@@ -13,6 +13,7 @@ mod job;
 mod job_view;
 mod keyed;
 pub mod laws;
+mod looking;
 mod macaroons;
 mod minting;
 mod prepared;

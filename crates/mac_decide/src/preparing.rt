@@ -20,7 +20,6 @@ use crate::job::Basis;
 use crate::minting::token_of_parts;
 use crate::prepared::{Prepared, Purpose, Signing};
 use crate::reply::{form_of, refusal_of, refused};
-use crate::seen::SeenTokens;
 use crate::verifying::prepare_verify;
 use mac_hmac::{RootKey, Sig};
 use mac_token::{DraftForm, Token, TokenFault, TokenView, bare, read_bare};
@@ -33,12 +32,12 @@ pub(crate) fn told(reason: Refusal) -> Prepared<'static>
     Prepared::Told(refused(reason))
 }
 
-/// What the reply to a payload waits for. The room is for a token that comes as base64 text. Where
-/// the memory has the token, the reply waits for no signature.
+/// What the reply to a payload waits for. The room is for a token that comes as base64 text; the
+/// mark is its own, if a memory is to be told that it is minted.
 pub fn prepare<'a>(
     room: &'a mut Vec<u8>,
-    seen: &SeenTokens,
     alloc: Global,
+    mark: Option<u64>,
     payload: &'a [u8],
     basis: Basis,
 ) -> Result<Prepared<'a>, NoMemory>
@@ -46,15 +45,15 @@ pub fn prepare<'a>(
         comes_to p ≡ answers.asked_reply (request_of payload.now) basis) }
 {
     match parse_request(payload) {
-        Some(request) => prepare_request(room, seen, alloc, request, basis),
+        Some(request) => prepare_request(room, alloc, mark, request, basis),
         None => Ok(told(Refusal::BadRequest)),
     }
 }
 
 fn prepare_request<'a>(
     room: &'a mut Vec<u8>,
-    seen: &SeenTokens,
     alloc: Global,
+    mark: Option<u64>,
     request: Request<'a>,
     basis: Basis,
 ) -> Result<Prepared<'a>, NoMemory>
@@ -88,8 +87,7 @@ fn prepare_request<'a>(
         } => match basis.keys {
             Some(keys) => {
                 let context = Context { moment, facts };
-                let sighting = seen.find(&keys, token);
-                prepare_verify(room, alloc, sighting, Grant::Bare, keys, token, context)
+                prepare_verify(room, alloc, mark, Grant::Bare, keys, token, context)
             }
             None => Ok(told(Refusal::UnknownKey)),
         },
@@ -103,8 +101,7 @@ fn prepare_request<'a>(
             (Some(_), None) => Ok(told(Refusal::NoClock)),
             (Some(keys), Some(moment)) => {
                 let context = Context { moment, facts };
-                let sighting = seen.find(&keys, token);
-                prepare_verify(room, alloc, sighting, grant, keys, token, context)
+                prepare_verify(room, alloc, mark, grant, keys, token, context)
             }
         },
     }

@@ -11,7 +11,6 @@ ghost use Rattle.mac_decide.specs.Prepared.{signed_reply};
 
 use crate::job::{Basis, Job};
 use crate::preparing::prepare;
-use crate::seen::SeenTokens;
 use crate::verdict::Verdict;
 use mac_hmac::Sig;
 use mac_token::{Draft, Form, Token, TokenFault, TokenRefusal, write};
@@ -41,8 +40,7 @@ fn arrival_reply(alloc: Global, arrival: &Arrival, basis: Basis) -> Result<Reply
     match arrival {
         Arrival::Payload(payload) => {
             let mut room = Vec::new(alloc);
-            let seen = SeenTokens::none();
-            prepare(&mut room, &seen, alloc, payload.as_slice(), basis)?.into_reply(alloc)
+            prepare(&mut room, alloc, None, payload.as_slice(), basis)?.into_reply(alloc)
         }
         Arrival::Oversize => Ok(refused(Refusal::FrameTooLong)),
     }

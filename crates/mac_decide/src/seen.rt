@@ -1,29 +1,40 @@
 //! Tokens that were found to be minted: whoever verifies one of them again computes no signature.
 //!
 //! A memory is shared by threads, and no one waits for it: who finds a part of it taken does
-//! without. It knows a token by all its bytes. It finds them by a hash of their end, where the
-//! signature stands, under a key that nobody is told: a guess is compared with nothing that is
-//! kept. A token is kept once it comes for the second time, so that those that come once cost next
-//! to nothing and push out none.
+//! without. It knows a token by all bytes of its text, and has it as it was read, so that one that
+//! comes again is not read again. It finds texts by a hash of what the signature stands in, under a
+//! key that nobody is told: a guess is compared with nothing that is kept. A token is kept once it
+//! comes for the second time, so that those that come once cost next to nothing and push out none.
 
-ghost use Rattle.std.specs.Prelude.{◌≡◌, IsTrue, true};
-ghost use Rattle.mac_decide.specs.Seen.{is_minted_text};
+ghost use Rattle.std.specs.Prelude.{◌≡◌, IfOk, IfSome, IsTrue, Ok, true};
+ghost use Rattle.mac_keys.specs.Keys.{listed};
+ghost use Rattle.mac_token.specs.Read.{read_of};
+ghost use Rattle.mac_decide.specs.Answer as answers;
+ghost use Rattle.mac_decide.specs.Reading.{is_minted, verdict_of};
+ghost use Rattle.mac_decide.specs.Seen.{IsFound, is_minted_text};
 
+use crate::context::Context;
+use crate::reply::verdict_reply;
+use crate::verdict::{found_verdict, unsatisfied_of};
 use lru::LruCache;
 use mac_keys::Keys;
-use mac_wire::NoMemory;
+use mac_token::{Token, TokenFault, read};
+use mac_wire::{Grant, NoMemory, Reply};
 use std::alloc::Global;
 use std::hash::{BuildHasher, Hasher, RandomState};
 use std::sync::atomic::AtomicU32;
 use std::sync::atomic::Ordering::SeqCst;
 use std::sync::{Arc, Mutex};
 
-/// The longest token that is remembered, in bytes.
+/// The longest text of a token that is remembered, in bytes.
 pub const SEEN_MAX: usize = 2_048;
 
-/// What a token takes beside its own bytes, about: its keys, its place among others, and what an
-/// allocator adds.
-const ASIDE: usize = 384;
+/// What a token takes beside its text and what that spells, about: its keys, its place among others,
+/// and what an allocator adds.
+const ASIDE: usize = 448;
+
+/// What each of its caveats takes beside its bytes, about.
+const CAVEAT_ASIDE: usize = 48;
 
 /// How many parts a memory has. A thread takes one at a time.
 const PARTS: usize = 64;
@@ -31,60 +42,54 @@ const PARTS: usize = 64;
 /// How many tokens that came once are noted.
 const ONCE: usize = 65_536;
 
-/// How many bytes at the end of a token its mark is made of: a signature has 32, and in base64 43.
+/// How many bytes at the end of a text its mark is made of: a signature has 32, and in base64 43.
 const END: usize = 64;
 
-/// What is found of a token in a memory.
-#[derive(Clone, Copy, Debug, PartialEq, Eq)]
-pub(crate) enum Sighting {
-    /// It was found to be minted under one of the keys.
-    Minted,
-    /// It isn't there. That it is minted can be told by this mark.
-    Unknown(u64),
-    /// There is no memory.
-    Unwatched,
-}
+/// Where others have to give way, one token in so many is kept: where more come again and again than
+/// there is room for, keeping each would cost more than it saves.
+const ONE_IN: u32 = 8;
 
-impl Sighting {
-    /// By what can be told that the token is minted.
-    pub fn mark(self) -> Option<u64> {
-        match self {
-            Sighting::Unknown(mark) => Some(mark),
-            Sighting::Minted | Sighting::Unwatched => None,
-        }
-    }
-}
-
-/// A token that was found to be minted under one of these keys.
+/// A token that was found to be minted under one of these keys, as it was read from its text.
 #[derive(Drop)]
 struct SeenToken {
     keys: Keys,
-    token: Vec<u8>,
-    ghost minted: { is_minted_text keys token.items ≡ true },
+    text: Vec<u8>,
+    token: Token,
+    ghost spelled: { read_of text.items ≡ Ok token },
+    ghost minted: { is_minted (listed keys) token ≡ true },
 }
 
 impl SeenToken {
-    /// The token, copied.
-    fn copy(alloc: Global, keys: &Keys, token: &[u8]) -> Result<SeenToken, NoMemory>
-        requires { is_minted_text keys.now token.now ≡ true }
+    /// The token that the text spells.
+    fn of(alloc: Global, keys: &Keys, text: &[u8]) -> Result<SeenToken, TokenFault>
+        requires { is_minted_text keys.now text.now ≡ true }
     {
+        let token = read(alloc, text)?;
+        let text = Vec::from_slice(alloc, text)?;
         Ok(SeenToken {
             keys: *keys,
-            token: Vec::from_slice(alloc, token)?,
+            text,
+            token,
         })
     }
 
-    /// Whether it is this token, found under these keys.
-    fn is(&self, keys: &Keys, token: &[u8]) -> bool
-        ensures { IsTrue result → is_minted_text keys.now token.now ≡ true }
+    /// Whether it is the token of this text, found under these keys.
+    fn is(&self, keys: &Keys, text: &[u8]) -> bool
+        ensures { IsTrue result → IsFound keys.now text.now self.now.token }
     {
-        self.keys == *keys && self.token.as_slice() == token
+        self.keys == *keys && self.text.as_slice() == text
     }
 
     /// How many bytes it takes.
     fn size(&self) -> usize {
-        self.token.len().saturating_add(ASIDE)
+        let caveats = self.token.caveat_list().len();
+        least_size(self.text.as_slice()).saturating_add(caveats.saturating_mul(CAVEAT_ASIDE))
     }
+}
+
+/// How many bytes the token of a text takes, if it has no caveat.
+fn least_size(text: &[u8]) -> usize {
+    text.len().saturating_mul(2).saturating_add(ASIDE)
 }
 
 /// A part of a memory: tokens by their marks, those that were used last first.
@@ -95,6 +100,8 @@ struct Part {
     taken: usize,
     /// How many they may take.
     most: usize,
+    /// How many came for which others would have had to give way.
+    waited: u32,
 }
 
 impl Part {
@@ -103,17 +110,27 @@ impl Part {
             tokens: LruCache::unbounded(alloc)?,
             taken: 0,
             most,
+            waited: 0,
         })
     }
 
-    /// Whether it has the token, found under these keys. That one is the last used then.
-    fn has(&mut self, mark: u64, keys: &Keys, token: &[u8]) -> bool
-        ensures { IsTrue result → is_minted_text keys.now token.now ≡ true }
+    /// The token of this text, if it was found under these keys. It is the last used then.
+    fn find(&mut self, mark: u64, keys: &Keys, text: &[u8]) -> Option<&Token>
+        ensures { IfSome result (λ token. IsFound keys.now text.now token.now) }
     {
         match self.tokens.get(&mark) {
-            Some(seen) => seen.is(keys, token),
-            None => false,
+            Some(seen) if seen.is(keys, text) => Some(&seen.token),
+            _ => None,
         }
+    }
+
+    /// Whether a further token is kept, whose text this is.
+    fn admits(&mut self, text: &[u8]) -> bool {
+        if self.taken.saturating_add(least_size(text)) <= self.most {
+            return true;
+        }
+        self.waited = self.waited.wrapping_add(1);
+        self.waited % ONE_IN == 0
     }
 
     /// Keeps a token. Those that weren't used for longest give way to it.
@@ -168,10 +185,10 @@ impl Shared {
         })
     }
 
-    /// The mark of a token: a hash of its end.
-    fn mark(&self, token: &[u8]) -> u64 {
+    /// The mark of a text: a hash of what the signature stands in.
+    fn mark(&self, text: &[u8]) -> u64 {
         let mut hasher = self.hashes.build_hasher();
-        hasher.write(&token[token.len().saturating_sub(END)..]);
+        hasher.write(around_signature(text));
         hasher.finish()
     }
 
@@ -180,15 +197,37 @@ impl Shared {
         self.parts.get((mark % PARTS as u64) as usize)
     }
 
-    fn has(&self, mark: u64, keys: &Keys, token: &[u8]) -> bool
-        ensures { IsTrue result → is_minted_text keys.now token.now ≡ true }
+    fn has(&self, mark: u64, keys: &Keys, text: &[u8]) -> bool
+        ensures { IsTrue result → is_minted_text keys.now text.now ≡ true }
     {
         match self.part(mark).and_then(|part| part.try_lock()) {
             Some(mut guard) => {
                 let part = &mut *guard;
-                part.has(mark, keys, token)
+                part.find(mark, keys, text).is_some()
             }
             None => false,
+        }
+    }
+
+    fn reply(
+        &self,
+        alloc: Global,
+        mark: u64,
+        keys: &Keys,
+        text: &[u8],
+        grant: Grant,
+        context: &Context<'_>,
+    ) -> Result<Option<Reply>, NoMemory>
+        ensures { IfOk result (λ found. IfSome found (λ r.
+            r ≡ answers.verify_reply grant text.now context.now keys.now)) }
+    {
+        let Some(mut guard) = self.part(mark).and_then(|part| part.try_lock()) else {
+            return Ok(None);
+        };
+        let part = &mut *guard;
+        match part.find(mark, keys, text) {
+            Some(token) => Ok(Some(reply_to(alloc, keys, token, grant, context)?)),
+            None => Ok(None),
         }
     }
 
@@ -200,12 +239,43 @@ impl Shared {
         }
     }
 
-    fn keep(&self, mark: u64, seen: SeenToken) {
+    fn keep(&self, alloc: Global, mark: u64, keys: &Keys, text: &[u8])
+        requires { is_minted_text keys.now text.now ≡ true }
+    {
         if let Some(mut guard) = self.part(mark).and_then(|part| part.try_lock()) {
             let part = &mut *guard;
-            part.keep(mark, seen);
+            if part.admits(text) {
+                if let Ok(seen) = SeenToken::of(alloc, keys, text) {
+                    part.keep(mark, seen);
+                }
+            }
         }
     }
+}
+
+/// The bytes of a text that tell its signature: its end, or all of JSON, or of its base64, where
+/// the signature may stand anywhere.
+fn around_signature(text: &[u8]) -> &[u8] {
+    match text {
+        [b'{' | b'e', ..] => text,
+        _ => &text[text.len().saturating_sub(END)..],
+    }
+}
+
+/// The reply to a verify of a token that is minted under one of the keys.
+fn reply_to(
+    alloc: Global,
+    keys: &Keys,
+    token: &Token,
+    grant: Grant,
+    context: &Context<'_>,
+) -> Result<Reply, NoMemory>
+    requires { is_minted (listed keys.now) token.now ≡ true }
+    ensures { IfOk result (λ r. r ≡ answers.verdict_reply grant token.now
+        (verdict_of (listed keys.now) token.now context.now)) }
+{
+    let verdict = found_verdict(unsatisfied_of(token, context));
+    verdict_reply(alloc, grant, token.identifier(), token.location(), verdict)
 }
 
 /// A memory of tokens that were found to be minted, each with the keys under which it was; or none.
@@ -229,6 +299,11 @@ impl SeenTokens {
         })
     }
 
+    /// Whether there is no memory.
+    pub(crate) fn is_none(&self) -> bool {
+        self.shared.is_none()
+    }
+
     /// The same memory, for another thread.
     pub fn share(&self) -> Result<SeenTokens, NoMemory> {
         match &self.shared {
@@ -239,18 +314,42 @@ impl SeenTokens {
         }
     }
 
-    /// What is found of the token: whether it is there, found to be minted under one of these keys.
-    pub(crate) fn find(&self, keys: &Keys, token: &[u8]) -> Sighting
-        ensures { result ≡ Sighting.Minted → is_minted_text keys.now token.now ≡ true }
+    /// By what the memory knows the token of a text, where there is a memory. Long texts aren't
+    /// remembered.
+    pub(crate) fn mark(&self, text: &[u8]) -> Option<u64> {
+        match &self.shared {
+            Some(shared) if text.len() <= SEEN_MAX => Some(shared.mark(text)),
+            _ => None,
+        }
+    }
+
+    /// Whether the text of this mark is there, found to be minted under one of these keys.
+    pub(crate) fn has(&self, mark: u64, keys: &Keys, text: &[u8]) -> bool
+        ensures { IsTrue result → is_minted_text keys.now text.now ≡ true }
     {
-        let Some(shared) = &self.shared else {
-            return Sighting::Unwatched;
-        };
-        let mark = shared.mark(token);
-        if shared.has(mark, keys, token) {
-            Sighting::Minted
-        } else {
-            Sighting::Unknown(mark)
+        match &self.shared {
+            Some(shared) => shared.has(mark, keys, text),
+            None => false,
+        }
+    }
+
+    /// The reply to a verify of the text of this mark, where it is there, found to be minted under
+    /// one of these keys.
+    pub(crate) fn reply(
+        &self,
+        alloc: Global,
+        mark: u64,
+        keys: &Keys,
+        text: &[u8],
+        grant: Grant,
+        context: &Context<'_>,
+    ) -> Result<Option<Reply>, NoMemory>
+        ensures { IfOk result (λ found. IfSome found (λ r.
+            r ≡ answers.verify_reply grant text.now context.now keys.now)) }
+    {
+        match &self.shared {
+            Some(shared) => shared.reply(alloc, mark, keys, text, grant, context),
+            None => Ok(None),
         }
     }
 
@@ -263,19 +362,14 @@ impl SeenTokens {
         }
     }
 
-    /// Keeps a token of this mark, which was found to be minted under one of these keys. A long one
-    /// isn't kept, nor one for which there is no memory or whose part is taken.
-    pub(crate) fn keep(&self, alloc: Global, mark: u64, keys: &Keys, token: &[u8])
-        requires { is_minted_text keys.now token.now ≡ true }
+    /// Keeps the token of a text of this mark, which was found to be minted under one of these
+    /// keys. It isn't kept where there is no memory for it or its part is taken; where others would
+    /// have to give way, one in eight is.
+    pub(crate) fn keep(&self, alloc: Global, mark: u64, keys: &Keys, text: &[u8])
+        requires { is_minted_text keys.now text.now ≡ true }
     {
-        let Some(shared) = &self.shared else {
-            return;
-        };
-        if token.len() > SEEN_MAX {
-            return;
-        }
-        if let Ok(seen) = SeenToken::copy(alloc, keys, token) {
-            shared.keep(mark, seen);
+        if let Some(shared) = &self.shared {
+            shared.keep(alloc, mark, keys, text);
         }
     }
 }

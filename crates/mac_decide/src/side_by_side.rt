@@ -3,12 +3,14 @@
 ghost use Rattle.std.specs.Prelude.{◌≡◌, ◌++◌, ◌≤◌, [], All, IfOk, OnOk, length, map, slice_get, Some, get_or};
 ghost use Rattle.mac_wire.specs.Reply.{IsReply};
 ghost use Rattle.mac_decide.specs.Prepared.{AreNext, comes_to, left_of, reply_to_job, signature_of};
+ghost use Rattle.mac_decide.specs.Seen.{AreRight, IsRight};
 ghost use Rattle.mac_decide.specs.Viewed.{viewed};
 
 use crate::choosing::{FEWEST, LANES, Step, next_step};
 use crate::job::Job;
 use crate::job_view::{ArrivalView, JobView};
 use crate::keyed::keys_at;
+use crate::looking::{Sight, count_asked, look_at_all};
 use crate::prepared::Prepared;
 use crate::preparing::prepare;
 use crate::remembering::remember;
@@ -90,45 +92,54 @@ fn replies_to(
     ensures { IfOk result (λ replies.
         replies.items ≡ map reply_to_job (map viewed jobs.now)) }
 {
-    if asking(jobs) < FEWEST {
-        replies_one_by_one(rooms, seen, alloc, jobs)
+    let sights = look_at_all(seen, alloc, jobs)?;
+    if count_asked(sights.as_slice()) < FEWEST {
+        replies_one_by_one(rooms, seen, alloc, jobs, sights)
     } else {
-        replies_side_by_side(rooms, seen, alloc, jobs)
+        replies_side_by_side(rooms, seen, alloc, jobs, sights)
     }
 }
 
-/// How many of the jobs have a payload: the others ask for no hash.
-fn asking(jobs: &[JobView<'_>]) -> usize {
-    let mut count: usize = 0;
-    for job in jobs {
-        if job.has_payload() {
-            count = count.saturating_add(1);
-        }
-    }
-    count
-}
-
-/// The same where few ask for a hash: a run with all its places costs more than they do.
+/// The same where few are asked for: a run with all its places costs more than they do.
 fn replies_one_by_one(
     rooms: &mut [Vec<u8>],
     seen: &SeenTokens,
     alloc: Global,
     jobs: &[JobView<'_>],
+    sights: ArrayVec<Sight, RUN>,
 ) -> Result<ArrayVec<Reply, RUN>, NoMemory>
     requires count { length jobs.now ≤ RUN }
     requires rooms { length jobs.now ≤ length rooms.old }
+    requires sights { AreRight sights.items (map reply_to_job (map viewed jobs.now)) }
     ensures { IfOk result (λ replies.
         replies.items ≡ map reply_to_job (map viewed jobs.now)) }
 {
     let mut replies = ArrayVec::new();
-    for (room, job) in rooms.iter_mut().zip(jobs) {
-        let prepared = prepare_job(room, seen, alloc, job)?;
-        let mark = prepared.mark();
-        let reply = prepared.into_reply(alloc)?;
-        remember(seen, alloc, mark, job, &reply);
-        replies.push(reply);
+    for ((room, job), sight) in rooms.iter_mut().zip(jobs).zip(sights) {
+        replies.push(reply_by_sight(room, seen, alloc, job, sight)?);
     }
     Ok(replies)
+}
+
+/// The reply to a job.
+fn reply_by_sight(
+    room: &mut Vec<u8>,
+    seen: &SeenTokens,
+    alloc: Global,
+    job: &JobView<'_>,
+    sight: Sight,
+) -> Result<Reply, NoMemory>
+    requires { IsRight sight (reply_to_job (viewed job.now)) }
+    ensures { IfOk result (λ reply. reply ≡ reply_to_job (viewed job.now)) }
+{
+    match sight {
+        Sight::Told(reply) => Ok(reply),
+        Sight::Asked(mark) => {
+            let reply = prepare_job(room, alloc, mark, job)?.into_reply(alloc)?;
+            remember(seen, alloc, mark, job, &reply);
+            Ok(reply)
+        }
+    }
 }
 
 fn replies_side_by_side(
@@ -136,14 +147,16 @@ fn replies_side_by_side(
     seen: &SeenTokens,
     alloc: Global,
     jobs: &[JobView<'_>],
+    sights: ArrayVec<Sight, RUN>,
 ) -> Result<ArrayVec<Reply, RUN>, NoMemory>
     requires count { length jobs.now ≤ RUN }
     requires rooms { length jobs.now ≤ length rooms.old }
+    requires sights { AreRight sights.items (map reply_to_job (map viewed jobs.now)) }
     ensures { IfOk result (λ replies.
         replies.items ≡ map reply_to_job (map viewed jobs.now)) }
 {
     let mut run = ArrayVec::new();
-    prepare_all(&mut run, rooms, seen, alloc, jobs)?;
+    prepare_all(&mut run, rooms, alloc, jobs, sights)?;
     walk(run.as_mut_slice());
     let marks = marks_of(run.as_slice());
     let mut replies = ArrayVec::new();
@@ -186,33 +199,50 @@ fn remember_run(
 fn prepare_all<'a>(
     run: &mut ArrayVec<Prepared<'a>, RUN>,
     rooms: &'a mut [Vec<u8>],
-    seen: &SeenTokens,
     alloc: Global,
     jobs: &[JobView<'a>],
+    sights: ArrayVec<Sight, RUN>,
 ) -> Result<(), NoMemory>
     requires empty { run.old.items ≡ [] }
     requires count { length jobs.now ≤ RUN }
     requires rooms { length jobs.now ≤ length rooms.old }
+    requires sights { AreRight sights.items (map reply_to_job (map viewed jobs.now)) }
     ensures { OnOk result (map comes_to run.new.items ≡ map reply_to_job (map viewed jobs.now)) }
 {
-    for (room, job) in rooms.iter_mut().zip(jobs) {
-        run.push(prepare_job(room, seen, alloc, job)?);
+    for ((room, job), sight) in rooms.iter_mut().zip(jobs).zip(sights) {
+        run.push(prepare_by_sight(room, alloc, job, sight)?);
     }
     Ok(())
 }
 
 /// What the reply to a job waits for.
+fn prepare_by_sight<'a>(
+    room: &'a mut Vec<u8>,
+    alloc: Global,
+    job: &JobView<'a>,
+    sight: Sight,
+) -> Result<Prepared<'a>, NoMemory>
+    requires { IsRight sight (reply_to_job (viewed job.now)) }
+    ensures { IfOk result (λ prepared. comes_to prepared ≡ reply_to_job (viewed job.now)) }
+{
+    match sight {
+        Sight::Told(reply) => Ok(Prepared::Told(reply)),
+        Sight::Asked(mark) => prepare_job(room, alloc, mark, job),
+    }
+}
+
+/// The same, whatever is known of it.
 #[tactic(auto, unfolding(crate::specs::Answer::reply_of))]
 fn prepare_job<'a>(
     room: &'a mut Vec<u8>,
-    seen: &SeenTokens,
     alloc: Global,
+    mark: Option<u64>,
     job: &JobView<'a>,
 ) -> Result<Prepared<'a>, NoMemory>
     ensures { IfOk result (λ prepared. comes_to prepared ≡ reply_to_job (viewed job.now)) }
 {
     match job.arrival {
-        ArrivalView::Payload(payload) => prepare(room, seen, alloc, payload, job.basis()),
+        ArrivalView::Payload(payload) => prepare(room, alloc, mark, payload, job.basis()),
         ArrivalView::Oversize => Ok(Prepared::Told(refused(Refusal::FrameTooLong))),
     }
 }

@@ -7,13 +7,14 @@ ghost use Rattle.mac_keys.specs.Keys.{listed};
 ghost use Rattle.mac_token.specs.RawToken.{TokenParts};
 ghost use Rattle.mac_token.specs.Read.{read_of};
 ghost use Rattle.mac_decide.specs.Minted.{Signs, Minted};
-ghost use Rattle.mac_decide.specs.Verdict.{Satisfied, IsFirstUnsatisfied, IsVerdict, found_verdict};
+ghost use Rattle.mac_decide.specs.Verdict.{AreAmong, Satisfied, IsFirstUnsatisfied, IsVerdict, found_verdict};
 
-use crate::context::{Context, satisfied};
-use crate::seen::{SeenTokens, Sighting};
+use crate::context::{Context, satisfied_in_order};
+use crate::seen::SeenTokens;
 use mac_hmac::{Chain, RootKey, Sig, same};
 use mac_keys::Keys;
 use mac_token::Token;
+use mac_wire::FieldList;
 use std::alloc::Global;
 
 /// The verdict on a token.
@@ -53,17 +54,17 @@ pub fn verify_read(
     requires { read_of text.now ≡ Ok token.now }
     ensures { IsVerdict (listed keys.now) token.now context.now result }
 {
-    match seen.find(keys, text) {
-        Sighting::Minted => found_verdict(unsatisfied_of(token, context)),
-        Sighting::Unwatched => verify(keys, token, context),
-        Sighting::Unknown(mark) => {
-            let verdict = verify(keys, token, context);
-            if verdict != Verdict::BadSignature && seen.is_again(mark) {
-                seen.keep(alloc, mark, keys, text);
-            }
-            verdict
-        }
+    let Some(mark) = seen.mark(text) else {
+        return verify(keys, token, context);
+    };
+    if seen.has(mark, keys, text) {
+        return found_verdict(unsatisfied_of(token, context));
     }
+    let verdict = verify(keys, token, context);
+    if verdict != Verdict::BadSignature && seen.is_again(mark) {
+        seen.keep(alloc, mark, keys, text);
+    }
+    verdict
 }
 
 /// Whether one of the keys gives the token's signature.
@@ -101,15 +102,16 @@ fn signs(key: &RootKey, token: &Token) -> bool
 }
 
 /// The index of the first caveat that isn't satisfied.
-fn unsatisfied_of(token: &Token, context: &Context<'_>) -> Option<u16>
+pub(crate) fn unsatisfied_of(token: &Token, context: &Context<'_>) -> Option<u16>
     ensures { MatchOption result (All (λ caveat. Satisfied caveat context.now) token.now.caveats)
         (IsFirstUnsatisfied token.now.caveats context.now) }
 {
     let mut unsatisfied = None;
     let mut index = 0;
+    let mut ahead = context.facts.walk();
     let caveats = token.caveat_list();
     for caveat in caveats {
-        unsatisfied = first_unsatisfied(unsatisfied, index, caveat, context);
+        unsatisfied = first_unsatisfied(unsatisfied, index, caveat, context, &mut ahead);
         index += 1;
     }
     unsatisfied
@@ -126,22 +128,25 @@ pub(crate) fn found_verdict(unsatisfied: Option<u16>) -> Verdict
 }
 
 /// The index of the first caveat that isn't satisfied, where `found` is that of the caveats before
-/// this one.
+/// this one; `ahead` are some of the facts.
 pub(crate) fn first_unsatisfied(
     found: Option<u16>,
     index: u16,
     caveat: &[u8],
     context: &Context<'_>,
+    ahead: &mut FieldList<'_>,
 ) -> Option<u16>
-    ensures { MatchOption found
+    requires { AreAmong ahead.old context.now.facts }
+    ensures found { MatchOption found
         (MatchOption result
         (Satisfied caveat.now context.now)
         (λ i. (i ≡ index) × ¬ (Satisfied caveat.now context.now)))
         (λ i. result ≡ Some i) }
+    ensures ahead { AreAmong ahead.new context.now.facts }
 {
     match found {
         Some(earlier) => Some(earlier),
-        None if satisfied(caveat, context) => None,
+        None if satisfied_in_order(caveat, context, ahead) => None,
         None => Some(index),
     }
 }

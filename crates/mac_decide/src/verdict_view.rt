@@ -63,10 +63,11 @@ pub(crate) fn unsatisfied_caveat(token: &TokenView<'_>, context: &Context<'_>) -
 {
     let mut unsatisfied = None;
     let mut index = 0;
+    let mut ahead = context.facts.walk();
     let _count = token.caveats();
     let walk = token.walk();
     for caveat in walk {
-        unsatisfied = first_unsatisfied(unsatisfied, index, caveat, context);
+        unsatisfied = first_unsatisfied(unsatisfied, index, caveat, context, &mut ahead);
         index += 1;
     }
     unsatisfied

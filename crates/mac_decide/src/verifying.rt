@@ -1,44 +1,41 @@
 //! A verify, up to what its reply waits for.
 
-ghost use Rattle.std.specs.Prelude.{◌≡◌, IfOk, true};
+ghost use Rattle.std.specs.Prelude.{◌≡◌, IfOk};
 ghost use Rattle.mac_keys.specs.Keys.{listed};
 ghost use Rattle.mac_token.specs.Read.{bare_of, or_malformed, read_of, token_of_read};
 ghost use Rattle.mac_token.specs.Spells.{BeginsWith};
 ghost use Rattle.mac_decide.specs.Answer as answers;
 ghost use Rattle.mac_decide.specs.Folding.{end_of};
 ghost use Rattle.mac_decide.specs.Prepared.{comes_to};
-ghost use Rattle.mac_decide.specs.Reading.{is_minted, verdict_of};
-ghost use Rattle.mac_decide.specs.Seen.{is_minted_read, is_minted_text};
+ghost use Rattle.mac_decide.specs.Reading.{verdict_of};
 
 use crate::context::Context;
 use crate::folding::Folding;
 use crate::prepared::{Prepared, Purpose, Question, Signing};
 use crate::preparing::told;
 use crate::reply::{refusal_of, verdict_reply};
-use crate::seen::Sighting;
-use crate::verdict::{Verdict, found_verdict, other_key, verify};
-use crate::verdict_view::unsatisfied_caveat;
+use crate::verdict::{Verdict, other_key, verify};
 use mac_keys::Keys;
 use mac_token::{Token, TokenFault, TokenView, bare, read_bare};
 use mac_wire::{Grant, NoMemory};
 use std::alloc::{AllocError, Global};
 
-/// What the reply to a verify waits for, where the memory had this of its token.
+/// What the reply to a verify waits for. The mark is its token's, if a memory is to be told that it
+/// is minted.
 pub(crate) fn prepare_verify<'a>(
     room: &'a mut Vec<u8>,
     alloc: Global,
-    sighting: Sighting,
+    mark: Option<u64>,
     grant: Grant,
     keys: Keys,
     token: &'a [u8],
     context: Context<'a>,
 ) -> Result<Prepared<'a>, NoMemory>
-    requires { sighting ≡ Sighting.Minted → is_minted_text keys token.now ≡ true }
     ensures { IfOk result (λ p.
         comes_to p ≡ answers.verify_reply grant token.now context.entry keys) }
 {
     match bare(room, token) {
-        Ok(bytes) => prepare_bare(alloc, sighting, grant, keys, bytes, context),
+        Ok(bytes) => prepare_bare(alloc, mark, grant, keys, bytes, context),
         Err(TokenFault::Refused(reason)) => Ok(told(refusal_of(reason))),
         Err(TokenFault::Memory) => Err(AllocError),
     }
@@ -47,64 +44,37 @@ pub(crate) fn prepare_verify<'a>(
 /// The same, where these are the bytes that the token carries. Only JSON is read with memory.
 fn prepare_bare<'a>(
     alloc: Global,
-    sighting: Sighting,
+    mark: Option<u64>,
     grant: Grant,
     keys: Keys,
     bytes: &'a [u8],
     context: Context<'a>,
 ) -> Result<Prepared<'a>, NoMemory>
-    requires { sighting ≡ Sighting.Minted
-        → is_minted_read keys (token_of_read (or_malformed (bare_of bytes.now))) ≡ true }
     ensures { IfOk result (λ p. comes_to p
         ≡ answers.told (token_of_read (or_malformed (bare_of bytes.now)))
         (λ t. answers.verdict_reply grant t (verdict_of (listed keys) t context.entry))) }
 {
     match bytes {
         [b'{', ..] => prepare_json(alloc, grant, keys, bytes, &context),
-        _ => prepare_view(alloc, sighting, grant, keys, bytes, context),
+        _ => Ok(prepare_view(mark, grant, keys, bytes, context)),
     }
 }
 
 fn prepare_view<'a>(
-    alloc: Global,
-    sighting: Sighting,
+    mark: Option<u64>,
     grant: Grant,
     keys: Keys,
     bytes: &'a [u8],
     context: Context<'a>,
-) -> Result<Prepared<'a>, NoMemory>
-    requires other { ¬ BeginsWith 123 bytes.now }
-    requires seen { sighting ≡ Sighting.Minted
-        → is_minted_read keys (token_of_read (or_malformed (bare_of bytes.now))) ≡ true }
-    ensures { IfOk result (λ p. comes_to p
-        ≡ answers.told (token_of_read (or_malformed (bare_of bytes.now)))
-        (λ t. answers.verdict_reply grant t (verdict_of (listed keys) t context.entry))) }
+) -> Prepared<'a>
+    requires { ¬ BeginsWith 123 bytes.now }
+    ensures { comes_to result ≡ answers.told (token_of_read (or_malformed (bare_of bytes.now)))
+        (λ t. answers.verdict_reply grant t (verdict_of (listed keys) t context.entry)) }
 {
     match TokenView::of(bytes) {
-        Ok(token) => match sighting {
-            Sighting::Minted => tell_seen(alloc, grant, keys, &token, &context),
-            other => Ok(ask(grant, keys, token, context, other.mark())),
-        },
-        Err(reason) => Ok(told(refusal_of(reason))),
+        Ok(token) => ask(grant, keys, token, context, mark),
+        Err(reason) => told(refusal_of(reason)),
     }
-}
-
-/// What is told of a token that is minted under one of the keys.
-fn tell_seen(
-    alloc: Global,
-    grant: Grant,
-    keys: Keys,
-    token: &TokenView<'_>,
-    context: &Context<'_>,
-) -> Result<Prepared<'static>, NoMemory>
-    requires { is_minted (listed keys) token.now ≡ true }
-    ensures { IfOk result (λ p. comes_to p ≡ answers.verdict_reply grant token.now
-        (verdict_of (listed keys) token.now context.now)) }
-{
-    let verdict = found_verdict(unsatisfied_caveat(token, context));
-    let identifier = token.identifier();
-    let reply = verdict_reply(alloc, grant, identifier, token.location(), verdict)?;
-    Ok(Prepared::Told(reply))
 }
 
 /// What a verify of a token asks, which waits for a signature.

@@ -1,8 +1,7 @@
-use Rattle.std.proofs.Common.{◌≡◌, true, sym, ap, subst, ◌∙◌}
+use Rattle.std.proofs.Common.{◌≡◌, sym, ap, ◌∙◌}
 use Rattle.mac_keys.specs.Keys.{listed}
 use Rattle.mac_decide.specs.Answer.{refused, refusal_of, told, verdict_reply}
 use Rattle.mac_decide.specs.Reading.{verdict_of}
-use Rattle.mac_decide.specs.Seen.{is_minted_read}
 use Rattle.mac_decide.proofs.VerifiedLemmas.{read_of-carried, read_of-refused}
 use Rattle.mac_decide.proofs.verifying.prepare_verify.Goals as goal
 
@@ -15,7 +14,3 @@ returns-in-Err-Refused c =
     let named : c.refusal_of.result ≡ refusal_of reason = rw c.in-Err-Refused.field-0-is at c.refusal_of.ensures in
     let read = read_of-refused c.args.token.now c.in-Err-Refused.field-0 reason c.in-Err-Refused.field-0-is c.in-Err-Refused.ensures.answer in
     c.told.ensures ∙ ap refused named ∙ ap (λ read. told read (λ t. verdict_reply c.args.grant t (verdict_of (listed c.args.keys) t c.args.context))) (sym read)
-
-pub prepare_bare-requires : goal.prepare_bare-requires
-prepare_bare-requires c =
-    λ seen. subst (λ r. is_minted_read c.args.keys r ≡ true) (read_of-carried c.args.token.now c.in-Ok.bytes.now c.in-Ok.ensures.answer) (c.requires seen)
