@@ -24,8 +24,8 @@ use std::alloc::Global;
 pub(crate) enum Sight {
     /// The reply.
     Told(Reply),
-    /// What asks for it is to be read. Of a verify, by what the memory may be told that its token is
-    /// minted.
+    /// What asks for it is to be read. Of a verify, by what the memory may be told that its token
+    /// is minted.
     Asked(Option<u64>),
 }
 

@@ -29,8 +29,8 @@ use std::sync::{Arc, Mutex};
 /// The longest text of a token that is remembered, in bytes.
 pub const SEEN_MAX: usize = 2_048;
 
-/// What a token takes beside its text and what that spells, about: its keys, its place among others,
-/// and what an allocator adds.
+/// What a token takes beside its text and what that spells, about: its keys, its place among
+/// others, and what an allocator adds.
 const ASIDE: usize = 448;
 
 /// What each of its caveats takes beside its bytes, about.
@@ -45,8 +45,8 @@ const ONCE: usize = 65_536;
 /// How many bytes at the end of a text its mark is made of: a signature has 32, and in base64 43.
 const END: usize = 64;
 
-/// Where others have to give way, one token in so many is kept: where more come again and again than
-/// there is room for, keeping each would cost more than it saves.
+/// Where others have to give way, one token in so many is kept: where more come again and again
+/// than there is room for, keeping each would cost more than it saves.
 const ONE_IN: u32 = 8;
 
 /// A token that was found to be minted under one of these keys, as it was read from its text.
