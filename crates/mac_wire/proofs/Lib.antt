@@ -13,3 +13,4 @@ pub mod Replies
 pub mod Wholes
 pub mod ReplyText
 pub mod Names
+pub mod FirstBytes

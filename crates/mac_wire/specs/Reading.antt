@@ -1,13 +1,20 @@
 -- Reading a payload from left to right, as functions; the laws of this crate say that `request_of`
--- gives what `Asks` relates payloads to, and `key_name_of` what `HasName` does.
+-- gives what `Asks` relates payloads to, and `key_name_of` what `HasName` does, and that the kinds
+-- are those of what is asked and told.
 use Rattle.std.specs.Prelude.{ℕ, zero, suc, List, [], ◌∷◌, length, take, drop, Option, Some, None, nat_lt, nat_le, ◌==◌, if◌then◌else◌}
 use Rattle.std.specs.Int.{Width, w16, w64, byte_len, from_be_bytes}
 use Rattle.std.specs.Str.{is_utf8}
 use Rattle.mac_wire.specs.declared.request.Grant.{Grant}
 use Rattle.mac_wire.specs.declared.request.Grant.TheVariants as grant
+use Rattle.mac_wire.specs.declared.reply.ReplyKind.{ReplyKind}
+use Rattle.mac_wire.specs.declared.reply.ReplyKind.TheVariants as reply_kind
+use Rattle.mac_wire.specs.declared.request.RequestKind.{RequestKind}
+use Rattle.mac_wire.specs.declared.request.RequestKind.TheVariants as request_kind
 use Rattle.mac_wire.specs.declared.request.TokenForm.{TokenForm}
 use Rattle.mac_wire.specs.declared.request.TokenForm.TheVariants as form
 use Rattle.mac_wire.specs.declared.request.TheConstants.{FACTS_MAX}
+use Rattle.mac_wire.specs.declared.version.Version.{Version}
+use Rattle.mac_wire.specs.declared.version.Version.TheVariants as version
 use Rattle.mac_wire.specs.Request.{Asked, mint, attenuate, verify, verify_now}
 
 -- a step, and then the next on what it found
@@ -149,3 +156,37 @@ key_name_of payload = do
       else if kind.0 == 4 then name_at kind.1
       else if kind.0 == 5 then name_at kind.1
       else None
+
+-- what a payload asks for by its first byte, whatever follows that
+unfoldable pub request_kind_of : List ℕ → Option RequestKind
+request_kind_of payload = do
+  kind ← byte_at payload
+  if kind.0 == 1 then Some request_kind.Mint
+      else if kind.0 == 2 then Some request_kind.Attenuate
+      else if kind.0 == 3 then Some request_kind.Verify
+      else if kind.0 == 4 then Some request_kind.Verify
+      else if kind.0 == 5 then Some request_kind.Verify
+      else None
+
+-- the reply in the payload of its frame: behind its place, where the version has one
+unfoldable pub behind_place : Version → List ℕ → Option (List ℕ)
+behind_place version.One payload = Some payload
+behind_place version.Two payload = do
+  place ← number_at w64 payload
+  Some place.1
+
+-- what a reply tells by its first byte, whatever follows that
+unfoldable pub reply_kind_at : List ℕ → Option ReplyKind
+reply_kind_at bytes = do
+  kind ← byte_at bytes
+  Some (if kind.0 == 0 then reply_kind.Granted
+      else if kind.0 == 1 then reply_kind.Token
+      else if kind.0 == 3 then reply_kind.Granted
+      else if kind.0 == 24 then reply_kind.Unsatisfied
+      else reply_kind.Refused kind.0)
+
+-- what the payload of a reply's frame tells
+unfoldable pub reply_kind_of : Version → List ℕ → Option ReplyKind
+reply_kind_of v payload = do
+  bytes ← behind_place v payload
+  reply_kind_at bytes

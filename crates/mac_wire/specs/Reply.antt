@@ -7,6 +7,8 @@ use Rattle.mac_wire.specs.declared.reply.Refusal.{Refusal}
 use Rattle.mac_wire.specs.declared.reply.Refusal.TheVariants as refusal
 use Rattle.mac_wire.specs.declared.reply.Reply.{Reply}
 use Rattle.mac_wire.specs.declared.reply.Reply.TheVariants as reply
+use Rattle.mac_wire.specs.declared.reply.ReplyKind.{ReplyKind}
+use Rattle.mac_wire.specs.declared.reply.ReplyKind.TheVariants as reply_kind
 use Rattle.mac_wire.specs.declared.reply.TheConstants.{REPLY_TOKEN_MAX}
 use Rattle.mac_wire.specs.declared.version.Version.{Version}
 use Rattle.mac_wire.specs.declared.version.Version.TheVariants as version
@@ -26,6 +28,14 @@ refusal_code refusal.BadSignature = 23
 refusal_code refusal.CaveatLocation = 26
 refusal_code refusal.NotAllowed = 27
 refusal_code refusal.NoClock = 28
+
+-- what a reply tells, whatever it carries besides
+abbrev pub kind_of : Reply → ReplyKind
+kind_of reply.Granted = reply_kind.Granted
+kind_of (reply.GrantedTo identifier location) = reply_kind.Granted
+kind_of (reply.Token bytes) = reply_kind.Token
+kind_of (reply.Refused reason) = reply_kind.Refused (refusal_code reason)
+kind_of (reply.Unsatisfied index) = reply_kind.Unsatisfied
 
 -- what can be sent: a token isn't longer than a reply carries, nor are an identifier and a location
 -- together, and an index fits two bytes

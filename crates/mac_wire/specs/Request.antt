@@ -9,6 +9,8 @@ use Rattle.mac_wire.specs.declared.request.TokenForm.{TokenForm}
 use Rattle.mac_wire.specs.declared.request.TokenForm.TheVariants as form
 use Rattle.mac_wire.specs.declared.request.Request.{Request}
 use Rattle.mac_wire.specs.declared.request.Request.TheVariants as request
+use Rattle.mac_wire.specs.declared.request.RequestKind.{RequestKind}
+use Rattle.mac_wire.specs.declared.request.RequestKind.TheVariants as request_kind
 use Rattle.mac_wire.specs.declared.request.TheConstants.{FACTS_MAX}
 
 -- a request as its bytes alone, without where they lie in memory
@@ -32,6 +34,13 @@ key_of (mint form key location identifier caveats) = Some key
 key_of (attenuate form token caveats) = None
 key_of (verify key token moment facts) = Some key
 key_of (verify_now grant key token facts) = Some key
+
+-- what a request asks for; the three verifies ask for the same
+abbrev pub kind_of : Asked → RequestKind
+kind_of (mint form key location identifier caveats) = request_kind.Mint
+kind_of (attenuate form token caveats) = request_kind.Attenuate
+kind_of (verify key token moment facts) = request_kind.Verify
+kind_of (verify_now grant key token facts) = request_kind.Verify
 
 -- the byte of a form
 abbrev pub form_code : TokenForm → ℕ

@@ -14,8 +14,9 @@ ghost use Rattle.mac_wire.specs.Frame.{frame, frames_of, followed_by, Arrive};
 ghost use Rattle.mac_wire.specs.Stream.{arrivals_of, in_version};
 ghost use Rattle.mac_wire.specs.FrameReader.{HasRead, HasEnded};
 ghost use Rattle.mac_wire.specs.KeyName.{HasName};
-ghost use Rattle.mac_wire.specs.Request.{Asked, IsBytes, Asks, key_of};
-ghost use Rattle.mac_wire.specs.Reading.{request_of, key_name_of};
+ghost use Rattle.mac_wire.specs.Request.{Asked, IsBytes, Asks, key_of, kind_of};
+ghost use Rattle.mac_wire.specs.Reading.{request_of, key_name_of, request_kind_of, reply_kind_of};
+ghost use Rattle.mac_wire.specs.Reply as replies;
 ghost use Rattle.mac_wire.specs.Reply.{IsReply, reply_payload, placed_payload, reply_payloads, reply_text, reply_arrivals};
 ghost use Rattle.mac_wire.specs.declared.version.Version.{Version};
 
@@ -54,6 +55,19 @@ pub fn one_request()
 pub fn key_name_is_the_key()
     ensures { (payload : List ℕ) (request : Asked)
         → Asks payload request → key_name_of payload ≡ key_of request }
+{}
+
+/// A payload that asks a request tells by its first byte what kind of request that is.
+pub fn request_tells_its_kind()
+    ensures { (payload : List ℕ) (request : Asked)
+        → Asks payload request → request_kind_of payload ≡ Some (kind_of request) }
+{}
+
+/// The payload of a reply's frame tells what kind of reply that is, in either version.
+pub fn reply_tells_its_kind()
+    ensures { (version : Version) (place : ℕ) (reply : Reply)
+        → reply_kind_of version (placed_payload version place reply)
+        ≡ Some (replies.kind_of reply) }
 {}
 
 /// The name in the front of any payload, whether it asks a request or not, is what stands behind a

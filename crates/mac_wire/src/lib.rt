@@ -36,10 +36,12 @@ pub use field_list::FieldList;
 pub use frame::{FeedFault, FrameReader, opened};
 pub use mem_sink::MemSink;
 pub use mem_source::MemSource;
-pub use parse::{key_name, parse_request};
+pub use parse::{key_name, parse_request, request_kind};
 pub use reader_source::ReaderSource;
-pub use reply::{REPLY_TOKEN_MAX, Refusal, Reply, append_reply, reply_bytes};
-pub use request::{FACTS_MAX, Grant, Request, TokenForm};
+pub use reply::{
+    REPLY_TOKEN_MAX, Refusal, Reply, ReplyKind, append_reply, reply_bytes, reply_kind,
+};
+pub use request::{FACTS_MAX, Grant, Request, RequestKind, TokenForm};
 pub use send::{GATHERED, send_all};
 pub use session::Session;
 pub use unsent::Unsent;

@@ -3,11 +3,11 @@
 ghost use Rattle.std.specs.Prelude.{◌≡◌, Some, IfSome};
 ghost use Rattle.std.specs.Option.{option_copied, option_map};
 ghost use Rattle.mac_wire.specs.Request.{Asked, asked, Asks};
-ghost use Rattle.mac_wire.specs.Reading.{key_name_of, name_at, request_of, mint_of, attenuate_of, verify_of, verify_now_of};
+ghost use Rattle.mac_wire.specs.Reading.{key_name_of, name_at, request_kind_of, request_of, mint_of, attenuate_of, verify_of, verify_now_of};
 
 use crate::field_list::FieldList;
 use crate::fields::{byte, form, long_field, number_64, short_field, text_field};
-use crate::request::{FACTS_MAX, Grant, Request};
+use crate::request::{FACTS_MAX, Grant, Request, RequestKind};
 
 /// The first byte of each kind of request.
 const MINT: u8 = 1;
@@ -45,6 +45,21 @@ fn name(bytes: &[u8]) -> Option<&[u8]>
 {
     let (name, _rest) = short_field(bytes)?;
     Some(name)
+}
+
+/// What a payload asks for by its first byte; nothing where that isn't the number of a request.
+/// What follows isn't looked at: the whole may be no request.
+#[tactic(auto, unfolding(crate::specs::Reading::request_kind_of))]
+pub fn request_kind(payload: &[u8]) -> Option<RequestKind>
+    ensures { result ≡ request_kind_of payload.now }
+{
+    let (kind, _rest) = byte(payload)?;
+    match kind {
+        MINT => Some(RequestKind::Mint),
+        ATTENUATE => Some(RequestKind::Attenuate),
+        VERIFY | VERIFY_NOW | VERIFY_OWNER => Some(RequestKind::Verify),
+        _ => None,
+    }
 }
 
 /// The request that a whole payload asks, if it asks one. It costs the time of the payload's bytes,

@@ -1,16 +1,28 @@
 //! What a client is answered.
 
 ghost use Rattle.std.specs.Prelude.{◌≡◌, ℕ, ◌<◌, ◌≤◌, ◌+◌, ◌^◌, ◌++◌, length, vec_len, vec_capacity, IfOk, OnOk, OnErr};
+ghost use Rattle.std.specs.Option.{option_copied};
+ghost use Rattle.mac_wire.specs.Reading.{behind_place, reply_kind_at, reply_kind_of};
 ghost use Rattle.mac_wire.specs.Request.{long_field};
 ghost use Rattle.mac_wire.specs.Reply.{refusal_code, IsReply, place_bytes, placed_payload, reply_payload, reply_frame};
 
 use crate::NoMemory;
 use crate::bytes::Bytes;
+use crate::fields::{byte, number_64};
 use crate::version::Version;
 use std::alloc::Global;
 
 /// The greatest token of a reply, in bytes.
 pub const REPLY_TOKEN_MAX: usize = 32_768;
+
+/// The first byte of a reply, where that isn't the number of a refusal.
+const GRANTED: u8 = 0;
+
+const TOKEN: u8 = 1;
+
+const GRANTED_TO: u8 = 3;
+
+const UNSATISFIED: u8 = 24;
 
 /// Why a request is refused.
 #[derive(Clone, Copy, PartialEq, Eq)]
@@ -73,6 +85,19 @@ pub enum Reply {
     Refused(Refusal),
     /// The index of the first caveat that isn't satisfied, from 0.
     Unsatisfied(u16),
+}
+
+/// What a reply tells.
+#[derive(Clone, Copy, Debug, PartialEq, Eq)]
+pub enum ReplyKind {
+    /// The token is granted.
+    Granted,
+    /// There is a token.
+    Token,
+    /// A caveat isn't satisfied.
+    Unsatisfied,
+    /// The request is refused, for the reason of this number.
+    Refused(u8),
 }
 
 /// A refusal, which grants nothing: what stands in a place that has no reply yet.
@@ -173,22 +198,22 @@ fn append_payload(frames: &mut Vec<u8>, reply: &Reply)
     ensures { frames.new.items ≡ frames.old.items ++ reply_payload reply.now }
 {
     match reply {
-        Reply::Granted => append_within(frames, &[0]),
+        Reply::Granted => append_within(frames, &[GRANTED]),
         Reply::GrantedTo {
             identifier,
             location,
         } => {
-            append_within(frames, &[3]);
+            append_within(frames, &[GRANTED_TO]);
             append_field(frames, identifier.as_slice());
             append_field(frames, location.as_slice());
         }
         Reply::Token(token) => {
-            append_within(frames, &[1]);
+            append_within(frames, &[TOKEN]);
             append_within(frames, token.as_slice());
         }
         Reply::Refused(reason) => append_within(frames, &[reason.code()]),
         Reply::Unsatisfied(index) => {
-            append_within(frames, &[24]);
+            append_within(frames, &[UNSATISFIED]);
             append_within(frames, &index.to_be_bytes());
         }
     }
@@ -212,4 +237,42 @@ fn append_within(frames: &mut Vec<u8>, bytes: &[u8])
     ensures capacity { vec_capacity frames.old ≤ vec_capacity frames.new }
 {
     frames.extend_from_slice(bytes).unwrap();
+}
+
+/// What the payload of a reply's frame tells, in a stream of this version; nothing where it is too
+/// short for a reply. Only the reply's first byte is looked at.
+#[tactic(auto, unfolding(crate::specs::Reading::reply_kind_of))]
+pub fn reply_kind(version: Version, payload: &[u8]) -> Option<ReplyKind>
+    ensures { result ≡ reply_kind_of version payload.now }
+{
+    let bytes = behind_place(version, payload)?;
+    reply_kind_at(bytes)
+}
+
+/// The reply behind its place.
+#[tactic(auto, unfolding(crate::specs::Reading::behind_place))]
+fn behind_place(version: Version, payload: &[u8]) -> Option<&[u8]>
+    ensures { option_copied result ≡ behind_place version payload.now }
+{
+    match version {
+        Version::One => Some(payload),
+        Version::Two => {
+            let (_place, bytes) = number_64(payload)?;
+            Some(bytes)
+        }
+    }
+}
+
+/// What a reply tells by its first byte.
+#[tactic(auto, unfolding(crate::specs::Reading::reply_kind_at))]
+fn reply_kind_at(bytes: &[u8]) -> Option<ReplyKind>
+    ensures { result ≡ reply_kind_at bytes.now }
+{
+    let (kind, _rest) = byte(bytes)?;
+    Some(match kind {
+        GRANTED | GRANTED_TO => ReplyKind::Granted,
+        TOKEN => ReplyKind::Token,
+        UNSATISFIED => ReplyKind::Unsatisfied,
+        code => ReplyKind::Refused(code),
+    })
 }

@@ -56,6 +56,17 @@ impl Grant {
     }
 }
 
+/// What a request asks for.
+#[derive(Clone, Copy, Debug, PartialEq, Eq)]
+pub enum RequestKind {
+    /// A new token.
+    Mint,
+    /// A token with further caveats.
+    Attenuate,
+    /// Whether a token is granted, whatever moment it is asked for.
+    Verify,
+}
+
 /// A request, lent from the payload that asks it.
 #[derive(PartialEq, Eq, Drop)]
 pub enum Request<'a> {
