@@ -1,6 +1,7 @@
 #!/usr/bin/env python3
 """The lines of the daemon's log: each line of the table in docs/OPERATING.md is provoked here, or named as one that
 isn't."""
+import contextlib
 import os
 import pathlib
 import re
@@ -24,6 +25,8 @@ PATIENCE = 60
 NOT_PROVOKED = {"connection_dropped"}
 # How many requests are sent one after the other, each of which has its line.
 EACH = 1_000
+# How many are sent at once while nobody reads the lines: more than wait, and than the pipe to who reads them holds.
+FLOOD = 5_000
 # How many connections end at once inside a frame; of each kind so many lines a second are printed.
 TORN, LINES_MAX = 300, 10
 # The kinds that were seen, over all tests here.
@@ -224,6 +227,43 @@ def requests(folder):
     yield "no token", TOKEN.decode() in log.text(), False
 
 
+def unread(_folder):
+    """Where nobody reads the lines, those of requests leave room for others."""
+    reading, writing = os.pipe()
+    os.set_blocking(reading, False)
+    with daemon.listening("--workers", "2", "--loops", "1", "--log", "requests", stderr=writing) as (path, _):
+        os.close(writing)
+        with connected(path) as stream:
+            stream.sendall(frame(b"") * FLOOD)
+            received(stream, len(NO_REQUEST) * FLOOD)
+        with connected(path) as stream:
+            stream.sendall(bytes(3))
+        with connected(path) as stream:
+            stream.sendall(frame(b""))
+            yield "no reply waits for a line", received(stream, len(NO_REQUEST)), NO_REQUEST
+        lines = read_until(reading, lambda lines: counted_requests(lines) > FLOOD)
+    os.close(reading)
+    yield "each is told or counted, though nobody read", counted_requests(lines), FLOOD + 1
+    faults = [line.fields["fault"] for line in lines if line.what == "connection_fault"]
+    yield "a fault has room behind them", faults, ["the stream ended inside a frame"]
+
+
+def read_until(reading, is_all):
+    """The lines that come out of a pipe, until that is all."""
+    text, until = b"", time.monotonic() + PATIENCE
+    while not is_all(lines := logged.read_all(text[: text.rfind(b"\n") + 1].decode())) and time.monotonic() < until:
+        with contextlib.suppress(BlockingIOError):
+            text += os.read(reading, 65_536)
+        time.sleep(0.02)
+    return lines
+
+
+def counted_requests(lines):
+    """How many requests these lines tell of."""
+    left_out = [int(line.fields["count"]) for line in lines if line.fields.get("kind") == "request"]
+    return sum(left_out) + sum(line.what == "request" for line in lines)
+
+
 def requests_over_http(folder):
     """The same of requests over HTTP, which have no number."""
     log, web = Log(folder), f"{folder}/web"
@@ -281,7 +321,7 @@ def page():
 
 def faults():
     seen = []
-    of_requests = (requests, requests_over_http, no_requests)
+    of_requests = (requests, unread, requests_over_http, no_requests)
     for part in (connections, many_torn, few_descriptors, replaced, key_files, journal, *of_requests):
         with tempfile.TemporaryDirectory() as folder:
             seen += part(folder)

@@ -7,3 +7,4 @@ pub mod Moment
 pub mod Line
 pub mod Quota
 pub mod Printed
+pub mod Waiting

@@ -3,7 +3,8 @@
 //!
 //! Who posts a line never waits for who reads it: one thread prints what waits in a bounded queue.
 //! Of each kind but that of requests at most ten lines a second are printed, and then one that says
-//! how many were left out. No value can end a line or pass for a key of it ([`laws`]).
+//! how many were left out. Lines of requests leave a quarter of the queue to the others. No value
+//! can end a line or pass for a key of it ([`laws`]).
 #![tactic(auto)]
 
 mod clock;
@@ -24,7 +25,7 @@ pub use key::Key;
 pub use kind::{KINDS, Kind};
 pub use level::Level;
 pub use line::Line;
-pub use log::{Log, WAITING_MAX};
+pub use log::{Log, REQUESTS_WAITING_MAX, WAITING_MAX};
 pub use moment::MOMENT_MAX;
 pub use printer::start_log;
 pub use quota::{LINES_MAX, Quota, SECOND};

@@ -1,5 +1,8 @@
 //! Lines that wait to be printed.
 
+ghost use Rattle.std.specs.Prelude.{◌≡◌};
+ghost use Rattle.mac_log.specs.Waiting.{waiting_max};
+
 use crate::NoMemory;
 use crate::clock::millis_now;
 use crate::fields::Fields;
@@ -16,6 +19,10 @@ use std::{array, thread};
 
 /// The most lines that wait to be printed.
 pub const WAITING_MAX: usize = 1_024;
+
+/// A line of a request is let in only while fewer lines than that wait: the rest stays for lines of
+/// which there are few. Threads that post at the same moment may pass it by a line each.
+pub const REQUESTS_WAITING_MAX: usize = 768;
 
 /// How many milliseconds a look at what waits is behind the one before, while lines are left out
 /// of which nobody was told yet, and while somebody waits for the last line.
@@ -73,10 +80,11 @@ impl Log {
         self.bell.ring();
     }
 
-    /// Puts a line into the queue, if there is room.
+    /// Puts a line into the queue, if there is room for its kind.
     fn push<R: Wait>(&self, rt: &R, line: Line) -> bool {
         self.posted.fetch_add(1, SeqCst);
-        let is_waiting = self.waiting.push(rt, line).is_ok();
+        let has_room = self.waiting.len(rt) < waiting_max(line.kind);
+        let is_waiting = has_room && self.waiting.push(rt, line).is_ok();
         if !is_waiting {
             self.dealt_with.fetch_add(1, SeqCst);
         }
@@ -133,6 +141,17 @@ impl Log {
                 .counts
                 .iter()
                 .all(|count| count.load(SeqCst) == 0)
+    }
+}
+
+/// A line of a kind is let in only while fewer lines than that wait.
+fn waiting_max(kind: Kind) -> usize
+    ensures { result ≡ waiting_max kind }
+{
+    if kind.is_bounded() {
+        WAITING_MAX
+    } else {
+        REQUESTS_WAITING_MAX
     }
 }
 
