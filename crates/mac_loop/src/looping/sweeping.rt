@@ -1,0 +1,78 @@
+//! Clients that make no progress: a loop looks for them from time to time, and ends them.
+
+use crate::inbox::Loops;
+use crate::looping::Loop;
+use crate::members::Progress;
+use crate::watch::{PlainFault, Watch};
+use std::sync::Wait;
+use std::time::Clock;
+
+/// How many microseconds pass between two looks at who makes progress, where seconds were asked
+/// for.
+const SWEEP: u64 = 1_000_000;
+
+/// How many pass where none were.
+const SWEEP_SELDOM: u64 = 10_000_000;
+
+/// After how many seconds a client is ended then that has sent nothing whole.
+const QUIET: u64 = 300;
+
+/// The microseconds of a second.
+const SECOND: u64 = 1_000_000;
+
+impl Loop {
+    /// Ends the clients that have made no progress for as long as they may.
+    pub(super) fn sweep<R: Wait + Clock, W: Watch>(&mut self, rt: &R, loops: &Loops, watch: &W) {
+        if self.now.saturating_sub(self.swept) < self.sweep_span() {
+            return;
+        }
+        self.swept = self.now;
+        for slot in 0..self.members.slots() {
+            if self.is_idle(slot) {
+                if let Some(client) = self.members.take(slot) {
+                    loops.count_unsent(client.unsent(), 0);
+                    let life = self.members.life(slot, &client);
+                    self.members.end(slot);
+                    watch.end(rt, life, Some(PlainFault::Idle));
+                }
+            }
+        }
+    }
+
+    /// How many microseconds pass between two looks at who makes progress.
+    pub(super) fn sweep_span(&self) -> u64 {
+        if self.idle.is_some() {
+            SWEEP
+        } else {
+            SWEEP_SELDOM
+        }
+    }
+
+    /// How many seconds a client may make no progress. Where none were asked for, one may rest that
+    /// was answered and has begun nothing since, and one that is owed replies.
+    fn patience(&self, progress: Progress) -> Option<u64> {
+        let is_quiet = progress.answered == 0 || progress.has_begun;
+        match self.idle {
+            Some(idle) => Some(idle),
+            None if is_quiet && progress.unsent == 0 => Some(QUIET),
+            None => None,
+        }
+    }
+
+    /// Notes a client's progress. Whether it has made none for as long as it may, and no turn of
+    /// the loop is owed to it. A request that has begun has to be whole in that time, also of who
+    /// sends a byte for each turn.
+    fn is_idle(&mut self, slot: usize) -> bool {
+        let Some(client) = self.members.client(slot) else {
+            return false;
+        };
+        let progress = Progress::of(client);
+        let patience = self.patience(progress);
+        let has_begun = progress.has_begun;
+        let since = self.members.note_progress(slot, progress, self.now);
+        let is_listed = self.members.note(slot).map_or(false, |note| note.is_listed);
+        let is_owed = is_listed && !has_begun;
+        let waited = self.now.saturating_sub(since);
+        !is_owed && patience.is_some_and(|seconds| waited >= seconds.saturating_mul(SECOND))
+    }
+}
