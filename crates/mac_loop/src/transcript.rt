@@ -1,12 +1,13 @@
 //! What a connection is asked and answered, read off the bytes of its socket, for who logs that. No
 //! contract speaks of it.
 
-use mac_wire::{Arrival, Cut, FeedFault, FrameReader, Version, key_name, next_frame};
+use mac_wire::{
+    Arrival, Cut, FeedFault, FrameReader, ReplyKind, RequestKind, Version, key_name, next_frame,
+    reply_kind, request_kind,
+};
 use std::alloc::{AllocError, Global};
 use std::collections::VecDeque;
-
-/// How many bytes stand before a reply in version two of the wire: its place.
-const PLACE: usize = 8;
+use std::mem;
 
 /// A request that has come, and waits for its reply.
 #[derive(Drop)]
@@ -35,8 +36,8 @@ pub struct Transcript {
     alloc: Global,
     reader: FrameReader,
     asked: VecDeque<Asked>,
-    // Bytes of a reply's frame that isn't whole.
-    replies: Vec<u8>,
+    // What has gone of a reply's frame that isn't whole.
+    begun: Vec<u8>,
     exchanges: VecDeque<Exchange>,
     is_broken: bool,
 }
@@ -48,7 +49,7 @@ impl Transcript {
             alloc,
             reader: FrameReader::new(alloc),
             asked: VecDeque::new(alloc),
-            replies: Vec::new(alloc),
+            begun: Vec::new(alloc),
             exchanges: VecDeque::new(alloc),
             is_broken: false,
         }
@@ -87,25 +88,37 @@ impl Transcript {
     }
 
     fn note_replies(&mut self, bytes: &[u8]) -> Result<(), AllocError> {
-        let place = match self.reader.version() {
-            Some(Version::Two) => PLACE,
-            _ => 0,
-        };
-        self.replies.extend_from_slice(bytes)?;
-        let mut rest = self.replies.as_slice();
-        for _ in 0..self.replies.len() {
+        if self.begun.is_empty() {
+            let rest = self.note_frames(bytes)?;
+            self.begun.extend_from_slice(rest)?;
+            return Ok(());
+        }
+        self.begun.extend_from_slice(bytes)?;
+        let joined = mem::replace(&mut self.begun, Vec::new(self.alloc));
+        let rest = self.note_frames(joined.as_slice())?;
+        if rest.len() < joined.len() {
+            self.begun.extend_from_slice(rest)?;
+        } else {
+            self.begun = joined;
+        }
+        Ok(())
+    }
+
+    /// Takes note of the replies whose frames are whole. What is behind them.
+    fn note_frames<'b>(&mut self, bytes: &'b [u8]) -> Result<&'b [u8], AllocError> {
+        let version = self.reader.version().unwrap_or(Version::One);
+        let mut rest = bytes;
+        for _ in 0..bytes.len() {
             let Cut::Whole(payload, behind) = next_frame(rest, u32::MAX as usize) else {
                 break;
             };
             rest = behind;
-            let (Some(asked), Some(reply)) = (self.asked.pop_front(), payload.get(place)) else {
-                continue;
-            };
-            self.exchanges.push_back(answered(asked, *reply))?;
+            let (asked, told) = (self.asked.pop_front(), reply_kind(version, payload));
+            if let (Some(asked), Some(told)) = (asked, told) {
+                self.exchanges.push_back(answered(asked, told))?;
+            }
         }
-        let begun = Vec::from_slice(self.alloc, rest)?;
-        self.replies = begun;
-        Ok(())
+        Ok(rest)
     }
 }
 
@@ -115,23 +128,23 @@ fn asked_by(alloc: Global, arrival: &Arrival) -> Result<Asked, AllocError> {
         Arrival::Payload(payload) => payload.as_slice(),
         Arrival::Oversize => &[],
     };
-    let what = match payload.first() {
-        Some(1) => "mint",
-        Some(2) => "attenuate",
-        Some(3 | 4 | 5) => "verify",
-        _ => "nothing",
+    let what = match request_kind(payload) {
+        Some(RequestKind::Mint) => "mint",
+        Some(RequestKind::Attenuate) => "attenuate",
+        Some(RequestKind::Verify) => "verify",
+        None => "nothing",
     };
     let name = Vec::from_slice(alloc, key_name(payload).unwrap_or(&[]))?;
     Ok(Asked { what, name })
 }
 
-/// A request with what its reply tells by its first byte.
-fn answered(asked: Asked, reply: u8) -> Exchange {
-    let (verdict, code) = match reply {
-        0 | 3 => ("granted", None),
-        1 => ("token", None),
-        24 => ("unsatisfied", None),
-        code => ("refused", Some(code as u16)),
+/// A request with what its reply tells.
+fn answered(asked: Asked, told: ReplyKind) -> Exchange {
+    let (verdict, code) = match told {
+        ReplyKind::Granted => ("granted", None),
+        ReplyKind::Token => ("token", None),
+        ReplyKind::Unsatisfied => ("unsatisfied", None),
+        ReplyKind::Refused(code) => ("refused", Some(code as u16)),
     };
     let Asked { what, name } = asked;
     Exchange {
