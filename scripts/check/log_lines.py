@@ -267,12 +267,16 @@ def counted_requests(lines):
 def requests_over_http(folder):
     """The same of requests over HTTP, which have no number."""
     log, web = Log(folder), f"{folder}/web"
-    words = ["--log", "requests", "--http", f"unix:{web}", "--http-allow", "mint,inspect"]
+    words = ["--log", "requests", "--http", f"unix:{web}", "--http-allow", "mint,inspect", "--http-facts", "forwarded"]
     bearing = b"Authorization: Macaroon " + TOKEN + b"\r\n"
     posts = lambda path, body: b"POST %b HTTP/1.1\r\nHost: x\r\nContent-Length: %d\r\n\r\n%b" % (path, len(body), body)
     asked = (
         (b"GET /verify/bank HTTP/1.1\r\nHost: x\r\n" + bearing + b"\r\n", ("verify", "bank", "granted", None)),
         (b"GET /verify/shop HTTP/1.1\r\nHost: x\r\n" + bearing + b"\r\n", ("verify", "shop", "refused", "401")),
+        (
+            b"GET /verify/bank HTTP/1.1\r\nHost: x\r\nX-Forwarded-Uri: //x\r\n" + bearing + b"\r\n",
+            ("verify", "bank", "unsatisfied", None),
+        ),
         (posts(b"/mint/bank", b'{"identifier":"x"}'), ("mint", "bank", "token", None)),
         (posts(b"/mint/bank", b"{}"), ("mint", "bank", "refused", "400")),
         (posts(b"/inspect", b'{"token":"' + TOKEN + b'"}'), ("inspect", None, "told", None)),
