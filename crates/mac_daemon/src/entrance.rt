@@ -34,7 +34,7 @@ pub struct Entrance {
     poll: Poll,
     events: Events,
     shutter: Arc<Shutter, Global>,
-    // How many connections it takes once it is shut.
+    // How many connections it still takes once it is shut.
     waiting: usize,
 }
 
@@ -107,7 +107,8 @@ impl Entrance {
     }
 
     /// The next connection, or why the system gives none. Once the entrance is shut, there are only
-    /// those that wait already, and none at a door that another process has too.
+    /// those that wait already, up to the first fault, and none at a door that another process has
+    /// too.
     pub fn accept<R: Wait>(&mut self, rt: &R) -> Option<Welcome> {
         for _ in rt.forever() {
             if self.doors.is_empty() {
@@ -124,10 +125,14 @@ impl Entrance {
         unreachable!()
     }
 
-    /// The next connection that waits, while it may be taken.
+    /// The next connection that waits, while it may be taken. Behind a fault none is.
     fn take_waiting<R: Wait>(&mut self, rt: &R) -> Option<Welcome> {
         self.waiting = self.waiting.checked_sub(1)?;
-        self.try_doors(rt, true)
+        let welcome = self.try_doors(rt, true)?;
+        if welcome.is_err() {
+            self.waiting = 0;
+        }
+        Some(welcome)
     }
 
     /// What waits at the first door that has something, from the next one on. So no door keeps

@@ -28,7 +28,7 @@ pub struct Entrance {
     next: usize,
     poll: Poll,
     events: Events,
-    // How many connections it takes once the house ends.
+    // How many connections it still takes once the house ends.
     waiting: usize,
 }
 
@@ -57,7 +57,7 @@ impl Entrance {
     }
 
     /// The next connection, or why the system gives none. Once the house ends, there are only those
-    /// that wait already.
+    /// that wait already, up to the first fault.
     pub fn accept<R: Wait>(
         &mut self,
         rt: &R,
@@ -75,10 +75,14 @@ impl Entrance {
         unreachable!()
     }
 
-    /// The next connection that waits, while it may be taken.
+    /// The next connection that waits, while it may be taken. Behind a fault none is.
     fn take_waiting<R: Wait>(&mut self, rt: &R) -> Option<io::Result<Stream>> {
         self.waiting = self.waiting.checked_sub(1)?;
-        self.try_doors(rt)
+        let welcome = self.try_doors(rt)?;
+        if welcome.is_err() {
+            self.waiting = 0;
+        }
+        Some(welcome)
     }
 
     /// What waits at the first door that has something, from the next one on. So no door keeps
