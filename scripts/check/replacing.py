@@ -33,9 +33,10 @@ def lines(run):
     return status, sorted(said, key=lambda line: line[0] != "replaced")
 
 
-def replaced(path, left):
+def replaced(path, left, cut=0):
     """How a daemon ends whose place another one takes, and what it says."""
-    return 0, [("replaced", {"socket": path}), ("drain", {"connections": str(left)}), ("end", {"connections": "0"})]
+    told = ("drain", {"connections": str(left)}), ("end", {"connections": str(cut)})
+    return 0, [("replaced", {"socket": path}), *told]
 
 
 def left_behind(folder):
@@ -128,6 +129,23 @@ def twice(folder):
     yield "the last one", ended(last)[0], 0
 
 
+def told_besides(folder):
+    """A daemon whose place is taken counts its own signals: the first one cuts nothing off, the second one does."""
+    path = f"{folder}/told"
+    run = started(path)
+    with connected(path) as stream:
+        fill(stream)
+        second = started(path, "--replace")
+        time.sleep(1.2)
+        run.send_signal(signal.SIGTERM)
+        time.sleep(0.3)
+        yield "it goes on at the first signal", run.poll(), None
+        run.send_signal(signal.SIGTERM)
+        yield "and ends at the second", lines(run), replaced(path, 1, 1)
+    second.send_signal(signal.SIGTERM)
+    yield "the second one", ended(second)[0], 0
+
+
 def fill(stream):
     """Sends requests and takes no reply, until no more goes."""
     stream.setblocking(False)
@@ -204,7 +222,7 @@ def moved(folder):
 
 def faults():
     seen = []
-    for part in (under_load, alone, faulty, twice, all_sockets, waiting, moved):
+    for part in (under_load, alone, faulty, twice, told_besides, all_sockets, waiting, moved):
         with tempfile.TemporaryDirectory() as folder:
             seen += [(f"{part.__name__}: {what}", got, due) for what, got, due in part(folder)]
     found = [f"replacing: {what}: {got!r} where {due!r} is due" for what, got, due in seen if got != due]

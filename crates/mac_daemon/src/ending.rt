@@ -38,11 +38,25 @@ struct Standing {
     looks: bool,
     // How often it was told to end.
     calls: u64,
+    // Whether another daemon has its place, so that it is to end, and wasn't told to before.
+    is_replaced: bool,
     // How many connections there are that aren't its own.
     guests: u64,
     is_over: bool,
     // Why it could not begin, until that is asked for.
     fault: Option<DaemonFault>,
+}
+
+impl Standing {
+    /// Whether the daemon is to end, or has ended by itself.
+    fn is_ending(&self) -> bool {
+        self.calls > 0 || self.is_replaced || self.is_over
+    }
+
+    /// Whether the daemon has ended, and its guests too.
+    fn is_empty(&self) -> bool {
+        self.is_over && self.guests == 0
+    }
 }
 
 impl Ending {
@@ -57,6 +71,7 @@ impl Ending {
                 has_begun: false,
                 looks: false,
                 calls: 0,
+                is_replaced: false,
                 guests: 0,
                 is_over: false,
                 fault: None,
@@ -76,12 +91,13 @@ impl Ending {
         self.change.notify_all();
     }
 
-    /// Tells a daemon to end that wasn't told before. Whether it was this call that told it.
-    pub fn tell_first<R: Wait>(&self, rt: &R) -> bool {
+    /// Tells a daemon to end whose place another one has, where it wasn't told before. Whether it
+    /// was this call that told it. It is none of those that cut off what isn't done.
+    pub fn tell_replaced<R: Wait>(&self, rt: &R) -> bool {
         let mut standing = self.standing.lock(rt);
-        let is_first = standing.calls == 0;
+        let is_first = !standing.is_ending();
         if is_first {
-            standing.calls = 1;
+            standing.is_replaced = true;
         }
         drop(standing);
         if is_first {
@@ -131,13 +147,11 @@ impl Ending {
     /// is told to end.
     pub fn await_call<R: Wait + Clock>(&self, rt: &R, patience: Duration) -> Call {
         let standing = self.standing.lock(rt);
-        let waits = |standing: &mut Standing| standing.calls == 0
-            && !standing.is_over
-            && !standing.looks;
+        let waits = |standing: &mut Standing| !standing.is_ending() && !standing.looks;
         let (mut standing, _) = self
             .change
             .wait_timeout_while(rt, standing, patience, waits);
-        if standing.calls > 0 || standing.is_over {
+        if standing.is_ending() {
             return Call::End;
         }
         let looks = standing.looks;
@@ -150,12 +164,11 @@ impl Ending {
     pub fn await_end<R: Wait + Clock>(&self, rt: &R, seconds: u64) -> bool {
         let standing = self.standing.lock(rt);
         let patience = Duration::from_secs(seconds);
-        let waits = |standing: &mut Standing| standing.calls < 2
-            && (!standing.is_over || standing.guests > 0);
+        let waits = |standing: &mut Standing| standing.calls < 2 && !standing.is_empty();
         let (standing, _) = self
             .change
             .wait_timeout_while(rt, standing, patience, waits);
-        standing.is_over && standing.guests == 0
+        standing.is_empty()
     }
 
     /// How many connections there are that aren't the daemon's own.

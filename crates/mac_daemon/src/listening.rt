@@ -146,7 +146,7 @@ impl Daemon {
 
     /// Tells a daemon to end in whose place there is another one's socket.
     pub fn end_replaced<R: Wait + Clock>(&self, rt: &R, path: &str) {
-        if self.ending.tell_first(rt) {
+        if self.ending.tell_replaced(rt) {
             self.notices.tell_replaced(rt, path);
         }
     }
