@@ -42,6 +42,8 @@ struct Standing {
     is_replaced: bool,
     // How many connections there are that aren't its own.
     guests: u64,
+    // How many gates may still take such connections.
+    gates: u64,
     is_over: bool,
     // Why it could not begin, until that is asked for.
     fault: Option<DaemonFault>,
@@ -53,9 +55,9 @@ impl Standing {
         self.calls > 0 || self.is_replaced || self.is_over
     }
 
-    /// Whether the daemon has ended, and its guests too.
+    /// Whether the daemon has ended, and its guests too, and no more of them come.
     fn is_empty(&self) -> bool {
-        self.is_over && self.guests == 0
+        self.is_over && self.guests == 0 && self.gates == 0
     }
 }
 
@@ -73,6 +75,7 @@ impl Ending {
                 calls: 0,
                 is_replaced: false,
                 guests: 0,
+                gates: 0,
                 is_over: false,
                 fault: None,
             }),
@@ -159,8 +162,9 @@ impl Ending {
         if looks { Call::Look } else { Call::Nothing }
     }
 
-    /// Waits until the daemon has ended, and its guests too, for so many seconds at most, and no
-    /// longer than until it is told a second time. Whether all have ended.
+    /// Waits until the daemon has ended, its guests too, and its gates take no more of them, for so
+    /// many seconds at most, and no longer than until it is told a second time. Whether all have
+    /// ended.
     pub fn await_end<R: Wait + Clock>(&self, rt: &R, seconds: u64) -> bool {
         let standing = self.standing.lock(rt);
         let patience = Duration::from_secs(seconds);
@@ -207,6 +211,20 @@ impl Guests {
     /// The memory of tokens.
     pub fn seen(&self) -> &SeenTokens {
         &self.seen
+    }
+
+    /// Counts a gate that they come in through. The end waits for it too.
+    pub fn open_gate<R: Wait>(&self, rt: &R) {
+        let mut standing = self.ending.standing.lock(rt);
+        standing.gates = standing.gates.saturating_add(1);
+    }
+
+    /// Counts a gate less: no more of them come in there.
+    pub fn close_gate<R: Wait>(&self, rt: &R) {
+        let mut standing = self.ending.standing.lock(rt);
+        standing.gates = standing.gates.saturating_sub(1);
+        drop(standing);
+        self.ending.change.notify_all();
     }
 
     /// Counts one more.

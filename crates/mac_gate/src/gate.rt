@@ -64,7 +64,9 @@ where
     let (entrance, waker) = Entrance::open(rt, alloc, doors)?;
     let house = House::new(alloc, terms, guests, waker)?;
     let own = Arc::try_clone(&house)?;
+    house.open(rt);
     if !start_welcoming(*rt, alloc, entrance, own, followers, terms) {
+        house.close(rt);
         return Err(GateFault::NoThread);
     }
     Ok(Gate { house })

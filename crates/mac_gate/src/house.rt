@@ -109,6 +109,16 @@ impl House {
             > 0
     }
 
+    /// Has the end of the daemon wait until it is closed.
+    pub fn open<R: Wait>(&self, rt: &R) {
+        self.guests.open_gate(rt);
+    }
+
+    /// Tells the end of the daemon that no further connection comes in.
+    pub fn close<R: Wait>(&self, rt: &R) {
+        self.guests.close_gate(rt);
+    }
+
     /// Gives a connection a place, if there is one.
     pub fn enter<R: Wait>(&self, rt: &R, line: Arc<Line, Global>) -> Option<usize> {
         let mut lines = self.lines.lock(rt);

@@ -19,7 +19,8 @@ const PAUSE_MILLIS: u64 = 100;
 /// The stack of the thread that accepts, in bytes, whatever limit the process was started under.
 const STACK: usize = 1_048_576;
 
-/// Starts the thread that accepts connections. Whether there is one.
+/// Starts the thread that accepts connections, and closes the house behind the last one. Whether
+/// there is such a thread.
 pub fn start_welcoming<R>(
     rt: R,
     alloc: Global,
@@ -34,6 +35,7 @@ where
     let work = move || {
         let mut entrance = entrance;
         welcome_each(&rt, alloc, &mut entrance, &house, &followers, terms);
+        house.close(&rt);
     };
     Builder::new().stack_size(STACK).spawn(&rt, work).is_ok()
 }
