@@ -13,7 +13,7 @@ use std::sync::Wait;
 use std::time::Clock;
 use std::{fs, io, process};
 
-/// How many bytes stand behind the path while the socket is made: `.new/s`.
+/// How many bytes stand behind the path while the socket is made: `.new/s` or `.nxt/s`.
 const INSIDE: usize = 6;
 
 /// Which file something is.
@@ -84,7 +84,7 @@ impl Holdings {
         self.held.reserve(1)?;
         let lock = PathLock::take(rt, alloc, path, self.claim, self.process)?;
         check_place(rt, path, &lock)?;
-        let folder = format!(in alloc; "{path}.new")?;
+        let folder = format!(in alloc; "{path}.{}", ending_of(&lock))?;
         let inside = format!(in alloc; "{folder}/s")?;
         let path = String::from_str(alloc, path)?;
         let (listener, socket) = make_inside(rt, folder.as_str(), inside.as_str(), permissions)?;
@@ -165,6 +165,12 @@ impl Holding {
     }
 }
 
+/// What the name of the folder ends in in which a socket is made. Who has the path's lock and who
+/// has the turn to have it may be there at once, and don't meet in one folder.
+fn ending_of(lock: &PathLock) -> &'static str {
+    if lock.is_own() { "new" } else { "nxt" }
+}
+
 /// Whether who has such a lock may put a socket at the path: there is nothing, or a socket on which
 /// nobody listens but the process that is replaced.
 fn check_place<R: Files + Net>(rt: &R, path: &str, lock: &PathLock) -> Result<(), PlaceFault> {
@@ -202,8 +208,9 @@ fn make_inside<R: Files + Net>(
     made
 }
 
-/// Makes the folder in which a socket is made. Who makes it has the path's lock or the turn to have
-/// it, so that a folder that is there was left by a run that was killed, and is removed.
+/// Makes the folder in which a socket is made. Its name is for who has the path's lock, or for who
+/// has the turn to have it. So a folder that is there was left by a run that was killed, and is
+/// removed.
 fn make_fresh<R: Files>(rt: &R, folder: &str, inside: &str) -> io::Result<()> {
     if fs::symlink_metadata(rt, folder).is_ok_and(|found| found.file_type().is_dir()) {
         let _ = fs::remove_file(rt, inside);
