@@ -25,6 +25,7 @@ FOLDER = "the key file can't be read: it is a folder; give the path of a file in
 UNREADABLE = "the key file can't be read: no permission; give it to the daemon's user"
 LONG_FILE = "the key file is longer than a key file may be; 16777216 bytes are read"
 NO_OUTPUT = "standard output failed; give it a place where the first line can be written"
+NO_LINE = "standard output failed; it doesn't say that clients can connect"
 
 
 def as_nobody():
@@ -124,14 +125,21 @@ def taken(folder):
 
 
 def outputs(folder):
-    """Standard output that takes nothing."""
+    """Standard output that takes nothing: `serve` ends, and `listen` says so and goes on."""
+    path = f"{folder}/full"
     with open("/dev/full", "w") as full:
-        yield "a full device", refused(listen(f"{folder}/full"), stdout=full), (3, f"error: {NO_OUTPUT}\n")
+        yield "a full device", refused(serve(f"{folder}/once"), stdout=full), (3, f"error: {NO_OUTPUT}\n")
+        with subprocess.Popen([PROGRAM, *listen(path)], stdout=full, stderr=subprocess.PIPE, text=True) as run:
+            yield "listen warns", run.stderr.readline(), f"warning: {NO_LINE}\n"
+            with connected(path):
+                pass
+            run.terminate()
+            yield "and goes on to its end", run.wait(PATIENCE), 0
 
 
 def told(page):
     """Which of the messages the table of the page lacks."""
-    texts = (END_FIRST, EXISTS, NO_SOCKET, NO_FOLDER, NO_PERMISSION, TOO_LONG, NO_KEYS, FOLDER, UNREADABLE, LONG_FILE, NO_OUTPUT)
+    texts = (END_FIRST, EXISTS, NO_SOCKET, NO_FOLDER, NO_PERMISSION, TOO_LONG, NO_KEYS, FOLDER, UNREADABLE, LONG_FILE, NO_OUTPUT, NO_LINE)
     return [text for text in texts if text.replace("`", "") not in page.replace("`", "")]
 
 

@@ -135,10 +135,10 @@ impl Daemon {
         holdings: &mut Holdings,
     ) -> Result<(), DaemonFault>
     where
-        R: Files + Print + Wait + Clock,
+        R: Files + Print + Eprint + Wait + Clock,
     {
         holdings.place_all(rt)?;
-        say_listening(rt, terms, side)?;
+        say_listening(rt, terms, side);
         self.notices.tell_begin(rt, beginning_of(terms, side));
         tell_manager(self.manager, State::Ready);
         Ok(())
@@ -313,12 +313,10 @@ fn beginning_of<'a>(terms: Terms<'a>, side: Option<&'a str>) -> Beginning<'a> {
     }
 }
 
-/// Prints the line that tells that clients can connect, and at which sockets.
-fn say_listening<R: Print>(
-    rt: &R,
-    terms: Terms<'_>,
-    side: Option<&str>,
-) -> Result<(), DaemonFault> {
+/// Prints the line that tells that clients can connect, and at which sockets. Where it can't be
+/// printed that is told, and no more: clients can connect, and a daemon that had the place before
+/// goes.
+fn say_listening<R: Print + Eprint>(rt: &R, terms: Terms<'_>, side: Option<&str>) {
     let Terms {
         path,
         names,
@@ -336,9 +334,10 @@ fn say_listening<R: Print>(
         plural_ending(names),
         plural_ending(workers)
     );
-    match told {
-        Ok(()) => Ok(()),
-        Err(_) => Err(DaemonFault::Output),
+    if told.is_err() {
+        let _ = eprintln!(rt;
+            "warning: standard output failed; it doesn't say that clients can connect"
+        );
     }
 }
 
