@@ -21,6 +21,8 @@ import request
 SECRET = "this is our super secret key; only we should know it"
 # How many seconds a peer may bring no whole request, in the runs that try that.
 PATIENT = 2
+# How many clients wait at each socket as a daemon is told to end.
+WAITING = 20
 # What a request head is ended by.
 END = b"\r\n\r\n"
 
@@ -278,6 +280,19 @@ def ends():
         yield f"a second signal: {took:.1f} s", (status, took < 5), (0, True)
 
 
+def waiting():
+    """Who waits at a socket where no guest is there as the daemon is told to end is answered."""
+    with listening() as daemon, contextlib.ExitStack() as stack:
+        daemon.run.send_signal(signal.SIGSTOP)
+        late = [stack.enter_context(connect()) for connect in (daemon.unix, daemon.tcp) for _ in range(WAITING)]
+        for stream in late:
+            stream.sendall(asking("/healthz"))
+        daemon.run.send_signal(signal.SIGTERM)
+        daemon.run.send_signal(signal.SIGCONT)
+        yield "each of them", {response(stream)[0] for stream in late} <= {200, 503}, True
+        yield "how it ends", daemon.run.wait(PATIENCE), 0
+
+
 def refusals():
     """Command lines that name no address, or one that others may reach."""
     foreign = "other machines may reach this address; name it by --http-anywhere if they may"
@@ -312,7 +327,7 @@ def refusals():
         yield "how it ends", daemon.told_to_end()[1][0], 0
 
 
-PARTS = (statuses, rules, changing_keys, slow_peers, full_house, ends, refusals)
+PARTS = (statuses, rules, changing_keys, slow_peers, full_house, ends, waiting, refusals)
 
 
 def faults():
