@@ -207,6 +207,16 @@ def waiting(folder):
     yield "the second one", ended(second)[0], 0
 
 
+def one_of_two(folder):
+    """Another socket in the place of the second one ends a daemon, which names that path."""
+    path, side, other = (f"{folder}/{it}" for it in ("first", "side", "other"))
+    run = started(path, "--verify-socket", side)
+    with socket.socket(socket.AF_UNIX) as foreign:
+        foreign.bind(other)
+        os.rename(other, side)
+        yield "how it ends", lines(run), replaced(side, 0)
+
+
 def moved(folder):
     """A daemon whose socket is moved away, with nothing in its place, goes on."""
     path = f"{folder}/moved"
@@ -222,7 +232,7 @@ def moved(folder):
 
 def faults():
     seen = []
-    for part in (under_load, alone, faulty, twice, told_besides, all_sockets, waiting, moved):
+    for part in (under_load, alone, faulty, twice, told_besides, all_sockets, waiting, one_of_two, moved):
         with tempfile.TemporaryDirectory() as folder:
             seen += [(f"{part.__name__}: {what}", got, due) for what, got, due in part(folder)]
     found = [f"replacing: {what}: {got!r} where {due!r} is due" for what, got, due in seen if got != due]

@@ -126,15 +126,23 @@ impl Holdings {
         }
     }
 
-    /// Takes each lock that was given up since. Whether another socket is in the place of one of
-    /// these.
-    pub fn look<R: Files<File = File>>(&mut self, rt: &R) -> bool {
-        let mut is_replaced = false;
+    /// Takes each lock that was given up since. The path in whose place there is another socket, if
+    /// there is one: the main one, where that is among them.
+    pub fn look<R: Files<File = File>>(&mut self, rt: &R, main: &str) -> Option<&str> {
         for holding in self.held.iter_mut() {
             holding.take_lock(rt, self.alloc, self.process);
-            is_replaced = is_replaced || holding.is_replaced(rt);
         }
-        is_replaced
+        let mut taken = None;
+        for holding in &self.held {
+            if holding.is_replaced(rt) {
+                let path = holding.path.as_str();
+                if path == main {
+                    return Some(path);
+                }
+                taken = Some(path);
+            }
+        }
+        taken
     }
 }
 

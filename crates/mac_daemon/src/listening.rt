@@ -144,7 +144,7 @@ impl Daemon {
         Ok(())
     }
 
-    /// Tells a daemon to end in whose place there is another one's socket.
+    /// Tells a daemon to end, at one of whose paths there is another one's socket.
     pub fn end_replaced<R: Wait + Clock>(&self, rt: &R, path: &str) {
         if self.ending.tell_replaced(rt) {
             self.notices.tell_replaced(rt, path);

@@ -283,8 +283,8 @@ where
             Call::Look => editor = look_once(rt, watched.keys, editor, daemon),
             Call::Nothing => {}
         }
-        if holdings.look(rt) {
-            daemon.end_replaced(rt, watched.socket);
+        if let Some(path) = holdings.look(rt, watched.socket) {
+            daemon.end_replaced(rt, path);
         }
         editor = look_once(rt, watched.keys, editor, daemon);
     }
