@@ -9,13 +9,12 @@ ghost use Rattle.macaroond.specs.Rights.{is_comma};
 
 use crate::choices::HttpOptions;
 use crate::commands::VERSION;
+use crate::key_watch::ListenFault;
 use crate::operating::OPERATORS_MAX;
 use mac_daemon::Holdings;
-use mac_gate::{
-    Address, AddressFault, DoorFault, Doors, ListFault, Pages, Reach, Terms, read_addresses,
-};
+use mac_gate::{Address, AddressFault, Doors, ListFault, Pages, Reach, Terms, read_addresses};
 use mac_http::{Calls, Granted, Rules, Sources};
-use std::alloc::{AllocError, Global};
+use std::alloc::{Alloc, AllocError, Global};
 use std::fs::{File, Files};
 use std::net::{Net, TcpListener, TcpStream};
 use std::sync::Wait;
@@ -268,21 +267,21 @@ fn has_word(words: &[&[u8]], sought: &[u8]) -> bool
     words.iter().any(|word| *word == sought)
 }
 
-/// Opens the doors of a plan at these addresses, in their order. At a fault it tells the address.
-pub fn open_doors<'a, R>(
+/// Opens doors at these addresses, in their order.
+pub(crate) fn open_doors<'a, R>(
     rt: &R,
-    alloc: Global,
     addresses: &[Address<'a>],
     permissions: u32,
     holdings: &mut Holdings,
-) -> Result<Doors, (Address<'a>, DoorFault)>
+) -> Result<Doors, ListenFault<'a>>
 where
-    R: Files<File = File> + Net<Listener = TcpListener, Stream = TcpStream> + Clock + Wait,
+    R: Alloc<A = Global> + Files<File = File> + Clock + Wait,
+    R: Net<Listener = TcpListener, Stream = TcpStream>,
 {
-    let mut doors = Doors::new(alloc);
+    let mut doors = Doors::new(rt.alloc());
     for address in addresses {
         if let Err(fault) = doors.open(rt, *address, permissions, holdings) {
-            return Err((*address, fault));
+            return Err(ListenFault::Door(*address, fault));
         }
     }
     Ok(doors)

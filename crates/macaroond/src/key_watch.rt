@@ -152,8 +152,8 @@ where
 {
     let Sockets { rights, side, http } = sockets;
     let alloc = rt.alloc();
-    let doors = open_gateways(rt, &http, holdings)?;
-    let mut for_operators = open_operators(rt, &http, holdings)?;
+    let doors = open_doors(rt, &http.addresses, http.permissions, holdings)?;
+    let mut for_operators = open_doors(rt, &http.admin, http.permissions, holdings)?;
     let status = open_status(rt, alloc, terms.path, &mut for_operators, holdings);
     let followers = editor.followers()?;
     let daemon = listen(
@@ -192,38 +192,6 @@ fn end_all<R: Wait + Clock + Drop>(rt: &R, started: Started<R>) {
         operators.end(rt);
     }
     daemon.see_off(rt);
-}
-
-/// Opens the doors of gateways.
-fn open_gateways<'a, R>(
-    rt: &R,
-    http: &HttpPlan<'a>,
-    holdings: &mut Holdings,
-) -> Result<Doors, ListenFault<'a>>
-where
-    R: Alloc<A = Global> + Files<File = File> + Clock + Wait,
-    R: Net<Listener = TcpListener, Stream = TcpStream>,
-{
-    match open_doors(rt, rt.alloc(), &http.addresses, http.permissions, holdings) {
-        Ok(doors) => Ok(doors),
-        Err((address, fault)) => Err(ListenFault::Door(address, fault)),
-    }
-}
-
-/// Opens the doors of operators.
-fn open_operators<'a, R>(
-    rt: &R,
-    http: &HttpPlan<'a>,
-    holdings: &mut Holdings,
-) -> Result<Doors, ListenFault<'a>>
-where
-    R: Alloc<A = Global> + Files<File = File> + Clock + Wait,
-    R: Net<Listener = TcpListener, Stream = TcpStream>,
-{
-    match open_doors(rt, rt.alloc(), &http.admin, http.permissions, holdings) {
-        Ok(doors) => Ok(doors),
-        Err((address, fault)) => Err(ListenFault::Door(address, fault)),
-    }
 }
 
 /// How many followers of the key tables there are at most, with so many connections over HTTP.
