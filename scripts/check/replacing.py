@@ -86,6 +86,17 @@ def child_of(run):
     return run.pid
 
 
+def twice_spelled(folder):
+    """One path that is spelled in two ways is one: there is no second socket."""
+    path, again = f"{folder}/spelled", f"{folder}/./spelled"
+    for words in ([], ["--replace"]):
+        command = [PROGRAM, "listen", "--socket", path, "--verify-socket", again, "--keys", KEYS, *words]
+        run = subprocess.Popen(command, stdout=subprocess.PIPE, stderr=subprocess.PIPE, text=True)
+        _, error = run.communicate(timeout=PATIENCE)
+        due = f"error: {again}: process {run.pid} has it; end that process first, or give another path\n"
+        yield f"it is refused: {words}", (run.returncode, error), (3, due)
+
+
 def faulty(folder):
     """A daemon that can't begin takes nothing from the one that is there."""
     path = f"{folder}/faulty"
@@ -232,7 +243,7 @@ def moved(folder):
 
 def faults():
     seen = []
-    for part in (under_load, alone, faulty, twice, told_besides, all_sockets, waiting, one_of_two, moved):
+    for part in (under_load, alone, twice_spelled, faulty, twice, told_besides, all_sockets, waiting, one_of_two, moved):
         with tempfile.TemporaryDirectory() as folder:
             seen += [(f"{part.__name__}: {what}", got, due) for what, got, due in part(folder)]
     found = [f"replacing: {what}: {got!r} where {due!r} is due" for what, got, due in seen if got != due]

@@ -1,8 +1,8 @@
 //! What a process has of the paths of its sockets. Each socket is made out of reach, and all are
 //! put in their places once the daemon serves them.
-use crate::lock::{Claim, PathLock, lock_path};
+use crate::lock::{Claim, PathLock, lock_path, name_lock};
 use crate::place::{PATH_MAX, PlaceFault, check_length};
-use std::alloc::Global;
+use std::alloc::{AllocError, Global};
 use std::fs::{DirBuilder, File, Files, Metadata, Permissions};
 use std::io::ErrorKind;
 use std::net::Net;
@@ -40,6 +40,8 @@ struct Holding {
     folder: String,
     inside: String,
     lock: PathLock,
+    // Which file the path's lock is, whatever spelling of the path names it.
+    lock_file: Option<FileId>,
     socket: FileId,
     is_placed: bool,
 }
@@ -78,11 +80,12 @@ impl Holdings {
     {
         let alloc = self.alloc;
         check_length(path, PATH_MAX - INSIDE)?;
-        if self.has(path) {
+        if self.has(rt, path)? {
             return Err(PlaceFault::Locked(process::id(self.process)));
         }
         self.held.reserve(1)?;
         let lock = PathLock::take(rt, alloc, path, self.claim, self.process)?;
+        let lock_file = find_lock(rt, alloc, path)?;
         check_place(rt, path, &lock)?;
         let folder = format!(in alloc; "{path}.{}", ending_of(&lock))?;
         let inside = format!(in alloc; "{folder}/s")?;
@@ -93,6 +96,7 @@ impl Holdings {
             folder,
             inside,
             lock,
+            lock_file,
             socket,
             is_placed: false,
         };
@@ -102,11 +106,13 @@ impl Holdings {
         }
     }
 
-    /// Whether a path is among them.
-    fn has(&self, path: &str) -> bool {
-        self.held
-            .iter()
-            .any(|holding| holding.path.as_str() == path)
+    /// Whether a path is among them, however it is spelled: they have its lock.
+    fn has<R: Files>(&self, rt: &R, path: &str) -> Result<bool, PlaceFault> {
+        let Some(lock_file) = find_lock(rt, self.alloc, path)? else {
+            return Ok(false);
+        };
+        let is_held = |holding: &Holding| holding.lock_file == Some(lock_file);
+        Ok(self.held.iter().any(is_held))
     }
 
     /// Puts each socket in its place.
@@ -170,6 +176,15 @@ impl Holding {
             && fs::symlink_metadata(rt, self.path.as_str()).is_ok_and(|found| {
                 found.file_type().is_socket() && FileId::of(&found) != self.socket
             })
+    }
+}
+
+/// Which file the lock of a path is, if it is there.
+fn find_lock<R: Files>(rt: &R, alloc: Global, path: &str) -> Result<Option<FileId>, AllocError> {
+    let name = name_lock(alloc, path)?;
+    match fs::symlink_metadata(rt, name.as_str()) {
+        Ok(found) => Ok(Some(FileId::of(&found))),
+        Err(_) => Ok(None),
     }
 }
 

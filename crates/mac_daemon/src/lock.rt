@@ -1,6 +1,6 @@
 //! The lock of a socket's path: a file beside it, which one process has for as long as it runs.
 use crate::place::PlaceFault;
-use std::alloc::Global;
+use std::alloc::{AllocError, Global};
 use std::fs::{File, Files, TryLockError};
 use std::io::{ErrorKind, Read, Seek, SeekFrom, Write};
 use std::os::unix::fs::OpenOptionsExt;
@@ -12,10 +12,12 @@ use std::{fs, process, thread};
 /// A lock file has the number of a process, a line feed, and no more.
 const NUMBER_MAX: usize = 16;
 
-/// How often the turn to have a lock next is asked for, and how many milliseconds pass between two
-/// tries. A daemon that has taken a path over gives the turn back half a second later.
+/// How often the turn to have a lock next is asked for. Who has the turn gives it back at its first
+/// look after the end of the daemon that had the path, half a second later at most: the tries wait
+/// for that look, and not for that end.
 const TURN_TRIES: u64 = 20;
 
+/// How many milliseconds pass behind each of these tries.
 const TURN_MILLIS: u64 = 100;
 
 /// How a process comes by a path.
@@ -95,8 +97,13 @@ pub fn lock_path<R>(rt: &R, alloc: Global, path: &str, process: Process) -> Resu
 where
     R: Files<File = File>,
 {
-    let name = format!(in alloc; "{path}.lock")?;
+    let name = name_lock(alloc, path)?;
     lock_file(rt, alloc, name.as_str(), process)
+}
+
+/// The path of the lock of a path.
+pub fn name_lock(alloc: Global, path: &str) -> Result<String, AllocError> {
+    format!(in alloc; "{path}.lock")
 }
 
 /// Locks a file, and writes into it which process has it. The system gives a lock back as its
