@@ -71,16 +71,14 @@ impl Idlers {
     }
 }
 
-/// The memory of tokens of a daemon of this shape. There is none where the system gives no random
-/// bytes for it, or no memory.
-pub fn make_memory<R: RandomSource>(rt: &R, alloc: Global, shape: Shape) -> SeenTokens {
+/// The memory of tokens of a daemon of this shape, if the system gives random bytes and memory for
+/// it.
+pub fn make_memory<R: RandomSource>(rt: &R, alloc: Global, shape: Shape) -> Option<SeenTokens> {
     if shape.remembered == 0 {
-        return SeenTokens::none();
+        return Some(SeenTokens::none());
     }
-    let Ok(hashes) = RandomState::new(rt) else {
-        return SeenTokens::none();
-    };
-    SeenTokens::new(alloc, hashes, shape.remembered as usize).unwrap_or(SeenTokens::none())
+    let hashes = RandomState::new(rt).ok()?;
+    SeenTokens::new(alloc, hashes, shape.remembered as usize).ok()
 }
 
 /// What the threads of a daemon are started with.

@@ -104,7 +104,7 @@ where
     let paths = socket_paths(alloc, terms.path, side_path)?;
     let roster = Roster::new(rt, alloc, limits.connections, paths)?;
     let quay = Quay::new(alloc, Some(notices.share()?), numbers.share()?, roster)?;
-    let seen = make_memory(rt, alloc, terms.shape);
+    let seen = make_seen(rt, alloc, terms.shape);
     let service = Service {
         workers: terms.shape.workers,
         idlers: Idlers::make(rt, alloc, terms.shape, &seen)?,
@@ -300,6 +300,20 @@ fn allow_connections<R: Wait + Clock>(rt: &R, terms: Terms<'_>, notices: &Notice
     }
     notices.tell_low(rt, most);
     most
+}
+
+/// The memory of tokens of a daemon. Where there is none for it that is told, and it computes each
+/// signature.
+fn make_seen<R: RandomSource + Eprint>(rt: &R, alloc: Global, shape: Shape) -> SeenTokens {
+    match make_memory(rt, alloc, shape) {
+        Some(seen) => seen,
+        None => {
+            let _ = eprintln!(rt;
+                "warning: no memory or no random bytes to remember tokens by; none is remembered"
+            );
+            SeenTokens::none()
+        }
+    }
 }
 
 /// What is told of a daemon at its start.

@@ -11,7 +11,7 @@ use crate::place::bind_new;
 use crate::quay::Quay;
 use crate::roster::Roster;
 use mac_board::Followers;
-use mac_decide::Rights;
+use mac_decide::{Rights, SeenTokens};
 use mac_wire::{Sink, send_all};
 use std::alloc::Global;
 use std::fs::Files;
@@ -42,9 +42,10 @@ where
     let mut doors = Vec::with_capacity(alloc, 1)?;
     Door::add(&mut doors, alloc, listener, Rights::all(), false)?;
     let roster = Roster::new(rt, alloc, shape.connections, Vec::new(alloc))?;
+    let seen = make_memory(rt, alloc, shape).unwrap_or(SeenTokens::none());
     let service = Service {
         workers: shape.workers,
-        idlers: Idlers::make(rt, alloc, shape, &make_memory(rt, alloc, shape))?,
+        idlers: Idlers::make(rt, alloc, shape, &seen)?,
         entrance: Entrance::open(rt, alloc, doors)?,
         limits: Limits {
             count: Some(accept),
