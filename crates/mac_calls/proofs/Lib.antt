@@ -1,3 +1,4 @@
 pub mod BodyLemmas
 pub mod InspectLemmas
+pub mod ReceivedLemmas
 pub mod WireLemmas
