@@ -304,7 +304,11 @@ UNKNOWN_MEMBER = bad("the body has a member that the call does not have")
 NO_IDENTIFIER = bad("there is to be one text, identifier or identifier64")
 NO_CAVEATS = bad("the caveats are no list of texts")
 NO_TEXT = bad("there is no text that is the token")
+NO_MOMENT = bad("there is no number of seconds that is the moment")
 TWO = [b"a = 1", b"b = 2"]
+# 1,700,000,000 is 2023-11-14T22:13:20Z.
+BOUNDS = [b"time < 2023-11-14T22:13:20", b"time < 2023-11-14T22:13:21", b"time >= 2023-11-14T22:13:20Z",
+          b"time >= 2023-11-14T22:13:21Z", b"time < soon"]
 
 
 def minted(body, want):
@@ -317,6 +321,10 @@ def narrowed(body, want):
 
 def inspected(body, want):
     return "inspect", [(post("/inspect", body), want)]
+
+
+def checked(body, want):
+    return "check", [(post("/check", body), want)]
 
 
 def whole_json(identifier, caveats=()):
@@ -372,7 +380,14 @@ ROWS += [
     narrowed('{"token":"%s"}' % plain, bad("there is no caveat to add")),
     narrowed('{"token":"%s","caveats":[]}' % plain, bad("there is no caveat to add")),
     narrowed('{"caveats":["a = 1"]}', NO_TEXT), narrowed('{"token":[],"caveats":["a"]}', NO_TEXT),
-    narrowed('{"token":"%s","caveats":["a"],"form":"v1"}' % plain, UNKNOWN_MEMBER),
+    narrowed('{"token":"%s","caveats":["a"],"key":"bank"}' % plain, UNKNOWN_MEMBER),
+    narrowed('{"token":"%s","caveats":["a = 1","b = 2"],"form":"v1"}' % plain, made(v1(b"alice", TWO))),
+    narrowed('{"token":"%s","caveats":["a = 1"],"form":"v2"}' % README, made(v2(
+        b"we used our secret key", [b"a = 1"], location=b"http://mybank/"))),
+    narrowed('{"token":"%s","caveats":["a = 1"],"form":"json"}' % plain,
+             made(whole_json(b"alice", TWO[:1]))),
+    narrowed('{"token":"?","caveats":["a"],"form":"v3"}', bad("the form is none of v1, v2 and json")),
+    narrowed('{"token":"?","caveats":[],"form":"v2"}', bad("there is no caveat to add")),
     narrowed('{"token":"?","caveats":["a = 1"]}',
              refused(19, "the token is neither a bare form nor base64 text")),
     narrowed('{"token":"AAAA","caveats":["a = 1"]}', refused(20, "the bytes are in no form of a token")),
@@ -392,6 +407,30 @@ ROWS += [
         signature(b"alice", [b"a"], SECRET).hex())),
     inspected("{}", NO_TEXT), inspected('{"token":"?"}', refused(
         19, "the token is neither a bare form nor base64 text")),
+    # ---- a check: facts, bounds of time, and a signature that nobody looks at
+    checked('{"token":"%s","moment":0}' % plain, told('{"holds":[]}')),
+    checked('{"token":"%s","facts":["b = 2"],"moment":0}' % v2(b"alice", TWO),
+            told('{"holds":[false,true]}')),
+    checked('{"token":"%s","facts":["b = 2","a = 1"],"moment":0}' % v1(b"alice", TWO, b"forged"),
+            told('{"holds":[true,true]}')),
+    checked('{"token":"%s","moment":1700000000}' % v2(b"alice", BOUNDS),
+            told('{"holds":[false,true,true,false,false]}')),
+    checked('{"token":"%s","moment":1700000001,"facts":["time < soon"]}' % v2(b"alice", BOUNDS),
+            told('{"holds":[false,false,true,true,true]}')),
+    checked('{"token":"%s","moment":18446744073709551615}' % v2(b"alice", BOUNDS),
+            told('{"holds":[false,false,true,true,false]}')),
+    checked('{"moment":0}', NO_TEXT), checked('{"token":"?"}', NO_MOMENT),
+    checked('{"token":"?","moment":"0"}', NO_MOMENT), checked('{"token":"?","moment":-1}', NO_MOMENT),
+    checked('{"token":"?","moment":1.5}', NO_MOMENT),
+    checked('{"token":"?","moment":18446744073709551616}', NO_MOMENT),
+    checked('{"token":"?","facts":"a","moment":0}', bad("the facts are no list of texts")),
+    checked('{"token":"?","facts":[%s],"moment":0}' % ",".join(['"a"'] * 129),
+            bad("the facts are more or longer than a request may have")),
+    checked('{"token":"%s","facts":[%s],"moment":0}' % (v2(b"alice", TWO[:1]), ",".join(
+        ['"a"'] * 127 + ['"a = 1"'])), told('{"holds":[true]}')),
+    checked('{"token":"?","moment":0}',
+            refused(19, "the token is neither a bare form nor base64 text")),
+    checked('{"token":"?","moment":0,"name":"bank"}', UNKNOWN_MEMBER),
     # ---- paths and methods of calls, and calls that aren't allowed
     ("mint", [(post("/mint/none", '{"identifier":"alice"}'), UNKNOWN),
               (post("/mint/", '{"identifier":"alice"}'), UNKNOWN),
@@ -408,7 +447,8 @@ ROWS += [
                            (get("/inspect", method="PUT"), response(405, [("allow", "POST")]))]),
     ("", [(post("/mint/bank", '{"identifier":"alice"}'), UNKNOWN),
           (post("/attenuate", '{"token":"%s","caveats":["a"]}' % plain), UNKNOWN),
-          (post("/inspect", '{"token":"%s"}' % plain), UNKNOWN)]),
+          (post("/inspect", '{"token":"%s"}' % plain), UNKNOWN),
+          (post("/check", '{"token":"%s","moment":0}' % plain), UNKNOWN)]),
 ]
 
 

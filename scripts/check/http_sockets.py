@@ -307,7 +307,7 @@ def refusals():
         (["--http-anywhere", "127.0.0.1"], f"error: 127.0.0.1: {unread}\n", 2),
         (["--http", "127.0.0.1:1", "--http-granted", "201"], "error: the status that grants is 200 or 204\n", 2),
         (["--http-facts", "header,body"], "error: a source of facts is header, query or forwarded\n", 2),
-        (["--http-allow", "mint,verify"], "error: a call is mint, attenuate or inspect\n", 2),
+        (["--http-allow", "mint,verify"], "error: a call is mint, attenuate, inspect or check\n", 2),
         (["--http-mode", "777"], "error: the mode of a socket is 600, 660 or 666\n", 2),
     ]
     with listening() as daemon:

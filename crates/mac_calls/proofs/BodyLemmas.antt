@@ -9,6 +9,7 @@ use Rattle.serde_json.specs.Data.{Data}
 use Rattle.serde_json.specs.Read.{read}
 use Rattle.serde_json.specs.View.{view, items_view}
 use Rattle.serde_json.specs.declared.value.Value.{Value}
+use Rattle.mac_calls.specs.declared.fault.BodyFault.{BodyFault}
 use Rattle.mac_calls.specs.declared.fault.BodyFault.TheVariants as fault
 use Rattle.mac_calls.specs.declared.fault.CallRefusal.{CallRefusal}
 use Rattle.mac_calls.specs.declared.fault.CallRefusal.TheVariants.{Body}
@@ -30,20 +31,20 @@ no_data body fails = elim (cases_Bool (is_utf8 body)) [
 ]
 
 -- one more text
-pub texts_more : (texts : List (List ℕ)) (list : List Value) (i : ℕ) (at : Value) (text : List ℕ) → i < length list
-    → at ≡ get_or list i at → text_of fault.Caveats (view at) ≡ Ok text
-    → texts_from texts (items_view (drop i list)) ≡ texts_from (texts ++ text ∷ []) (items_view (drop (i + 1) list))
-texts_more texts list i at text below is_at is_read =
-    at_drop_more (λ rest. texts_from texts (items_view rest)) list i at below ∙ rw (sym is_at, is_read) refl
+pub texts_more : (kind : BodyFault) (texts : List (List ℕ)) (list : List Value) (i : ℕ) (at : Value) (text : List ℕ) → i < length list
+    → at ≡ get_or list i at → text_of kind (view at) ≡ Ok text
+    → texts_from kind texts (items_view (drop i list)) ≡ texts_from kind (texts ++ text ∷ []) (items_view (drop (i + 1) list))
+texts_more kind texts list i at text below is_at is_read =
+    at_drop_more (λ rest. texts_from kind texts (items_view rest)) list i at below ∙ rw (sym is_at, is_read) refl
 
 -- an item that is no text
-pub texts_fail : (texts : List (List ℕ)) (list : List Value) (i : ℕ) (at : Value) (why : CallRefusal) → i < length list
-    → at ≡ get_or list i at → text_of fault.Caveats (view at) ≡ Err why
-    → texts_from texts (items_view (drop i list)) ≡ Err why
-texts_fail texts list i at why below is_at is_none =
-    at_drop_more (λ rest. texts_from texts (items_view rest)) list i at below ∙ rw (sym is_at, is_none) refl
+pub texts_fail : (kind : BodyFault) (texts : List (List ℕ)) (list : List Value) (i : ℕ) (at : Value) (why : CallRefusal) → i < length list
+    → at ≡ get_or list i at → text_of kind (view at) ≡ Err why
+    → texts_from kind texts (items_view (drop i list)) ≡ Err why
+texts_fail kind texts list i at why below is_at is_none =
+    at_drop_more (λ rest. texts_from kind texts (items_view rest)) list i at below ∙ rw (sym is_at, is_none) refl
 
 -- all of them
-pub texts_all : (texts : List (List ℕ)) (list : List Value) (i : ℕ) → length list ≤ i
-    → texts_from texts (items_view (drop i list)) ≡ Ok texts
-texts_all texts list i past = at_drop_all (λ rest. texts_from texts (items_view rest)) list i past
+pub texts_all : (kind : BodyFault) (texts : List (List ℕ)) (list : List Value) (i : ℕ) → length list ≤ i
+    → texts_from kind texts (items_view (drop i list)) ≡ Ok texts
+texts_all kind texts list i past = at_drop_all (λ rest. texts_from kind texts (items_view rest)) list i past

@@ -1,4 +1,6 @@
 pub mod BodyLemmas
-pub mod InspectLemmas
+pub mod ListLemmas
 pub mod ReceivedLemmas
+pub mod JudgedLemmas
+pub mod InspectLemmas
 pub mod WireLemmas

@@ -1,7 +1,7 @@
 -- Why a call is refused, in words (this project's own).
 use Rattle.std.specs.Prelude.{ℕ, List, codes}
 use Rattle.mac_calls.specs.declared.fault.BodyFault.{BodyFault}
-use Rattle.mac_calls.specs.declared.fault.BodyFault.TheVariants.{NoObject, UnknownMember, Identifier, Base64, Location, Caveats, NoCaveat, Form, Token}
+use Rattle.mac_calls.specs.declared.fault.BodyFault.TheVariants.{NoObject, UnknownMember, Identifier, Base64, Location, Caveats, NoCaveat, Form, Token, Facts, ManyFacts, Moment}
 use Rattle.mac_calls.specs.declared.fault.CallFault.{CallFault}
 use Rattle.mac_calls.specs.declared.fault.CallFault.TheVariants.{Refused, Memory}
 use Rattle.mac_calls.specs.declared.fault.CallRefusal.TheVariants as refusal
@@ -21,6 +21,9 @@ body_reason Caveats = codes "the caveats are no list of texts"
 body_reason NoCaveat = codes "there is no caveat to add"
 body_reason Form = codes "the form is none of v1, v2 and json"
 body_reason Token = codes "there is no text that is the token"
+body_reason Facts = codes "the facts are no list of texts"
+body_reason ManyFacts = codes "the facts are more or longer than a request may have"
+body_reason Moment = codes "there is no number of seconds that is the moment"
 
 -- why a token is refused
 abbrev pub token_reason : TokenRefusal → List ℕ

@@ -2,9 +2,12 @@ pub mod Fault
 pub mod Steps
 pub mod Gives
 pub mod Form
+pub mod Counted
 pub mod Object
 pub mod Members
 pub mod Received
 pub mod Made
 pub mod Json
+pub mod Judged
+pub mod Names
 pub mod Outcome

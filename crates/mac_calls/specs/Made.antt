@@ -1,5 +1,5 @@
 -- The texts of tokens that calls make (this project's own): what is made is what `mac_decide` says.
-use Rattle.std.specs.Prelude.{ℕ, List, [], ◌∷◌, nat_lt, length, if◌then◌else◌, Result, Ok, Err}
+use Rattle.std.specs.Prelude.{ℕ, List, [], ◌∷◌, nat_lt, length, if◌then◌else◌, unwrap_or, Result, Ok, Err}
 use Rattle.serde_json.specs.Data.{Data}
 use Rattle.mac_decide.specs.Minted.{minted, add}
 use Rattle.mac_keys.specs.declared.keys.Keys.{Keys}
@@ -38,14 +38,14 @@ abbrev pub new_text : Keys → CallForm → List ℕ → List ℕ → List (List
 new_text keys form location identifier caveats =
     of_token (token_or_limit (minted keys.first location identifier caveats)) >>= text_in form
 
--- the token that an object asks for
+-- the token that an object asks for, in the form V2 where it asks for none
 abbrev pub minted_text : Keys → Data → Step (List ℕ)
 minted_text keys d = do
   identifier ← identifier_in d
   location ← location_in d
   caveats ← caveats_in d
   form ← form_in d
-  new_text keys form location identifier caveats
+  new_text keys (unwrap_or form V2) location identifier caveats
 
 -- the caveats, if there are any
 abbrev pub some_caveat : List (List ℕ) → Step (List (List ℕ))
@@ -56,11 +56,13 @@ some_caveat (c ∷ cs) = Ok (c ∷ cs)
 abbrev pub narrowed : CallForm → TokenParts → List (List ℕ) → Step (List ℕ)
 narrowed form t caveats = of_token (token_or_limit (add t caveats)) >>= text_in form
 
--- an object's token with the object's caveats behind its own, in the form in which it came
+-- an object's token with the object's caveats behind its own, in the form that is asked for, or else
+-- in the one in which it came
 abbrev pub attenuated : Data → Step (List ℕ)
 attenuated d = do
   text ← token_in d
   listed ← caveats_in d
+  form ← form_in d
   caveats ← some_caveat listed
   t ← received text
-  narrowed (form_of_text text) t caveats
+  narrowed (unwrap_or form (form_of_text text)) t caveats

@@ -1,15 +1,14 @@
 -- What the members of a body say (this project's own).
-use Rattle.std.specs.Prelude.{ℕ, List, [], ◌∷◌, ◌++◌, codes, Option, Some, None, Result, Ok, Err}
+use Rattle.std.specs.Prelude.{ℕ, List, [], ◌∷◌, ◌++◌, codes, Option, Some, None, option_and_then, Result, Ok, Err}
 use Rattle.base64.specs.declared.decode.DecodeError.{DecodeError}
 use Rattle.base64.specs.Engines.{url_safe_pad_indifferent}
 use Rattle.base64.specs.GeneralPurpose.{decode_of}
 use Rattle.serde_json.specs.Data.{Data, Items, no_items, item}
-use Rattle.serde_json.specs.Find.{get, as_array, as_str}
+use Rattle.serde_json.specs.Find.{get, as_array, as_number, as_str, as_u64}
 use Rattle.mac_calls.specs.declared.fault.BodyFault.{BodyFault}
 use Rattle.mac_calls.specs.declared.fault.BodyFault.TheVariants as fault
 use Rattle.mac_calls.specs.declared.fault.CallRefusal.TheVariants.{Body}
 use Rattle.mac_calls.specs.declared.form.CallForm.{CallForm}
-use Rattle.mac_calls.specs.declared.form.CallForm.TheVariants.{V2}
 use Rattle.mac_calls.specs.Form.{form_named}
 use Rattle.mac_calls.specs.Steps.{Step, or_fault, ◌>>=◌}
 
@@ -45,30 +44,42 @@ abbrev pub location_in : Data → Step (List ℕ)
 location_in d = location_of (get (codes "location") d)
 
 -- the texts that were read, and behind them those that the items are
-abbrev pub texts_from : List (List ℕ) → Items → Step (List (List ℕ))
-texts_from texts no_items = Ok texts
-texts_from texts (item d ds) =
-    text_of fault.Caveats d >>= λ text. texts_from (texts ++ text ∷ []) ds
+abbrev pub texts_from : BodyFault → List (List ℕ) → Items → Step (List (List ℕ))
+texts_from why texts no_items = Ok texts
+texts_from why texts (item d ds) =
+    text_of why d >>= λ text. texts_from why (texts ++ text ∷ []) ds
 
 -- the texts of a list
-abbrev pub caveats_of : Data → Step (List (List ℕ))
-caveats_of d = or_fault fault.Caveats (as_array d) >>= texts_from []
+abbrev pub texts_of : BodyFault → Data → Step (List (List ℕ))
+texts_of why d = or_fault why (as_array d) >>= texts_from why []
 
--- the caveats, none where they are left out
-abbrev pub caveats_or_none : Option Data → Step (List (List ℕ))
-caveats_or_none None = Ok []
-caveats_or_none (Some d) = caveats_of d
+-- the same, none where it is left out
+abbrev pub texts_or_none : BodyFault → Option Data → Step (List (List ℕ))
+texts_or_none why None = Ok []
+texts_or_none why (Some d) = texts_of why d
 
 abbrev pub caveats_in : Data → Step (List (List ℕ))
-caveats_in d = caveats_or_none (get (codes "caveats") d)
+caveats_in d = texts_or_none fault.Caveats (get (codes "caveats") d)
 
--- the form of a new token, V2 where it is left out
-abbrev pub form_of : Option Data → Step CallForm
-form_of None = Ok V2
-form_of (Some d) = text_of fault.Form d >>= λ word. or_fault fault.Form (form_named word)
+-- the form that is asked for, if it isn't left out
+abbrev pub form_of : Option Data → Step (Option CallForm)
+form_of None = Ok None
+form_of (Some d) =
+    text_of fault.Form d >>= λ word. or_fault fault.Form (form_named word) >>= λ form. Ok (Some form)
 
-abbrev pub form_in : Data → Step CallForm
+abbrev pub form_in : Data → Step (Option CallForm)
 form_in d = form_of (get (codes "form") d)
+
+abbrev pub facts_in : Data → Step (List (List ℕ))
+facts_in d = texts_or_none fault.Facts (get (codes "facts") d)
+
+-- the moment, a whole number of seconds since 1970 below 2 ^ 64, as `serde_json` tells one
+abbrev pub moment_of : Option Data → Step ℕ
+moment_of None = Err (Body fault.Moment)
+moment_of (Some d) = or_fault fault.Moment (option_and_then as_u64 (as_number d))
+
+abbrev pub moment_in : Data → Step ℕ
+moment_in d = moment_of (get (codes "moment") d)
 
 -- the text of a token
 abbrev pub token_of : Option Data → Step (List ℕ)

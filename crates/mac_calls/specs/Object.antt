@@ -5,18 +5,26 @@ use Rattle.serde_json.specs.Data.{Data, Members, no_members, member}
 use Rattle.serde_json.specs.Find.{as_object}
 use Rattle.serde_json.specs.Read.{read}
 use Rattle.mac_calls.specs.declared.call.Call.{Call}
-use Rattle.mac_calls.specs.declared.call.Call.TheVariants.{Mint, Attenuate, Inspect}
+use Rattle.mac_calls.specs.declared.call.Call.TheVariants.{Mint, Attenuate, Inspect, Check, Verify}
 use Rattle.mac_calls.specs.declared.fault.BodyFault.TheVariants.{NoObject, UnknownMember}
 use Rattle.mac_calls.specs.declared.fault.CallRefusal.TheVariants.{Body}
 use Rattle.mac_calls.specs.Steps.{Step, or_fault, ◌>>=◌}
+
+-- the members of what asks for a token in a context
+abbrev pub asks_in_context : List ℕ → Bool
+asks_in_context name = bytes_eq name (codes "token")
+    || (bytes_eq name (codes "facts") || bytes_eq name (codes "moment"))
 
 -- a call's members
 abbrev pub is_known : Call → List ℕ → Bool
 is_known Mint name = bytes_eq name (codes "identifier")
     || (bytes_eq name (codes "identifier64") || (bytes_eq name (codes "location")
     || (bytes_eq name (codes "caveats") || bytes_eq name (codes "form"))))
-is_known Attenuate name = bytes_eq name (codes "token") || bytes_eq name (codes "caveats")
+is_known Attenuate name = bytes_eq name (codes "token")
+    || (bytes_eq name (codes "caveats") || bytes_eq name (codes "form"))
 is_known Inspect name = bytes_eq name (codes "token")
+is_known Check name = asks_in_context name
+is_known Verify name = asks_in_context name
 
 -- there is no other member
 abbrev pub are_known : Call → Members → Bool

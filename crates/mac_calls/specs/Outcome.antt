@@ -6,8 +6,9 @@ use Rattle.mac_keys.specs.declared.keys.Keys.{Keys}
 use Rattle.mac_calls.specs.declared.answering.Outcome.{Outcome}
 use Rattle.mac_calls.specs.declared.answering.Outcome.TheVariants.{NoKey, Reply, Refused}
 use Rattle.mac_calls.specs.declared.call.Call.{Call}
-use Rattle.mac_calls.specs.declared.call.Call.TheVariants.{Mint, Attenuate, Inspect}
+use Rattle.mac_calls.specs.declared.call.Call.TheVariants.{Mint, Attenuate, Inspect, Check, Verify}
 use Rattle.mac_calls.specs.Json.{inspected, refusal_json, token_json}
+use Rattle.mac_calls.specs.Judged.{judged}
 use Rattle.mac_calls.specs.Made.{attenuated, minted_text}
 use Rattle.mac_calls.specs.Object.{object_in}
 use Rattle.mac_calls.specs.Steps.{Step, ◌>>=◌}
@@ -26,6 +27,12 @@ attenuate_answer body = with_token (object_in Attenuate body >>= attenuated)
 abbrev pub inspect_answer : List ℕ → Step (List ℕ)
 inspect_answer body = object_in Inspect body >>= inspected
 
+abbrev pub check_answer : List ℕ → Step (List ℕ)
+check_answer body = object_in Check body >>= judged None
+
+abbrev pub verify_answer : Keys → List ℕ → Step (List ℕ)
+verify_answer keys body = object_in Verify body >>= judged (Some keys)
+
 -- the reply or the refusal
 abbrev pub told_outcome : Step (List ℕ) → Outcome
 told_outcome (Ok json) = Reply json
@@ -36,8 +43,15 @@ abbrev pub mint_outcome : Option Keys → List ℕ → Outcome
 mint_outcome None body = NoKey
 mint_outcome (Some keys) body = told_outcome (mint_answer keys body)
 
--- what comes of a call with a body, under a table; only a mint is about a name
+-- the same of a verify
+abbrev pub verify_outcome : Option Keys → List ℕ → Outcome
+verify_outcome None body = NoKey
+verify_outcome (Some keys) body = told_outcome (verify_answer keys body)
+
+-- what comes of a call with a body, under a table; a mint and a verify alone are about a name
 abbrev pub outcome_of : Table → List ℕ → Call → List ℕ → Outcome
 outcome_of table name Mint body = mint_outcome (map.get table name) body
 outcome_of table name Attenuate body = told_outcome (attenuate_answer body)
 outcome_of table name Inspect body = told_outcome (inspect_answer body)
+outcome_of table name Check body = told_outcome (check_answer body)
+outcome_of table name Verify body = verify_outcome (map.get table name) body

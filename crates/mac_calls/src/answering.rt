@@ -2,14 +2,15 @@
 
 ghost use Rattle.std.specs.Prelude.{◌≡◌, IfOk, List, ℕ};
 ghost use Rattle.mac_calls.specs.Gives.{Gives};
-ghost use Rattle.mac_calls.specs.Outcome.{attenuate_answer, inspect_answer, mint_answer};
-ghost use Rattle.mac_calls.specs.Outcome.{outcome_of, told_outcome};
+ghost use Rattle.mac_calls.specs.Outcome.{attenuate_answer, check_answer, inspect_answer};
+ghost use Rattle.mac_calls.specs.Outcome.{mint_answer, outcome_of, told_outcome, verify_answer};
 ghost use Rattle.mac_calls.specs.Steps.{Step};
 
 use crate::call::Call;
 use crate::fault::{CallFault, CallRefusal};
 use crate::inspect::inspected;
 use crate::json::{refusal_json, token_json};
+use crate::judge::judged;
 use crate::make::{attenuated_text, minted_text};
 use crate::object::object_in;
 use mac_keys::{KeyTable, Keys};
@@ -27,8 +28,9 @@ pub enum Outcome {
     Refused(Bytes),
 }
 
-/// What comes of a call with this body, under the table; only a mint is about a name. Memory and
-/// time are linear in the body and in what is made of it.
+/// What comes of a call with this body, under the table; a mint and a verify alone are about a
+/// name. Memory and time are linear in the body and in what is made of it, but that a check and a
+/// verify look each caveat up among the facts.
 pub fn answer(
     alloc: Global,
     table: &KeyTable,
@@ -45,6 +47,11 @@ pub fn answer(
         },
         Call::Attenuate => told_outcome(alloc, attenuate_answer(alloc, body)),
         Call::Inspect => told_outcome(alloc, inspect_answer(alloc, body)),
+        Call::Check => told_outcome(alloc, check_answer(alloc, body)),
+        Call::Verify => match table.find(name) {
+            Some(keys) => told_outcome(alloc, verify_answer(alloc, keys, body)),
+            None => Ok(Outcome::NoKey),
+        },
     }
 }
 
@@ -92,4 +99,20 @@ fn inspect_answer(alloc: Global, body: &[u8]) -> Result<Vec<u8>, CallFault>
 {
     let object = object_in(alloc, Call::Inspect, body)?;
     inspected(alloc, &object)
+}
+
+/// The reply to a check.
+fn check_answer(alloc: Global, body: &[u8]) -> Result<Vec<u8>, CallFault>
+    ensures { Gives (λ json. json.items) result (check_answer body.now) }
+{
+    let object = object_in(alloc, Call::Check, body)?;
+    judged(alloc, None, &object)
+}
+
+/// The reply to a verify under these keys.
+fn verify_answer(alloc: Global, keys: &Keys, body: &[u8]) -> Result<Vec<u8>, CallFault>
+    ensures { Gives (λ json. json.items) result (verify_answer keys.now body.now) }
+{
+    let object = object_in(alloc, Call::Verify, body)?;
+    judged(alloc, Some(keys), &object)
 }

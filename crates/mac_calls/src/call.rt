@@ -12,6 +12,10 @@ pub enum Call {
     Attenuate,
     /// What a token says. It asks for no key, and tells nothing of one.
     Inspect,
+    /// Which caveats of a token hold with facts at a moment. It asks for no key either.
+    Check,
+    /// Whether the keys of a name grant a token with facts at a moment.
+    Verify,
 }
 
 impl Call {
@@ -27,8 +31,9 @@ impl Call {
                     || name == "caveats"
                     || name == "form"
             }
-            Call::Attenuate => name == "token" || name == "caveats",
+            Call::Attenuate => name == "token" || name == "caveats" || name == "form",
             Call::Inspect => name == "token",
+            Call::Check | Call::Verify => name == "token" || name == "facts" || name == "moment",
         }
     }
 }

@@ -29,6 +29,12 @@ pub enum BodyFault {
     Form,
     /// It has no token, or one that is no text.
     Token,
+    /// The facts are no list of texts.
+    Facts,
+    /// The facts are more or longer than a request may have.
+    ManyFacts,
+    /// It has no moment, or one that is no whole number of seconds.
+    Moment,
 }
 
 impl BodyFault {
@@ -46,6 +52,9 @@ impl BodyFault {
             BodyFault::NoCaveat => "there is no caveat to add",
             BodyFault::Form => "the form is none of v1, v2 and json",
             BodyFault::Token => "there is no text that is the token",
+            BodyFault::Facts => "the facts are no list of texts",
+            BodyFault::ManyFacts => "the facts are more or longer than a request may have",
+            BodyFault::Moment => "there is no number of seconds that is the moment",
         }
     }
 }

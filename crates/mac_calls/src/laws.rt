@@ -1,7 +1,11 @@
 //! Laws of the definitions, as functions whose contracts state them.
 
-ghost use Rattle.std.specs.Prelude.{◌≡◌, ℕ, List, Option, Some, true};
+ghost use Rattle.std.specs.Prelude.{◌≡◌, ◌↔◌, ℕ, List, Option, Some, codes, true};
+ghost use Rattle.std.specs.List.{AllZip};
 ghost use Rattle.mac_decide.specs.Answer.{request_reply};
+ghost use Rattle.mac_decide.specs.Verdict.{Accepts, Satisfied};
+ghost use Rattle.mac_decide.specs.declared.context.Context.{Context as PlainContext};
+ghost use Rattle.mac_keys.specs.Table.{listed};
 ghost use Rattle.mac_keys.specs.declared.keys.Keys.{Keys};
 ghost use Rattle.mac_token.specs.RawToken.{TokenParts};
 ghost use Rattle.mac_token.specs.Read.{read_of};
@@ -10,6 +14,7 @@ ghost use Rattle.mac_wire.specs.declared.reply.Reply.TheVariants as reply;
 ghost use Rattle.mac_decide.specs.declared.job.Basis.{Basis};
 ghost use Rattle.mac_calls.specs.declared.form.CallForm.{CallForm};
 ghost use Rattle.mac_calls.specs.Form.{wire_form};
+ghost use Rattle.mac_calls.specs.Judged.{holding, judgement};
 ghost use Rattle.mac_calls.specs.Made.{narrowed, new_text, text_of_written};
 
 /// What a mint is answered with is the text of the token that the wire's request is replied with.
@@ -32,4 +37,18 @@ pub fn attenuates_as_the_wire()
         → (written : List ℕ) × (text_of_written form written ≡ Ok text)
         × (request_reply (attenuate (wire_form form) token caveats) basis
         ≡ reply.Token written) }
+{}
+
+/// A check tells of each caveat, in order, whether it is satisfied.
+pub fn check_tells_each_caveat()
+    ensures { (caveats : List (List ℕ)) (x : PlainContext)
+        → AllZip (λ caveat holds. (holds ≡ true) ↔ Satisfied caveat x) caveats
+        (holding caveats x) }
+{}
+
+/// A verify tells that a token is granted exactly where the keys of the name accept it.
+pub fn verify_tells_what_is_accepted()
+    ensures { (keys : Keys) (t : TokenParts) (x : PlainContext)
+        → (judgement (Some keys) x t ≡ codes "{\"granted\":true}")
+        ↔ Accepts (listed keys) t x }
 {}

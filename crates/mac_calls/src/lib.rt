@@ -1,4 +1,4 @@
-//! Calls that bring JSON: a token minted, narrowed or looked at.
+//! Calls that bring JSON: a token minted, narrowed, looked at or judged.
 //!
 //! [`answer`] takes a [`Call`] with the bytes of its body, and gives the [`Outcome`]: the JSON text
 //! of a reply, or of a refusal, or that the key isn't there. `docs/FORMATS.md` has the members.
@@ -7,17 +7,22 @@
 
 mod answering;
 mod call;
+mod counted;
 mod fault;
 mod form;
 mod inspect;
 mod json;
+mod judge;
 pub mod laws;
 mod make;
 mod members;
+mod names;
 mod object;
 mod received;
 
 pub use answering::{Outcome, answer};
 pub use call::Call;
+pub use counted::{FACT_MAX, counted_facts};
 pub use fault::{BodyFault, CallRefusal};
 pub use form::CallForm;
+pub use names::names_json;

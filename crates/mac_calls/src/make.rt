@@ -10,7 +10,7 @@ ghost use Rattle.mac_calls.specs.Made.{some_caveat, text_in};
 use crate::fault::{BodyFault, CallFault, CallRefusal};
 use crate::form::CallForm;
 use crate::members::{caveats_in, form_in, identifier_in, location_in, token_in};
-use crate::received::{Received, receive};
+use crate::received::receive;
 use base64::engine::general_purpose::URL_SAFE_NO_PAD;
 use mac_decide::{attenuate, mint};
 use mac_keys::Keys;
@@ -18,26 +18,35 @@ use mac_token::{TOKEN_MAX, Token, TokenRefusal, write};
 use serde_json::Value;
 use std::alloc::Global;
 
-/// The text of the token that an object asks for, under the first of the keys.
+/// The text of the token that an object asks for, under the first of the keys; in the form V2 where
+/// it asks for none.
 pub(crate) fn minted_text(alloc: Global, keys: &Keys, object: &Value) -> Result<Vec<u8>, CallFault>
     ensures { Gives (λ text. text.items) result (minted_text keys.now (view object.now)) }
 {
     let identifier = identifier_in(alloc, object)?;
     let location = location_in(object)?;
     let caveats = caveats_in(alloc, object)?;
-    let form = form_in(object)?;
+    let form = form_in(object)?.unwrap_or(CallForm::V2);
     let token = mint(alloc, &keys.first, location, &identifier, &caveats)?;
     text_in(alloc, form, &token)
 }
 
-/// The text of an object's token with the object's caveats behind its own, in the token's form.
+/// The text of an object's token with the object's caveats behind its own, in the form that is
+/// asked for, or else in the token's.
 pub(crate) fn attenuated_text(alloc: Global, object: &Value) -> Result<Vec<u8>, CallFault>
     ensures { Gives (λ text. text.items) result (attenuated (view object.now)) }
 {
     let text = token_in(object)?;
-    let caveats = some_caveat(caveats_in(alloc, object)?)?;
+    let caveats = caveats_in(alloc, object)?;
+    let form = form_in(object)?;
+    let caveats = some_caveat(caveats)?;
     let received = receive(alloc, text.as_bytes())?;
-    narrowed(alloc, received, &caveats)
+    narrowed(
+        alloc,
+        form.unwrap_or(received.form),
+        received.token,
+        &caveats,
+    )
 }
 
 /// The caveats, if there are any.
@@ -51,12 +60,15 @@ fn some_caveat(caveats: Vec<Vec<u8>>) -> Result<Vec<Vec<u8>>, CallFault>
     Ok(caveats)
 }
 
-/// The text of a token with these caveats behind its own, in the form in which it came.
-fn narrowed(alloc: Global, received: Received, caveats: &[Vec<u8>]) -> Result<Vec<u8>, CallFault>
-    ensures { Gives (λ text. text.items) result
-        (narrowed received.form received.token (byte_lists caveats.now)) }
+/// The text of a token with these caveats behind its own, in a form.
+fn narrowed(
+    alloc: Global,
+    form: CallForm,
+    token: Token,
+    caveats: &[Vec<u8>],
+) -> Result<Vec<u8>, CallFault>
+    ensures { Gives (λ text. text.items) result (narrowed form token (byte_lists caveats.now)) }
 {
-    let Received { token, form } = received;
     match attenuate(alloc, token, caveats) {
         Ok(token) => text_in(alloc, form, &token),
         Err((fault, _)) => Err(fault.into()),

@@ -4,8 +4,8 @@ ghost use Rattle.std.specs.Prelude.{◌≡◌};
 ghost use Rattle.serde_json.specs.View.{view};
 ghost use Rattle.mac_token.specs.RawToken.{byte_lists};
 ghost use Rattle.mac_calls.specs.Gives.{Gives};
-ghost use Rattle.mac_calls.specs.Members.{caveats_in, caveats_of, decoded, form_in};
-ghost use Rattle.mac_calls.specs.Members.{identifier_in, location_in, text_of, token_in};
+ghost use Rattle.mac_calls.specs.Members.{caveats_in, decoded, facts_in, form_in, identifier_in};
+ghost use Rattle.mac_calls.specs.Members.{location_in, moment_in, text_of, texts_of, token_in};
 
 use crate::fault::{BodyFault, CallFault};
 use crate::form::CallForm;
@@ -72,36 +72,59 @@ pub(crate) fn caveats_in(alloc: Global, object: &Value) -> Result<Vec<Vec<u8>>, 
     ensures { Gives (λ texts. byte_lists texts.items) result (caveats_in (view object.now)) }
 {
     match object.get("caveats") {
-        Some(value) => caveats_of(alloc, value),
+        Some(value) => texts_of(alloc, BodyFault::Caveats, value),
         None => Ok(Vec::new(alloc)),
     }
 }
 
-/// The texts of a list.
-fn caveats_of(alloc: Global, value: &Value) -> Result<Vec<Vec<u8>>, CallFault>
-    ensures { Gives (λ texts. byte_lists texts.items) result (caveats_of (view value.now)) }
+/// The facts, none where they are left out.
+pub(crate) fn facts_in(alloc: Global, object: &Value) -> Result<Vec<Vec<u8>>, CallFault>
+    ensures { Gives (λ texts. byte_lists texts.items) result (facts_in (view object.now)) }
+{
+    match object.get("facts") {
+        Some(value) => texts_of(alloc, BodyFault::Facts, value),
+        None => Ok(Vec::new(alloc)),
+    }
+}
+
+/// The texts of a list, or this fault.
+fn texts_of(alloc: Global, why: BodyFault, value: &Value) -> Result<Vec<Vec<u8>>, CallFault>
+    ensures { Gives (λ texts. byte_lists texts.items) result (texts_of why (view value.now)) }
 {
     let Some(list) = value.as_array() else {
-        return Err(BodyFault::Caveats.into());
+        return Err(why.into());
     };
     let mut texts = Vec::with_capacity(alloc, list.len())?;
     for item in list {
-        texts.push(copied(alloc, BodyFault::Caveats, item)?)?;
+        texts.push(copied(alloc, why, item)?)?;
     }
     Ok(texts)
 }
 
-/// The form of a new token, V2 where it is left out.
-pub(crate) fn form_in(object: &Value) -> Result<CallForm, CallFault>
+/// The form that is asked for, if it isn't left out.
+pub(crate) fn form_in(object: &Value) -> Result<Option<CallForm>, CallFault>
     ensures { Gives (λ form. form) result (form_in (view object.now)) }
 {
     let Some(value) = object.get("form") else {
-        return Ok(CallForm::V2);
+        return Ok(None);
     };
     let word = text_of(BodyFault::Form, value)?;
     match CallForm::named(word) {
-        Some(form) => Ok(form),
+        Some(form) => Ok(Some(form)),
         None => Err(BodyFault::Form.into()),
+    }
+}
+
+/// The moment, in seconds since 1970.
+pub(crate) fn moment_in(object: &Value) -> Result<u64, CallFault>
+    ensures { Gives (λ moment. moment) result (moment_in (view object.now)) }
+{
+    let Some(value) = object.get("moment") else {
+        return Err(BodyFault::Moment.into());
+    };
+    match value.as_u64() {
+        Some(moment) => Ok(moment),
+        None => Err(BodyFault::Moment.into()),
     }
 }
 

@@ -11,7 +11,7 @@ pub fn request_of(asks: Asks, status: StatusCode) -> Option<Request> {
         Asks::Verify => Asked::Verify,
         Asks::Mint => Asked::Mint,
         Asks::Attenuate => Asked::Attenuate,
-        Asks::Inspect => return None,
+        Asks::Inspect | Asks::Check => return None,
     };
     let told = match (asks, is_well(status)) {
         (Asks::Verify, true) => Told::Granted,
@@ -29,11 +29,12 @@ pub fn exchange_of(asks: Asks, name: Vec<u8>, status: StatusCode) -> Exchange {
         Asks::Mint => "mint",
         Asks::Attenuate => "attenuate",
         Asks::Inspect => "inspect",
+        Asks::Check => "check",
     };
     let (verdict, code) = match (asks, is_well(status)) {
         (Asks::Verify, true) => ("granted", None),
         (Asks::Verify, false) if status == StatusCode::FORBIDDEN => ("unsatisfied", None),
-        (Asks::Inspect, true) => ("told", None),
+        (Asks::Inspect | Asks::Check, true) => ("told", None),
         (_, true) => ("token", None),
         (_, false) => ("refused", Some(status.as_u16())),
     };

@@ -5,6 +5,7 @@ use Rattle.std.specs.FinMap as map
 use Rattle.std.proofs.lemmas.List.Elements.{Contains-push, Contains-push_cases, Contains-append_cases, Contains-append_left, Contains-append_right}
 use Rattle.http.specs.declared.request.Parts.{Parts}
 use Rattle.http_uri.specs.Uri.{uri_path}
+use Rattle.mac_calls.specs.Counted.{are_few}
 use Rattle.mac_decide.specs.Answer.{IsGranted}
 use Rattle.mac_decide.specs.Reading.{verdict_of}
 use Rattle.mac_decide.specs.Verdict.{Accepts, IsVerdict}
@@ -21,7 +22,7 @@ use Rattle.mac_http.specs.declared.authorization.Scheme.{Scheme}
 use Rattle.mac_http.specs.declared.finding.Finding.TheVariants.{Granted, UnsafePath, ManyFacts}
 use Rattle.mac_http.specs.declared.rules.Sources.{Sources}
 use Rattle.mac_http.specs.Authorization.{credentials_in}
-use Rattle.mac_http.specs.Facts.{are_few, facts_of, tells_unsafe}
+use Rattle.mac_http.specs.Facts.{facts_of, tells_unsafe}
 use Rattle.mac_http.specs.Found.{found_by, found_read, found_at, found_with, found_under, found_named, found_in, found_of, context_of, IsGrantedBy}
 use Rattle.mac_http.specs.Path.{IsStep, is_step, step_of, steps_within}
 use Rattle.mac_http.specs.Target.{target_in}

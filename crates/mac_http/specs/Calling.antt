@@ -9,7 +9,7 @@ use Rattle.mac_calls.specs.Outcome.{outcome_of}
 use Rattle.mac_calls.specs.declared.answering.Outcome.{Outcome}
 use Rattle.mac_calls.specs.declared.answering.Outcome.TheVariants.{NoKey, Reply, Refused}
 use Rattle.mac_calls.specs.declared.call.Call.{Call}
-use Rattle.mac_calls.specs.declared.call.Call.TheVariants.{Mint, Attenuate, Inspect}
+use Rattle.mac_calls.specs.declared.call.Call.TheVariants.{Mint, Attenuate, Inspect, Check}
 use Rattle.mac_keys.specs.Table.{Table}
 use Rattle.mac_http.specs.declared.rules.Calls.{Calls}
 use Rattle.mac_http.specs.Saying.{IsOverloaded}
@@ -17,7 +17,7 @@ use Rattle.mac_http.specs.Target.{behind_front}
 
 -- no call is allowed
 abbrev pub no_calls : Calls
-no_calls = record { mint = false; attenuate = false; inspect = false }
+no_calls = record { mint = false; attenuate = false; inspect = false; check = false }
 
 -- the name of a key in a path that asks for a mint
 abbrev pub mint_in : List ℕ → Option (Call × List ℕ)
@@ -28,7 +28,8 @@ abbrev pub call_in : Calls → List ℕ → Option (Call × List ℕ)
 call_in calls path =
     if bytes_eq path (codes "/attenuate") && calls.attenuate then Some (Attenuate, [])
     else (if bytes_eq path (codes "/inspect") && calls.inspect then Some (Inspect, [])
-    else (if calls.mint then mint_in path else None))
+    else (if bytes_eq path (codes "/check") && calls.check then Some (Check, [])
+    else (if calls.mint then mint_in path else None)))
 
 -- the field of JSON
 abbrev pub is_json : List Header

@@ -1,14 +1,12 @@
 -- The facts that a request brings, by the sources that are named (this project's own).
 use Rattle.std.specs.Prelude.{ℕ, Bool, ◌==◌, nat_lt, nat_le, not, ◌&&◌, false, position, unwrap_or, List, [], ◌∷◌, ◌++◌, length, take, map, codes, bytes_eq, Option, Some, None, option_map, if◌then◌else◌}
-use Rattle.std.specs.List.{flat_map, list_any}
+use Rattle.std.specs.List.{flat_map}
 use Rattle.std.specs.Str.Lossy.{utf8_lossy}
 use Rattle.form_urlencoded.specs.Form.{raw_pairs, decode}
 use Rattle.http.specs.declared.request.Parts.{Parts}
 use Rattle.http_header.specs.FieldValue.{FieldValue}
 use Rattle.http_header.specs.HeaderMap.{Entries, get_all}
 use Rattle.http_uri.specs.Uri.{uri_query}
-use Rattle.mac_wire.specs.declared.request.TheConstants.{FACTS_MAX}
-use Rattle.mac_http.specs.declared.counted.TheConstants.{FACT_MAX}
 use Rattle.mac_http.specs.declared.rules.Sources.{Sources}
 use Rattle.mac_http.specs.Authorization.{only}
 use Rattle.mac_http.specs.Path.{is_plain, steps}
@@ -125,11 +123,3 @@ facts_of sources head behind =
 abbrev pub tells_unsafe : Sources → Parts → List ℕ → Bool
 tells_unsafe sources head behind =
     sources.forwarded && is_unsafe (option_map path_of (target_told head behind))
-
--- a fact is longer than a request may have
-abbrev pub is_long : List ℕ → Bool
-is_long fact = nat_lt FACT_MAX (length fact)
-
--- the facts are no more and no longer than a request may have
-abbrev pub are_few : List (List ℕ) → Bool
-are_few facts = nat_le (length facts) FACTS_MAX && not (list_any is_long facts)

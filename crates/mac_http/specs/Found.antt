@@ -4,6 +4,7 @@ use Rattle.std.specs.Prelude.{◌≡◌, true, false, ℕ, List, Option, Some, N
 use Rattle.std.specs.FinMap as map
 use Rattle.http.specs.declared.request.Parts.{Parts}
 use Rattle.http_uri.specs.Uri.{uri_path}
+use Rattle.mac_calls.specs.Counted.{are_few}
 use Rattle.mac_decide.specs.Answer.{IsGranted}
 use Rattle.mac_decide.specs.Reading.{verdict_of}
 use Rattle.mac_decide.specs.declared.context.Context.{Context}
@@ -19,7 +20,7 @@ use Rattle.mac_http.specs.declared.finding.Finding.{Finding}
 use Rattle.mac_http.specs.declared.finding.Finding.TheVariants.{Unknown, NoToken, UnsafePath, ManyFacts, NoMoment, Invalid, Unsatisfied, Granted}
 use Rattle.mac_http.specs.declared.rules.Sources.{Sources}
 use Rattle.mac_http.specs.Authorization.{credentials_in}
-use Rattle.mac_http.specs.Facts.{facts_of, tells_unsafe, are_few}
+use Rattle.mac_http.specs.Facts.{facts_of, tells_unsafe}
 use Rattle.mac_http.specs.Target.{target_in}
 
 -- what a verdict on a token that came by a scheme finds

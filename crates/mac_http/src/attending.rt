@@ -58,7 +58,7 @@ pub fn attend<K: Tables, M: Moments, S: Steward, V: Watch, R: Read, W: Write>(
 }
 
 /// Reads, answers and writes until the connection is done.
-fn serve<S: Service, V: Watch, R: Read, W: Write>(
+pub fn serve<S: Service, V: Watch, R: Read, W: Write>(
     connection: &mut Connection,
     service: &mut S,
     watch: &mut V,

@@ -21,19 +21,22 @@ const ATTENUATE: &[u8] = b"/attenuate";
 
 const INSPECT: &[u8] = b"/inspect";
 
+const CHECK: &[u8] = b"/check";
+
 /// What stands before the name of a key in the path of a mint.
 const MINT: &[u8] = b"/mint/";
 
 /// A call that a path asks for.
 #[derive(Clone, Copy)]
-pub(crate) struct Asked<'a> {
-    pub(crate) call: Call,
+pub struct Asked<'a> {
+    /// The call.
+    pub call: Call,
     /// The name of the key, empty where the call is about none.
-    pub(crate) name: &'a [u8],
+    pub name: &'a [u8],
 }
 
 /// The call that a path asks for, where it is allowed.
-pub(crate) fn call_in(calls: Calls, path: &[u8]) -> Option<Asked<'_>>
+pub fn call_in(calls: Calls, path: &[u8]) -> Option<Asked<'_>>
     ensures { option_map (λ asked. (asked.call, asked.name.now)) result ≡ call_in calls path.now }
 {
     if path == ATTENUATE && calls.attenuate {
@@ -44,6 +47,11 @@ pub(crate) fn call_in(calls: Calls, path: &[u8]) -> Option<Asked<'_>>
     } else if path == INSPECT && calls.inspect {
         Some(Asked {
             call: Call::Inspect,
+            name: b"",
+        })
+    } else if path == CHECK && calls.check {
+        Some(Asked {
+            call: Call::Check,
             name: b"",
         })
     } else if calls.mint {

@@ -6,16 +6,16 @@ ghost use Rattle.mac_token.specs.RawToken.{byte_lists};
 ghost use Rattle.mac_token.specs.Read.{read_of};
 ghost use Rattle.mac_wire.specs.Request.{counted_fields};
 ghost use Rattle.mac_http.specs.Authorization.{credentials_in};
-ghost use Rattle.mac_http.specs.Facts.{are_few};
+ghost use Rattle.mac_calls.specs.Counted.{are_few};
 ghost use Rattle.mac_http.specs.Found.{found_at, found_by, found_few, found_of, found_read, found_under, found_with};
 
 use crate::authorization::{Credentials, Scheme, credentials_in};
-use crate::counted::counted_facts;
 use crate::facts::{facts_of, tells_unsafe};
 use crate::rules::Sources;
 use crate::target::{Target, target_in};
 use bytes::Bytes;
 use http::Request;
+use mac_calls::counted_facts;
 use mac_decide::{Context, SeenTokens, Verdict, verify_read};
 use mac_keys::{KeyTable, Keys};
 use mac_token::{Token, TokenFault, read};

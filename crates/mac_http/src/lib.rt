@@ -11,7 +11,6 @@
 mod attending;
 mod authorization;
 mod calling;
-mod counted;
 mod escaped;
 mod face;
 mod facts;
@@ -24,9 +23,9 @@ mod rules;
 mod saying;
 mod target;
 
-pub use attending::{CONFIG, Watch, attend};
+pub use attending::{CONFIG, Watch, attend, serve};
 pub use authorization::Scheme;
-pub use counted::FACT_MAX;
+pub use calling::{Asked, call_in};
 pub use face::Face;
 pub use finding::{Finding, find};
 pub use noted::{Asks, Noted};

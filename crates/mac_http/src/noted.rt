@@ -15,6 +15,8 @@ pub enum Asks {
     Attenuate,
     /// What a token says.
     Inspect,
+    /// Which caveats of a token hold.
+    Check,
 }
 
 /// A request that names no page.
@@ -32,6 +34,8 @@ pub(crate) fn note_of_call(asked: Asked<'_>) -> Noted<'_> {
         Call::Mint => Asks::Mint,
         Call::Attenuate => Asks::Attenuate,
         Call::Inspect => Asks::Inspect,
+        Call::Check => Asks::Check,
+        Call::Verify => Asks::Verify,
     };
     Noted {
         asks,

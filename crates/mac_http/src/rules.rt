@@ -32,6 +32,8 @@ pub struct Calls {
     pub attenuate: bool,
     /// What tokens say.
     pub inspect: bool,
+    /// Which caveats of tokens hold.
+    pub check: bool,
 }
 
 impl Calls {
@@ -46,6 +48,7 @@ impl Calls {
             mint: false,
             attenuate: false,
             inspect: false,
+            check: false,
         }
     }
 }

@@ -75,7 +75,7 @@ GivesSources list (Err _) = ⊥
 
 abbrev pub is_call : List ℕ → Bool
 is_call word = bytes_eq word (codes "mint") || (bytes_eq word (codes "attenuate")
-    || bytes_eq word (codes "inspect"))
+    || (bytes_eq word (codes "inspect") || bytes_eq word (codes "check")))
 
 -- the calls that these words name
 abbrev pub calls_in : List (List ℕ) → Calls
@@ -83,6 +83,7 @@ calls_in words = record {
   mint = list_any (λ word. bytes_eq word (codes "mint")) words;
   attenuate = list_any (λ word. bytes_eq word (codes "attenuate")) words;
   inspect = list_any (λ word. bytes_eq word (codes "inspect")) words;
+  check = list_any (λ word. bytes_eq word (codes "check")) words;
 }
 
 -- the calls that a list names, or one of its words names none

@@ -40,6 +40,8 @@ const ATTENUATE: &[u8] = b"attenuate";
 
 const INSPECT: &[u8] = b"inspect";
 
+const CHECK: &[u8] = b"check";
+
 /// Sockets over HTTP, as options name them.
 #[derive(Drop)]
 pub struct HttpPlan<'a> {
@@ -209,6 +211,7 @@ fn read_calls<'a>(alloc: Global, list: &Option<String>) -> Result<Calls, HttpFau
         mint: has_word(&words, MINT),
         attenuate: has_word(&words, ATTENUATE),
         inspect: has_word(&words, INSPECT),
+        check: has_word(&words, CHECK),
     })
 }
 
@@ -257,7 +260,7 @@ fn are_calls(words: &[&[u8]]) -> bool
 fn is_call(word: &[u8]) -> bool
     ensures { result ≡ is_call word.now }
 {
-    word == MINT || word == ATTENUATE || word == INSPECT
+    word == MINT || word == ATTENUATE || word == INSPECT || word == CHECK
 }
 
 /// Whether a word is among these.

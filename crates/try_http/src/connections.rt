@@ -129,6 +129,7 @@ fn rules_of(words: &[u8]) -> Rules {
         mint: has(words, b"mint"),
         attenuate: has(words, b"attenuate"),
         inspect: has(words, b"inspect"),
+        check: has(words, b"check"),
     };
     Rules {
         sources,

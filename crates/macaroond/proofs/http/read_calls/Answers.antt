@@ -15,4 +15,5 @@ returns c =
     let mint = c.has_word.ensures ∙ any_lent (codes "mint") c.in_ok-words.ensures c.deref-2.ensures.value in
     let attenuate = c.has_word-2.ensures ∙ any_lent (codes "attenuate") c.in_ok-words.ensures c.deref-3.ensures.value in
     let inspect = c.has_word-3.ensures ∙ any_lent (codes "inspect") c.in_ok-words.ensures c.deref-4.ensures.value in
-    (all, λ i. record { mint = mint i; attenuate = attenuate i; inspect = inspect i })
+    let check = c.has_word-4.ensures ∙ any_lent (codes "check") c.in_ok-words.ensures c.deref-5.ensures.value in
+    (all, λ i. record { mint = mint i; attenuate = attenuate i; inspect = inspect i; check = check i })

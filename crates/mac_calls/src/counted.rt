@@ -5,7 +5,7 @@ ghost use Rattle.std.specs.List.{flat_map, list_any};
 ghost use Rattle.std.specs.Option.{option_map};
 ghost use Rattle.mac_token.specs.RawToken.{byte_lists};
 ghost use Rattle.mac_wire.specs.Request.{AreFields, counted_fields, long_field};
-ghost use Rattle.mac_http.specs.Facts.{are_few, is_long};
+ghost use Rattle.mac_calls.specs.Counted.{are_few, is_long};
 
 use mac_wire::FACTS_MAX;
 use std::alloc::{AllocError, Global};
@@ -15,7 +15,7 @@ pub const FACT_MAX: usize = 65_535;
 
 /// The facts, counted in one byte and each behind its length; none where they are too many or too
 /// long.
-pub(crate) fn counted_facts(alloc: Global, facts: &[Vec<u8>]) -> Result<Option<Vec<u8>>, AllocError>
+pub fn counted_facts(alloc: Global, facts: &[Vec<u8>]) -> Result<Option<Vec<u8>>, AllocError>
     ensures { IfOk result (λ made. option_map (λ c. c.items) made
         ≡ (if are_few (byte_lists facts.now) then Some (counted_fields (byte_lists facts.now))
         else None)) }

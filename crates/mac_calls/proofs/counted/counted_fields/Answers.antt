@@ -1,6 +1,6 @@
 use Rattle.std.proofs.Common.{ap, length, arith}
-use Rattle.mac_http.proofs.ListLemmas.{short_at}
-use Rattle.mac_http.proofs.counted.counted_fields.Goals as goal
+use Rattle.mac_calls.proofs.ListLemmas.{short_at}
+use Rattle.mac_calls.proofs.counted.counted_fields.Goals as goal
 
 pub put_field-requires : goal.put_field-requires
 put_field-requires c =

@@ -1,7 +1,0 @@
-use Rattle.std.proofs.Common.{◌∙◌}
-use Rattle.mac_http.specs.Facts.{is_long}
-use Rattle.mac_http.proofs.ListLemmas.{any_mapped}
-use Rattle.mac_http.proofs.counted.any_is_long.Goals as goal
-
-pub returns : goal.returns
-returns c = c.has_long.ensures ∙ any_mapped (λ f. f.items) is_long c.args.facts.now
