@@ -1,0 +1,213 @@
+#!/usr/bin/env python3
+"""The page of `macaroond page`, in Chromium: what it shows of tokens of every form, what of hostile ones, and that it
+can be used by keyboard, on a phone, in the dark and by a screen reader.
+
+    page.py --stub                  by scripts/check/page_stub.py, which answers in Python
+    page.py bin/macaroond page      by the program
+    page.py --pictures ..           the same, and writes docs/page-light.png and docs/page-dark.png
+    page.py --only=PART ..          a part alone, by its function's name; may be given often
+
+Tokens are made by Python's `hmac` and the writers of the Python client.
+"""
+import json
+import pathlib
+import re
+import sys
+
+sys.path.insert(0, str(pathlib.Path(__file__).resolve().parents[1]))
+from check import chromium
+from check.page_looks import keyboard, looks, named, pictures
+from check.page_stub import POLICY
+from check.page_tab import Page, headline, parts, serving, v2
+from check.page_tokens import caveats, forms, hostile, narrowed, refusals, times, with_keys, without_keys
+
+from macaroond import binary, jsontext, packets
+from macaroond.base64text import encoded
+
+STUB = [sys.executable, str(pathlib.Path(__file__).with_name("page_stub.py"))]
+# Of a token with the caveats `a` and `time < 1970-01-01T00:01`: whether they hold.
+CHECKS = (
+    ({}, [False, False]),
+    ({"moment": 59}, [False, True]),
+    ({"moment": 60}, [False, False]),
+    ({"moment": 2**63}, [False, False]),
+    ({"facts": ["b", "a"], "moment": 0}, [True, True]),
+    ({"facts": ["time < 1970-01-01T00:01"]}, [False, True]),
+    ({"facts": ["a"] * 128}, [True, False]),
+)
+NO_CHECKS = (
+    {"facts": "a"}, {"facts": [1]}, {"facts": None}, {"facts": ["a"] * 129}, {"moment": -1}, {"moment": 1.5}, {"moment": "1"},
+    {"moment": None}, {"other": 1},
+)
+FILES_MAX = 48 * 1_024
+PATHS = {"/": "text/html", "/page.css": "text/css", "/page.js": "text/javascript"}
+
+
+def served(page):
+    """The three files, and the fields that keep the page to them."""
+    files = {path: page.asked("GET", path) for path in PATHS}
+    for path, (status, fields, content) in files.items():
+        yield f"{path}: status", status, 200
+        yield f"{path}: kind", fields["Content-Type"].split(";")[0], PATHS[path]
+        yield f"{path}: policy", fields["Content-Security-Policy"], POLICY
+        yield f"{path}: printable ASCII", re.findall(rb"[^\n -~]", content), []
+    size = sum(len(content) for _, _, content in files.values())
+    yield f"{size} bytes are few", size <= FILES_MAX, True
+    text = files["/"][2].decode()
+    yield "no style and no handler in it", re.findall(r"\s(?:style|on[a-z]+)=", text), []
+    yield "each script is a file", re.findall(r"<script(?! src=)", text), []
+    yield "nothing from elsewhere", re.findall(r"https?://", text + files["/page.css"][2].decode()), []
+    yield "another path", page.asked("GET", "/page.txt")[0], 404
+    body = json.dumps({"token": v2()})
+    yield "a call", page.asked("POST", "/inspect", body)[0], 200
+    yield "from a page elsewhere", page.asked("POST", "/inspect", body, Origin="http://example.org")[0] == 200, False
+    yield "by another name of this machine", page.asked("POST", "/inspect", body, Host="example.org")[0] == 200, False
+
+
+def calls(page):
+    """What the page asks, asked by hand."""
+    caveats = ["a", "time < 1970-01-01T00:01"]
+    token, narrow = parts(*caveats), parts(*caveats, "b")
+    forms = {"v1": packets.write, "v2": binary.write, "json": jsontext.write}
+    texts = {form: encoded(write(token)).decode() for form, write in forms.items()}
+    longer = {form: (200, {"token": encoded(write(narrow)).decode()}) for form, write in forms.items()}
+    told = {"caveats": [{"text": caveat} for caveat in caveats], "identifier": "alice", "location": "http://mybank/"}
+    for form, text in texts.items():
+        due = {**told, "form": form, "signature": token.signature.hex()}
+        yield f"an inspect of {form}", asked(page, "inspect", token=text), (200, due)
+        yield f"an attenuate of {form}", asked(page, "attenuate", token=text, caveats=["b"]), longer[form]
+        for to in forms:
+            yield f"from {form} to {to}", asked(page, "attenuate", token=text, caveats=["b"], form=to), longer[to]
+    for given, holds in CHECKS:
+        found = asked(page, "check", token=texts["v2"], **{"facts": [], **given})
+        yield f"a check with {str(given)[:60]}", found, (200, {"holds": holds})
+    for given in NO_CHECKS:
+        status, fault = asked(page, "check", token=texts["v2"], **{"facts": [], **given})
+        yield f"no check with {str(given)[:60]}", (status, list(fault)), (400, ["reason"])
+    refused = {"code": 19, "reason": "the token is neither a bare form nor base64 text"}
+    for call, given in (("inspect", {}), ("check", {"facts": []}), ("attenuate", {"caveats": ["a"]})):
+        yield f"a refusal of {call}", asked(page, call, token="?", **given), (400, refused)
+        status, _, content = page.asked("POST", f"/{call}", "[]")
+        yield f"no object for {call}", (status, content), (400, b'{"reason":"the body is no JSON object"}')
+        status, fields, _ = page.asked("GET", f"/{call}")
+        yield f"a GET of {call}", (status, fields["Allow"]), (405, "POST")
+    fault = {"reason": "the form is none of v1, v2 and json"}
+    yield "no form", asked(page, "attenuate", token=texts["v2"], caveats=["b"], form="v3"), (400, fault)
+    fault = {"reason": "there is no caveat to add"}
+    yield "no caveat", asked(page, "attenuate", token=texts["v2"], caveats=[]), (400, fault)
+
+
+def no_names(page):
+    """Without keys there are no names."""
+    for method, path in (("GET", "names"), ("POST", "verify/bank"), ("POST", "mint/bank")):
+        yield path, page.asked(method, f"/{path}", "{}")[0], 404
+
+
+def calls_of_names(page):
+    """The same of what asks for a key."""
+    status, _, content = page.asked("GET", "/names")
+    yield "the names", (status, json.loads(content)), (200, {"names": ["bank", "shop"]})
+    text = v2("a", "time < 1970-01-01T00:01")
+    told = lambda **of: (200, {"granted": False, **of})
+    unsatisfied = lambda at: told(code=24, caveat=at, reason=f"caveat {at} is not satisfied")
+    signature = "the key does not give the signature of the token"
+    rows = [
+        ("granted", "bank", text, ["a"], 59, (200, {"granted": True})),
+        ("a caveat", "bank", text, [], 59, unsatisfied(0)),
+        ("a bound", "bank", text, ["a"], 60, unsatisfied(1)),
+        ("another key", "shop", text, [], 59, told(code=23, reason=signature)),
+        ("another name", "none", text, ["a"], 59, (404, {})),
+    ]
+    for name, key, token, facts, moment, due in rows:
+        yield name, asked(page, f"verify/{key}", token=token, facts=facts, moment=moment), due
+    mint = {"identifier": "alice", "location": "http://mybank/", "caveats": ["a"]}
+    yield "a mint", asked(page, "mint/bank", **mint), (200, {"token": v2("a")})
+    yield "no mint", asked(page, "mint/none", identifier="alice"), (404, {})
+
+
+def asked(page, call, **members):
+    """The status and the object that a call is answered with."""
+    status, _, content = page.asked("POST", "/" + call, json.dumps(members))
+    return status, json.loads(content or b"{}")
+
+
+def kept(page):
+    """Nothing is kept, nothing is asked elsewhere, no policy is broken, and nothing failed."""
+    tab, token = page.tab, v2("a secret caveat")
+    page.paste(token)
+    page.enter("caveat", "b")
+    tab.until("document.querySelectorAll('#copies button').length", 4)
+    yield "the address", tab.value("location.href"), page.address
+    yield "its history", tab.value("history.state"), None
+    yield "cookies", tab.value("document.cookie"), ""
+    yield "storage", tab.value("localStorage.length + sessionStorage.length"), 0
+    yield "databases", tab.value("indexedDB.databases().then((it) => it.length)"), 0
+    yield "the title", token in tab.value("document.title"), False
+    sent = [event["request"]["url"] for event in tab.told_of("Network.requestWillBeSent")]
+    asked = sorted({url.removeprefix(page.address) for url in sent if url != "about:blank" and not url.startswith("data:")})
+    known = r"|page\.css|page\.js|names|inspect|check|attenuate|verify/(bank|shop)|mint/bank"
+    yield "what was asked", [url for url in asked if not re.fullmatch(known, url)], []
+    yield "no policy is broken", tab.value("broken"), []
+    faults = [event["exceptionDetails"]["text"] for event in tab.told_of("Runtime.exceptionThrown")]
+    yield "no fault", faults, []
+    # A refusal's status stands in the browser's log, and so does a 404 for the names.
+    entries = [event["entry"]["text"] for event in tab.told_of("Log.entryAdded")]
+    yield "nothing else in the log", [it for it in entries if not re.search(r"status of 4(00|04|13)", it)], []
+    tab.value("location.reload()")
+    tab.until("document.readyState === 'complete' && document.getElementById('token').value === ''", True)
+    yield "gone after a reload", tab.value("document.getElementById('token').value"), ""
+
+
+def gone(page, run):
+    """A server that ended."""
+    page.paste(v2("a"))
+    run.kill()
+    run.wait()
+    page.enter("fact", "b")
+    due = "macaroond doesn't answer. Does it still run?"
+    yield "it is told", headline(page, due), due
+
+
+PARTS = {
+    False: (served, calls, no_names, forms, caveats, times, refusals, narrowed, without_keys, hostile, kept),
+    True: (served, calls_of_names, with_keys, keyboard, named, looks, kept),
+}
+
+
+def rows(command, makes_pictures, only):
+    """Each check with its part, what was found and what is due."""
+    for has_keys, parts_of in PARTS.items():
+        with serving(command, has_keys) as (port, run), chromium.tab() as tab:
+            page = Page(tab, port)
+            for part in (*parts_of, *([pictures] if makes_pictures and has_keys else [])):
+                if only and part.__name__ not in only:
+                    continue
+                tab.sized(1_280, 900)
+                tab.colored("light")
+                page.open()
+                yield from ((part.__name__, *row) for row in part(page))
+            if not only:
+                page.open()
+                yield from (("gone", *row) for row in gone(page, run))
+
+
+def main(words):
+    makes_pictures = "--pictures" in words
+    only = [word.removeprefix("--only=") for word in words if word.startswith("--only=")]
+    words = [word for word in words if word != "--pictures" and not word.startswith("--only=")]
+    if not words:
+        sys.exit(__doc__)
+    if not chromium.path_of():
+        print("SKIPPED of the page: there is no chromium", "page: 0 passed, 0 failed, 1 skipped", sep="\n")
+        return
+    passed = failed = 0
+    for part, name, got, due in rows(STUB if words == ["--stub"] else words, makes_pictures, only):
+        passed, failed = passed + (got == due), failed + (got != due)
+        if got != due:
+            print(f"{part}: {name}: {got!r}, and it should be {due!r}", flush=True)
+    print(f"page: {passed} passed, {failed} failed")
+    sys.exit(bool(failed))
+
+
+if __name__ == "__main__":
+    main(sys.argv[1:])
