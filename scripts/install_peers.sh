@@ -27,6 +27,7 @@ nginx-light                     scripts/check/gateways.py has it ask macaroond o
 caddy                           scripts/check/gateways.py has it ask macaroond over HTTP
 haproxy                         scripts/check/gateways.py has it ask macaroond over HTTP
 apache2-bin                     scripts/check/gateways.py has it ask macaroond over HTTP
+chromium                        scripts/check/page.py drives the page in it
 lua-socket                      by it Apache asks macaroond (examples/gateways/apache.lua)
 END
 }

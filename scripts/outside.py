@@ -39,6 +39,7 @@ from check import (
     numbers,
     operators,
     package_runs,
+    page,
     pages,
     peers,
     promises,
@@ -108,6 +109,7 @@ OF_PROGRAM = {
     "operators": operators.faults,
     "HTTP": http_sockets.faults,
     "gateways": gateways.faults,
+    "page": page.faults,
     "hostile": lambda: hostile.faults(HOSTILE_SECONDS),
     "clients": clients.daemon_faults,
 }

@@ -21,23 +21,24 @@ from check.page_stub import POLICY
 from check.page_tab import Page, headline, parts, serving, v2
 from check.page_tokens import caveats, forms, hostile, narrowed, refusals, times, with_keys, without_keys
 
+from common import TOP
 from macaroond import binary, jsontext, packets
 from macaroond.base64text import encoded
 
 STUB = [sys.executable, str(pathlib.Path(__file__).with_name("page_stub.py"))]
 # Of a token with the caveats `a` and `time < 1970-01-01T00:01`: whether they hold.
 CHECKS = (
-    ({}, [False, False]),
     ({"moment": 59}, [False, True]),
     ({"moment": 60}, [False, False]),
     ({"moment": 2**63}, [False, False]),
     ({"facts": ["b", "a"], "moment": 0}, [True, True]),
-    ({"facts": ["time < 1970-01-01T00:01"]}, [False, True]),
-    ({"facts": ["a"] * 128}, [True, False]),
+    ({"facts": ["time < 1970-01-01T00:01"], "moment": 60}, [False, True]),
+    ({"facts": ["a"] * 128, "moment": 60}, [True, False]),
 )
 NO_CHECKS = (
-    {"facts": "a"}, {"facts": [1]}, {"facts": None}, {"facts": ["a"] * 129}, {"moment": -1}, {"moment": 1.5}, {"moment": "1"},
-    {"moment": None}, {"other": 1},
+    {}, {"moment": -1}, {"moment": 1.5}, {"moment": "1"}, {"moment": None},
+    {"moment": 1, "facts": "a"}, {"moment": 1, "facts": [1]}, {"moment": 1, "facts": None}, {"moment": 1, "facts": ["a"] * 129},
+    {"moment": 1, "other": 1},
 )
 FILES_MAX = 48 * 1_024
 PATHS = {"/": "text/html", "/page.css": "text/css", "/page.js": "text/javascript"}
@@ -85,7 +86,7 @@ def calls(page):
         status, fault = asked(page, "check", token=texts["v2"], **{"facts": [], **given})
         yield f"no check with {str(given)[:60]}", (status, list(fault)), (400, ["reason"])
     refused = {"code": 19, "reason": "the token is neither a bare form nor base64 text"}
-    for call, given in (("inspect", {}), ("check", {"facts": []}), ("attenuate", {"caveats": ["a"]})):
+    for call, given in (("inspect", {}), ("check", {"facts": [], "moment": 1}), ("attenuate", {"caveats": ["a"]})):
         yield f"a refusal of {call}", asked(page, call, token="?", **given), (400, refused)
         status, _, content = page.asked("POST", f"/{call}", "[]")
         yield f"no object for {call}", (status, content), (400, b'{"reason":"the body is no JSON object"}')
@@ -191,6 +192,23 @@ def rows(command, makes_pictures, only):
                 yield from (("gone", *row) for row in gone(page, run))
 
 
+def compared(command, makes_pictures=False, only=()):
+    """What the page of this command does otherwise, and how many checks were made."""
+    wrong, count = [], 0
+    for part, name, got, due in rows(command, makes_pictures, only):
+        count += 1
+        if got != due:
+            wrong.append(f"{part}: {name}: {got!r}, and it should be {due!r}")
+    return wrong, count
+
+
+def faults():
+    """What the program's page does otherwise, how many checks were made, and why they were left out."""
+    if not chromium.path_of():
+        return [], 0, ["there is no chromium (scripts/install_peers.sh)"]
+    return compared([str(TOP / "bin" / "macaroond"), "page"])
+
+
 def main(words):
     makes_pictures = "--pictures" in words
     only = [word.removeprefix("--only=") for word in words if word.startswith("--only=")]
@@ -198,15 +216,10 @@ def main(words):
     if not words:
         sys.exit(__doc__)
     if not chromium.path_of():
-        print("SKIPPED of the page: there is no chromium", "page: 0 passed, 0 failed, 1 skipped", sep="\n")
-        return
-    passed = failed = 0
-    for part, name, got, due in rows(STUB if words == ["--stub"] else words, makes_pictures, only):
-        passed, failed = passed + (got == due), failed + (got != due)
-        if got != due:
-            print(f"{part}: {name}: {got!r}, and it should be {due!r}", flush=True)
-    print(f"page: {passed} passed, {failed} failed")
-    sys.exit(bool(failed))
+        sys.exit("there is no chromium (scripts/install_peers.sh)")
+    wrong, count = compared(STUB if words == ["--stub"] else words, makes_pictures, only)
+    print(*wrong, f"page: {count - len(wrong)} passed, {len(wrong)} failed", sep="\n")
+    sys.exit(bool(wrong))
 
 
 if __name__ == "__main__":

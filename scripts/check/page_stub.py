@@ -106,7 +106,7 @@ def holds(caveat, facts, moment):
     bound = bound_of(caveat)
     if caveat in facts:
         return True
-    if bound is None or moment is None:
+    if bound is None:
         return False
     return moment < bound[1] if bound[0] == b"<" else moment >= bound[1]
 
@@ -171,9 +171,9 @@ def asked(body):
     demand(isinstance(body.get("token"), str), "there is no text that is the token")
     facts = texts(body, "facts", "the facts are no list of texts")
     moment = body.get("moment")
-    is_moment = "moment" not in body or type(moment) is int and 0 <= moment <= MOMENT_MAX
-    demand(is_moment, "the moment is no whole number of seconds")
-    demand(len(facts) <= FACTS_MAX, "there are more than 128 facts")
+    is_moment = type(moment) is int and 0 <= moment <= MOMENT_MAX
+    demand(is_moment, "there is no number of seconds that is the moment")
+    demand(len(facts) <= FACTS_MAX, "the facts are more or longer than a request may have")
     return facts, moment
 
 
@@ -185,12 +185,7 @@ def checked(body):
 
 def verified(body, keys):
     facts, moment = asked(body)
-    try:
-        parts, _ = read(body)
-    except Refused as fault:
-        if "code" not in fault.args[1]:
-            raise
-        return {"granted": False, **fault.args[1]}
+    parts, _ = read(body)
     chain = [parts.identifier, *(caveat.identifier for caveat in parts.caveats)]
     if all(chained(key, *chain) != parts.signature for key in keys):
         return {"granted": False, "code": 23, "reason": REASONS[23]}
