@@ -20,8 +20,8 @@ from check.page_looks import keyboard, looks, named, pictures
 from check.page_stub import POLICY
 from check.page_tab import Page, headline, parts, serving, v2
 from check.page_tokens import caveats, forms, hostile, narrowed, refusals, times, with_keys, without_keys
-
 from common import TOP
+
 from macaroond import binary, jsontext, packets
 from macaroond.base64text import encoded
 
