@@ -1,0 +1,45 @@
+-- Requests that are asked of the site by its own page, and others.
+use Rattle.std.proofs.Common.{◌≡◌, ◌⊎◌, ℕ, List, [], Bool, true, false, Option, Some, None, inl, inr, refl, subst, ap}
+use Rattle.std.specs.Prelude.{◌&&◌, bytes_eq, codes, string_bytes}
+use Rattle.std.proofs.lemmas.Bool.{false≢true}
+use Rattle.std.proofs.lemmas.Slice.Eq.{bytes_eq-Decides}
+use Rattle.http.specs.Request.{head_of}
+use Rattle.http.specs.declared.request.Parts.{Parts}
+use Rattle.http.specs.declared.request.Request.{Request}
+use Rattle.http_header.specs.HeaderMap.{get_all}
+use Rattle.http_server.specs.declared.response.Response.{Response}
+use Rattle.http_server.specs.Response.{IsResponse}
+use Rattle.mac_http.specs.Facts.{one_value}
+use Rattle.mac_http.specs.Saying.{IsOverloaded}
+use Rattle.mac_page.specs.declared.site.Site.{Site}
+use Rattle.mac_page.specs.declared.told.Told.TheVariants.{Foreign}
+use Rattle.mac_page.specs.Home.{is_at_home, is_from_home, is_named, is_own}
+use Rattle.mac_page.specs.Told.{Responds, Tells, guards, told_of}
+
+pub others_told : (site : Site) (request : Request (List ℕ)) (response : Response) → is_at_home site (head_of request) ≡ false
+    → Responds site request response → IsResponse 403 guards [] response ⊎ IsOverloaded response
+others_told site request response foreign told =
+    let same : told_of site request ≡ Foreign = rw foreign refl in
+    subst (λ t. Tells site t response ⊎ IsOverloaded response) same told
+
+abbrev IsOne : Site → Option (List ℕ) → Type 0
+IsOne site name = (name ≡ Some (string_bytes site.address)) ⊎ (name ≡ Some (string_bytes site.local))
+
+own_is : (site : Site) (name : List ℕ) (is_address is_local : Bool) → bytes_eq name (string_bytes site.address) ≡ is_address
+    → bytes_eq name (string_bytes site.local) ≡ is_local → is_own site name ≡ true → IsOne site (Some name)
+own_is site name true is_local first second own = inl (ap Some ((bytes_eq-Decides name (string_bytes site.address)).0 first))
+own_is site name false true first second own = inr (ap Some ((bytes_eq-Decides name (string_bytes site.local)).0 second))
+own_is site name false false first second own = let bad : false ≡ true = rw (first, second) at own in absurd (false≢true bad)
+
+named_is : (site : Site) (name : Option (List ℕ)) → is_named site name ≡ true → IsOne site name
+named_is site None named = absurd (false≢true named)
+named_is site (Some name) named = own_is site name _ _ refl refl named
+
+first_of_both : (a b : Bool) → a && b ≡ true → a ≡ true
+first_of_both true b both = refl
+first_of_both false b both = absurd (false≢true both)
+
+pub home_is_named : (site : Site) (head : Parts) → is_at_home site head ≡ true → IsOne site (one_value head.headers (codes "host"))
+home_is_named site head home =
+    named_is site (one_value head.headers (codes "host"))
+    (first_of_both (is_named site (one_value head.headers (codes "host"))) (is_from_home site (get_all head.headers (codes "origin"))) home)

@@ -1,0 +1,35 @@
+-- Responses that are right, one after the other, and fields that are put one after the other.
+use Rattle.std.proofs.Common.{◌≡◌, ℕ, List, [], ◌∷◌, ◌++◌, subst, ap, ◌∙◌, append_assoc}
+use Rattle.std.specs.Prelude.{All}
+use Rattle.std.proofs.lemmas.List.Elements.{All-nil, All-cons}
+use Rattle.http.specs.declared.request.Request.{Request}
+use Rattle.http_server.specs.declared.response.Response.{Response}
+use Rattle.http_server.specs.Exchange.{Call, Chain}
+
+-- where each call is right by something that stays, all are
+pub right_all : {S X : Type 0} (answers : S → Request (List ℕ) → Response → S → Type 0) (of : S → X) (Right : X → Call → Type 0)
+    → ((s : S) (q : Request (List ℕ)) (r : Response) (t : S) → answers s q r t → (of t ≡ of s) × Right (of s) (q, r))
+    → (calls : List Call) (old new : S) → Chain answers old calls new → All (Right (of old)) calls
+right_all answers of Right each [] old new x = All-nil (Right (of old))
+right_all answers of Right each (c ∷ calls) old new x =
+    let one = each old c.0 c.1 x.0 x.1 in
+    let rest = right_all answers of Right each calls x.0 new x.2 in
+    All-cons (Right (of old)) c calls one.1 (subst (λ s. All (Right s) calls) one.0 rest)
+
+-- a field that is put, and one more behind those that were put
+put_one : {X : Type 0} (old new : List X) (x x' : X) → x ≡ x' → new ≡ old ++ x ∷ [] → new ≡ old ++ x' ∷ []
+put_one old new x x' is more = more ∙ ap (λ a. old ++ a ∷ []) is
+
+put_more : {X : Type 0} (old mid new xs : List X) (x x' : X) → x ≡ x' → mid ≡ old ++ xs → new ≡ mid ++ x ∷ [] → new ≡ old ++ (xs ++ x' ∷ [])
+put_more old mid new xs x x' is put more = more ∙ ap (λ l. l ++ x ∷ []) put ∙ append_assoc old xs (x ∷ []) ∙ ap (λ a. old ++ (xs ++ a ∷ [])) is
+
+-- five fields put one after the other
+pub five_put : {X : Type 0} (o0 o1 o2 o3 o4 o5 : List X) (a b c d e a' b' c' d' e' : X) → a ≡ a' → b ≡ b' → c ≡ c' → d ≡ d' → e ≡ e'
+    → o1 ≡ o0 ++ a ∷ [] → o2 ≡ o1 ++ b ∷ [] → o3 ≡ o2 ++ c ∷ [] → o4 ≡ o3 ++ d ∷ [] → o5 ≡ o4 ++ e ∷ []
+    → o5 ≡ o0 ++ a' ∷ b' ∷ c' ∷ d' ∷ e' ∷ []
+five_put o0 o1 o2 o3 o4 o5 a b c d e a' b' c' d' e' is_a is_b is_c is_d is_e e1 e2 e3 e4 e5 =
+    let one = put_one o0 o1 a a' is_a e1 in
+    let two = put_more o0 o1 o2 (a' ∷ []) b b' is_b one e2 in
+    let three = put_more o0 o2 o3 (a' ∷ b' ∷ []) c c' is_c two e3 in
+    let four = put_more o0 o3 o4 (a' ∷ b' ∷ c' ∷ []) d d' is_d three e4 in
+    put_more o0 o4 o5 (a' ∷ b' ∷ c' ∷ d' ∷ []) e e' is_e four e5

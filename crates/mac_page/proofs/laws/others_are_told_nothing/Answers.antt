@@ -1,0 +1,5 @@
+use Rattle.mac_page.proofs.HomeLemmas.{others_told}
+use Rattle.mac_page.proofs.laws.others_are_told_nothing.Goals as goal
+
+pub returns : goal.returns
+returns c site request response foreign told = others_told site request response foreign told

@@ -1,0 +1,142 @@
+-- What a request to the page is told, and the response that tells it (this project's own). The first
+-- case that holds is the answer.
+use Rattle.std.specs.Prelude.{ℕ, ◌⊎◌, Bool, true, false, if◌then◌else◌, List, [], ◌∷◌, ◌++◌, map, codes, bytes_eq, Option, Some, None}
+use Rattle.http.specs.Request.{head_of, body_of}
+use Rattle.http.specs.declared.request.Request.{Request}
+use Rattle.http1.specs.Fields.{Header}
+use Rattle.http_server.specs.declared.response.Response.{Response}
+use Rattle.http_server.specs.Response.{IsResponse}
+use Rattle.http_uri.specs.Uri.{uri_path}
+use Rattle.mac_calls.specs.Names.{names_json}
+use Rattle.mac_calls.specs.Outcome.{outcome_of}
+use Rattle.mac_calls.specs.declared.answering.Outcome.{Outcome}
+use Rattle.mac_calls.specs.declared.answering.Outcome.TheVariants as outcome
+use Rattle.mac_calls.specs.declared.call.Call.{Call}
+use Rattle.mac_http.specs.Calling.{is_json}
+use Rattle.mac_http.specs.Saying.{IsOverloaded}
+use Rattle.mac_page.specs.declared.route.File.{File}
+use Rattle.mac_page.specs.declared.route.File.TheVariants.{Document, Style, Script}
+use Rattle.mac_page.specs.declared.site.Site.{Site}
+use Rattle.mac_page.specs.declared.told.Told.{Told}
+use Rattle.mac_page.specs.declared.told.Told.TheVariants.{Foreign, Unknown, NoGet, NoPost, File as Shown, Names, Called}
+use Rattle.mac_page.specs.Home.{is_at_home}
+use Rattle.mac_page.specs.Route.{asked_in, file_in}
+
+-- what is told, if the method is the one that is taken
+abbrev pub where_taken : Bool → Told → Told → Told
+where_taken taken told refused = if taken then told else refused
+
+abbrev pub is_get : Request (List ℕ) → Bool
+is_get request = bytes_eq (head_of request).method (codes "GET")
+
+abbrev pub is_post : Request (List ℕ) → Bool
+is_post request = bytes_eq (head_of request).method (codes "POST")
+
+-- the names of the keys, where there is a key file
+abbrev pub told_names : Site → Told
+told_names site = if site.has_keys then Names (names_json site.keys) else Unknown
+
+-- what a path that names no file is told: what comes of a call, or there is nothing
+abbrev pub told_call : Site → Request (List ℕ) → Option (Call × List ℕ) → Told
+told_call site request None = Unknown
+told_call site request (Some asked) =
+    where_taken (is_post request)
+    (Called (outcome_of site.keys asked.1 asked.0 (body_of request))) NoPost
+
+-- the same, and of the path of the names
+abbrev pub told_plain : Site → Request (List ℕ) → List ℕ → Told
+told_plain site request path =
+    if bytes_eq path (codes "/names") then where_taken (is_get request) (told_names site) NoGet
+    else told_call site request (asked_in path)
+
+-- what a path is told that names this file, or none
+abbrev pub told_file : Site → Request (List ℕ) → Option File → Told
+told_file site request (Some file) = where_taken (is_get request) (Shown file) NoGet
+told_file site request None = told_plain site request (uri_path (head_of request).uri)
+
+-- what a request is told: nothing of what another page asks, or of what is asked of another site
+abbrev pub told_of : Site → Request (List ℕ) → Told
+told_of site request =
+    if is_at_home site (head_of request)
+    then told_file site request (file_in (uri_path (head_of request).uri)) else Foreign
+
+-- ---- the response
+
+abbrev pub status_of_outcome : Outcome → ℕ
+status_of_outcome outcome.NoKey = 404
+status_of_outcome (outcome.Reply json) = 200
+status_of_outcome (outcome.Refused json) = 400
+
+abbrev pub status_of : Told → ℕ
+status_of Foreign = 403
+status_of Unknown = 404
+status_of NoGet = 405
+status_of NoPost = 405
+status_of (Shown file) = 200
+status_of (Names json) = 200
+status_of (Called o) = status_of_outcome o
+
+-- the type of a file
+abbrev pub type_of : File → List ℕ
+type_of Document = codes "text/html; charset=utf-8"
+type_of Style = codes "text/css; charset=utf-8"
+type_of Script = codes "text/javascript; charset=utf-8"
+
+-- the field that tells the method that is taken (RFC 9110, section 10.2.1)
+abbrev pub takes : List ℕ → List Header
+takes method = (codes "allow", method) ∷ []
+
+abbrev pub fields_of_outcome : Outcome → List Header
+fields_of_outcome outcome.NoKey = []
+fields_of_outcome (outcome.Reply json) = is_json
+fields_of_outcome (outcome.Refused json) = is_json
+
+abbrev pub fields_for : Told → List Header
+fields_for Foreign = []
+fields_for Unknown = []
+fields_for NoGet = takes (codes "GET")
+fields_for NoPost = takes (codes "POST")
+fields_for (Shown file) = (codes "content-type", type_of file) ∷ []
+fields_for (Names json) = is_json
+fields_for (Called o) = fields_of_outcome o
+
+-- what a browser may do with a response: take scripts, styles and answers from the site alone, show
+-- it in no frame, guess no type, tell nobody where it was, keep nothing
+abbrev pub guards : List Header
+guards = (
+  codes "content-security-policy",
+  codes "default-src 'none'; script-src 'self'; style-src 'self'; connect-src 'self'; img-src 'self' data:; base-uri 'none'; form-action 'none'; frame-ancestors 'none'",
+)
+    ∷ (codes "x-content-type-options", codes "nosniff")
+    ∷ (codes "referrer-policy", codes "no-referrer")
+    ∷ (codes "cache-control", codes "no-store")
+    ∷ (codes "cross-origin-resource-policy", codes "same-origin") ∷ []
+
+-- the text of a file
+abbrev pub text_of : Site → File → List ℕ
+text_of site Document = site.texts.document.now
+text_of site Style = site.texts.style.now
+text_of site Script = site.texts.script.now
+
+abbrev pub body_of_outcome : Outcome → List ℕ
+body_of_outcome outcome.NoKey = []
+body_of_outcome (outcome.Reply json) = json
+body_of_outcome (outcome.Refused json) = json
+
+abbrev pub body_for : Site → Told → List ℕ
+body_for site Foreign = []
+body_for site Unknown = []
+body_for site NoGet = []
+body_for site NoPost = []
+body_for site (Shown file) = text_of site file
+body_for site (Names json) = json
+body_for site (Called o) = body_of_outcome o
+
+-- the response tells it
+abbrev pub Tells : Site → Told → Response → Type 0
+Tells site told = IsResponse (status_of told) (fields_for told ++ guards) (body_for site told)
+
+-- the response to a request, out of memory aside
+abbrev pub Responds : Site → Request (List ℕ) → Response → Type 0
+Responds site request response =
+    Tells site (told_of site request) response ⊎ IsOverloaded response
