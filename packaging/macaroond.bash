@@ -23,15 +23,16 @@ _macaroond() {
         --http-mode) words='600 660 666' ;;
         --form) words='v1 v2 json v2-text' ;;
         --key) words=$(_macaroond_key_names) ;;
-        --workers | --accept | --idle | --loops | --connections | --drain | --remember | --names | --verify-names | --log | --http | --http-anywhere | --http-connections | --http-patience | --http-granted | --http-facts | --http-allow | --http-admin | --location | --identifier | --caveat | --fact | --at) return ;;
+        --workers | --accept | --idle | --loops | --connections | --drain | --remember | --names | --verify-names | --log | --http | --http-anywhere | --http-connections | --http-patience | --http-granted | --http-facts | --http-allow | --http-admin | --address | --location | --identifier | --caveat | --fact | --at) return ;;
         *)
             if ((COMP_CWORD == 1)); then
-                words='pipe serve listen keygen check mint attenuate verify inspect status --help --version'
+                words='pipe serve listen page keygen check mint attenuate verify inspect status --help --version'
             else
                 case ${COMP_WORDS[1]} in
                     pipe) words='--help' ;;
                     serve) words='--socket --keys --workers --accept --help' ;;
                     listen) words='--socket --keys --workers --mode --idle --loops --connections --drain --remember --names --verify-socket --verify-mode --verify-names --replace --log --http --http-anywhere --http-mode --http-connections --http-patience --http-granted --http-facts --http-allow --http-admin --help' ;;
+                    page) words='--address --keys --help' ;;
                     keygen) words='--into --above --drop --help' ;;
                     check) words='--keys --help' ;;
                     mint) words='--keys --key --location --identifier --caveat --form --help' ;;

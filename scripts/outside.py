@@ -14,7 +14,7 @@ import time
 import traceback
 import typing
 
-from build import completions
+from build import completions, page_texts
 from check import (
     building,
     case_files,
@@ -125,6 +125,7 @@ OF_COMPILER = {
 OF_TEXTS = {
     "quotes": quotes.faults,
     "pages": pages.faults,
+    "texts of the page": page_texts.faults,
     "promises": promises.faults,
     "picture": draw.faults,
     "man": man_page.faults,

@@ -6,7 +6,7 @@ import subprocess
 from common import TOP
 
 PAGE = TOP / "man" / "macaroond.1"
-SUBCOMMANDS = ["keygen", "check", "mint", "attenuate", "verify", "inspect", "status", "pipe", "serve", "listen"]
+SUBCOMMANDS = ["keygen", "check", "mint", "attenuate", "verify", "inspect", "status", "pipe", "serve", "listen", "page"]
 STATUSES = ["0", "1", "2", "3", "4"]
 
 

@@ -210,13 +210,13 @@ dashes_first (word ∷ rest) = (refl, (refl, tt))
 -- the word is none of the names of subcommands
 abbrev IsNoName : Text → Type 0
 IsNoName word = (bytes_eq (codes "pipe") word ≡ false) × (bytes_eq (codes "serve") word ≡ false) × (bytes_eq (codes "listen") word ≡ false)
-    × (bytes_eq (codes "keygen") word ≡ false) × (bytes_eq (codes "check") word ≡ false) × (bytes_eq (codes "mint") word ≡ false) × (bytes_eq (codes "attenuate") word ≡ false)
+    × (bytes_eq (codes "page") word ≡ false) × (bytes_eq (codes "keygen") word ≡ false) × (bytes_eq (codes "check") word ≡ false) × (bytes_eq (codes "mint") word ≡ false) × (bytes_eq (codes "attenuate") word ≡ false)
     × (bytes_eq (codes "verify") word ≡ false) × (bytes_eq (codes "inspect") word ≡ false) × (bytes_eq (codes "status") word ≡ false)
 
 other_first : (word : Text) (rest : List Text) → IsNoName word → bytes_eq word (codes "--") ≡ false → Refuses (flag_status true word (long_of word)) (line_faults (word ∷ rest))
 unfolding walk_fault
-other_first word rest (no_pipe, no_serve, no_listen, no_keygen, no_check, no_mint, no_attenuate, no_verify, no_inspect, no_status) e =
-    let turn : turn_fault top names (walk_from nothing_held) word ≡ faults_at true top word (long_of word) = rw (no_pipe, no_serve, no_listen, no_keygen, no_check, no_mint, no_attenuate, no_verify, no_inspect, no_status, e) refl in
+other_first word rest (no_pipe, no_serve, no_listen, no_page, no_keygen, no_check, no_mint, no_attenuate, no_verify, no_inspect, no_status) e =
+    let turn : turn_fault top names (walk_from nothing_held) word ≡ faults_at true top word (long_of word) = rw (no_pipe, no_serve, no_listen, no_page, no_keygen, no_check, no_mint, no_attenuate, no_verify, no_inspect, no_status, e) refl in
     let refused = subst (Refuses (flag_status true word (long_of word))) (sym turn) (word_refused true top word (long_of word)) in
     refuses_first _ _ _ (refuses_first _ (turn_fault top names (walk_from nothing_held) word) _ refused)
 
@@ -231,7 +231,8 @@ no_name : (word : Text) (rest : List Text) → bytes_eq word (codes "pipe") ≡ 
 no_name word rest differ unnamed =
     let serve = neither (bytes_eq word (codes "serve")) _ unnamed in
     let listen = neither (bytes_eq word (codes "listen")) _ serve.1 in
-    let keygen = neither (bytes_eq word (codes "keygen")) _ listen.1 in
+    let page = neither (bytes_eq word (codes "page")) _ listen.1 in
+    let keygen = neither (bytes_eq word (codes "keygen")) _ page.1 in
     let check = neither (bytes_eq word (codes "check")) _ keygen.1 in
     let mint = neither (bytes_eq word (codes "mint")) _ check.1 in
     let attenuate = neither (bytes_eq word (codes "attenuate")) _ mint.1 in
@@ -240,6 +241,7 @@ no_name word rest differ unnamed =
       other_way word (codes "pipe") differ,
       other_way word (codes "serve") serve.0,
       other_way word (codes "listen") listen.0,
+      other_way word (codes "page") page.0,
       other_way word (codes "keygen") keygen.0,
       other_way word (codes "check") check.0,
       other_way word (codes "mint") mint.0,

@@ -20,7 +20,7 @@ use Rattle.clap.specs.declared.error.Error.{Error}
 use Rattle.clap.specs.declared.parser.matches.ArgMatches.{ArgMatches}
 use Rattle.clap.specs.declared.builder.value_parser.ValueParser.TheVariants.{Unsigned}
 use Rattle.clap.proofs.ValueTestLemmas.{accepts-Accepts}
-use Rattle.macaroond.specs.CommandLine.{command_line, listen_command, pipe_command, serve_command}
+use Rattle.macaroond.specs.CommandLine.{command_line, listen_command, page_command, pipe_command, serve_command}
 use Rattle.macaroond.specs.People.{IsTaskName, attenuate_command, check_command, inspect_command, keygen_command, mint_command, status_command, verify_command}
 use Rattle.macaroond.specs.Options.{HasCommand, HasListenOptions, HasServeOptions, IsGiven, IsGivenNumberFrom, MayBeNumberFrom}
 use Rattle.macaroond.proofs.OptionWalk.{Each, HasValue, IsKnown, first_none, leaf_rows, no_value, one_value, second_none, value_given, value_or_none}
@@ -35,6 +35,9 @@ serve = built_leaf (inherited (with_leaf_noted (marked_built command_line.top)) 
 
 abbrev pub listen : Shape
 listen = built_leaf (inherited (with_leaf_noted (marked_built command_line.top)) listen_command.top)
+
+abbrev pub page : Shape
+page = built_leaf (inherited (with_leaf_noted (marked_built command_line.top)) page_command.top)
 
 -- what is looked at of an argument
 abbrev Looks : Type 0
@@ -195,20 +198,21 @@ one_of_people t =
 
 -- the subcommand that a word names
 abbrev IsOne : Option Shape → Type 0
-IsOne o = (o ≡ None) ⊎ ((o ≡ Some pipe) ⊎ ((o ≡ Some serve) ⊎ ((o ≡ Some listen) ⊎ IsPeoples o)))
+IsOne o = (o ≡ None) ⊎ ((o ≡ Some pipe) ⊎ ((o ≡ Some serve) ⊎ ((o ≡ Some listen) ⊎ ((o ≡ Some page) ⊎ IsPeoples o))))
 
-one_of_all : (t : Shape → Bool) → IsOne (find t (pipe ∷ serve ∷ listen ∷ people))
-one_of_all t = go (t pipe) (t serve) (t listen)
+one_of_all : (t : Shape → Bool) → IsOne (find t (pipe ∷ serve ∷ listen ∷ page ∷ people))
+one_of_all t = go (t pipe) (t serve) (t listen) (t page)
   where
     none_or_peoples : (o : Option Shape) → (o ≡ None) ⊎ IsPeoples o → IsOne o
     none_or_peoples o (inl none) = inl none
-    none_or_peoples o (inr found) = inr (inr (inr (inr found)))
+    none_or_peoples o (inr found) = inr (inr (inr (inr (inr found))))
 
-    go : (a b c : Bool) → IsOne (cond a (Some pipe) (cond b (Some serve) (cond c (Some listen) (find t people))))
-    go true b c = inr (inl refl)
-    go false true c = inr (inr (inl refl))
-    go false false true = inr (inr (inr (inl refl)))
-    go false false false = none_or_peoples (find t people) (one_of_people t)
+    go : (a b c d : Bool) → IsOne (cond a (Some pipe) (cond b (Some serve) (cond c (Some listen) (cond d (Some page) (find t people)))))
+    go true b c d = inr (inl refl)
+    go false true c d = inr (inr (inl refl))
+    go false false true d = inr (inr (inr (inl refl)))
+    go false false false true = inr (inr (inr (inr (inl refl))))
+    go false false false false = none_or_peoples (find t people) (one_of_people t)
 
 -- what comes of a level of a subcommand, and of the last check of the level above it
 abbrev Passes : Kinds → Kinds → List Row → List Text → Option Shape → Type 0
@@ -229,8 +233,9 @@ entered_passes x y rows words o (inr (inr (inl is))) e =
     subst (λ p. HasCommand (option_map (λ s. rows_at s words) p)) (sym is) (codes "serve", rows_after serve.rules [] words, refl, inl (inr (inl (refl, options))))
 entered_passes x y rows words o (inr (inr (inr (inl is)))) e =
     let options = listen_options words (first_none _ _ (subst (Passes x y rows words) is e)) in
-    subst (λ p. HasCommand (option_map (λ s. rows_at s words) p)) (sym is) (codes "listen", rows_after listen.rules [] words, refl, inl (inr (inr (refl, options))))
-entered_passes x y rows words o (inr (inr (inr (inr (s, is, named))))) e = subst (λ p. HasCommand (option_map (λ s. rows_at s words) p)) (sym is) (s.name, rows_after s.rules [] words, refl, inr named)
+    subst (λ p. HasCommand (option_map (λ s. rows_at s words) p)) (sym is) (codes "listen", rows_after listen.rules [] words, refl, inl (inr (inr (inl (refl, options)))))
+entered_passes x y rows words o (inr (inr (inr (inr (inl is))))) e = subst (λ p. HasCommand (option_map (λ s. rows_at s words) p)) (sym is) (codes "page", rows_after page.rules [] words, refl, inl (inr (inr (inr refl))))
+entered_passes x y rows words o (inr (inr (inr (inr (inr (s, is, named)))))) e = subst (λ p. HasCommand (option_map (λ s. rows_at s words) p)) (sym is) (s.name, rows_after s.rules [] words, refl, inr named)
 
 pub line_passes : (words : List Text) → fault_of command_line words ≡ [] → HasCommand (subcommand_of command_line words)
 line_passes words e =

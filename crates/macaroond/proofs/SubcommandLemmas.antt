@@ -4,7 +4,7 @@ use Rattle.clap.specs.Walk.{Row, Text}
 use Rattle.macaroond.specs.Options.{HasCommand, HasOptions}
 use Rattle.macaroond.specs.People.{IsTaskName}
 
--- `pipe`, `serve` and `listen` begin so, and no subcommand for people does
+-- `pipe`, `serve`, `listen` and `page` begin so, and no subcommand for people does
 abbrev begins_machine : Text → Bool
 begins_machine name = (slice_index name 0 == 112) || ((slice_index name 0 == 108) || (slice_index name 3 == 118))
 
@@ -17,13 +17,17 @@ task_begins name (inr (inr (inr (inr (inl e))))) = subst (λ n. begins_machine n
 task_begins name (inr (inr (inr (inr (inr (inl e)))))) = subst (λ n. begins_machine n ≡ false) (sym e) refl
 task_begins name (inr (inr (inr (inr (inr (inr e)))))) = subst (λ n. begins_machine n ≡ false) (sym e) refl
 
-machine_begins : (name : Text) → (name ≡ codes "pipe") ⊎ ((name ≡ codes "serve") ⊎ (name ≡ codes "listen")) → begins_machine name ≡ true
+abbrev pub IsMachine : Text → Type 0
+IsMachine name = (name ≡ codes "pipe") ⊎ ((name ≡ codes "serve") ⊎ ((name ≡ codes "listen") ⊎ (name ≡ codes "page")))
+
+machine_begins : (name : Text) → IsMachine name → begins_machine name ≡ true
 machine_begins name (inl e) = subst (λ n. begins_machine n ≡ true) (sym e) refl
 machine_begins name (inr (inl e)) = subst (λ n. begins_machine n ≡ true) (sym e) refl
-machine_begins name (inr (inr e)) = subst (λ n. begins_machine n ≡ true) (sym e) refl
+machine_begins name (inr (inr (inl e))) = subst (λ n. begins_machine n ≡ true) (sym e) refl
+machine_begins name (inr (inr (inr e))) = subst (λ n. begins_machine n ≡ true) (sym e) refl
 
 -- a subcommand of a machine's name has a machine's options
-pub machine_options : (name : Text) (rows : List Row) → HasOptions name rows ⊎ IsTaskName name → (name ≡ codes "pipe") ⊎ ((name ≡ codes "serve") ⊎ (name ≡ codes "listen")) → HasOptions name rows
+pub machine_options : (name : Text) (rows : List Row) → HasOptions name rows ⊎ IsTaskName name → IsMachine name → HasOptions name rows
 machine_options name rows (inl has) machine = has
 machine_options name rows (inr task) machine = let bad : false ≡ true = subst (λ b. b ≡ true) (task_begins name task) (machine_begins name machine) in cc
 

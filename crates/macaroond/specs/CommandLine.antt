@@ -14,13 +14,14 @@ use Rattle.clap.specs.declared.error.kind.ErrorKind.{ErrorKind}
 use Rattle.clap.specs.declared.error.kind.ErrorKind.TheVariants.{DisplayHelp, DisplayVersion}
 use Rattle.clap.specs.declared.error.kind.ErrorKind.TheVariants.{OutOfMemory}
 use Rattle.macaroond.specs.declared.choices.Choice.{Choice}
-use Rattle.macaroond.specs.declared.choices.Choice.TheVariants.{Pipe, Serve, Listen}
+use Rattle.macaroond.specs.declared.choices.Choice.TheVariants.{Pipe, Serve, Listen, Page}
 use Rattle.macaroond.specs.declared.choices.Chosen.{Chosen}
 use Rattle.macaroond.specs.declared.choices.Chosen.TheVariants.{Machine, Person}
 use Rattle.macaroond.specs.declared.choices.HttpOptions.{HttpOptions}
 use Rattle.macaroond.specs.declared.choices.ListenOptions.{ListenOptions}
 use Rattle.macaroond.specs.declared.choices.Mode.{Mode}
 use Rattle.macaroond.specs.declared.choices.Mode.TheVariants.{Owner, Group, Everyone}
+use Rattle.macaroond.specs.declared.choices.PageOptions.{PageOptions}
 use Rattle.macaroond.specs.declared.choices.ServeOptions.{ServeOptions}
 use Rattle.macaroond.specs.declared.status.Status.{Status}
 use Rattle.macaroond.specs.declared.status.Status.TheVariants.{Done, BadLine, NoMemory}
@@ -86,10 +87,15 @@ listen_command = with_rules (with_rules (new_app (codes "listen"))
     ∷ option (codes "log")
     ∷ [])) http_rules
 
+-- the subcommand `page`, both of whose options may be left out
+abbrev pub page_command : App
+page_command = with_rules (new_app (codes "page"))
+    (option (codes "address") ∷ option (codes "keys") ∷ [])
+
 -- the whole command line
 abbrev pub command_line : App
-command_line = with_people (with_subcommand (with_subcommand (with_subcommand program
-    pipe_command.top) serve_command.top) listen_command.top)
+command_line = with_people (with_subcommand (with_subcommand (with_subcommand (with_subcommand
+    program pipe_command.top) serve_command.top) listen_command.top) page_command.top)
 
 -- ---- what `clap` makes of the words
 
@@ -197,17 +203,24 @@ HasListen options rows = IsText options.socket (first_of (codes "socket") rows)
     × IsOptionalText options.log (codes "log") rows
     × HasHttp options.http rows
 
+-- the values of the options of `page`
+abbrev pub HasPage : PageOptions → List Row → Type 0
+HasPage options rows = IsOptionalText options.address (codes "address") rows
+    × IsOptionalText options.keys (codes "keys") rows
+
 -- the choice has the values of a subcommand's options
 abbrev pub HasValues : Choice → List Row → Type 0
 HasValues Pipe rows = Unit {0}
 HasValues (Serve options) rows = HasServe options rows
 HasValues (Listen options) rows = HasListen options rows
+HasValues (Page options) rows = HasPage options rows
 
 -- the subcommand that the choice stands for
 abbrev pub choice_name : Choice → Text
 choice_name Pipe = codes "pipe"
 choice_name (Serve options) = codes "serve"
 choice_name (Listen options) = codes "listen"
+choice_name (Page options) = codes "page"
 
 -- the choice is the one that a subcommand of this name, with these options, stands for
 abbrev pub IsChoice : Choice → Option (Text × List Row) → Type 0
@@ -267,7 +280,7 @@ status_of_arguments (word ∷ rest) = if bytes_eq word (codes "pipe") then statu
 abbrev pub names_another : List Text → Bool
 names_another [] = false
 names_another (word ∷ rest) = bytes_eq word (codes "serve") || (bytes_eq word (codes "listen")
-    || (bytes_eq word (codes "keygen") || (bytes_eq word (codes "check")
-    || (bytes_eq word (codes "mint") || (bytes_eq word (codes "attenuate")
-    || (bytes_eq word (codes "verify") || (bytes_eq word (codes "inspect")
-    || bytes_eq word (codes "status"))))))))
+    || (bytes_eq word (codes "page") || (bytes_eq word (codes "keygen")
+    || (bytes_eq word (codes "check") || (bytes_eq word (codes "mint")
+    || (bytes_eq word (codes "attenuate") || (bytes_eq word (codes "verify")
+    || (bytes_eq word (codes "inspect") || bytes_eq word (codes "status")))))))))

@@ -71,10 +71,10 @@ pub record HasListenOptions (rows : List Row) : Type 0 where
   pub remember : MayBeNumberFrom 0 1073741824 (codes "remember") rows
   pub http : HasHttpOptions rows
 
--- the rows are those of one of the three subcommands
+-- the rows are those of one of the four subcommands
 abbrev pub HasOptions : Text → List Row → Type 0
 HasOptions name rows = (name ≡ codes "pipe") ⊎ (((name ≡ codes "serve") × HasServeOptions rows)
-    ⊎ ((name ≡ codes "listen") × HasListenOptions rows))
+    ⊎ (((name ≡ codes "listen") × HasListenOptions rows) ⊎ (name ≡ codes "page")))
 
 -- a subcommand was met, one for people or one with such rows
 abbrev pub HasCommand : Option (Text × List Row) → Type 0

@@ -22,6 +22,8 @@ pub enum Choice {
     Serve(ServeOptions),
     /// Answer requests over a socket until told to end.
     Listen(ListenOptions),
+    /// Show a browser of this machine a page, and answer it.
+    Page(PageOptions),
 }
 
 /// What `serve` is told.
@@ -92,11 +94,20 @@ pub struct HttpOptions {
     pub granted: Option<String>,
     /// Where facts are taken from, with commas between the words.
     pub facts: Option<String>,
-    /// What may be asked over HTTP beside verify: mint, attenuate, inspect, with commas between
-    /// them.
+    /// What may be asked over HTTP beside verify: mint, attenuate, inspect, check, with commas
+    /// between them.
     pub allow: Option<String>,
     /// Addresses of this machine where operators ask, with commas between them.
     pub admin: Option<String>,
+}
+
+/// What `page` is told.
+#[derive(Drop)]
+pub struct PageOptions {
+    /// The address where the page is served.
+    pub address: Option<String>,
+    /// The path of the key file.
+    pub keys: Option<String>,
 }
 
 /// Who may connect to a socket, as the permissions of its file say.

@@ -1,6 +1,6 @@
 //! The command line: what its words ask the program to do.
 //!
-//! `clap` says what a line means. It names one of the subcommands, `pipe`, `serve` and `listen` for
+//! `clap` says what a line means. It names one of the subcommands, `pipe`, `serve`, `listen` and `page` for
 //! programs, `keygen`, `check`, `mint`, `attenuate`, `verify`, `inspect` and `status` for people.
 //! `--help` or `-h`, before the subcommand or after it, asks for help, and `--version` or `-V`
 //! before it for the version.
@@ -127,7 +127,7 @@ fn choose_subcommand(
     ensures memory { IfErr result (λ fault. fault.0 ≡ Status.NoMemory → string_bytes fault.1 ≡ []) }
 {
     match name {
-        "pipe" | "serve" | "listen" => choose_machine(alloc, name, options),
+        "pipe" | "serve" | "listen" | "page" => choose_machine(alloc, name, options),
         _ => choose_person(alloc, name, options),
     }
 }

@@ -3,7 +3,7 @@ ghost use Rattle.std.specs.Prelude.{◌≡◌, false, IfOk};
 ghost use Rattle.clap.specs.Words.{app_of, rule_of};
 ghost use Rattle.macaroond.specs.Arguments.{number, number_from, option, required, with_rules};
 ghost use Rattle.macaroond.specs.CommandLine.{command_line, http_rules, listen_command};
-ghost use Rattle.macaroond.specs.CommandLine.{pipe_command, serve_command};
+ghost use Rattle.macaroond.specs.CommandLine.{page_command, pipe_command, serve_command};
 
 use crate::parts::{
     KEYS_HELP, add_arg, add_subcommand, build_flag, build_option, build_subcommand,
@@ -116,6 +116,23 @@ Exit status:
   3  a file or the socket failed, or the key file is longer than it may be
   4  memory ran out";
 
+/// What the help of `page` says below its options.
+const PAGE_HELP: &str = "\
+Prints the URL of the page once a browser can open it, and serves it until the process is ended.
+The page tells what a macaroon says, which of its caveats hold with facts at a moment, and adds
+caveats. With --keys it mints and verifies too: whoever may connect from this machine may do so. The
+key file is read once, as the run begins. A request is refused that another page makes, or that
+names another address.
+
+Example:
+  macaroond page --keys keys
+
+Exit status:
+  1  a key line has a fault; standard error names it as `error: FILE: line L:` and what is wrong
+  2  a bad command line, or an address that other machines may reach
+  3  a file, the socket or standard output failed, or the key file is longer than it may be
+  4  memory ran out";
+
 /// What help says of the options that `serve` and `listen` share.
 const SOCKET_HELP: &str = "Where the socket is made";
 
@@ -182,7 +199,12 @@ const HTTP_FACTS_HELP: &str =
     "Where facts are taken from: header, query, forwarded, with commas between [default: none]";
 
 const HTTP_ALLOW_HELP: &str = "What may be asked over HTTP besides: mint, attenuate, inspect, \
-    with commas between [default: nothing]";
+    check, with commas between [default: nothing]";
+
+const PAGE_ADDRESS_HELP: &str =
+    "Where it is served: 127.0.0.1:PORT or [::1]:PORT [default: 127.0.0.1 at a free port]";
+
+const PAGE_KEYS_HELP: &str = "A key file, under whose names the page mints and verifies";
 
 const HTTP_ADMIN_HELP: &str =
     "Where operators ask over HTTP, at addresses of this machine; gateways get no page then";
@@ -199,6 +221,7 @@ pub fn build_command<'a>(alloc: Global) -> Result<Command<'a>, AllocError>
     let program = add_subcommand(program, build_pipe(alloc))?;
     let program = add_subcommand(program, build_serve(alloc)?)?;
     let program = add_subcommand(program, build_listen(alloc)?)?;
+    let program = add_subcommand(program, build_page(alloc)?)?;
     add_people(alloc, program)
 }
 
@@ -259,6 +282,19 @@ fn build_listen<'a>(alloc: Global) -> Result<Command<'a>, AllocError>
     let listen = add_arg(listen, build_flag(alloc, "replace", REPLACE_HELP))?;
     let listen = add_arg(listen, build_option(alloc, "log", "WORDS", LOG_HELP))?;
     add_http(alloc, listen)
+}
+
+/// The subcommand `page`, both of whose options may be left out.
+fn build_page<'a>(alloc: Global) -> Result<Command<'a>, AllocError>
+    ensures { IfOk result (λ page. app_of page ≡ page_command) }
+{
+    let about = "Shows what a macaroon says on a page, for a browser on this machine";
+    let page = build_subcommand(alloc, "page", about, PAGE_HELP);
+    let page = add_arg(
+        page,
+        build_option(alloc, "address", "ADDRESS", PAGE_ADDRESS_HELP),
+    )?;
+    add_arg(page, build_option(alloc, "keys", "FILE", PAGE_KEYS_HELP))
 }
 
 /// The subcommand with its options for HTTP.

@@ -28,6 +28,8 @@ mod lines;
 mod logging;
 mod operating;
 mod options;
+mod page;
+mod page_texts;
 mod parts;
 mod people;
 mod piping;
@@ -36,7 +38,7 @@ mod rights;
 mod status;
 mod telling;
 
-pub use choices::{Choice, Chosen, HttpOptions, ListenOptions, Mode, ServeOptions};
+pub use choices::{Choice, Chosen, HttpOptions, ListenOptions, Mode, PageOptions, ServeOptions};
 pub use command_line::{choose, read_words};
 use commands::VERSION;
 pub use commands::{
@@ -56,6 +58,7 @@ use mac_daemon::{Claim, DaemonFault, FOLLOWERS_MAX, Shape, Terms, accept_all};
 use mac_pool::WORKERS_MAX;
 use mac_system::SystemMoments;
 use mac_wire::{ReaderSource, WriterSink};
+use page::run_page;
 use people::{run_task, warn_of_no_keys, warn_of_readers};
 pub use people::{PersonFault, Task};
 pub use piping::pipe;
@@ -143,6 +146,7 @@ where
         Choice::Pipe => run_pipe(rt),
         Choice::Serve(options) => run_serve(rt, &options),
         Choice::Listen(options) => run_listen(rt, &options, process),
+        Choice::Page(options) => run_page(rt, &options),
     }
 }
 

@@ -7,7 +7,7 @@ ghost use Rattle.macaroond.specs.Options.{ChoosesHttp, HasHttpOptions, HasServeO
 ghost use Rattle.macaroond.specs.Options.{IsGiven, MayRead, Reads};
 ghost use Rattle.macaroond.specs.declared.options.OptionFault.TheVariants.{NoMemory};
 
-use crate::choices::{Choice, HttpOptions, ListenOptions, Mode, ServeOptions};
+use crate::choices::{Choice, HttpOptions, ListenOptions, Mode, PageOptions, ServeOptions};
 use crate::people::{read_flag, read_optional_text};
 use clap::ArgMatches;
 use std::alloc::{AllocError, Global};
@@ -42,6 +42,7 @@ pub fn read_choice(
         "pipe" => Ok(Choice::Pipe),
         "serve" => read_serve(alloc, options),
         "listen" => read_listen(alloc, options),
+        "page" => read_page(alloc, options),
         _ => unreachable!("the subcommand is one of those above"),
     }
 }
@@ -88,6 +89,16 @@ fn read_listen(alloc: Global, options: &ArgMatches<'_>) -> Result<Choice, Option
         replace: read_flag(options, "replace"),
         log: read_optional_text(alloc, options, "log")?,
         http,
+    }))
+}
+
+/// The choice of the options of `page`.
+fn read_page(alloc: Global, options: &ArgMatches<'_>) -> Result<Choice, OptionFault>
+    ensures { Chooses (codes "page") (rows_of (found_of options.now)) result }
+{
+    Ok(Choice::Page(PageOptions {
+        address: read_optional_text(alloc, options, "address")?,
+        keys: read_optional_text(alloc, options, "keys")?,
     }))
 }
 

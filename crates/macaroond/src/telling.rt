@@ -12,7 +12,7 @@ use crate::key_fault::say_key_fault;
 use crate::key_watch::ListenFault;
 use crate::status::Status;
 use mac_daemon::DaemonFault;
-use mac_gate::{DoorFault, GateFault};
+use mac_gate::{Address, DoorFault, GateFault};
 use std::fs::Files;
 use std::io;
 
@@ -35,7 +35,7 @@ pub fn tell_http<R: Eprint>(rt: &R, fault: HttpFault<'_>) -> Status
             Status::BadLine
         }
         HttpFault::Call => {
-            let _ = eprintln!(rt; "error: a call is mint, attenuate or inspect");
+            let _ = eprintln!(rt; "error: a call is mint, attenuate, inspect or check");
             Status::BadLine
         }
         HttpFault::NoMemory => tell_fault(rt, Status::NoMemory),
@@ -56,15 +56,28 @@ pub fn tell_listen<R: Eprint>(rt: &R, options: &ListenOptions, fault: ListenFaul
 {
     match fault {
         ListenFault::Daemon(fault) => tell_daemon(rt, faulty_path(options, &fault), &fault),
-        ListenFault::Door(address, fault) => {
-            let _ = eprintln!(rt; "error: {address}: {fault}");
-            status_of_door(&fault)
-        }
+        ListenFault::Door(address, fault) => tell_door(rt, address, fault),
         ListenFault::Gate(fault) => {
             let _ = eprintln!(rt; "error: {fault}");
             status_of_gate(&fault)
         }
     }
+}
+
+/// Says why there is no socket over HTTP at an address, and how the run ends.
+pub fn tell_door<R: Eprint>(rt: &R, address: Address<'_>, fault: DoorFault) -> Status
+    ensures { result ≡ door_status fault }
+{
+    let _ = eprintln!(rt; "error: {address}: {fault}");
+    status_of_door(&fault)
+}
+
+/// Says where a page is served, and how a run ends that was told another address.
+pub fn tell_page_address<R: Eprint>(rt: &R) -> Status
+    ensures { result ≡ Status.BadLine }
+{
+    let _ = eprintln!(rt; "error: a page is served at 127.0.0.1:PORT or [::1]:PORT");
+    Status::BadLine
 }
 
 /// How a run ends for which there is no socket over HTTP.

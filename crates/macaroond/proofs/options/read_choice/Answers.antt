@@ -17,7 +17,8 @@ other_begins name other is = let bad : true ≡ false = subst (λ b. b ≡ false
 listen_has : (name : Text) (rows : List Row) → HasOptions name rows → name ≡ codes "listen" → HasListenOptions rows
 listen_has name rows (inl pipe) is = absurd (other_begins name (subst (λ n. begins_listen n ≡ false) (sym pipe) refl) is)
 listen_has name rows (inr (inl serve)) is = absurd (other_begins name (subst (λ n. begins_listen n ≡ false) (sym serve.0) refl) is)
-listen_has name rows (inr (inr listen)) is = listen.1
+listen_has name rows (inr (inr (inl listen))) is = listen.1
+listen_has name rows (inr (inr (inr page))) is = absurd (other_begins name (subst (λ n. begins_listen n ≡ false) (sym page) refl) is)
 
 pub read_listen-requires : goal.read_listen-requires
 read_listen-requires c =
