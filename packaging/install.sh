@@ -25,7 +25,7 @@ list() {
     echo 644 packaging/macaroond.sysusers "$prefix/lib/sysusers.d/macaroond.conf"
     echo 644 packaging/macaroond.bash "$prefix/share/bash-completion/completions/macaroond"
     echo 644 packaging/_macaroond "$zshdir/_macaroond"
-    for page in README.md CHANGELOG.md SECURITY.md docs/*.md docs/*.svg; do
+    for page in README.md CHANGELOG.md SECURITY.md docs/*.md docs/*.svg docs/*.png; do
         echo 644 "$page" "$docdir/$page"
     done
     find examples -type f -not -path '*/__pycache__/*' | sort | while read -r example; do
