@@ -1,7 +1,7 @@
 """How the page of `macaroond page` looks and is used: by keyboard, by a screen reader, on a phone, in the dark."""
+import subprocess
 import time
 
-from check import palette
 from check.page_tab import headline, timed, v2
 from common import TOP
 
@@ -163,6 +163,11 @@ def looks(page):
     page.tab.sized(1_280, 900)
 
 
+def reduced(picture):
+    """A PNG with few bytes: the same picture in 256 colours. It asks for Debian's pngquant."""
+    return subprocess.run(["pngquant", "-"], input=picture, stdout=subprocess.PIPE, check=True).stdout
+
+
 def pictures(page):
     """The page in light and in dark, as docs/ has it."""
     now = int(time.time())
@@ -180,6 +185,6 @@ def pictures(page):
         page.tab.value("document.activeElement.blur(); scrollTo(0, 0)")
         time.sleep(0.3)
         page.tab.sized(1_280, 1_500)
-        content = palette.reduced(page.tab.picture())
+        content = reduced(page.tab.picture())
         (TOP / "docs" / f"page-{scheme}.png").write_bytes(content)
         yield f"{scheme}: {len(content)} bytes are few", len(content) < PICTURE_MAX, True
