@@ -7,7 +7,8 @@ ghost use Rattle.mac_token.specs.Read.{read_of};
 ghost use Rattle.mac_wire.specs.Request.{counted_fields};
 ghost use Rattle.mac_http.specs.Authorization.{credentials_in};
 ghost use Rattle.mac_calls.specs.Counted.{are_few};
-ghost use Rattle.mac_http.specs.Found.{found_at, found_by, found_few, found_of, found_read, found_under, found_with};
+ghost use Rattle.mac_http.specs.Found.{found_at, found_by, found_few, found_of};
+ghost use Rattle.mac_http.specs.Found.{found_read, found_under, found_with};
 
 use crate::authorization::{Credentials, Scheme, credentials_in};
 use crate::facts::{facts_of, tells_unsafe};
@@ -43,8 +44,8 @@ pub enum Finding {
     Granted(Token),
 }
 
-/// What is found of a request under a table of keys at a moment, in seconds since 1970. No signature
-/// is computed of a token that the memory has.
+/// What is found of a request under a table of keys at a moment, in seconds since 1970. No
+/// signature is computed of a token that the memory has.
 pub fn find(
     alloc: Global,
     seen: &SeenTokens,
