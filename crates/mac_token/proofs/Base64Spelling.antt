@@ -164,21 +164,6 @@ consistent_for true false = refl
 consistent_for false true = refl
 consistent_for false false = refl
 
--- a text spells at most one list of bytes
-pub same_bytes : (text a b : List ℕ) → IsBase64Of text a → IsBase64Of text b → a ≡ b
-same_bytes text a b of_a of_b =
-    let plain = list_all is_no_url_letter text in
-    let padded = is_padding (slice_get text (length text - 1)) in
-    let engine = engine_for plain padded in
-    let letters = lacks_url_letters_iff text in
-    let ends = padding_iff (slice_get text (length text - 1)) in
-    let text_a : text ≡ encode_of engine a = encoded_by_engine_for text a plain padded of_a letters ends in
-    let text_b : text ≡ encode_of engine b = encoded_by_engine_for text b plain padded of_b letters ends in
-    let gives_a : decode_of engine (encode_of engine a) ≡ Ok a = decode_of-encode_of engine a (consistent_for plain padded) of_a.0 in
-    let gives_b : decode_of engine (encode_of engine b) ≡ Ok b = decode_of-encode_of engine b (consistent_for plain padded) of_b.0 in
-    let joined : Ok a ≡ Ok b = sym gives_a ∙ (ap (decode_of engine) (sym text_a ∙ text_b) ∙ gives_b) in
-    cc
-
 -- ---- what is written
 
 pub base64_of_is_base64 : (bytes : List ℕ) → IsBytes bytes → IsBase64Of (base64_of bytes) bytes

@@ -8,7 +8,7 @@ use Rattle.serde_json.specs.View.{view, items_of, items_view}
 use Rattle.serde_json.specs.declared.value.Value.{Value}
 use Rattle.mac_token.specs.Json.{HasCaveats, IsCaveat}
 use Rattle.mac_token.specs.RawToken.{CaveatParts}
-use Rattle.mac_token.proofs.JsonUnique.{same_items}
+use Rattle.mac_token.proofs.JsonGiven.{same_items}
 
 zip_push : {A B : Type 0} (R : A → B → Type 0) (xs : List A) (ys : List B) (x : A) (y : B) → AllZip R xs ys → R x y
     → AllZip R (xs ++ x ∷ []) (ys ++ y ∷ [])

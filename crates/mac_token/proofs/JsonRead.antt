@@ -52,6 +52,10 @@ bytes_again : (text coded : Option Data) (bytes : List ℕ) → HasBytes text co
 bytes_again text coded bytes (inl (is, none)) = rw (is, none) refl
 bytes_again text coded bytes (inr (none, (letters, is, spelled))) = rw (none, is) (base64_again letters bytes spelled)
 
+-- they are one list of bytes at most
+pub same_member_bytes : (text coded : Option Data) (a b : List ℕ) → HasBytes text coded a → HasBytes text coded b → a ≡ b
+same_member_bytes text coded a b has_a has_b = same_Some a b (sym (bytes_again text coded a has_a) ∙ bytes_again text coded b has_b)
+
 abbrev some_bytes : List ℕ → Option (Option (List ℕ))
 some_bytes bytes = Some (Some bytes)
 

@@ -13,7 +13,7 @@ pub mod Base64Alphabets
 pub mod Base64Spelling
 pub mod Base64Read
 pub mod Refusals
-pub mod JsonUnique
+pub mod JsonGiven
 pub mod JsonCaveats
 pub mod JsonWritten
 pub mod JsonSpelled

@@ -3,7 +3,7 @@ use Rattle.std.proofs.Common.{◌≡◌, Some, None, rules}
 use Rattle.serde_json.specs.Data.{string}
 use Rattle.serde_json.specs.Find.{get}
 use Rattle.serde_json.specs.View.{view}
-use Rattle.mac_token.proofs.JsonUnique.{no_member_bytes}
+use Rattle.mac_token.proofs.JsonGiven.{no_member_bytes}
 use Rattle.mac_token.proofs.v2_json.reading.bytes_member.Goals as goal
 
 pub returns-in-None : goal.returns-in-None

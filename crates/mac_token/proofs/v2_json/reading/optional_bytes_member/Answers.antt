@@ -3,7 +3,7 @@ use Rattle.std.proofs.Common.{◌≡◌, ◌∙◌, Some, None}
 use Rattle.std.proofs.lemmas.Result.{err_from_is_err_and}
 use Rattle.serde_json.specs.Find.{get}
 use Rattle.serde_json.specs.View.{view}
-use Rattle.mac_token.proofs.JsonUnique.{member_bytes_given}
+use Rattle.mac_token.proofs.JsonGiven.{member_bytes_given}
 use Rattle.mac_token.proofs.Refusals.{Refuses-whole}
 use Rattle.mac_token.proofs.v2_json.reading.optional_bytes_member.Goals as goal
 use Rattle.mac_token.proofs.v2_json.reading.optional_bytes_member.Goals.{in_default-via-in-None+in_default, in_default-via-in_default}

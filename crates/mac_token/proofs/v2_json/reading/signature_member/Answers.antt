@@ -1,7 +1,7 @@
 -- A signature is refused with its bytes, and where they are not 32.
 use Rattle.std.proofs.Common.{ap, length, sym, ◌∙◌}
 use Rattle.std.proofs.lemmas.Result.{err_from_is_err_and}
-use Rattle.mac_token.proofs.JsonUnique.{same_member_bytes}
+use Rattle.mac_token.proofs.JsonRead.{same_member_bytes}
 use Rattle.mac_token.proofs.Refusals.{Refuses-whole}
 use Rattle.mac_token.proofs.v2_json.reading.signature_member.Goals as goal
 
