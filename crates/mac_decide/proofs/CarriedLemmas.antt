@@ -111,9 +111,12 @@ extended-bytes : (signature : List ℕ) (caveats : List (List ℕ)) → IsBytes 
 extended-bytes signature [] is = is
 extended-bytes signature (caveat ∷ caveats) is = extended-bytes (hmac signature caveat) caveats (hmac-bytes signature caveat)
 
-extended-length : (signature : List ℕ) (caveats : List (List ℕ)) → length signature ≡ 32 → length (extended signature caveats) ≡ 32
+pub extended-length : (signature : List ℕ) (caveats : List (List ℕ)) → length signature ≡ 32 → length (extended signature caveats) ≡ 32
 extended-length signature [] is = is
 extended-length signature (caveat ∷ caveats) is = extended-length (hmac signature caveat) caveats (hmac-length signature caveat)
+
+pub chain-length : (key identifier : List ℕ) (caveats : List (List ℕ)) → length (extended key (identifier ∷ caveats)) ≡ 32
+chain-length key identifier caveats = extended-length (hmac key identifier) caveats (hmac-length key identifier)
 
 pub minted-token : (key location identifier : List ℕ) (caveats : List (List ℕ)) → IsUtf8 location → IsBytes location → IsBytes identifier → All IsBytes caveats → IsToken (minted key location identifier caveats)
 minted-token key location identifier caveats text at id each = record {

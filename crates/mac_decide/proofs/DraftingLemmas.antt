@@ -2,12 +2,10 @@
 use Rattle.std.proofs.Common.{◌≡◌, ℕ, List, [], ◌∷◌, append_assoc, length, ◌≤◌, length-append, arith, Ok, Err, sym, ap, subst, ◌∙◌}
 use Rattle.std.proofs.lemmas.List.{append-nil, get_or_append_left}
 use Rattle.mac_token.specs.Answers.{IsFault}
-use Rattle.mac_token.specs.Draft.{DraftParts, IsDraftOf, form_of}
+use Rattle.mac_token.specs.Draft.{DraftParts, IsDraftOf}
 use Rattle.mac_token.specs.Limits.{IsWithinLimits, is_within, token_or_limit}
 use Rattle.mac_token.specs.Push.{IsPushFault, with_caveats, with_sig}
 use Rattle.mac_token.specs.RawToken.{TokenParts, token_parts}
-use Rattle.mac_token.specs.Written.{write_of}
-use Rattle.mac_token.specs.declared.draft.DraftForm.{DraftForm}
 use Rattle.mac_token.specs.declared.fault.TokenFault.{TokenFault}
 use Rattle.mac_token.specs.declared.fault.TokenFault.TheVariants.{Refused, Memory}
 use Rattle.mac_token.specs.declared.fault.TokenRefusal.{TokenRefusal}
@@ -22,11 +20,11 @@ use Rattle.mac_decide.specs.Prepared.{signed_reply}
 use Rattle.mac_decide.proofs.MintingLemmas.{only_limit}
 
 -- a draft, signed, gives the reply with its token
-pub draft-reply : (asked : TokenForm) (form : DraftForm) (t : TokenParts) (d : DraftParts) (sig : List ℕ) → form_of form ≡ answers.form_of asked → IsDraftOf form t d
+pub draft-reply : (asked : TokenForm) (t : TokenParts) (d : DraftParts) (sig : List ℕ) → length sig ≡ 32 → IsDraftOf (answers.form_of asked) t d
     → signed_reply d sig ≡ answers.token_reply asked (with_sig t sig)
-draft-reply asked form t d sig same is =
+draft-reply asked t d sig size is =
     let token = with_sig t sig in
-    ap (λ written. answers.told written Token) (signed-is_written form t d sig is ∙ ap (λ (f : Form). write_of token f) same)
+    ap (λ written. answers.told written Token) (signed-is_written (answers.form_of asked) t d sig is (λ e. size))
     ∙ sym (ap (λ made. answers.told made (answers.written_reply asked)) (token_or_limit-Ok token is.within))
 
 -- a token within the limits isn't refused
@@ -55,7 +53,7 @@ weaker-fault t Memory e = tt
 weaker-fault t (Refused reason) e = e
 
 -- the draft is of a token that is the whole, once it has the texts that are left
-pub record Reaches (form : DraftForm) (d : DraftParts) (left : List (List ℕ)) (whole : TokenParts) : Type 0 where
+pub record Reaches (form : Form) (d : DraftParts) (left : List (List ℕ)) (whole : TokenParts) : Type 0 where
   pub so_far : TokenParts
   pub is : IsDraftOf form so_far d
   pub rest : with_caveats so_far left so_far.sig ≡ whole
@@ -67,22 +65,22 @@ one_more t text rest left whole next e =
     ap (λ (caveats : List (List ℕ)). token_parts t.location t.identifier caveats t.sig) (append_assoc t.caveats (text ∷ []) rest)
     ∙ ap (λ (texts : List (List ℕ)). with_caveats t texts t.sig) next ∙ e
 
-pub pushed-reaches : (form : DraftForm) (d new : DraftParts) (text : List ℕ) (rest left : List (List ℕ)) (whole : TokenParts) → text ∷ rest ≡ left
-    → ((f : DraftForm) (t : TokenParts) → IsDraftOf f t d → IsDraftOf f (with_caveats t (text ∷ []) t.sig) new) → Reaches form d left whole → Reaches form new rest whole
+pub pushed-reaches : (form : Form) (d new : DraftParts) (text : List ℕ) (rest left : List (List ℕ)) (whole : TokenParts) → text ∷ rest ≡ left
+    → ((f : Form) (t : TokenParts) → IsDraftOf f t d → IsDraftOf f (with_caveats t (text ∷ []) t.sig) new) → Reaches form d left whole → Reaches form new rest whole
 pushed-reaches form d new text rest left whole next pushed r = record {
   so_far = with_caveats r.so_far (text ∷ []) r.so_far.sig;
   is = pushed form r.so_far r.is;
   rest = one_more r.so_far text rest left whole next r.rest;
 }
 
-pub refused-reaches : (form : DraftForm) (d : DraftParts) (fault : TokenFault) (text : List ℕ) (rest left : List (List ℕ)) (whole : TokenParts) → text ∷ rest ≡ left
-    → ((f : DraftForm) (t : TokenParts) → IsDraftOf f t d → IsPushFault (with_caveats t (text ∷ []) t.sig) fault) → Reaches form d left whole → IsFault fault (token_or_limit whole)
+pub refused-reaches : (form : Form) (d : DraftParts) (fault : TokenFault) (text : List ℕ) (rest left : List (List ℕ)) (whole : TokenParts) → text ∷ rest ≡ left
+    → ((f : Form) (t : TokenParts) → IsDraftOf f t d → IsPushFault (with_caveats t (text ∷ []) t.sig) fault) → Reaches form d left whole → IsFault fault (token_or_limit whole)
 refused-reaches form d fault text rest left whole next refused r =
     let more = with_caveats r.so_far (text ∷ []) r.so_far.sig in
     subst (λ (t : TokenParts). IsFault fault (token_or_limit t)) (one_more r.so_far text rest left whole next r.rest) (limit-more more rest more.sig fault (weaker-fault more fault (refused form r.so_far r.is)))
 
 -- no text is left
-pub all-reached : (form : DraftForm) (d : DraftParts) (left : List (List ℕ)) (whole : TokenParts) → left ≡ [] → Reaches form d left whole → IsDraftOf form whole d
+pub all-reached : (form : Form) (d : DraftParts) (left : List (List ℕ)) (whole : TokenParts) → left ≡ [] → Reaches form d left whole → IsDraftOf form whole d
 all-reached form d left whole none r =
     let t = r.so_far in
     let nothing : t ≡ with_caveats t [] t.sig = ap (λ (caveats : List (List ℕ)). token_parts t.location t.identifier caveats t.sig) (sym (append-nil t.caveats)) in

@@ -1,4 +1,4 @@
--- A token that is made before its signature is known.
+-- A token that is refused before its signature is known.
 use Rattle.std.proofs.Common.{◌≡◌, ℕ, List, Bool, true, false, if◌then◌else◌, Ok, Err, refl, ap, ◌∙◌}
 use Rattle.mac_token.specs.Limits.{is_within, token_or_limit}
 use Rattle.mac_token.specs.Push.{with_sig}
@@ -6,23 +6,12 @@ use Rattle.mac_token.specs.RawToken.{TokenParts}
 use Rattle.mac_token.specs.declared.fault.TokenRefusal.{TokenRefusal}
 use Rattle.mac_token.specs.declared.fault.TokenRefusal.TheVariants.{Limit}
 use Rattle.mac_wire.specs.declared.request.TokenForm.{TokenForm}
-use Rattle.mac_decide.specs.Answer.{refused, refusal_of, token_reply, written_reply}
+use Rattle.mac_decide.specs.Answer.{refused, refusal_of, token_reply}
 
 -- no limit asks for the signature
 fits-signed : (t : TokenParts) (sig : List ℕ) → is_within (with_sig t sig) ≡ is_within t
 unfolding is_within
 fits-signed t sig = refl
-
-signed-by_test : (form : TokenForm) (t made : TokenParts) (sig : List ℕ) (fits : Bool) → is_within t ≡ fits → (if fits then Ok t else Err Limit) ≡ Ok made
-    → written_reply form (with_sig made sig) ≡ token_reply form (with_sig t sig)
-signed-by_test form t made sig true test e =
-    let same : made ≡ t = cc in
-    rw (fits-signed t sig ∙ test) (ap (λ (u : TokenParts). written_reply form (with_sig u sig)) same)
-signed-by_test form t made sig false test e = absurd (cc)
-
--- a token that is within the limits is written once it has its signature
-pub signed-reply : (form : TokenForm) (t made : TokenParts) (sig : List ℕ) → token_or_limit t ≡ Ok made → written_reply form (with_sig made sig) ≡ token_reply form (with_sig t sig)
-signed-reply form t made sig e = signed-by_test form t made sig (is_within t) refl e
 
 unsigned-by_test : (form : TokenForm) (t : TokenParts) (sig : List ℕ) (reason : TokenRefusal) (fits : Bool) → is_within t ≡ fits → (if fits then Ok t else Err Limit) ≡ Err reason
     → refused (refusal_of reason) ≡ token_reply form (with_sig t sig)

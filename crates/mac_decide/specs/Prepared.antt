@@ -6,13 +6,12 @@ use Rattle.mac_hmac.specs.Chain.{extended}
 use Rattle.mac_token.specs.Answers.{IsFault}
 use Rattle.mac_token.specs.Draft.{DraftParts, IsDraftOf, signed}
 use Rattle.mac_token.specs.Limits.{token_or_limit}
-use Rattle.mac_token.specs.Push.{with_sig}
 use Rattle.mac_token.specs.RawToken.{TokenParts}
-use Rattle.mac_token.specs.declared.draft.DraftForm.{DraftForm}
 use Rattle.mac_token.specs.declared.fault.TokenFault.{TokenFault}
+use Rattle.mac_token.specs.declared.form.Form.{Form}
 use Rattle.mac_wire.specs.declared.reply.Reply.{Reply}
 use Rattle.mac_wire.specs.declared.reply.Reply.TheVariants.{Token as TokenReply}
-use Rattle.mac_decide.specs.Answer.{reply_of, told, verdict_reply, written_reply}
+use Rattle.mac_decide.specs.Answer.{reply_of, told, verdict_reply}
 use Rattle.mac_decide.specs.Folding.{end_of}
 use Rattle.mac_decide.specs.Reading.{caveats_verdict, is_minted}
 use Rattle.mac_decide.specs.declared.context.Context.{Context}
@@ -40,7 +39,7 @@ verdict_by signature second t x =
     if is_given signature second t then caveats_verdict x 0 t.caveats else BadSignature
 
 -- a draft of this token, or Limit where a part passes its limit; want of memory aside
-abbrev pub Drafted : DraftForm → TokenParts → Result DraftParts TokenFault → Type 0
+abbrev pub Drafted : Form → TokenParts → Result DraftParts TokenFault → Type 0
 Drafted form t (Ok draft) = IsDraftOf form t draft
 Drafted form t (Err fault) = IsFault fault (token_or_limit t)
 
@@ -60,7 +59,6 @@ question_reply q signature = verdict_reply q.grant q.token (verdict_on q signatu
 abbrev pub reply_by : Purpose → List ℕ → Reply
 reply_by (purpose.Verdict q) signature = question_reply q signature
 reply_by (purpose.Draft draft) signature = signed_reply draft signature
-reply_by (purpose.Token form t) signature = written_reply form (with_sig t signature)
 
 -- the reply, once all texts are folded on
 abbrev pub ends_in : Signing → Reply

@@ -1,9 +1,10 @@
 //! Tokens that are written from where their parts lie, before they are signed.
 
-ghost use Rattle.std.specs.Prelude.{◌≡◌, [], IfOk};
-ghost use Rattle.mac_token.specs.Draft.{IsDraftOf, form_of};
+ghost use Rattle.std.specs.Prelude.{◌≡◌, [], IfOk, length};
+ghost use Rattle.mac_token.specs.Draft.{IsDraftOf};
 ghost use Rattle.mac_token.specs.Push.{with_caveats, with_sig};
 ghost use Rattle.mac_token.specs.RawToken.{TokenParts, token_parts};
+ghost use Rattle.mac_token.specs.declared.form.Form.{Form as PlainForm};
 ghost use Rattle.mac_decide.specs.Answer as answers;
 ghost use Rattle.mac_decide.specs.Folding.{end_of, texts_of};
 ghost use Rattle.mac_decide.specs.Prepared.{Drafted, comes_to};
@@ -11,7 +12,7 @@ ghost use Rattle.mac_decide.specs.Prepared.{Drafted, comes_to};
 use crate::folding::{Folding, Texts};
 use crate::prepared::{Prepared, Purpose, Signing};
 use crate::reply::{refusal_of, refused};
-use mac_token::{Draft, DraftForm, Expected, TokenFault, TokenView};
+use mac_token::{Draft, Expected, Form, TokenFault, TokenView};
 use mac_wire::{FieldList, NoMemory, TokenForm};
 use std::alloc::{AllocError, Global};
 
@@ -26,7 +27,7 @@ fn bytes_in(fields: &FieldList<'_>) -> usize {
 
 /// The draft with these texts behind its caveats.
 fn with_texts(mut draft: Draft, mut texts: Texts<'_>) -> Result<Draft, TokenFault>
-    ensures { (form : DraftForm) (t : TokenParts) → IsDraftOf form t draft
+    ensures { (form : PlainForm) (t : TokenParts) → IsDraftOf form t draft
         → Drafted form (with_caveats t (texts_of texts.entry) t.sig) result }
 {
     while let Some(text) = texts.next() {
@@ -38,7 +39,7 @@ fn with_texts(mut draft: Draft, mut texts: Texts<'_>) -> Result<Draft, TokenFaul
 /// A draft of the token of these parts. Memory is taken once.
 pub(crate) fn draft_of_parts(
     alloc: Global,
-    form: DraftForm,
+    form: Form,
     location: &str,
     identifier: &[u8],
     caveats: &FieldList<'_>,
@@ -57,7 +58,7 @@ pub(crate) fn draft_of_parts(
 /// taken once.
 pub(crate) fn draft_narrowed(
     alloc: Global,
-    form: DraftForm,
+    form: Form,
     token: &TokenView<'_>,
     len: usize,
     caveats: &FieldList<'_>,
@@ -78,8 +79,8 @@ pub(crate) fn draft_to_sign<'a>(
     made: Result<Draft, TokenFault>,
     folding: Folding<'a>,
 ) -> Result<Prepared<'a>, NoMemory>
-    ensures { (asked : TokenForm) (form : DraftForm) (t : TokenParts)
-        → form_of form ≡ answers.form_of asked → Drafted form t made
+    ensures { (asked : TokenForm) (t : TokenParts)
+        → length (end_of folding.entry) ≡ 32 → Drafted (answers.form_of asked) t made
         → IfOk result (λ p. comes_to p
         ≡ answers.token_reply asked (with_sig t (end_of folding.entry))) }
 {

@@ -5,7 +5,7 @@ ghost use Rattle.mac_hmac.specs.Chain.{extended};
 ghost use Rattle.mac_token.specs.Answers.{Answers};
 ghost use Rattle.mac_token.specs.Limits.{PartsFit, token_or_limit};
 ghost use Rattle.mac_token.specs.Push.{Pushes};
-ghost use Rattle.mac_token.specs.RawToken.{byte_lists, token_parts};
+ghost use Rattle.mac_token.specs.RawToken.{byte_lists};
 ghost use Rattle.mac_decide.specs.Minted.{minted, add};
 
 use mac_hmac::{RootKey, Sig, extend, start};
@@ -49,29 +49,10 @@ fn bare(
         (token_or_limit (minted key.now location.now identifier.now [])) }
 {
     let signature = start(key, identifier);
-    token_of_parts(
-        alloc,
-        location,
-        identifier,
-        Vec::new(alloc),
-        signature.bytes(),
-    )
-}
-
-/// The token of these parts. The caveats are moved, the location and the identifier copied.
-pub(crate) fn token_of_parts(
-    alloc: Global,
-    location: &str,
-    identifier: &[u8],
-    caveats: Vec<Vec<u8>>,
-    sig: [u8; 32],
-) -> Result<Token, TokenFault>
-    ensures { Answers (λ t. t) result (token_or_limit
-        (token_parts location.now identifier.now (byte_lists caveats.items) sig)) }
-{
     let location = String::from_str(alloc, location)?;
     let identifier = Vec::from_slice(alloc, identifier)?;
-    Ok(Token::new(location, identifier, caveats, sig)?)
+    let caveats = Vec::new(alloc);
+    Ok(Token::new(location, identifier, caveats, signature.bytes())?)
 }
 
 /// The token with these caveats behind its own, which anyone who holds it can make. `Limit` where a

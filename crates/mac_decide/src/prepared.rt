@@ -7,11 +7,11 @@ ghost use Rattle.mac_decide.specs.Prepared.{comes_to, ends_in, left_of, question
 
 use crate::context::Context;
 use crate::folding::Folding;
-use crate::reply::{signed_reply, verdict_reply, written_reply};
+use crate::reply::{signed_reply, verdict_reply};
 use crate::verdict_view::verdict_by;
 use mac_hmac::{RootKey, Sig, same};
-use mac_token::{Draft, Token, TokenView};
-use mac_wire::{Grant, NoMemory, Reply, TokenForm};
+use mac_token::{Draft, TokenView};
+use mac_wire::{Grant, NoMemory, Reply};
 use std::alloc::Global;
 
 /// What a verify asks, but for the name's first key.
@@ -63,8 +63,6 @@ pub enum Purpose<'a> {
     Verdict(Question<'a>),
     /// The token that is to have the signature, as it is written up to it.
     Draft(Draft),
-    /// The token that is to have it, in the form that is asked for.
-    Token { form: TokenForm, token: Token },
 }
 
 impl<'a> Purpose<'a> {
@@ -86,10 +84,6 @@ impl<'a> Purpose<'a> {
         match self {
             Purpose::Verdict(question) => question.reply(alloc, signature),
             Purpose::Draft(draft) => signed_reply(alloc, draft, signature),
-            Purpose::Token { form, token } => {
-                let token = token.signed(signature.bytes());
-                written_reply(alloc, form, &token)
-            }
         }
     }
 }

@@ -13,7 +13,7 @@ use crate::job::{Basis, Job};
 use crate::preparing::prepare;
 use crate::verdict::Verdict;
 use mac_hmac::Sig;
-use mac_token::{Draft, Form, Token, TokenFault, TokenRefusal, write};
+use mac_token::{Draft, Form, TokenFault, TokenRefusal};
 use mac_wire::{Arrival, Bytes, Grant, NoMemory, Refusal, Reply, TokenForm};
 use std::alloc::{AllocError, Global};
 
@@ -88,17 +88,6 @@ fn grant_reply(
             location: Bytes::new(Vec::from_slice(alloc, location.as_bytes())?),
         }),
     }
-}
-
-/// The reply with a token, written in a form.
-pub(crate) fn written_reply(
-    alloc: Global,
-    form: TokenForm,
-    token: &Token,
-) -> Result<Reply, NoMemory>
-    ensures { IfOk result (λ r. r ≡ answers.written_reply form token.now) }
-{
-    reply_with(write(alloc, token, form_of(form)))
 }
 
 /// The reply with the token of a draft, once the signature is there.

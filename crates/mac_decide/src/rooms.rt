@@ -10,8 +10,8 @@ pub const RUN: usize = 32;
 /// The greatest room that is kept for the next run, in bytes.
 const ROOM_KEPT: usize = 65_536;
 
-/// A room for each job of a run, for the token that comes as base64 text, and a memory of tokens. A
-/// room takes memory at its first token, and keeps it.
+/// A room for each job of a run, for the token that comes as base64 text or in JSON, and a memory
+/// of tokens. A room takes memory at its first token, and keeps it.
 #[derive(Drop)]
 pub struct Rooms {
     pub(crate) held: [Vec<u8>; RUN],

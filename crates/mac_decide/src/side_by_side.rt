@@ -63,7 +63,7 @@ fn views_of(run: &[Job]) -> ArrayVec<JobView<'_>, RUN>
 }
 
 /// The replies to the jobs of a run, in order. Its jobs are answered where they lie: what is not
-/// JSON and makes no token takes no memory, but for the rooms that base64 text asks for.
+/// read as JSON and makes no token takes no memory, but for the rooms that base64 text asks for.
 pub fn answer_run(
     rooms: &mut Rooms,
     alloc: Global,

@@ -2,10 +2,7 @@
 
 ghost use Rattle.std.specs.Prelude.{◌≡◌, IfOk};
 ghost use Rattle.mac_keys.specs.Keys.{listed};
-ghost use Rattle.mac_token.specs.Read.{bare_of, or_malformed, read_of, token_of_read};
-ghost use Rattle.mac_token.specs.Spells.{BeginsWith};
 ghost use Rattle.mac_decide.specs.Answer as answers;
-ghost use Rattle.mac_decide.specs.Folding.{end_of};
 ghost use Rattle.mac_decide.specs.Prepared.{comes_to};
 ghost use Rattle.mac_decide.specs.Reading.{verdict_of};
 
@@ -13,10 +10,10 @@ use crate::context::Context;
 use crate::folding::Folding;
 use crate::prepared::{Prepared, Purpose, Question, Signing};
 use crate::preparing::told;
-use crate::reply::{refusal_of, verdict_reply};
-use crate::verdict::{Verdict, other_key, verify};
+use crate::reply::refusal_of;
+use crate::verdict::other_key;
 use mac_keys::Keys;
-use mac_token::{Token, TokenFault, TokenView, bare, read_bare};
+use mac_token::{TokenFault, TokenView};
 use mac_wire::{Grant, NoMemory};
 use std::alloc::{AllocError, Global};
 
@@ -34,46 +31,10 @@ pub(crate) fn prepare_verify<'a>(
     ensures { IfOk result (λ p.
         comes_to p ≡ answers.verify_reply grant token.now context.entry keys) }
 {
-    match bare(room, token) {
-        Ok(bytes) => prepare_bare(alloc, mark, grant, keys, bytes, context),
+    match TokenView::read(room, alloc, token) {
+        Ok(token) => Ok(ask(grant, keys, token, context, mark)),
         Err(TokenFault::Refused(reason)) => Ok(told(refusal_of(reason))),
         Err(TokenFault::Memory) => Err(AllocError),
-    }
-}
-
-/// The same, where these are the bytes that the token carries. Only JSON is read with memory.
-fn prepare_bare<'a>(
-    alloc: Global,
-    mark: Option<u64>,
-    grant: Grant,
-    keys: Keys,
-    bytes: &'a [u8],
-    context: Context<'a>,
-) -> Result<Prepared<'a>, NoMemory>
-    ensures { IfOk result (λ p. comes_to p
-        ≡ answers.told (token_of_read (or_malformed (bare_of bytes.now)))
-        (λ t. answers.verdict_reply grant t (verdict_of (listed keys) t context.entry))) }
-{
-    match bytes {
-        [b'{', ..] => prepare_json(alloc, grant, keys, bytes, &context),
-        _ => Ok(prepare_view(mark, grant, keys, bytes, context)),
-    }
-}
-
-fn prepare_view<'a>(
-    mark: Option<u64>,
-    grant: Grant,
-    keys: Keys,
-    bytes: &'a [u8],
-    context: Context<'a>,
-) -> Prepared<'a>
-    requires { ¬ BeginsWith 123 bytes.now }
-    ensures { comes_to result ≡ answers.told (token_of_read (or_malformed (bare_of bytes.now)))
-        (λ t. answers.verdict_reply grant t (verdict_of (listed keys) t context.entry)) }
-{
-    match TokenView::of(bytes) {
-        Ok(token) => ask(grant, keys, token, context, mark),
-        Err(reason) => told(refusal_of(reason)),
     }
 }
 
@@ -98,37 +59,4 @@ fn ask<'a>(
     };
     let purpose = Purpose::Verdict(question);
     Prepared::Pending(Signing { folding, purpose })
-}
-
-/// A verify of a token in JSON, whose parts lie in no bytes, is answered at once.
-fn prepare_json(
-    alloc: Global,
-    grant: Grant,
-    keys: Keys,
-    bytes: &[u8],
-    context: &Context<'_>,
-) -> Result<Prepared<'static>, NoMemory>
-    ensures { IfOk result (λ p. comes_to p
-        ≡ answers.told (token_of_read (or_malformed (bare_of bytes.now)))
-        (λ t. answers.verdict_reply grant t (verdict_of (listed keys) t context.now))) }
-{
-    match read_bare(alloc, bytes) {
-        Ok(token) => told_verdict(alloc, grant, &token, verify(&keys, &token, context)),
-        Err(TokenFault::Refused(reason)) => Ok(told(refusal_of(reason))),
-        Err(TokenFault::Memory) => Err(AllocError),
-    }
-}
-
-/// What is told of a token at once.
-fn told_verdict(
-    alloc: Global,
-    grant: Grant,
-    token: &Token,
-    verdict: Verdict,
-) -> Result<Prepared<'static>, NoMemory>
-    ensures { IfOk result (λ p. comes_to p ≡ answers.verdict_reply grant token.now verdict) }
-{
-    let identifier = token.identifier();
-    let reply = verdict_reply(alloc, grant, identifier, token.location(), verdict)?;
-    Ok(Prepared::Told(reply))
 }

@@ -1,5 +1,5 @@
 -- A draft with its signature is what is written for its token.
-use Rattle.std.proofs.Common.{◌≡◌, ℕ, List, [], ◌∷◌, ◌++◌, append_assoc, length, map, None, Result, Ok, Err, sym, ap, subst, ◌∙◌}
+use Rattle.std.proofs.Common.{◌≡◌, ℕ, List, [], ◌∷◌, ◌++◌, append_assoc, length, map, Some, None, Result, Ok, Err, refl, sym, ap, subst, ◌∙◌}
 use Rattle.std.specs.Prelude.{nat_lt, if◌then◌else◌}
 use Rattle.std.specs.List.{flat_map}
 use Rattle.std.specs.declared.alloc.Global.{Global}
@@ -7,8 +7,9 @@ use Rattle.std.specs.declared.vec.Vec.{Vec}
 use Rattle.std.proofs.lemmas.List.{append-nil}
 use Rattle.std.proofs.lemmas.List.Concat.{flat_map-append}
 use Rattle.std.proofs.lemmas.List.Folds.{flat_map-map}
-use Rattle.mac_token.specs.declared.draft.DraftForm.{DraftForm}
-use Rattle.mac_token.specs.declared.draft.DraftForm.TheVariants.{V1Text, V2Binary, V2Text}
+use Rattle.std.specs.Str.{IsUtf8}
+use Rattle.mac_token.specs.declared.form.Form.{Form}
+use Rattle.mac_token.specs.declared.form.Form.TheVariants.{V1Text, V2Binary, V2Json, V2Text}
 use Rattle.mac_token.specs.declared.fault.TokenFault.{TokenFault}
 use Rattle.mac_token.specs.declared.fault.TokenRefusal.{TokenRefusal}
 use Rattle.mac_token.specs.declared.fault.TokenRefusal.TheVariants.{Limit}
@@ -17,13 +18,18 @@ use Rattle.mac_token.specs.declared.v1.key.Key.TheVariants as key
 use Rattle.mac_token.specs.declared.v2.FieldType.TheVariants as kind
 use Rattle.mac_token.specs.Answers.{Answers}
 use Rattle.mac_token.specs.Base64Text.{base64_of}
-use Rattle.mac_token.specs.Draft.{DraftParts, IsDraftOf, form_of, v1_head, v2_head, v1_end, v2_end, front_bytes, end_bytes, in_form, signed}
+use Rattle.mac_token.specs.Draft.{DraftParts, IsDraftOf, v1_head, v2_head, v1_end, v2_end, front_bytes, end_bytes, in_form, json_in, json_read, signed}
+use Rattle.mac_token.specs.Json.{json_bytes}
 use Rattle.mac_token.specs.Push.{with_sig}
-use Rattle.mac_token.specs.RawToken.{TokenParts}
+use Rattle.mac_token.specs.RawToken.{TokenParts, raw_of}
 use Rattle.mac_token.specs.V1.{Field, packet, caveat_field, v1_bytes}
 use Rattle.mac_token.specs.V2.{end_mark, field, section, written_section, v2_bytes}
+use Rattle.mac_token.specs.V2Whole.{v2_of}
 use Rattle.mac_token.specs.Writes.{Writes}
 use Rattle.mac_token.specs.Written.{token_bytes, write_of}
+use Rattle.mac_token.proofs.ReadLaws.{parts_of-raw_of}
+use Rattle.mac_token.proofs.V2Laws.{V2-v2_bytes}
+use Rattle.mac_token.proofs.V2Whole.{v2_again}
 use Rattle.mac_token.proofs.WritesLemmas.{bounded_answers}
 
 -- packets, the signature's behind the others
@@ -50,18 +56,23 @@ v2_whole t =
     ap (λ (parts : List ℕ). (head ++ parts) ++ (end_mark ++ last)) (sym mapped)
     ∙ sym (append_assoc (head ++ flat_map section (map (written_section None) t.caveats)) end_mark last)
 
-whole : (form : DraftForm) (t : TokenParts) → in_form form (front_bytes form t ++ end_bytes form t.sig) ≡ token_bytes t (form_of form)
+-- the JSON of what V2 binary is written for
+pub json_seen : (t : TokenParts) → v2_of (v2_bytes t) ≡ Some (raw_of t) → json_in (v2_bytes t) ≡ json_bytes t
+json_seen t seen = ap json_read seen ∙ ap json_bytes (parts_of-raw_of t)
+
+whole : (form : Form) (t : TokenParts) → (form ≡ V2Json → IsUtf8 t.location) → (form ≡ V2Json → length t.sig ≡ 32) → in_form form (front_bytes form t ++ end_bytes form t.sig) ≡ token_bytes t form
 unfolding token_bytes
-whole V1Text t = ap base64_of (v1_whole t)
-whole V2Binary t = v2_whole t
-whole V2Text t = ap base64_of (v2_whole t)
+whole V1Text t text size = ap base64_of (v1_whole t)
+whole V2Binary t text size = v2_whole t
+whole V2Json t text size = ap json_in (v2_whole t) ∙ json_seen t (v2_again (v2_bytes t) (raw_of t) (V2-v2_bytes t (text refl) (size refl)))
+whole V2Text t text size = ap base64_of (v2_whole t)
 
 -- what is written with the signature is the token with it
-pub signed-is_written : (form : DraftForm) (t : TokenParts) (d : DraftParts) (sig : List ℕ) → IsDraftOf form t d → signed d sig ≡ write_of (with_sig t sig) (form_of form)
+pub signed-is_written : (form : Form) (t : TokenParts) (d : DraftParts) (sig : List ℕ) → IsDraftOf form t d → (form ≡ V2Json → length sig ≡ 32) → signed d sig ≡ write_of (with_sig t sig) form
 unfolding signed write_of
-signed-is_written form t d sig is =
-    let bytes : in_form d.form (d.front ++ end_bytes d.form sig) ≡ token_bytes (with_sig t sig) (form_of form) =
-    (λ i. in_form (is.form_is i) (is.written i ++ end_bytes (is.form_is i) sig)) ∙ whole form (with_sig t sig) in
+signed-is_written form t d sig is size =
+    let bytes : in_form d.form (d.front ++ end_bytes d.form sig) ≡ token_bytes (with_sig t sig) form =
+    (λ i. in_form (is.form_is i) (is.written i ++ end_bytes (is.form_is i) sig)) ∙ whole form (with_sig t sig) is.text size in
     ap (λ (text : List ℕ). if nat_lt TOKEN_MAX (length text) then Err Limit else Ok text) bytes
 
 -- what is told of the bytes with the signature
@@ -73,7 +84,7 @@ told-signed d sig bytes result is writes =
     (subst (λ (whole : List ℕ). Writes (in_form d.form whole) result) is writes)
 
 -- and so the answer is that of writing
-pub answers-written : (form : DraftForm) (t : TokenParts) (d : DraftParts) (sig : List ℕ) (result : Result (Vec ℕ Global) TokenFault) → IsDraftOf form t d
-    → Answers (λ text. text.items) result (signed d sig) → Answers (λ text. text.items) result (write_of (with_sig t sig) (form_of form))
-answers-written form t d sig result is exact =
-    subst (λ (answer : Result (List ℕ) TokenRefusal). Answers (λ text. text.items) result answer) (signed-is_written form t d sig is) exact
+pub answers-written : (form : Form) (t : TokenParts) (d : DraftParts) (sig : List ℕ) (result : Result (Vec ℕ Global) TokenFault) → IsDraftOf form t d → length sig ≡ 32
+    → Answers (λ text. text.items) result (signed d sig) → Answers (λ text. text.items) result (write_of (with_sig t sig) form)
+answers-written form t d sig result is size exact =
+    subst (λ (answer : Result (List ℕ) TokenRefusal). Answers (λ text. text.items) result answer) (signed-is_written form t d sig is (λ e. size)) exact

@@ -34,6 +34,7 @@ pub mod ReadAnswers
 pub mod WritesLemmas
 pub mod ReadLemmas
 pub mod ReadLaws
+pub mod ViewLemmas
 pub mod AreBytes
 pub mod WrittenLaws
 pub mod DraftLemmas

@@ -234,12 +234,18 @@ first_party_ids : (caveats : List (List ℕ)) → map (λ c. c.id) (map first_pa
 first_party_ids [] = refl
 first_party_ids (c ∷ cs) = ap (λ (xs : List (List ℕ)). c ∷ xs) (first_party_ids cs)
 
+-- the parts of a token as it is spelled
+pub parts_of-raw_of : (t : TokenParts) → parts_of (raw_of t) ≡ t
+parts_of-raw_of t = ap (λ (cs : List (List ℕ)). some_token t.location t.identifier cs t.sig) (first_party_ids t.caveats)
+
+-- a token as it is spelled is it, within the limits
+pub token_of-first_parties : (t : TokenParts) → token_of (raw_of t) ≡ token_or_limit t
+unfolding token_of
+token_of-first_parties t = rw (first_party_vids t.caveats, first_party_locations t.caveats) (ap token_or_limit (parts_of-raw_of t))
+
 -- a token is read from what spells it
 pub token_of-raw_of : (t : TokenParts) → IsWithinLimits t → token_of (raw_of t) ≡ Ok t
-unfolding token_of
-token_of-raw_of t fits =
-    let parts : parts_of (raw_of t) ≡ t = ap (λ (cs : List (List ℕ)). some_token t.location t.identifier cs t.sig) (first_party_ids t.caveats) in
-    rw (first_party_vids t.caveats, first_party_locations t.caveats) (ap token_or_limit parts ∙ token_or_limit-Ok t fits)
+token_of-raw_of t fits = token_of-first_parties t ∙ token_or_limit-Ok t fits
 
 -- reading ends in one way
 pub read_once : (bytes : List ℕ) (x : Result TokenParts TokenRefusal) → IsBytes bytes → Read bytes x → read_of bytes ≡ x

@@ -96,6 +96,10 @@ unfoldable pub carried_of : List ℕ → Result (List ℕ) TokenRefusal
 carried_of bytes =
     if nat_lt TOKEN_MAX (length bytes) then Err Limit else or_transport (bare_bytes bytes)
 
+-- what an input carries: itself, or what was decoded of it
+abbrev pub carried_in : List ℕ → List ℕ → Bool → List ℕ
+carried_in input decoded itself = if itself then input else decoded
+
 -- the raw token in what is carried, or the refusal of the input
 abbrev pub raw_of_carried : Result (List ℕ) TokenRefusal → Result RawParts TokenRefusal
 raw_of_carried (Err fault) = Err fault

@@ -1,52 +1,31 @@
-//! Tokens that are written before their signature is known, in the forms that end in it.
+//! Tokens that are written before their signature is known. One in JSON is V2 binary until it is
+//! signed, since V1 packets and V2 binary end in the signature.
 
-ghost use Rattle.std.specs.Prelude.{◌≡◌, ◌∷◌, ◌++◌, [], IfSome, IfNone, OnOk};
+ghost use Rattle.std.specs.Prelude.{◌≡◌, ◌∷◌, ◌++◌, [], OnOk};
 ghost use Rattle.mac_token.specs.Answers.{Answers};
-ghost use Rattle.mac_token.specs.Draft.{Drafts, IsDraftOf, caveat_bytes, end_bytes, form_of, head_bytes, in_form, signed};
+ghost use Rattle.mac_token.specs.Draft.{Drafts, IsDraftOf, caveat_bytes, end_bytes, head_bytes, in_form, signed};
 ghost use Rattle.mac_token.specs.Push.{with_caveats, with_sig};
 ghost use Rattle.mac_token.specs.RawToken.{TokenParts, token_parts};
 ghost use Rattle.mac_token.specs.Writes.{Writes};
 ghost use Rattle.mac_token.specs.Written.{write_of};
+ghost use Rattle.mac_token.specs.declared.form.Form.{Form as PlainForm};
 
 use crate::fault::{NoMemory, TokenFault, TokenRefusal};
 use crate::form::Form;
 use crate::limits::{CAVEAT_MAX, CAVEATS_MAX, TOKEN_MAX};
 use crate::token::is_within;
-use crate::writing::{as_bare, as_text};
+use crate::writing::{as_bare, as_json, as_text};
 use crate::{v1, v2};
 use std::alloc::Global;
 use std::marker::Model;
 
-/// A form in which the signature is written last.
-#[derive(Clone, Copy)]
-pub enum DraftForm {
-    /// Base64 text of V1 packets.
-    V1Text,
-    /// V2 binary, bare.
-    V2Binary,
-    /// Base64 text of V2 binary.
-    V2Text,
-}
-
-impl DraftForm {
-    /// The same form, where it ends in the signature. JSON doesn't.
-    pub fn of(form: Form) -> Option<DraftForm>
-        ensures some { IfSome result (λ found. form_of found ≡ form) }
-        ensures none { IfNone result (form ≡ Form.V2Json) }
-    {
-        match form {
-            Form::V1Text => Some(DraftForm::V1Text),
-            Form::V2Binary => Some(DraftForm::V2Binary),
-            Form::V2Json => None,
-            Form::V2Text => Some(DraftForm::V2Text),
-        }
-    }
-
-    /// Room for so much, with the signature: at least what is written, up to a token's limit.
+impl Form {
+    /// Room for so much, with the signature: at least what is written up to it, within a token's
+    /// limit.
     fn room(self, location: &str, identifier: &[u8], expected: &Expected) -> usize {
         let (whole, each) = match self {
-            DraftForm::V1Text => (v1::BESIDE_PARTS, v1::BESIDE_CAVEAT),
-            DraftForm::V2Binary | DraftForm::V2Text => (v2::BESIDE_PARTS, v2::BESIDE_CAVEAT),
+            Form::V1Text => (v1::BESIDE_PARTS, v1::BESIDE_CAVEAT),
+            Form::V2Binary | Form::V2Json | Form::V2Text => (v2::BESIDE_PARTS, v2::BESIDE_CAVEAT),
         };
         let caveats = expected.caveats.saturating_mul(each);
         let parts = location.len().saturating_add(identifier.len());
@@ -63,8 +42,8 @@ impl DraftForm {
             ≡ out.old.items ++ head_bytes self location.now identifier.now) }
     {
         match self {
-            DraftForm::V1Text => v1::put_head(out, location, identifier),
-            DraftForm::V2Binary | DraftForm::V2Text => v2::put_head(out, location, identifier),
+            Form::V1Text => v1::put_head(out, location, identifier),
+            Form::V2Binary | Form::V2Json | Form::V2Text => v2::put_head(out, location, identifier),
         }
     }
 
@@ -73,8 +52,8 @@ impl DraftForm {
         ensures { OnOk result (out.new.items ≡ out.old.items ++ caveat_bytes self caveat.now) }
     {
         match self {
-            DraftForm::V1Text => v1::put_caveat(out, caveat),
-            DraftForm::V2Binary | DraftForm::V2Text => v2::put_caveat(out, caveat),
+            Form::V1Text => v1::put_caveat(out, caveat),
+            Form::V2Binary | Form::V2Json | Form::V2Text => v2::put_caveat(out, caveat),
         }
     }
 
@@ -83,18 +62,20 @@ impl DraftForm {
         ensures { OnOk result (out.new.items ≡ out.old.items ++ end_bytes self sig.now) }
     {
         match self {
-            DraftForm::V1Text => v1::put_signature(out, sig),
-            DraftForm::V2Binary | DraftForm::V2Text => v2::put_signature(out, sig),
+            Form::V1Text => v1::put_signature(out, sig),
+            Form::V2Binary | Form::V2Json | Form::V2Text => v2::put_signature(out, sig),
         }
     }
 
-    /// Packets or V2 binary in this form. `Limit` where that is longer than a token may be.
+    /// The packets or the V2 binary of a token in this form. `Limit` where that is longer than a
+    /// token may be.
     fn in_form(self, alloc: Global, bytes: Vec<u8>) -> Result<Vec<u8>, TokenFault>
         ensures { Writes (in_form self bytes.items) result }
     {
         match self {
-            DraftForm::V1Text | DraftForm::V2Text => as_text(alloc, &bytes),
-            DraftForm::V2Binary => as_bare(bytes),
+            Form::V1Text | Form::V2Text => as_text(alloc, &bytes),
+            Form::V2Binary => as_bare(bytes),
+            Form::V2Json => as_json(alloc, &bytes),
         }
     }
 }
@@ -110,7 +91,7 @@ pub struct Expected {
 /// A token as it is written, all but its signature. Contracts see it as a `DraftParts`.
 #[derive(Drop)]
 pub struct Draft {
-    form: DraftForm,
+    form: Form,
     caveats: usize,
     front: Vec<u8>,
 }
@@ -128,7 +109,7 @@ impl Draft {
     /// tested before memory is taken. Its memory is taken at once, as far as it was expected.
     pub fn begin(
         alloc: Global,
-        form: DraftForm,
+        form: Form,
         location: &str,
         identifier: &[u8],
         expected: Expected,
@@ -150,7 +131,7 @@ impl Draft {
     /// The draft with one caveat more. `Limit` where the caveat or the number of caveats passes its
     /// limit, tested before anything is written.
     pub fn push(self, caveat: &[u8]) -> Result<Draft, TokenFault>
-        ensures { (form : DraftForm) (t : TokenParts) → IsDraftOf form t self
+        ensures { (form : PlainForm) (t : TokenParts) → IsDraftOf form t self
             → Drafts form (with_caveats t (caveat.now ∷ []) t.sig) result }
     {
         if self.caveats >= CAVEATS_MAX || caveat.len() > CAVEAT_MAX {
@@ -170,11 +151,11 @@ impl Draft {
     }
 
     /// The token with this signature, as `write` gives it. `Limit` where it is longer than a token
-    /// may be. A text takes memory of its own.
+    /// may be. A text and JSON take memory of their own.
     pub fn sign(self, alloc: Global, sig: [u8; 32]) -> Result<Vec<u8>, TokenFault>
         ensures exact { Answers (λ text. text.items) result (signed self sig) }
-        ensures written { (form : DraftForm) (t : TokenParts) → IsDraftOf form t self
-            → Answers (λ text. text.items) result (write_of (with_sig t sig) (form_of form)) }
+        ensures written { (form : PlainForm) (t : TokenParts) → IsDraftOf form t self
+            → Answers (λ text. text.items) result (write_of (with_sig t sig) form) }
     {
         let Draft {
             form,

@@ -4,13 +4,12 @@ ghost use Rattle.std.specs.Prelude.{All, ◌≡◌, ◌≤◌, ◌↔◌, ◌++�
 ghost use Rattle.std.specs.Str.{IsUtf8};
 ghost use Rattle.base64.specs.Engines.{standard, standard_no_pad, url_safe, url_safe_no_pad};
 ghost use Rattle.base64.specs.GeneralPurpose.{IsBytes, engine_symbols};
-ghost use Rattle.mac_token.specs.declared.draft.DraftForm.{DraftForm};
 ghost use Rattle.mac_token.specs.declared.fault.TokenRefusal.{TokenRefusal};
 ghost use Rattle.mac_token.specs.declared.form.Form.{Form};
 ghost use Rattle.mac_token.specs.declared.limits.TheConstants.{LOCATION_MAX, IDENTIFIER_MAX, CAVEAT_MAX, CAVEATS_MAX, TOKEN_MAX};
 ghost use Rattle.mac_token.specs.Base64Reading.{base64_bytes};
 ghost use Rattle.mac_token.specs.Base64Text.{IsBase64Of, base64_of, plain_letters, url_safe_letters};
-ghost use Rattle.mac_token.specs.Draft.{DraftParts, IsDraftOf, form_of, signed};
+ghost use Rattle.mac_token.specs.Draft.{DraftParts, IsDraftOf, signed};
 ghost use Rattle.mac_token.specs.Json.{JsonText, json_bytes};
 ghost use Rattle.mac_token.specs.JsonReading.{json_text_of};
 ghost use Rattle.mac_token.specs.Limits.{IsWithinLimits, is_within};
@@ -45,10 +44,19 @@ pub fn written_is_read_again()
         → length (token_bytes t form) ≤ TOKEN_MAX → read_of (token_bytes t form) ≡ Ok t }
 {}
 
-/// A draft of a token is, once it is signed, what is written for the token with that signature.
+/// A token is read from its V2 binary however long that is. So one in JSON, which goes by way of V2
+/// binary, is refused for no length but that of its JSON.
+pub fn binary_is_read_again()
+    ensures { (t : TokenParts) → IsToken t → IsWithinLimits t
+        → token_of_read (or_malformed (bare_of (v2_bytes t))) ≡ Ok t }
+{}
+
+/// A draft of a token is, once it is signed, what is written for the token with that signature; in
+/// JSON by one of 32 bytes.
 pub fn signed_draft_is_written()
-    ensures { (form : DraftForm) (t : TokenParts) (d : DraftParts) (sig : List ℕ)
-        → IsDraftOf form t d → signed d sig ≡ write_of (with_sig t sig) (form_of form) }
+    ensures { (form : Form) (t : TokenParts) (d : DraftParts) (sig : List ℕ)
+        → IsDraftOf form t d → (form ≡ Form.V2Json → length sig ≡ 32)
+        → signed d sig ≡ write_of (with_sig t sig) form }
 {}
 
 /// What is written for a `Token` is read again as it: its parts are what [`written_is_read_again`]

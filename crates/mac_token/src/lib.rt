@@ -21,9 +21,10 @@ mod v2_json;
 mod varint;
 mod version;
 mod view;
+mod viewing;
 mod writing;
 
-pub use draft::{Draft, DraftForm, Expected};
+pub use draft::{Draft, Expected};
 pub use fault::{NoMemory, TokenFault, TokenRefusal};
 pub use form::Form;
 pub use limits::{CAVEAT_MAX, CAVEATS_MAX, IDENTIFIER_MAX, LOCATION_MAX, TOKEN_MAX};

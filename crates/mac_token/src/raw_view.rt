@@ -13,6 +13,7 @@ use crate::limits::{CAVEATS_MAX, IDENTIFIER_MAX, LOCATION_MAX};
 use crate::raw::{RawCaveat, RawToken};
 use crate::tally::Tally;
 use crate::version::Version;
+use crate::view::Walk;
 use crate::{v1, v2};
 use std::alloc::Global;
 use std::marker::Model;
@@ -121,6 +122,16 @@ impl<'a> RawView<'a> {
             && self.identifier.len() <= IDENTIFIER_MAX
             && self.count() <= CAVEATS_MAX
             && self.has_short_caveats()
+    }
+
+    /// The caveats' own bytes, in order.
+    pub(crate) fn walk(&self) -> Walk<'a>
+        ensures { result ≡ map (λ c. c.id) self.now.caveats }
+    {
+        Walk {
+            version: self.version,
+            rest: self.caveats,
+        }
     }
 
     /// The number of caveats.

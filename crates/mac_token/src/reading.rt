@@ -10,22 +10,21 @@
 //! An input whose first byte calls for a bare form is never base64 text, and what base64 text
 //! stands for is not decoded again.
 
-ghost use Rattle.std.specs.Prelude.{◌≡◌, [], IfOk, OnErr, is_some, map};
-ghost use Rattle.mac_token.specs.RawToken.{byte_lists};
-ghost use Rattle.std.specs.List.{list_any};
+ghost use Rattle.std.specs.Prelude.{◌≡◌, ◌≢◌, [], Ok, false, IfOk, OnErr};
 ghost use Rattle.mac_token.specs.Answers.{Answers, Ends};
 ghost use Rattle.mac_token.specs.Base64Reading.{base64_bytes};
-ghost use Rattle.mac_token.specs.Read.{Carried, IsInBound, Read, ReadRaw, calls_for_bare, bare_of, or_malformed, or_transport, carried_of, raw_read_of, token_of, token_of_read, read_of};
+ghost use Rattle.mac_token.specs.Read.{Carried, IsInBound, Read, ReadRaw, begins_bare, calls_for_bare, bare_of, or_malformed, or_transport, carried_in, carried_of, raw_read_of, token_of_read, read_of};
 ghost use Rattle.mac_token.specs.Reads as reads;
 ghost use Rattle.mac_token.specs.Room.{Holds};
 ghost use Rattle.std.specs.Borrow.{sem};
 
-use crate::fault::{NoMemory, ReadFault, TokenFault, TokenRefusal};
+use crate::fault::{ReadFault, TokenFault, TokenRefusal};
 use crate::limits::TOKEN_MAX;
-use crate::raw::{RawCaveat, RawToken};
+use crate::raw::RawToken;
 use crate::raw_view::RawView;
 use crate::token::Token;
 use crate::view::TokenView;
+use crate::viewing::view_bare;
 use crate::{base64_text, v2_json};
 use std::alloc::Global;
 
@@ -40,12 +39,26 @@ fn calls_for_bare(first: u8) -> bool
 /// what it stands for as base64 text, which is kept in the room. `Limit` where the input is longer
 /// than a token may be; `Transport` where it carries nothing, or `Memory` in its place. What the
 /// room held is dropped.
-#[tactic(auto, unfolding(crate::specs::Read::bare_bytes, crate::specs::Read::carried_of))]
 pub fn bare<'a>(room: &'a mut Vec<u8>, input: &'a [u8]) -> Result<&'a [u8], TokenFault>
     ensures answer { Answers (λ bytes. bytes.now) result (carried_of input.now) }
     ensures meaning { Ends (λ bytes. bytes.now) result (Carried input.now) }
     ensures memory { result ≡ Err TokenFault.Memory → IsInBound input.now }
     ensures* kept { sem 𝓛 (Holds room.entry input.now result) }
+{
+    if carries_itself(room, input)? {
+        Ok(input)
+    } else {
+        Ok(room.as_slice())
+    }
+}
+
+/// Whether the input is itself what it carries. Else that is in the room.
+#[tactic(auto, unfolding(crate::specs::Read::bare_bytes, crate::specs::Read::carried_of))]
+pub(crate) fn carries_itself(room: &mut Vec<u8>, input: &[u8]) -> Result<bool, TokenFault>
+    ensures answer { Answers (carried_in input.now room.new.items) result (carried_of input.now) }
+    ensures memory { result ≡ Err TokenFault.Memory → IsInBound input.now }
+    ensures kept { IfOk result (λ itself. itself ≡ begins_bare input.now) }
+    ensures empty { result ≢ Ok false → room.new.items ≡ [] }
 {
     room.clear();
     if input.len() > TOKEN_MAX {
@@ -53,10 +66,10 @@ pub fn bare<'a>(room: &'a mut Vec<u8>, input: &'a [u8]) -> Result<&'a [u8], Toke
     }
     match input {
         [] => Err(TokenFault::Refused(TokenRefusal::Transport)),
-        [first, ..] if calls_for_bare(*first) => Ok(input),
+        [first, ..] if calls_for_bare(*first) => Ok(true),
         _ => {
             decode_into(room, input)?;
-            Ok(room.as_slice())
+            Ok(false)
         }
     }
 }
@@ -76,7 +89,7 @@ fn decode_into(room: &mut Vec<u8>, text: &[u8]) -> Result<(), TokenFault>
 
 /// What a bare form spells.
 #[tactic(auto, unfolding(crate::specs::Read::bare_of))]
-fn spelled(alloc: Global, bytes: &[u8]) -> Result<RawToken, ReadFault>
+pub(crate) fn spelled(alloc: Global, bytes: &[u8]) -> Result<RawToken, ReadFault>
     ensures { reads.Answers (λ raw. raw) result (bare_of bytes.now) }
 {
     if let [b'{', ..] = bytes {
@@ -101,66 +114,13 @@ pub fn read_raw(alloc: Global, bytes: &[u8]) -> Result<RawToken, TokenFault>
     Ok(spelled(alloc, bare)?)
 }
 
-fn has_vid(raw: &RawToken) -> bool
-    ensures { result ≡ list_any (λ c. is_some c.vid) raw.now.caveats }
-{
-    raw.caveats.iter().any(|caveat| caveat.vid.is_some())
-}
-
-fn has_location(raw: &RawToken) -> bool
-    ensures { result ≡ list_any (λ c. is_some c.location) raw.now.caveats }
-{
-    raw.caveats.iter().any(|caveat| caveat.location.is_some())
-}
-
-/// The caveats' own bytes, in order; their verifiers' ids and locations are dropped.
-fn ids(alloc: Global, caveats: Vec<RawCaveat>) -> Result<Vec<Vec<u8>>, NoMemory>
-    ensures { IfOk result (λ list. byte_lists list.items ≡ map (λ c. c.id) caveats.items) }
-{
-    let mut list = Vec::with_capacity(alloc, caveats.len())?;
-    for caveat in caveats {
-        let RawCaveat {
-            id,
-            vid: _,
-            location: _,
-        } = caveat;
-        list.push(id)?;
-    }
-    Ok(list)
-}
-
-/// The token that the raw one is, or the first refusal that keeps it from being one.
-#[tactic(auto, unfolding(crate::specs::Read::token_of))]
-fn token(alloc: Global, raw: RawToken) -> Result<Token, TokenFault>
-    ensures { Answers (λ token. token) result (token_of raw) }
-{
-    if has_vid(&raw) {
-        return Err(TokenFault::Refused(TokenRefusal::ThirdParty));
-    }
-    if has_location(&raw) {
-        return Err(TokenFault::Refused(TokenRefusal::CaveatLocation));
-    }
-    let RawToken {
-        location,
-        identifier,
-        caveats,
-        sig,
-    } = raw;
-    let caveats = ids(alloc, caveats)?;
-    Ok(Token::new(location, identifier, caveats, sig)?)
-}
-
 /// The token that the bytes of a bare form spell, those that `bare` answers; read without what it
 /// has done. The first refusal that applies is that of `read` past the transport.
 pub fn read_bare(alloc: Global, bytes: &[u8]) -> Result<Token, TokenFault>
     ensures { Answers (λ token. token) result (token_of_read (or_malformed (bare_of bytes.now))) }
 {
-    if let [b'{', ..] = bytes {
-        let raw = spelled(alloc, bytes)?;
-        return token(alloc, raw);
-    }
-    let view = TokenView::of(bytes)?;
-    view.copied(alloc)
+    let mut room = Vec::new(alloc);
+    view_bare(&mut room, alloc, bytes)?.copied(alloc)
 }
 
 /// The token that the bytes spell, within the limits. Time and memory are linear in the bytes. The
@@ -172,6 +132,5 @@ pub fn read(alloc: Global, bytes: &[u8]) -> Result<Token, TokenFault>
     ensures memory { result ≡ Err TokenFault.Memory → IsInBound bytes.now }
 {
     let mut room = Vec::new(alloc);
-    let bare = bare(&mut room, bytes)?;
-    read_bare(alloc, bare)
+    TokenView::read(&mut room, alloc, bytes)?.copied(alloc)
 }

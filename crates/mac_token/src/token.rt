@@ -1,10 +1,9 @@
 //! A token of first-party caveats, within the limits.
 
 ghost use Rattle.std.specs.Prelude.{◌≡◌, ◌<◌, ◌≤◌, ◌↔◌, ◌++◌, ◌∷◌, [], length, IsTrue, IfErr, OkIff, OnOk, OnErr, slice_get, string_bytes, option_map};
-ghost use Rattle.mac_token.specs.Answers.{Answers};
 ghost use Rattle.mac_token.specs.RawToken.{token_parts, byte_lists};
 ghost use Rattle.mac_token.specs.Limits.{IsWithinLimits, PartsFit, AreShort, token_or_limit};
-ghost use Rattle.mac_token.specs.Push.{Pushes, with_caveats, with_sig};
+ghost use Rattle.mac_token.specs.Push.{Pushes, with_caveats};
 
 use crate::fault::{NoMemory, TokenFault, TokenRefusal};
 use crate::limits::{CAVEAT_MAX, CAVEATS_MAX, IDENTIFIER_MAX, LOCATION_MAX};
@@ -122,29 +121,6 @@ impl Token {
             Ok(()) => Ok(Token { sig, ..self }),
             Err(_) => Err((TokenFault::Memory, self)),
         }
-    }
-
-    /// The token with these caveats behind its own, which are moved, and with the signature that it
-    /// has. `Limit` where a caveat or the new number of caveats passes its limit.
-    pub fn append(self, mut caveats: Vec<Vec<u8>>) -> Result<Token, TokenFault>
-        ensures { Answers (λ token. token) result
-            (token_or_limit (with_caveats self (byte_lists caveats.items) self.sig)) }
-    {
-        let Token {
-            location,
-            identifier,
-            caveats: mut list,
-            sig,
-        } = self;
-        list.append(&mut caveats)?;
-        Ok(Token::new(location, identifier, list, sig)?)
-    }
-
-    /// The token with this signature.
-    pub fn signed(self, sig: [u8; 32]) -> Token
-        ensures { result ≡ with_sig self sig }
-    {
-        Token { sig, ..self }
     }
 
     /// The location, a hint that nothing signs.

@@ -103,10 +103,7 @@ impl<'a> TokenView<'a> {
     pub fn walk(&self) -> Walk<'a>
         ensures { result ≡ self.now.caveats }
     {
-        Walk {
-            version: self.raw.version,
-            rest: self.raw.caveats,
-        }
+        self.raw.walk()
     }
 
     /// The signature.
@@ -120,8 +117,8 @@ impl<'a> TokenView<'a> {
 /// Caveats, one after the other. Contracts see the list of those that are left.
 #[derive(Drop)]
 pub struct Walk<'a> {
-    version: Version,
-    rest: &'a [u8],
+    pub(crate) version: Version,
+    pub(crate) rest: &'a [u8],
 }
 
 impl<'a> Model for Walk<'a> {

@@ -4,6 +4,7 @@ ghost use Rattle.std.specs.Prelude.{◌≡◌, ◌≢◌, ◌≤◌, ◌↔◌, 
 ghost use Rattle.base64.specs.Rfc4648.{unpadded_len};
 ghost use Rattle.mac_token.specs.Answers.{Answers};
 ghost use Rattle.mac_token.specs.Base64Text.{base64_of};
+ghost use Rattle.mac_token.specs.Draft.{json_in};
 ghost use Rattle.mac_token.specs.Json.{json_bytes};
 ghost use Rattle.mac_token.specs.V1.{v1_bytes};
 ghost use Rattle.mac_token.specs.V2.{v2_bytes};
@@ -85,12 +86,26 @@ fn as_v2_text(alloc: Global, token: &Token) -> Result<Vec<u8>, TokenFault>
     Ok(base64_text::encode(alloc, &binary)?.into_bytes())
 }
 
-/// The token in V2 JSON, which is built before its length is known.
+/// The JSON of the token that V2 binary spells, which is built before its length is known; no bytes
+/// where none is spelled.
+pub(crate) fn as_json(alloc: Global, binary: &[u8]) -> Result<Vec<u8>, TokenFault>
+    ensures { Writes (json_in binary.now) result }
+{
+    match v2::view(binary) {
+        Some(raw) => {
+            let room = binary.len().saturating_mul(2);
+            as_bare(v2_json::write(alloc, &raw, room)?)
+        }
+        None => Ok(Vec::new(alloc)),
+    }
+}
+
+/// The token in V2 JSON, by way of V2 binary.
 fn as_v2_json(alloc: Global, token: &Token) -> Result<Vec<u8>, TokenFault>
     ensures { Writes (json_bytes token.now) result }
 {
-    let bytes = v2_json::write(alloc, token)?;
-    as_bare(bytes)
+    let binary = v2::write(alloc, token)?;
+    as_json(alloc, &binary)
 }
 
 #[tactic(auto, unfolding(crate::specs::Written::token_bytes))]

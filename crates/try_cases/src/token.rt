@@ -2,7 +2,7 @@
 
 use crate::case::{Case, CaseFault};
 use mac_token::{
-    Form, RawToken, Token, TokenFault, TokenRefusal, TokenView, bare, read, read_raw, write,
+    Form, RawToken, Token, TokenFault, TokenRefusal, TokenView, read, read_raw, write,
 };
 
 /// Tells what a case comes to, if it is one of these kinds.
@@ -26,24 +26,20 @@ fn read_parts(case: &mut Case<'_>) {
     if let Some(token) = next_token(case) {
         say_parts(case, &token);
     }
-    if has_view(&mut viewed) && !case.is_like(&viewed) {
+    view_parts(&mut viewed);
+    if !case.is_like(&viewed) {
         case.say(" but viewed otherwise");
     }
 }
 
-/// The same by a view, where there is one: V2 JSON has none.
-fn has_view(case: &mut Case<'_>) -> bool {
+/// The same by a view.
+fn view_parts(case: &mut Case<'_>) {
     let input = case.bytes();
     let mut room = Vec::new(case.alloc);
-    match bare(&mut room, &input) {
-        Ok([b'{', ..]) => return false,
-        Ok(bytes) => match TokenView::of(bytes) {
-            Ok(view) => say_view(case, &view),
-            Err(reason) => say_refusal(case, TokenFault::Refused(reason)),
-        },
+    match TokenView::read(&mut room, case.alloc, &input) {
+        Ok(view) => say_view(case, &view),
         Err(fault) => say_refusal(case, fault),
     }
-    true
 }
 
 fn say_view(case: &mut Case<'_>, view: &TokenView<'_>) {

@@ -1,15 +1,18 @@
 //! Writing V2 binary: the exact length first, so that one reserve is enough.
 
-ghost use Rattle.std.specs.Prelude.{◌≡◌, ◌+◌, ◌*◌, ◌<◌, ◌≤◌, ◌^◌, ◌++◌, None, length, map, IfOk, OnOk};
+ghost use Rattle.std.specs.Prelude.{◌≡◌, ◌+◌, ◌*◌, ◌<◌, ◌≤◌, ◌^◌, ◌++◌, [], Some, None, length, map, IfOk, OnOk};
 ghost use Rattle.std.specs.List.{flat_map};
 ghost use Rattle.mac_token.specs.Draft.{v2_head, v2_end};
-ghost use Rattle.mac_token.specs.Limits.{AreShort};
-ghost use Rattle.mac_token.specs.RawToken.{byte_lists};
+ghost use Rattle.mac_token.specs.Limits.{AreShort, token_or_limit};
+ghost use Rattle.mac_token.specs.RawToken.{byte_lists, raw_of, token_parts};
+ghost use Rattle.mac_token.specs.Read.{bare_of, or_malformed, token_of_read};
 ghost use Rattle.mac_token.specs.V2.{field, optional, section, written_location, written_section, v2_bytes};
+ghost use Rattle.mac_token.specs.V2Whole.{v2_of};
 ghost use Rattle.mac_token.specs.declared.v2.FieldType.TheVariants.{Location};
 
 use crate::fault::NoMemory;
 use crate::limits::{CAVEAT_MAX, CAVEATS_MAX};
+use crate::raw::RawCaveat;
 use crate::token::Token;
 use crate::v2::{END, FieldType, VERSION};
 use crate::varint::{push_varint, varint_len};
@@ -144,11 +147,44 @@ pub(crate) fn put_signature(out: &mut Vec<u8>, sig: &[u8]) -> Result<(), NoMemor
 
 /// The token in V2 binary, in a buffer of exactly its length.
 pub(crate) fn write(alloc: Global, token: &Token) -> Result<Vec<u8>, NoMemory>
-    ensures { IfOk result (λ out. out.items ≡ v2_bytes token.now) }
+    ensures written { IfOk result (λ out. out.items ≡ v2_bytes token.now) }
+    ensures seen { OnOk result (v2_of (v2_bytes token.now) ≡ Some (raw_of token.now)) }
 {
     let mut out = Vec::with_capacity(alloc, written_len(token))?;
     put_head(&mut out, token.location().as_bytes(), token.identifier())?;
     put_caveats(&mut out, token.caveat_list())?;
     put_signature(&mut out, &token.sig())?;
     Ok(out)
+}
+
+/// Appends the sections of raw caveats, by their own bytes alone.
+fn put_ids(out: &mut Vec<u8>, caveats: &[RawCaveat]) -> Result<(), NoMemory>
+    ensures { OnOk result (out.new.items ≡ out.old.items
+        ++ flat_map section (map (written_section None) (map (λ c. c.id) caveats.now))) }
+{
+    for caveat in caveats {
+        put_caveat(out, &caveat.id)?;
+    }
+    Ok(())
+}
+
+/// Puts these parts of a raw token into an empty vector, of its caveats their own bytes alone.
+pub(crate) fn put_parts(
+    out: &mut Vec<u8>,
+    location: &str,
+    identifier: &[u8],
+    caveats: &[RawCaveat],
+    sig: [u8; 32],
+) -> Result<(), NoMemory>
+    requires { out.old.items ≡ [] }
+    ensures written { OnOk result (out.new.items ≡ v2_bytes
+        (token_parts location.now identifier.now (map (λ c. c.id) caveats.now) sig)) }
+    ensures seen { OnOk result (token_of_read (or_malformed (bare_of out.new.items))
+        ≡ token_or_limit
+        (token_parts location.now identifier.now (map (λ c. c.id) caveats.now) sig)) }
+{
+    put_head(out, location.as_bytes(), identifier)?;
+    put_ids(out, caveats)?;
+    put_signature(out, &sig)?;
+    Ok(())
 }

@@ -1,94 +1,114 @@
-//! An object as `serde_json` writes it without white space, its members sorted by name.
+//! An object without white space, its members sorted by name.
 
-ghost use Rattle.std.specs.Prelude.{◌≡◌, map, IfOk, OnOk};
-ghost use Rattle.serde_json.specs.View.{view, items_of, members_view};
-ghost use Rattle.mac_token.specs.Json.{caveat_object, token_object, json_bytes};
-ghost use Rattle.mac_token.specs.JsonMembers.{put_identifier, put_location};
-ghost use Rattle.mac_token.specs.RawToken.{byte_lists};
+ghost use Rattle.std.specs.Prelude.{◌≡◌, ◌∷◌, [], IfOk};
+ghost use Rattle.std.specs.List.{flat_map};
+ghost use Rattle.json.specs.Token.{key, string};
+ghost use Rattle.json.specs.Tree.{json_tokens};
+ghost use Rattle.serde_json.specs.Written.{outline};
+ghost use Rattle.mac_token.specs.Json.{json_bytes, token_object};
+ghost use Rattle.mac_token.specs.JsonMembers.{Puts, caveat_tokens, identifier_tokens, location_tokens};
+ghost use Rattle.mac_token.specs.RawToken.{token_parts};
+ghost use Rattle.mac_token.specs.Read.{parts_of};
 
 use crate::base64_text;
 use crate::fault::NoMemory;
-use crate::token::Token;
-use serde_json::{Map, Value, put};
+use crate::raw_view::RawView;
+use crate::view::Walk;
+use json::Writer;
 use std::alloc::Global;
 
-/// Puts bytes into an object as its identifier.
-fn put_identifier(
-    alloc: Global,
-    object: &mut Map<String, Value>,
-    bytes: &[u8],
-) -> Result<(), NoMemory>
-    ensures { OnOk result (members_view object.new.entries
-        ≡ put_identifier bytes.now (members_view object.old.entries)) }
+/// Appends a member that is a text.
+fn put_text(out: &mut Writer, name: &str, text: &str) -> Result<(), NoMemory>
+    ensures { Puts result out.old out.new (key name.now ∷ string text.now ∷ []) }
+{
+    out.key(name)?;
+    out.string(text)
+}
+
+/// Appends bytes as an identifier.
+fn put_identifier(out: &mut Writer, alloc: Global, bytes: &[u8]) -> Result<(), NoMemory>
+    ensures { Puts result out.old out.new (identifier_tokens bytes.now) }
 {
     match str::from_utf8(bytes) {
-        Ok(text) => {
-            let value = Value::try_from_str(alloc, text)?;
-            put(object, alloc, "i", value)
-        }
+        Ok(text) => put_text(out, "i", text),
         Err(_) => {
             let letters = base64_text::encode(alloc, bytes)?;
-            put(object, alloc, "i64", Value::from(letters))
+            put_text(out, "i64", letters.as_str())
         }
     }
 }
 
-/// Puts a location into an object, unless it is empty.
-fn put_location(
-    alloc: Global,
-    object: &mut Map<String, Value>,
-    location: &str,
-) -> Result<(), NoMemory>
-    ensures { OnOk result (members_view object.new.entries
-        ≡ put_location location.now (members_view object.old.entries)) }
+/// Appends a location, unless it is empty.
+fn put_location(out: &mut Writer, location: &str) -> Result<(), NoMemory>
+    ensures { Puts result out.old out.new (location_tokens location.now) }
 {
     if location.is_empty() {
         return Ok(());
     }
-    let value = Value::try_from_str(alloc, location)?;
-    put(object, alloc, "l", value)
+    put_text(out, "l", location)
 }
 
-/// A caveat as an object.
-fn caveat_value(alloc: Global, caveat: &[u8]) -> Result<Value, NoMemory>
-    ensures { IfOk result (λ value. view value ≡ caveat_object caveat.now) }
+/// Appends a caveat's object.
+fn put_caveat(out: &mut Writer, alloc: Global, caveat: &[u8]) -> Result<(), NoMemory>
+    ensures { Puts result out.old out.new (caveat_tokens caveat.now) }
 {
-    let mut object = Map::new(alloc);
-    put_identifier(alloc, &mut object, caveat)?;
-    Ok(Value::Object(object))
+    out.begin_object()?;
+    put_identifier(out, alloc, caveat)?;
+    out.end_object()
 }
 
-/// The caveats as a list of objects.
-fn caveat_values(alloc: Global, caveats: &[Vec<u8>]) -> Result<Vec<Value>, NoMemory>
-    ensures { IfOk result (λ values. map view values.items
-        ≡ map caveat_object (byte_lists caveats.now)) }
+/// Appends the caveats' objects.
+fn put_caveats(out: &mut Writer, alloc: Global, caveats: Walk<'_>) -> Result<(), NoMemory>
+    ensures { Puts result out.old out.new (flat_map caveat_tokens caveats.entry) }
 {
-    let mut values = Vec::with_capacity(alloc, caveats.len())?;
     for caveat in caveats {
-        values.push(caveat_value(alloc, caveat)?)?;
+        put_caveat(out, alloc, caveat)?;
     }
-    Ok(values)
+    Ok(())
 }
 
-/// The token as an object.
-fn token_value(alloc: Global, token: &Token) -> Result<Value, NoMemory>
-    ensures { IfOk result (λ value. view value ≡ token_object token.now) }
+/// Appends the object of a token with these parts.
+fn put_token(
+    out: &mut Writer,
+    alloc: Global,
+    location: &str,
+    identifier: &[u8],
+    caveats: Walk<'_>,
+    sig: &[u8],
+) -> Result<(), NoMemory>
+    ensures { Puts result out.old out.new (json_tokens (outline (token_object
+        (token_parts location.now identifier.now caveats.entry sig.now)))) }
 {
-    let caveats = caveat_values(alloc, token.caveat_list())?;
-    let signature = base64_text::encode(alloc, &token.sig())?;
-    let mut object = Map::new(alloc);
-    put(&mut object, alloc, "v", Value::from(2u64))?;
-    put(&mut object, alloc, "s64", Value::from(signature))?;
-    put_location(alloc, &mut object, token.location())?;
-    put_identifier(alloc, &mut object, token.identifier())?;
-    put(&mut object, alloc, "c", Value::Array(caveats))?;
-    Ok(Value::Object(object))
+    let signature = base64_text::encode(alloc, sig)?;
+    out.begin_object()?;
+    out.key("c")?;
+    out.begin_array()?;
+    put_caveats(out, alloc, caveats)?;
+    out.end_array()?;
+    put_identifier(out, alloc, identifier)?;
+    put_location(out, location)?;
+    put_text(out, "s64", signature.as_str())?;
+    out.key("v")?;
+    out.u64(2)?;
+    out.end_object()?;
+    Ok(())
 }
 
-/// The token in V2 JSON. Time is linear in what is written.
-pub(crate) fn write(alloc: Global, token: &Token) -> Result<Vec<u8>, NoMemory>
-    ensures { IfOk result (λ out. out.items ≡ json_bytes token.now) }
+/// What a raw token has in common with a token, in V2 JSON, from bytes that begin with this much
+/// room. Time is linear in what is written.
+pub(crate) fn write(alloc: Global, raw: &RawView<'_>, room: usize) -> Result<Vec<u8>, NoMemory>
+    ensures { IfOk result (λ out. out.items ≡ json_bytes (parts_of raw.now)) }
 {
-    let bytes = token_value(alloc, token)?.to_vec(alloc)?;
-    Ok(bytes)
+    let caveats = raw.walk();
+    let bytes = Vec::with_capacity(alloc, room)?;
+    let mut out = Writer::new(bytes);
+    put_token(
+        &mut out,
+        alloc,
+        raw.location,
+        raw.identifier,
+        caveats,
+        &raw.sig,
+    )?;
+    Ok(out.into_inner())
 }

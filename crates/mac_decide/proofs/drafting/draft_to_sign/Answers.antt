@@ -10,11 +10,11 @@ use Rattle.mac_decide.proofs.SigningLemmas.{unsigned-reply}
 use Rattle.mac_decide.proofs.drafting.draft_to_sign.Goals as goal
 
 pub returns-in-Ok : goal.returns-in-Ok
-returns-in-Ok c = λ asked form t same made.
-    draft-reply asked form t c.in-Ok.draft (end_of c.args.folding) same (rw c.in-Ok.is at made)
+returns-in-Ok c = λ asked t size made.
+    draft-reply asked t c.in-Ok.draft (end_of c.args.folding) size (rw c.in-Ok.is at made)
 
 pub returns-in-Err-Refused : goal.returns-in-Err-Refused
-returns-in-Err-Refused c = λ asked form t same made.
+returns-in-Err-Refused c = λ asked t size made.
     let reason = c.in-Err-Refused.reason in
     let fault : IsFault c.in-Err-Refused.field-0 (token_or_limit t) = rw c.in-Err-Refused.is at made in
     let is : c.in-Err-Refused.field-0 ≡ Refused reason = rw c.in-Err-Refused.is at c.in-Err-Refused.field-0-is in

@@ -1,4 +1,4 @@
-use Rattle.std.proofs.Common.{subst}
+use Rattle.std.proofs.Common.{subst, rules}
 use Rattle.mac_token.specs.Answers.{Answers}
 use Rattle.mac_token.specs.Draft.{DraftParts, signed}
 use Rattle.mac_token.proofs.DraftLemmas.{told-signed, answers-written}
@@ -14,4 +14,4 @@ pub returns-clause-exact : goal.returns-clause-exact
 returns-clause-exact c = exact c
 
 pub returns-clause-written : goal.returns-clause-written
-returns-clause-written c = λ form t is. answers-written form t c.args.self c.args.sig c.in_form.result is (exact c)
+returns-clause-written c = λ form t is. answers-written form t c.args.self c.args.sig c.in_form.result is (search rules) (exact c)
