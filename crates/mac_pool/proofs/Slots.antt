@@ -2,8 +2,8 @@
 use Rattle.std.proofs.Common.{◌≡◌, ◌≢◌, ℕ, zero, suc, ◌+◌, ◌<◌, ◌≤◌, ◌⊎◌, List, [], ◌∷◌, ◌++◌, length, map, set, take, Option, None, Some, slice_get, get_or, sym, ◌∙◌, ap, refl, subst, ⊎_elim, arith, length-append, append_assoc, inl, inr, All, add-one}
 use Rattle.std.proofs.lemmas.Option.{slice_get-get_or}
 use Rattle.atomic_table.specs.Seated.{TableId}
-use Rattle.mac_queue.specs.Pass.{Pass, HasClaimed}
-use Rattle.mac_pool.specs.Pool.{at_home, AreOut, IsWorkers, AreWorkers}
+use Rattle.mac_queue.specs.Pass.{Pass}
+use Rattle.mac_pool.specs.Pool.{at_home, AreOut, AreWorkers}
 use Rattle.mac_queue.proofs.Passes.{get_push}
 
 -- where one number stands to another
@@ -83,6 +83,20 @@ module _ {A : Type 0} where
   get_both (y ∷ xs) ys zero x at = inl at
   get_both (y ∷ xs) ys (suc n) x at = get_both xs ys n x at
 
+module _ {A : Type 0} (P : A → Type 0) where
+  -- where each is so, the last is, and each before it; and one more may come
+  pub each_last : (xs : List A) (y : A) → ((n : ℕ) (x : A) → slice_get (xs ++ y ∷ []) n ≡ Some x → P x) → P y
+  each_last xs y all = all (length xs) y (get_last xs y)
+
+  pub each_front : (xs : List A) (y : A) → ((n : ℕ) (x : A) → slice_get (xs ++ y ∷ []) n ≡ Some x → P x) → (n : ℕ) (x : A) → slice_get xs n ≡ Some x → P x
+  each_front xs y all n x at = all n x (get_front xs (y ∷ []) n x at)
+
+  pub each_push : (xs : List A) (y : A) → ((n : ℕ) (x : A) → slice_get xs n ≡ Some x → P x) → P y → (n : ℕ) (x : A) → slice_get (xs ++ y ∷ []) n ≡ Some x → P x
+  each_push xs y all one n x at =
+      ⊎_elim (λ (there : slice_get xs n ≡ Some x). all n x there)
+      (λ (here : (n ≡ length xs) × (y ≡ x)). subst P here.1 one)
+      (get_push xs y x n at)
+
 module _ {A B : Type 0} (f : A → B) where
   pub map_get : (xs : List A) (n : ℕ) (x : A) → slice_get xs n ≡ Some x → slice_get (map f xs) n ≡ Some (f x)
   map_get [] n x at = absurd (cc)
@@ -146,27 +160,6 @@ module _ {Job : Type 0} where
   at_home_short (None ∷ slots) = let r = at_home_short slots in omega arith
   at_home_short (Some pass ∷ slots) = let r = at_home_short slots in omega arith
 
-  -- a worker's pass that is brought back has put nothing
-  pub brought_is : (queue : TableId) (given back : Pass Job) (n : ℕ) → IsWorkers queue given → HasClaimed given n back → IsWorkers queue back
-  brought_is queue given back n was has = (has.same.0 ∙ was.0, has.put ∙ was.1)
-
-  -- the last of passes that have put nothing, and those before it
-  pub worker_last : (queue : TableId) (rest : List (Pass Job)) (pass : Pass Job) → AreWorkers queue (rest ++ pass ∷ []) → IsWorkers queue pass
-  worker_last queue rest pass all = all (length rest) pass (get_last rest pass)
-
-  pub workers_front : (queue : TableId) (rest : List (Pass Job)) (pass : Pass Job) → AreWorkers queue (rest ++ pass ∷ []) → AreWorkers queue rest
-  workers_front queue rest pass all number other at = all number other (get_front rest (pass ∷ []) number other at)
-
-  -- a pass more is brought
-  pub brought_more : (before brought all more : List (Pass Job)) (pass : Pass Job) → more ≡ all ++ pass ∷ [] → all ≡ before ++ brought → more ≡ before ++ (brought ++ pass ∷ [])
-  brought_more before brought all more pass is was = is ∙ ap (λ (l : List (Pass Job)). l ++ pass ∷ []) was ∙ append_assoc before brought (pass ∷ [])
-
-  pub workers_push : (queue : TableId) (passes : List (Pass Job)) (pass : Pass Job) → AreWorkers queue passes → IsWorkers queue pass → AreWorkers queue (passes ++ pass ∷ [])
-  workers_push queue passes pass all one n other at =
-      ⊎_elim (λ (there : slice_get passes n ≡ Some other). all n other there)
-      (λ (here : (n ≡ length passes) × (pass ≡ other)). subst (λ (p : Pass Job). IsWorkers queue p) here.1 one)
-      (get_push passes pass other n at)
-
   -- a pass that comes home to the slot of its number keeps the slots in order
   pub set_homes : (queue : TableId) (slots : List (Option (Pass Job))) (k : ℕ) (new : Pass Job) → new.queue ≡ queue → new.number ≡ k
       → ((n : ℕ) (pass : Pass Job) → slice_get slots n ≡ Some (Some pass) → (pass.queue ≡ queue) × (pass.number ≡ n))
@@ -199,10 +192,6 @@ module _ {Job : Type 0} where
       let slot = home_slot slots there.0 pass there.1 in
       (homes slot.0 pass slot.1).0)
       (get_both brought (at_home slots) k pass (slice_get-get_or all k d below))
-
-  -- one worker more
-  pub workers_more : (queue : TableId) (given all : List (Pass Job)) (pass : Pass Job) → all ≡ given ++ pass ∷ [] → AreWorkers queue given → IsWorkers queue pass → AreWorkers queue all
-  workers_more queue given all pass is were one = subst (λ (l : List (Pass Job)). AreWorkers queue l) (sym is) (workers_push queue given pass were one)
 
   -- one slot more was looked at, and is empty
   pub out_next : (slots : List (Option (Pass Job))) (from n : ℕ) → slice_get slots n ≡ Some None → AreOut from n slots → AreOut from (n + 1) slots

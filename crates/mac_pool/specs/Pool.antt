@@ -1,11 +1,13 @@
 -- What contracts see of a pool.
-use Rattle.std.specs.Prelude.{◌≡◌, ◌++◌, ◌≤◌, ◌<◌, ℕ, List, [], ◌∷◌, length, Option, None, Some, slice_get, slice_set, refl}
+use Rattle.std.specs.Prelude.{◌≡◌, ◌++◌, ◌≤◌, ◌<◌, ℕ, List, [], ◌∷◌, length, map, Option, None, Some, slice_get, slice_set, refl}
 use Rattle.std.specs.Coded.{Coded, code_by, coded×, coded_list, coded_option, coded_ℕ}
 use Rattle.atomic_table.specs.Seated.{TableId, table_id_coded}
 use Rattle.mac_queue.specs.Pass.{Pass, pass_code, IsFresh}
 use Rattle.mac_queue.specs.Tally.{IsTally}
 use Rattle.mac_queue.specs.declared.queue.TheConstants.{PASSES}
 use Rattle.mac_queue.specs.declared.queue.tally.Tally.{Tally}
+use Rattle.mac_worker.specs.Parcel.{Pairwise, IsAnswered}
+use Rattle.mac_worker.specs.declared.work.Worked.{Worked}
 use Rattle.mac_pool.specs.declared.pool.TheConstants.{WORKERS_MAX}
 
 -- a pool: its queue, the number of its workers, and its passes by their numbers, None where one is
@@ -58,13 +60,33 @@ module _ {Job : Type 0} where
   AreWorkers queue passes =
       (number : ℕ) (pass : Pass Job) → slice_get passes number ≡ Some pass → IsWorkers queue pass
 
--- so many passes of this queue came, which put nothing, behind those that were there
-pub record IsBrought {Job : Type 0} (queue : TableId) (count : ℕ)
-    (before after : List (Pass Job)) : Type 0 where
-  pub brought : List (Pass Job)
-  pub after_is : after ≡ before ++ brought
-  pub count_is : length brought ≡ count
-  pub idle : AreWorkers queue brought
+  -- each is a pass of this queue that has done nothing
+  abbrev pub AreIdle : TableId → List (Pass Job) → Type 0
+  AreIdle queue passes =
+      (number : ℕ) (pass : Pass Job) → slice_get passes number ≡ Some pass
+      → IsWorkers queue pass × (pass.claimed ≡ [])
+
+module _ {S Job Reply : Type 0} where
+  abbrev pub passes_of : List (Worked S Job Reply) → List (Pass Job)
+  passes_of workers = map (λ (worked : Worked S Job Reply). worked.pass) workers
+
+  -- a worker at this queue put nothing, and each ticket that it claimed was answered once, in order
+  abbrev pub HasAnswered : TableId → Worked S Job Reply → Type 0
+  HasAnswered queue worked =
+      IsWorkers queue worked.pass × Pairwise IsAnswered worked.pass.claimed worked.deliveries
+
+  -- each of the workers answered what it claimed
+  abbrev pub HaveAnswered : TableId → List (Worked S Job Reply) → Type 0
+  HaveAnswered queue workers =
+      (number : ℕ) (worked : Worked S Job Reply) → slice_get workers number ≡ Some worked
+      → HasAnswered queue worked
+
+-- so many workers came back, with their passes behind those that were there
+pub record IsBrought {S Job Reply : Type 0} (queue : TableId) (count : ℕ)
+    (before after : List (Pass Job)) (workers : List (Worked S Job Reply)) : Type 0 where
+  pub after_is : after ≡ before ++ passes_of workers
+  pub count_is : length workers ≡ count
+  pub answered : HaveAnswered queue workers
 
 -- how the fields fit together: a slot for each pass, at home only in the slot of its number, the
 -- passes that were given to workers, and room for all
@@ -75,7 +97,7 @@ pub record IsKept {Job : Type 0} (queue : TableId) (given : List (Pass Job)) (th
       → (pass.queue ≡ queue) × (pass.number ≡ number)
   pub given_fit : length given ≤ WORKERS_MAX
   pub given_room : WORKERS_MAX ≤ threads_room
-  pub given_are : AreWorkers queue given
+  pub given_are : AreIdle queue given
   pub all_empty : all ≡ []
   pub all_fits : PASSES ≤ all_room
 
@@ -95,3 +117,11 @@ pub record IsStopped {Job : Type 0} (pool : Slots Job) (tally : Tally) : Type 0 
   pub count : length brought ≡ pool.workers
   pub idle : AreWorkers pool.queue brought
   pub tally_is : IsTally (brought ++ at_home pool.passes) tally
+
+-- all workers came back, each of which answered what it claimed, and the tally is of their passes
+-- and of those that were at home
+pub record IsFinished {S Job Reply : Type 0} (pool : Slots Job)
+    (workers : List (Worked S Job Reply)) (tally : Tally) : Type 0 where
+  pub count : length workers ≡ pool.workers
+  pub answered : HaveAnswered pool.queue workers
+  pub tally_is : IsTally (passes_of workers ++ at_home pool.passes) tally

@@ -13,4 +13,4 @@ pub use mac_queue::{
     Claim, Desk, Mailbox, Post, PutFault, Putter, Queue, QueuePass, Taker, Tally, Ticket,
 };
 pub use mac_worker::{Gate, NoGate, Worked, worker};
-pub use pool::{DESKS_MAX, Pool, WORKERS_MAX};
+pub use pool::{DESKS_MAX, Finished, Pool, WORKERS_MAX};

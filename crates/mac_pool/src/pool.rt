@@ -1,13 +1,14 @@
 //! A pool: a queue with workers in threads of their own, and desks for connections.
 
 ghost use Rattle.std.specs.Prelude.{◌≡◌, ◌≢◌, ◌+◌, ◌≤◌, ◌<◌, ◌⊎◌, ◌↔◌, ◌++◌, [], Option, Some, None, Ok, Err, IfOk, IfErr, IsErr, MatchOption, OnOk, OnErr, IfSome, map, take, length, slice_get, slice_set};
-ghost use Rattle.mac_pool.specs.Pool.{IsStarted, IsStopped, IsGiven, IsHome, IsBrought, AreOut, AreWorkers, at_home, with_home};
+ghost use Rattle.mac_pool.specs.Pool.{IsStarted, IsStopped, IsFinished, IsGiven, IsHome, IsBrought, AreOut, AreIdle, at_home, with_home};
 ghost use Rattle.std.specs.Arc.{arc_value};
 ghost use Rattle.std.specs.Vec.{vec_capacity};
 ghost use Rattle.mac_worker.specs.Working.{HasWorked};
 
 use crate::fault::{DeskFault, HandFault, PoolFault};
 use crate::hand::Hand;
+use mac_mail::History;
 use mac_order::{NoMemory, Service};
 use mac_queue::{Desk, PASSES, Queue, QueuePass, Tally};
 use mac_worker::{Gate, NoGate, Worked, worker};
@@ -40,6 +41,15 @@ impl<S: Service> Promise<Worked<S>> for FromPass<S> {
 type Thread<S> = PromisedHandle<Worked<S>, FromPass<S>>;
 
 type Slots<S> = Vec<Option<QueuePass<S>>>;
+
+/// What a pool leaves behind.
+#[derive(Drop)]
+pub struct Finished<S: Service> {
+    /// The books of its queue.
+    pub tally: Tally,
+    /// What each worker left behind. For contracts: it takes no room.
+    pub workers: History<Worked<S>>,
+}
 
 /// A queue with its workers and its 80 passes, each at home or out with a worker, a desk or a hand.
 /// A pool that is dropped leaves its workers asleep: stop it instead.
@@ -238,6 +248,18 @@ impl<S: Service, G: Gate> Pool<S, G> {
         ensures same { IfErr result (λ pool. pool ≡ self) }
         ensures tally { IfOk result (λ tally. IsStopped self tally) }
     {
+        match self.finish(rt) {
+            Ok(finished) => Ok(finished.tally),
+            Err(pool) => Err(pool),
+        }
+    }
+
+    /// The same, and tells what each worker did.
+    pub fn finish<R: Threads + Wait>(self, rt: &R) -> Result<Finished<S>, Pool<S, G>>
+        ensures out { IsErr result ↔ (length (at_home self.passes) + self.workers ≢ PASSES) }
+        ensures same { IfErr result (λ pool. pool ≡ self) }
+        ensures finished { IfOk result (λ end. IsFinished self end.workers end.tally) }
+    {
         if home_count(&self.passes) + self.workers.len() != PASSES {
             return Err(self);
         }
@@ -248,10 +270,15 @@ impl<S: Service, G: Gate> Pool<S, G> {
             mut all,
             gate: _,
         } = self;
+        let mut came = History::new();
         queue.close();
-        bring_back(rt, &queue, workers, &mut all);
+        bring_back(rt, &queue, workers, &mut all, &mut came);
         bring_home(passes, &mut all);
-        Ok(queue.tally(rt, all))
+        let tally = queue.tally(rt, all);
+        Ok(Finished {
+            tally,
+            workers: came,
+        })
     }
 
     /// Ends the workers.
@@ -264,7 +291,7 @@ impl<S: Service, G: Gate> Pool<S, G> {
             gate: _,
         } = self;
         queue.close();
-        bring_back(rt, &queue, workers, &mut all);
+        bring_back(rt, &queue, workers, &mut all, &mut History::new());
     }
 }
 
@@ -350,20 +377,25 @@ fn home_count<S: Service>(slots: &Slots<S>) -> usize
     count
 }
 
-/// Waits for the workers, and keeps their passes.
+/// Waits for the workers, keeps their passes, and tells what they did.
 fn bring_back<S: Service, R: Threads>(
     rt: &R,
     queue: &Queue<S>,
     mut workers: Vec<Thread<S>>,
     all: &mut Vec<QueuePass<S>>,
+    came: &mut History<Worked<S>>,
 )
     requires room { length all.old.items + length workers.items ≤ vec_capacity all.old }
-    requires given { AreWorkers queue.now (map (λ worker. worker.promise.0.value) workers.items) }
+    requires given { AreIdle queue.now (map (λ worker. worker.promise.0.value) workers.items) }
+    requires none { came.old ≡ [] }
     ensures capacity { vec_capacity all.new ≡ vec_capacity all.old }
-    ensures brought { IsBrought queue.now (length workers.items) all.old.items all.new.items }
+    ensures brought {
+        IsBrought queue.now (length workers.items) all.old.items all.new.items came.new }
 {
     while let Some(thread) = workers.pop() {
-        all.push_reserved(thread.join(rt).pass);
+        let worked = thread.join(rt);
+        came.add(&worked);
+        all.push_reserved(worked.pass);
     }
 }
 

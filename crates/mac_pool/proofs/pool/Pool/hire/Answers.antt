@@ -2,10 +2,11 @@ use Rattle.std.proofs.Common.{◌≡◌, ℕ, ◌+◌, ◌++◌, ◌∷◌, [], 
 use Rattle.std.proofs.lemmas.List.{length-map}
 use Rattle.std.specs.Arc.{arc_value}
 use Rattle.std.specs.declared.thread.PromisedHandle.{PromisedHandle}
+use Rattle.mac_queue.specs.Pass.{Pass}
 use Rattle.mac_worker.specs.declared.work.Worked.{Worked}
 use Rattle.mac_pool.specs.declared.pool.FromPass.{FromPass}
-use Rattle.mac_pool.specs.Pool.{Slots, IsStarted}
-use Rattle.mac_pool.proofs.Slots.{unset_homes, workers_more}
+use Rattle.mac_pool.specs.Pool.{Slots, IsStarted, IsWorkers}
+use Rattle.mac_pool.proofs.Slots.{unset_homes, each_push}
 use Rattle.mac_pool.proofs.Moves.{started_more, next_idle, map_grown}
 use Rattle.mac_pool.proofs.pool.Pool.hire.Goals as goal
 
@@ -38,13 +39,13 @@ invariant_of-self g c =
     let room = c.requires.room in
     let capacity = c.push_reserved.ensures.capacity in
     let threads = was.given_room in
-    let idle : pass.put ≡ [] = next_idle _ c.args.self.now.workers c.len.result pass started (omega arith) (omega arith) at in
+    let idle : (pass.put ≡ []) × (pass.claimed ≡ []) = next_idle _ c.args.self.now.workers c.len.result pass started (omega arith) (omega arith) at in
     record {
       slots_fit = search rules;
       homes = rw c.take_out-pass.ensures.out (unset_homes _ c.self.inside.passes.items c.len.result was.homes);
       given_fit = omega (arith, ap length grown, length-append (map given old) (pass ∷ []), length-map old given);
       given_room = omega arith;
-      given_are = workers_more _ (map given old) _ pass grown was.given_are (mine.0, idle);
+      given_are = rw grown (each_push (λ (p : Pass g.row.S-Job.Denot). IsWorkers (arc_value c.self.inside.queue) p × (p.claimed ≡ [])) (map given old) pass was.given_are ((mine.0, idle.0), idle.1));
       all_empty = was.all_empty;
       all_fits = was.all_fits;
     }
