@@ -389,8 +389,8 @@ fn bring_back<S: Service, R: Threads>(
     requires given { AreIdle queue.now (map (λ worker. worker.promise.0.value) workers.items) }
     requires none { came.old ≡ [] }
     ensures capacity { vec_capacity all.new ≡ vec_capacity all.old }
-    ensures brought {
-        IsBrought queue.now (length workers.items) all.old.items all.new.items came.new }
+    ensures brought { IsBrought queue.now (length workers.items) all.old.items all.new.items
+        came.new }
 {
     while let Some(thread) = workers.pop() {
         let worked = thread.join(rt);
