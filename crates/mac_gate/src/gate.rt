@@ -3,7 +3,8 @@
 use crate::door::Doors;
 use crate::entrance::Entrance;
 use crate::house::House;
-use crate::serving::Terms;
+use crate::looping::Loop;
+use crate::terms::Terms;
 use crate::welcoming::start_welcoming;
 use mac_board::Followers;
 use mac_daemon::Guests;
@@ -42,19 +43,21 @@ impl From<io::Error> for GateFault {
     }
 }
 
-/// Connections over HTTP are accepted and served, in threads of their own.
+/// Connections over HTTP are accepted in a thread of its own, and served in loops.
 #[derive(Drop)]
 pub struct Gate {
     house: Arc<House, Global>,
 }
 
-/// Has the connections that come in through these doors served. The daemon counts them as guests.
+/// Has the connections that come in through these doors served, by so many loops. The daemon counts
+/// them as guests.
 pub fn open_gate<R>(
     rt: &R,
     alloc: Global,
     doors: Doors,
     followers: Followers,
     guests: Guests,
+    loops: usize,
     terms: Terms,
 ) -> Result<Gate, GateFault>
 where
@@ -62,14 +65,48 @@ where
 {
     let Doors { doors } = doors;
     let (entrance, waker) = Entrance::open(rt, alloc, doors)?;
-    let house = House::new(alloc, terms, guests, waker)?;
-    let own = Arc::try_clone(&house)?;
+    let (mut made, mut wakers) = (Vec::new(alloc), Vec::new(alloc));
+    for number in 0..loops {
+        let (own, waker) = Loop::new(rt, alloc, number)?;
+        if made.push(own).is_err() || wakers.push(waker).is_err() {
+            return Err(GateFault::NoMemory);
+        }
+    }
+    let house = House::new(alloc, terms, guests, waker, wakers)?;
     house.open(rt);
-    if !start_welcoming(*rt, alloc, entrance, own, followers, terms) {
+    if !start_all(rt, alloc, made, entrance, &house, followers, terms) {
         house.close(rt);
         return Err(GateFault::NoThread);
     }
     Ok(Gate { house })
+}
+
+/// Starts the threads of a gate. Whether there is each of them.
+fn start_all<R>(
+    rt: &R,
+    alloc: Global,
+    loops: Vec<Loop>,
+    entrance: Entrance,
+    house: &Arc<House, Global>,
+    followers: Followers,
+    terms: Terms,
+) -> bool
+where
+    R: Threads + Wait + Clock + RandomSource + Sync + Copy + Send + 'static,
+{
+    for own in loops {
+        let is_started = match Arc::try_clone(house) {
+            Ok(house) => own.start(*rt, alloc, house, terms),
+            Err(_) => false,
+        };
+        if !is_started {
+            return false;
+        }
+    }
+    match Arc::try_clone(house) {
+        Ok(house) => start_welcoming(*rt, entrance, house, followers),
+        Err(_) => false,
+    }
 }
 
 impl Gate {

@@ -1,29 +1,50 @@
 //! What the threads of a gate share: its connections, and whether it ends.
 
-use crate::line::Line;
 use crate::noting::exchange_of;
 use crate::places::Places;
-use crate::serving::Terms;
+use crate::stream::Stream;
+use crate::terms::Terms;
+use crossbeam_queue::SegQueue;
 use http::StatusCode;
+use mac_board::Follower;
 use mac_count::{Number, Request, append_metrics, append_status, append_version};
 use mac_daemon::Guests;
 use mac_decide::SeenTokens;
 use mac_http::Noted;
 use mio::Waker;
 use std::alloc::{AllocError, Global};
-use std::sync::atomic::AtomicBool;
 use std::sync::atomic::Ordering::SeqCst;
+use std::sync::atomic::{AtomicBool, AtomicUsize};
 use std::sync::{Arc, Mutex, Wait};
 use std::time::Clock;
 
-/// The connections of a gate.
-type Lines = Places<Arc<Line, Global>>;
+/// A connection on its way to a loop.
+#[derive(Drop)]
+pub struct Arrival {
+    pub stream: Stream,
+    pub keys: Follower,
+    /// Its place among all connections.
+    pub place: usize,
+}
+
+/// Where a loop gets connections from.
+#[derive(Drop)]
+struct Inbox {
+    queue: SegQueue<Arrival>,
+    // It wakes the loop.
+    waker: Waker,
+    // How many connections the loop has.
+    count: AtomicUsize,
+}
 
 /// What the threads of a gate share.
 #[derive(Drop)]
 pub struct House {
-    lines: Mutex<Lines>,
+    places: Mutex<Places<()>>,
+    inboxes: Vec<Inbox>,
     is_ending: AtomicBool,
+    // Whether no further connection comes in.
+    is_closed: AtomicBool,
     // The end of the daemon waits for them.
     guests: Guests,
     // It wakes who waits for connections.
@@ -33,16 +54,28 @@ pub struct House {
 }
 
 impl House {
-    /// A house with as many places for connections as its terms say.
+    /// A house with as many places for connections as its terms say, and a loop for each of these
+    /// wakers. The other one wakes who waits for connections.
     pub fn new(
         alloc: Global,
         terms: Terms,
         guests: Guests,
         waker: Waker,
+        wakers: Vec<Waker>,
     ) -> Result<Arc<House, Global>, AllocError> {
+        let mut inboxes = Vec::with_capacity(alloc, wakers.len())?;
+        for waker in wakers {
+            inboxes.push(Inbox {
+                queue: SegQueue::new(alloc)?,
+                waker,
+                count: AtomicUsize::new(0),
+            })?;
+        }
         let house = House {
-            lines: Mutex::new(Places::new(alloc, terms.connections)?),
+            places: Mutex::new(Places::new(alloc, terms.connections)?),
+            inboxes,
             is_ending: AtomicBool::new(false),
+            is_closed: AtomicBool::new(false),
             guests,
             waker,
             version: terms.version,
@@ -114,38 +147,93 @@ impl House {
         self.guests.open_gate(rt);
     }
 
-    /// Tells the end of the daemon that no further connection comes in.
+    /// Tells the end of the daemon that no further connection comes in, and has each loop return
+    /// behind its last one.
     pub fn close<R: Wait>(&self, rt: &R) {
+        self.is_closed.store(true, SeqCst);
+        self.wake_loops();
         self.guests.close_gate(rt);
     }
 
-    /// Gives a connection a place, if there is one.
-    pub fn enter<R: Wait>(&self, rt: &R, line: Arc<Line, Global>) -> Option<usize> {
-        let mut lines = self.lines.lock(rt);
-        let lines = &mut *lines;
-        let place = lines.enter(line)?;
-        self.guests.enter(rt);
-        Some(place)
+    /// Whether no further connection comes in.
+    pub fn is_closed(&self) -> bool {
+        self.is_closed.load(SeqCst)
     }
 
-    /// Frees the place of a connection that has ended.
-    pub fn leave<R: Wait>(&self, rt: &R, place: usize) {
-        let mut lines = self.lines.lock(rt);
-        let lines = &mut *lines;
-        lines.leave(place);
+    /// Hands a connection to the loop that has the fewest. It is closed where there is no place for
+    /// it, or no memory.
+    pub fn enter<R: Wait>(&self, rt: &R, stream: Stream, keys: Follower) {
+        let number = self.idlest();
+        let Some(inbox) = self.inboxes.get(number) else {
+            return;
+        };
+        let Some(place) = self.give_place(rt) else {
+            return;
+        };
+        inbox.count.fetch_add(1, SeqCst);
+        let arrival = Arrival {
+            stream,
+            keys,
+            place,
+        };
+        if inbox.queue.push(rt, arrival).is_err() {
+            self.leave(rt, number, place);
+            return;
+        }
+        let _ = inbox.waker.wake();
+    }
+
+    /// The next connection that was handed to a loop.
+    pub fn take<R: Wait>(&self, rt: &R, number: usize) -> Option<Arrival> {
+        match self.inboxes.get(number) {
+            Some(inbox) => inbox.queue.pop(rt),
+            None => None,
+        }
+    }
+
+    /// Frees the place of a connection that has ended in a loop.
+    pub fn leave<R: Wait>(&self, rt: &R, number: usize, place: usize) {
+        if let Some(inbox) = self.inboxes.get(number) {
+            inbox.count.fetch_sub(1, SeqCst);
+        }
+        let mut places = self.places.lock(rt);
+        let places = &mut *places;
+        places.leave(place);
         self.guests.leave(rt);
     }
 
     /// Takes no further connection, and ends those that are idle.
-    pub fn end<R: Wait>(&self, rt: &R) {
+    pub fn end<R: Wait>(&self, _rt: &R) {
         self.is_ending.store(true, SeqCst);
         let _ = self.waker.wake();
-        let lines = self.lines.lock(rt);
-        for line in lines.guests() {
-            if let Some(line) = line {
-                line.end_if_idle();
+        self.wake_loops();
+    }
+
+    fn wake_loops(&self) {
+        for inbox in self.inboxes.iter() {
+            let _ = inbox.waker.wake();
+        }
+    }
+
+    /// The loop that has the fewest connections.
+    fn idlest(&self) -> usize {
+        let (mut idlest, mut fewest) = (0, usize::MAX);
+        for (number, inbox) in self.inboxes.iter().enumerate() {
+            let count = inbox.count.load(SeqCst);
+            if count < fewest {
+                (idlest, fewest) = (number, count);
             }
         }
+        idlest
+    }
+
+    /// A place, if there is one.
+    fn give_place<R: Wait>(&self, rt: &R) -> Option<usize> {
+        let mut places = self.places.lock(rt);
+        let places = &mut *places;
+        let place = places.enter(())?;
+        self.guests.enter(rt);
+        Some(place)
     }
 }
 

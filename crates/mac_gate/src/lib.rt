@@ -1,25 +1,28 @@
-//! The sockets of the HTTP face: where gateways connect, and a thread for each connection.
+//! The sockets of the HTTP face: where gateways connect, and loops that answer them.
 //!
 //! [`read_addresses`] reads what people write, [`Doors`] are opened there, and [`open_gate`] starts
-//! the thread that accepts. Each connection is answered by `attend` of `mac_http`, over its stream.
-//! A [`Gate`] is told to end, and waited for.
+//! the thread that accepts, and loops. A loop is a thread that waits for many connections: each that
+//! is ready takes a turn of `mac_http`, over its stream, which never waits. A [`Gate`] is told to
+//! end, and waited for.
 #![tactic(auto)]
 
 mod address;
+mod devices;
 mod door;
 mod entrance;
 mod gate;
 mod house;
 mod line;
+mod lines;
+mod looping;
 mod noting;
-mod patience;
 mod places;
-mod serving;
 mod steward;
 mod stream;
+mod terms;
 mod welcoming;
 
 pub use address::{Address, AddressFault, ListFault, Reach, read_address, read_addresses};
 pub use door::{Door, DoorFault, Doors};
 pub use gate::{Gate, GateFault, open_gate};
-pub use serving::{Pages, Terms};
+pub use terms::{Pages, Terms};

@@ -1,116 +1,218 @@
-//! A connection: its stream, and whether it is idle.
+//! A connection of a loop: how far it is answered, and what it waits for.
 
+ghost use Rattle.std.specs.Prelude.{None};
+ghost use Rattle.mac_gate.specs.Patience.{IsLeft};
+ghost use Rattle.mac_http.specs.Turn.{IsTurn};
+
+use crate::devices::{Heard, Spoken};
 use crate::stream::Stream;
+use http_server::{Connection, Service};
+use mac_http::take_turn;
+use mio::unix::SourceFd;
+use mio::{Interest, Registry, Token};
 use std::io;
-use std::io::{ErrorKind, Read, Write};
+use std::io::ErrorKind;
 use std::net::Shutdown;
-use std::sync::atomic::AtomicBool;
-use std::sync::atomic::Ordering::SeqCst;
 use std::time::Duration;
 
 /// How many bytes one read behind the last response drops at most.
-const DROPPED_PIECE: usize = 16_384;
+pub const DROPPED_PIECE: usize = 16_384;
 
 /// How many such reads there are at most.
 const DROPPED_READS: usize = 64;
 
-/// How many milliseconds each of them waits at most.
+/// How many milliseconds pass before each of them at most.
 const DROPPED_MILLIS: u64 = 100;
 
-/// A connection, as the thread that answers it and the one that ends it see it.
+/// A connection, and what answers it.
 #[derive(Drop)]
-pub struct Line {
+pub struct Line<S> {
     stream: Stream,
-    // Whether nothing has come since the last response, or since it began.
-    is_idle: AtomicBool,
+    connection: Connection,
+    service: S,
+    // When something was written last, or it began.
+    since: Duration,
+    // Whether nothing has come since then.
+    is_idle: bool,
+    // Whether there may be something to be read, and room to write.
+    has_more: bool,
+    has_room: bool,
+    // Whether the peer writes no more: it is read to its end.
+    is_closing: bool,
+    // Whether a poll tells of room to write.
+    awaits_room: bool,
+    // Behind the last response, how many further reads drop what comes.
+    parting: Option<usize>,
 }
 
-impl Line {
-    /// A connection that begins.
-    pub fn new(stream: Stream) -> Line {
+impl<S: Service> Line<S> {
+    /// A connection that begins now.
+    pub fn new(stream: Stream, connection: Connection, service: S, now: Duration) -> Line<S> {
         Line {
             stream,
-            is_idle: AtomicBool::new(true),
+            connection,
+            service,
+            since: now,
+            is_idle: true,
+            has_more: true,
+            has_room: true,
+            is_closing: false,
+            awaits_room: false,
+            parting: None,
         }
     }
 
-    /// Its stream.
-    pub fn stream(&self) -> &Stream {
-        &self.stream
+    /// Has a poll tell of what comes, under this token.
+    pub fn join(&self, registry: &Registry, token: Token) -> io::Result<()> {
+        self.stream.hurry()?;
+        registry.register(
+            &mut SourceFd(&self.stream.descriptor()),
+            token,
+            Interest::READABLE,
+        )
     }
 
-    /// Whether nothing has come since the last response.
-    pub fn is_idle(&self) -> bool {
-        self.is_idle.load(SeqCst)
+    /// Has a poll tell of room to write too, while that is waited for.
+    pub fn update(&mut self, registry: &Registry, token: Token) -> io::Result<()> {
+        let awaits = self.connection.wants_write() && !self.has_room;
+        if awaits == self.awaits_room {
+            return Ok(());
+        }
+        self.awaits_room = awaits;
+        let interest = if awaits {
+            Interest::READABLE | Interest::WRITABLE
+        } else {
+            Interest::READABLE
+        };
+        registry.reregister(&mut SourceFd(&self.stream.descriptor()), token, interest)
     }
 
-    /// Notes that a request was answered.
-    pub fn rest(&self) {
-        self.is_idle.store(true, SeqCst);
+    /// A poll has told of it.
+    pub fn wake(&mut self, reads: bool, writes: bool, closes: bool) {
+        self.has_more = self.has_more || reads || closes;
+        self.has_room = self.has_room || writes;
+        self.is_closing = self.is_closing || closes;
     }
 
-    /// Ends what is read, where the connection is idle.
-    pub fn end_if_idle(&self) {
-        if self.is_idle() {
+    /// Whether a turn may do something.
+    pub fn is_ready(&self) -> bool {
+        if self.parting.is_none() && self.connection.wants_write() {
+            self.has_room
+        } else {
+            self.has_more
+        }
+    }
+
+    /// Takes nothing more from the peer than what has come, where the connection is idle.
+    pub fn end_if_idle(&mut self) {
+        if self.is_idle && !self.is_closing && self.parting.is_none() {
             self.stream.shut(Shutdown::Read);
+            self.is_closing = true;
+            self.has_more = true;
         }
     }
 
-    /// Ends what is written, then reads what still comes and drops it, so that the peer reads the
-    /// last response and no reset. It ends after `DROPPED_READS` reads, each of which waits for a
-    /// moment at most.
-    pub fn part(&self) {
+    /// What is left now of the time that the peer may take, if anything.
+    pub fn left(&self, patience: Duration, now: Duration) -> Option<Duration> {
+        let limit = match self.parting {
+            Some(_) => Duration::from_millis(DROPPED_MILLIS),
+            None => patience,
+        };
+        left_of(limit, now.saturating_sub(self.since))
+    }
+
+    /// Does what can be done without waiting; what is dropped is read into the piece. Whether the
+    /// connection goes on.
+    pub fn advance(&mut self, now: Duration, piece: &mut [u8]) -> bool {
+        match self.parting {
+            Some(left) => self.drop_piece(left, now, piece),
+            None => self.answer(now),
+        }
+    }
+
+    /// Takes a turn. A fault ends the connection.
+    fn answer(&mut self, now: Duration) -> bool {
+        let mut heard = Heard::new(&self.stream, self.has_more);
+        let mut spoken = Spoken::new(&self.stream, self.has_room);
+        let turned = answer_turn(
+            &mut self.connection,
+            &mut self.service,
+            &mut heard,
+            &mut spoken,
+        );
+        let (has_come, has_gone) = (heard.has_come, spoken.has_gone);
+        self.has_more = heard.has_more || (has_come && self.is_closing);
+        self.has_room = spoken.has_room;
+        if has_come {
+            self.is_idle = false;
+        }
+        if has_gone {
+            self.is_idle = true;
+            self.since = now;
+        }
+        if !goes_on(&turned) {
+            return false;
+        }
+        if self.connection.is_done() {
+            self.part(now);
+        }
+        true
+    }
+
+    /// Ends what is written, behind the last response. What still comes is read and dropped, so that
+    /// the peer reads that response and no reset.
+    fn part(&mut self, now: Duration) {
         self.stream.shut(Shutdown::Write);
-        let moment = Duration::from_millis(DROPPED_MILLIS);
-        if self.stream.limit_reads(moment).is_err() {
-            return;
-        }
-        let mut piece = [0u8; DROPPED_PIECE];
-        for _ in 0..DROPPED_READS {
-            match self.stream.read(&mut piece) {
-                Ok(count) if count > 0 => {}
-                Ok(_) | Err(_) => return,
+        self.parting = Some(DROPPED_READS);
+        self.since = now;
+        self.has_more = true;
+    }
+
+    /// Drops what has come behind the last response. It ends after `DROPPED_READS` reads.
+    fn drop_piece(&mut self, left: usize, now: Duration, piece: &mut [u8]) -> bool {
+        match self.stream.read(piece) {
+            Ok(count) if count > 0 && left > 0 => {
+                self.parting = Some(left - 1);
+                self.since = now;
+                true
             }
+            Err(fault) if fault.kind() == ErrorKind::Interrupted => true,
+            Err(fault) if fault.kind() == ErrorKind::WouldBlock => {
+                self.has_more = false;
+                true
+            }
+            Ok(_) | Err(_) => false,
         }
     }
 }
 
-/// What is read of a connection.
-#[derive(Drop)]
-pub struct Heard<'a>(pub &'a Line);
+/// A turn of a connection over its stream, which doesn't state its bytes.
+fn answer_turn<'a, S: Service>(
+    connection: &mut Connection,
+    service: &mut S,
+    heard: &mut Heard<'a>,
+    spoken: &mut Spoken<'a>,
+) -> io::Result<usize>
+    ensures { IsTurn S.answers None None None None service.old service.new
+        connection.old connection.new }
+{
+    take_turn(connection, service, heard, spoken)
+}
 
-impl<'a> Read for Heard<'a> {
-    fn read(&mut self, buf: &mut [u8]) -> io::Result<usize> {
-        for _ in 0..u64::MAX {
-            match self.0.stream.read(buf) {
-                Err(fault) if fault.kind() == ErrorKind::Interrupted => {}
-                Err(fault) => return Err(fault),
-                Ok(count) => {
-                    self.0.is_idle.store(count == 0, SeqCst);
-                    return Ok(count);
-                }
-            }
-        }
-        Err(ErrorKind::Interrupted.into())
+/// Whether a connection goes on behind a turn: it was broken off by no fault.
+fn goes_on(turned: &io::Result<usize>) -> bool {
+    match turned {
+        Ok(_) => true,
+        Err(fault) => fault.kind() == ErrorKind::WouldBlock,
     }
 }
 
-/// What is written to a connection.
-#[derive(Drop)]
-pub struct Spoken<'a>(pub &'a Line);
-
-impl<'a> Write for Spoken<'a> {
-    fn write(&mut self, buf: &[u8]) -> io::Result<usize> {
-        for _ in 0..u64::MAX {
-            match self.0.stream.write(buf) {
-                Err(fault) if fault.kind() == ErrorKind::Interrupted => {}
-                written => return written,
-            }
-        }
-        Err(ErrorKind::Interrupted.into())
-    }
-
-    fn flush(&mut self) -> io::Result<()> {
-        Ok(())
+/// What is left of a limit once so long has passed, if anything.
+fn left_of(limit: Duration, passed: Duration) -> Option<Duration>
+    ensures { IsLeft limit passed result }
+{
+    match limit.checked_sub(passed) {
+        Some(left) if !left.is_zero() => Some(left),
+        _ => None,
     }
 }

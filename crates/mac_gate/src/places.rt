@@ -44,13 +44,6 @@ impl<T: Drop> Places<T> {
         }
     }
 
-    /// The places, with their guests.
-    pub fn guests(&self) -> &[Option<T>]
-        ensures { result.now ≡ self.now.guests.items }
-    {
-        &self.guests
-    }
-
     fn first_free(&self) -> Option<usize>
         ensures place { result ≡ position is_none self.now.guests.items }
         ensures within { IfSome result (λ place. place < length self.now.guests.items) }

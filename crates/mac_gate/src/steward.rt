@@ -2,7 +2,7 @@
 
 use crate::house::House;
 use crate::noting::request_of;
-use crate::serving::Pages;
+use crate::terms::Pages;
 use http::StatusCode;
 use mac_decide::SeenTokens;
 use mac_http::{Noted, Page, Steward, Told};

@@ -5,10 +5,10 @@ ghost use Rattle.std.specs.Io.{ReadsAtMost, WritesAtMost};
 use std::io;
 use std::io::{Read, Write};
 use std::net::{Shutdown, TcpStream};
+use std::os::fd::AsRawFd;
 use std::os::unix::net::UnixStream;
-use std::time::Duration;
 
-/// A stream whose reads and writes wait.
+/// A stream whose reads and writes don't wait, once it is told so.
 #[derive(Drop)]
 pub enum Stream {
     /// Over a Unix socket.
@@ -18,27 +18,22 @@ pub enum Stream {
 }
 
 impl Stream {
-    /// Has each write go out at once, whatever it holds.
+    /// Has reads and writes wait for nothing, and each write go out at once, whatever it holds.
     pub fn hurry(&self) -> io::Result<()> {
         match self {
-            Stream::Unix(_) => Ok(()),
-            Stream::Tcp(stream) => stream.set_nodelay(true),
+            Stream::Unix(stream) => stream.set_nonblocking(true),
+            Stream::Tcp(stream) => {
+                stream.set_nonblocking(true)?;
+                stream.set_nodelay(true)
+            }
         }
     }
 
-    /// Bounds how long a read waits.
-    pub fn limit_reads(&self, wait: Duration) -> io::Result<()> {
+    /// The number that the system knows it by.
+    pub fn descriptor(&self) -> i32 {
         match self {
-            Stream::Unix(stream) => stream.set_read_timeout(Some(wait)),
-            Stream::Tcp(stream) => stream.set_read_timeout(Some(wait)),
-        }
-    }
-
-    /// Bounds how long a write waits.
-    pub fn limit_writes(&self, wait: Duration) -> io::Result<()> {
-        match self {
-            Stream::Unix(stream) => stream.set_write_timeout(Some(wait)),
-            Stream::Tcp(stream) => stream.set_write_timeout(Some(wait)),
+            Stream::Unix(stream) => stream.as_raw_fd(),
+            Stream::Tcp(stream) => stream.as_raw_fd(),
         }
     }
 

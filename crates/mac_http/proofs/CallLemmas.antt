@@ -4,15 +4,11 @@ use Rattle.std.specs.List.{AllZip}
 use Rattle.http.specs.declared.request.Request.{Request}
 use Rattle.http_server.specs.declared.response.Response.{Response}
 use Rattle.http_server.specs.Exchange.{Call, Chain}
-use Rattle.mac_board.specs.Follows.{Known, IsUp, Looks, Takes}
+use Rattle.mac_board.specs.Follows.{Known, Takes}
 use Rattle.mac_keys.specs.Table.{Table}
 use Rattle.mac_http.specs.declared.rules.Rules.{Rules}
 use Rattle.mac_http.specs.Faced.{IsRight}
-
--- what one call says of the service before and after it
-abbrev pub SaysOne : {S : Type 0} (tells : Bool) (known : S → Known) (rules : S → Rules) (told : S → List (Option ℕ)) → S → Request (List ℕ) → Response → S → Type 0
-SaysOne tells known rules told s q r t = (under : Table × Option ℕ) × Looks tells (known s) (known t) × IsUp (known t) under.0
-    × (rules t ≡ rules s) × (told t ≡ told s ++ under.1 ∷ []) × IsRight (rules s) under (q, r)
+use Rattle.mac_http.specs.Turn.{AnswersOnce}
 
 -- what some calls say of the service before and after them
 abbrev pub SaysAll : {S : Type 0} (tells : Bool) (known : S → Known) (rules : S → Rules) (told : S → List (Option ℕ)) → S → List Call → S → Type 0
@@ -20,7 +16,7 @@ SaysAll tells known rules told old calls new = (under : List (Table × Option �
     × (told new ≡ told old ++ map (λ u. u.1) under) × AllZip (IsRight (rules old)) under calls
 
 pub right_each : {S : Type 0} (answers : S → Request (List ℕ) → Response → S → Type 0) (tells : Bool) (known : S → Known) (rules : S → Rules) (told : S → List (Option ℕ))
-    → ((s : S) (q : Request (List ℕ)) (r : Response) (t : S) → answers s q r t → SaysOne tells known rules told s q r t)
+    → ((s : S) (q : Request (List ℕ)) (r : Response) (t : S) → answers s q r t → AnswersOnce tells known rules told s q r t)
     → (calls : List Call) (old new : S) → Chain answers old calls new → SaysAll tells known rules told old calls new
 right_each answers tells known rules told each [] old new x = ([], ap known x, ap told x ∙ sym (append-nil (told old)), tt)
 right_each answers tells known rules told each (c ∷ calls) old new x =

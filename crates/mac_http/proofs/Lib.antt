@@ -4,3 +4,4 @@ pub mod FoundLemmas
 pub mod LawLemmas
 pub mod ListLemmas
 pub mod PathLemmas
+pub mod TurnLemmas

@@ -8,3 +8,4 @@ pub mod Page
 pub mod Path
 pub mod Saying
 pub mod Target
+pub mod Turn

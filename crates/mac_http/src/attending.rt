@@ -1,11 +1,10 @@
-//! One peer, over a reader and a writer that block.
+//! One peer, over a reader and a writer that wait for it, or a turn at a time.
 
-ghost use Rattle.std.specs.Prelude.{◌≡◌, ℕ, List, ◌++◌, OnOk};
-ghost use Rattle.std.specs.Io.KnownBytes.{Appends, Consumes};
-ghost use Rattle.http_server.specs.Connection.{config_of, history};
-ghost use Rattle.http_server.specs.Exchange.{Calls};
+ghost use Rattle.std.specs.Prelude.{OnErr, OnOk};
+ghost use Rattle.http_server.specs.Connection.{history};
 ghost use Rattle.http_server.specs.History.{IsDone};
 ghost use Rattle.mac_http.specs.Faced.{IsFaced};
+ghost use Rattle.mac_http.specs.Turn.{BreaksOff, IsTurn};
 
 use crate::face::Face;
 use crate::page::Steward;
@@ -57,7 +56,7 @@ pub fn attend<K: Tables, M: Moments, S: Steward, V: Watch, R: Read, W: Write>(
     serve(&mut connection, face, watch, reader, writer)
 }
 
-/// Reads, answers and writes until the connection is done.
+/// Takes turns until the connection is done.
 pub fn serve<S: Service, V: Watch, R: Read, W: Write>(
     connection: &mut Connection,
     service: &mut S,
@@ -66,29 +65,54 @@ pub fn serve<S: Service, V: Watch, R: Read, W: Write>(
     writer: &mut W,
 ) -> io::Result<()>
     ensures done { OnOk result (IsDone (history connection.new)) }
-    ensures read { (more : List ℕ)
-        × Consumes (R.remaining reader.old) (R.remaining reader.new) more
-        × ((history connection.new).received ≡ (history connection.old).received ++ more) }
-    ensures written { (more : List ℕ)
-        × Appends (W.contents writer.old) (W.contents writer.new) more
-        × ((history connection.new).sent ≡ (history connection.old).sent ++ more) }
-    ensures calls { Calls S.answers service.old service.new
-        (history connection.old).calls (history connection.new).calls }
-    ensures config { config_of connection.new ≡ config_of connection.old }
+    ensures turn { IsTurn S.answers (R.remaining reader.old) (R.remaining reader.new)
+        (W.contents writer.old) (W.contents writer.new) service.old service.new
+        connection.old connection.new }
 {
     for _ in 0..u64::MAX {
-        connection.advance(service);
         if connection.is_done() {
             return Ok(());
         }
         if !connection.wants_write() {
             watch.before_read()?;
-            connection.read_from(reader)?;
-        } else if connection.write_to(writer)? == 0 {
-            return Err(ErrorKind::WriteZero.into());
-        } else {
+        }
+        if take_turn(connection, service, reader, writer)? > 0 {
             watch.after_write()?;
+        } else if connection.wants_write() {
+            return Err(ErrorKind::WriteZero.into());
         }
     }
     Err(ErrorKind::TimedOut.into())
+}
+
+/// A turn of a connection: where nothing is left to be sent it reads once, then it answers what has
+/// come, and writes once where that gives something to be sent. How many bytes were written.
+///
+/// Devices that don't wait break a turn off by `WouldBlock`.
+pub fn take_turn<S: Service, R: Read, W: Write>(
+    connection: &mut Connection,
+    service: &mut S,
+    reader: &mut R,
+    writer: &mut W,
+) -> io::Result<usize>
+    ensures turn { IsTurn S.answers (R.remaining reader.old) (R.remaining reader.new)
+        (W.contents writer.old) (W.contents writer.new) service.old service.new
+        connection.old connection.new }
+    ensures broken { OnErr result (BreaksOff service.old service.new
+        connection.old connection.new) }
+{
+    if !connection.wants_write() {
+        connection.read_from(reader)?;
+    }
+    connection.advance(service);
+    if !connection.wants_write() {
+        return Ok(0);
+    }
+    // Where more waits for its answer than may be pending, the rest is answered behind the write.
+    let is_held = !connection.wants_read();
+    let count = connection.write_to(writer)?;
+    if is_held {
+        connection.advance(service);
+    }
+    Ok(count)
 }

@@ -1,10 +1,9 @@
 //! The service of one connection.
 
-ghost use Rattle.std.specs.Prelude.{◌≡◌, [], ◌++◌, ◌∷◌, ℕ, Option};
+ghost use Rattle.std.specs.Prelude.{◌≡◌};
 ghost use Rattle.http_server.specs.Response.{IsBlank};
-ghost use Rattle.mac_board.specs.Follows.{IsUp, Looks};
-ghost use Rattle.mac_keys.specs.Table.{Table};
-ghost use Rattle.mac_http.specs.Faced.{IsAnswer, IsPlainAnswer, IsRight};
+ghost use Rattle.mac_http.specs.Faced.{IsAnswer, IsPlainAnswer};
+ghost use Rattle.mac_http.specs.Turn.{AnswersOnce};
 
 use crate::calling::{call_in, respond_to_call};
 use crate::noted::{note_of_call, note_of_path};
@@ -46,14 +45,8 @@ impl<K, M, S> Face<K, M, S> {
 }
 
 impl<K: Tables, M: Moments, S: Steward> Service for Face<K, M, S> {
-    // There is one look at the tables and one at the clock, and the response is right under the
-    // table and at the moment that they gave.
-    ghost answers = { λ old request response new. (under : Table × Option ℕ)
-        × Looks K.tells (K.known old.keys) (K.known new.keys)
-        × IsUp (K.known new.keys) under.0
-        × (new.rules ≡ old.rules)
-        × (M.told new.moments ≡ M.told old.moments ++ under.1 ∷ [])
-        × IsRight old.rules under (request, response) };
+    ghost answers = { AnswersOnce K.tells (λ face. K.known face.keys) (λ face. face.rules)
+        (λ face. M.told face.moments) };
 
     fn call(
         &mut self,

@@ -1,32 +1,39 @@
 //! Laws of the definitions, as functions whose contracts state them.
 
 ghost use Rattle.std.specs.Prelude.{◌≡◌, ◌↔◌, ◌<◌, ◌++◌, ◌⊎◌, [], ℕ, List, Option, Some, codes};
-ghost use Rattle.std.specs.Prelude.{All, Contains, true, false};
+ghost use Rattle.std.specs.Prelude.{All, Bool, Contains, true, false};
 ghost use Rattle.http.specs.Request.{head_of};
 ghost use Rattle.http.specs.declared.request.Parts.{Parts};
 ghost use Rattle.http.specs.declared.request.Request.{Request as PlainRequest};
+ghost use Rattle.http_server.specs.Connection.{config_of, history};
+ghost use Rattle.http_server.specs.declared.connection.Connection.{Connection};
 ghost use Rattle.http_server.specs.declared.response.Response.{Response};
+ghost use Rattle.http_server.specs.History.{new_history};
 ghost use Rattle.http_server.specs.Response.{IsResponse, fields_of};
 ghost use Rattle.http_uri.specs.Uri.{uri_path};
+ghost use Rattle.mac_board.specs.Follows.{Known};
 ghost use Rattle.mac_calls.specs.Counted.{are_few};
 ghost use Rattle.mac_decide.specs.Reading.{verdict_of};
 ghost use Rattle.mac_keys.specs.Table.{Table, listed};
 ghost use Rattle.mac_keys.specs.declared.keys.Keys.{Keys};
 ghost use Rattle.mac_token.specs.RawToken.{TokenParts};
 ghost use Rattle.percent_encoding.specs.Percent.{percent_decode};
+ghost use Rattle.mac_http.specs.declared.attending.TheConstants.{CONFIG};
 ghost use Rattle.mac_http.specs.declared.authorization.Scheme.{Scheme as PlainScheme};
 ghost use Rattle.mac_http.specs.declared.finding.Finding.{Finding as PlainFinding};
 ghost use Rattle.mac_http.specs.declared.rules.Granted.{Granted as PlainGranted};
 ghost use Rattle.mac_http.specs.declared.rules.Rules.{Rules as PlainRules};
 ghost use Rattle.mac_http.specs.declared.rules.Sources.{Sources as PlainSources};
 ghost use Rattle.mac_http.specs.Escaped.{escaped};
-ghost use Rattle.mac_http.specs.Faced.{IsAnswer};
+ghost use Rattle.mac_http.specs.Faced.{IsAnswer, IsFaced};
 ghost use Rattle.mac_http.specs.Facts.{facts_of, tells_unsafe};
 ghost use Rattle.mac_http.specs.Found.{found_of, found_with, context_of, IsGrantedBy};
 ghost use Rattle.mac_http.specs.Path.{steps, IsStep};
 ghost use Rattle.mac_http.specs.Saying.{IsOverloaded, Tells};
+ghost use Rattle.mac_http.specs.Turn.{AnswersOnce, IsTurn};
 
 use crate::finding::Finding;
+use http_server::Service;
 
 /// A request is granted exactly where its path names keys, it brings one token, no unsafe path is
 /// told, the facts are few, the clock tells a moment, and the keys grant the token at that moment
@@ -79,4 +86,29 @@ pub fn steps_are_fronts()
 /// What is escaped is read back.
 pub fn escaped_is_read()
     ensures { (bytes : List ℕ) → All (λ b. b < 256) bytes → percent_decode (escaped bytes) ≡ bytes }
+{}
+
+/// Two turns of a connection, one behind the other, do together what a turn does.
+pub fn turns_compose<S: Service>()
+    ensures { (unread between left before midst after : Option (List ℕ)) (first next last : S)
+        (old middle new : Connection)
+        → IsTurn S.answers unread between before midst first next old middle
+        → IsTurn S.answers between left midst after next last middle new
+        → IsTurn S.answers unread left before after first last old new }
+{}
+
+/// A service that answers each request by one look at its tables and at one moment of its clock, as
+/// a [`Face`](crate::Face) does, has a peer faced from the begin of a connection to the end of each
+/// of its turns, as [`attend`](crate::attend) has.
+pub fn turns_are_faced<S: Service>()
+    ensures { (tells : Bool) (known : S → Known) (rules : S → PlainRules)
+        (told : S → List (Option ℕ))
+        → ((one : S) (request : PlainRequest (List ℕ)) (response : Response) (other : S)
+        → S.answers one request response other
+        → AnswersOnce tells known rules told one request response other)
+        → (unread left before after : Option (List ℕ)) (first last : S) (old new : Connection)
+        → history old ≡ new_history → config_of old ≡ CONFIG
+        → IsTurn S.answers unread left before after first last old new
+        → IsFaced tells (known first) (known last) (rules first) unread left before after
+        (told first) (told last) }
 {}

@@ -23,7 +23,7 @@ mod rules;
 mod saying;
 mod target;
 
-pub use attending::{CONFIG, Watch, attend, serve};
+pub use attending::{CONFIG, Watch, attend, serve, take_turn};
 pub use authorization::Scheme;
 pub use calling::{Asked, call_in};
 pub use face::Face;

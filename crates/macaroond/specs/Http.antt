@@ -11,8 +11,8 @@ use Rattle.mac_gate.specs.Address.{AreRead}
 use Rattle.mac_gate.specs.declared.address.Address.{Address}
 use Rattle.mac_gate.specs.declared.address.Reach.{Reach}
 use Rattle.mac_gate.specs.declared.address.Reach.TheVariants.{Loopback, Anywhere}
-use Rattle.mac_gate.specs.declared.serving.Pages.{Pages}
-use Rattle.mac_gate.specs.declared.serving.Pages.TheVariants as pages
+use Rattle.mac_gate.specs.declared.terms.Pages.{Pages}
+use Rattle.mac_gate.specs.declared.terms.Pages.TheVariants as pages
 use Rattle.mac_http.specs.declared.rules.Calls.{Calls}
 use Rattle.mac_http.specs.declared.rules.Granted.{Granted}
 use Rattle.mac_http.specs.declared.rules.Granted.TheVariants as granted

@@ -10,7 +10,7 @@ ghost use Rattle.macaroond.specs.Rights.{is_comma};
 use crate::choices::HttpOptions;
 use crate::commands::VERSION;
 use crate::key_watch::ListenFault;
-use crate::operating::OPERATORS_MAX;
+use crate::operating::{OPERATORS_LOOPS, OPERATORS_MAX};
 use mac_daemon::Holdings;
 use mac_gate::{Address, AddressFault, Doors, ListFault, Pages, Reach, Terms, read_addresses};
 use mac_http::{Calls, Granted, Rules, Sources};
@@ -65,22 +65,26 @@ impl<'a> HttpPlan<'a> {
         }
     }
 
-    /// How many descriptors its sockets may need, and those of operators.
-    pub fn descriptors(&self) -> u64 {
+    /// How many descriptors its sockets may need where so many loops serve them, and those of
+    /// operators.
+    pub fn descriptors(&self, loops: usize) -> u64 {
         let doors = self.admin.len().saturating_add(1);
-        let operators = gate_descriptors(OPERATORS_MAX, doors);
+        let operators = gate_descriptors(OPERATORS_MAX, doors, OPERATORS_LOOPS);
         if self.addresses.is_empty() {
             return operators;
         }
-        gate_descriptors(self.terms.connections, self.addresses.len()).saturating_add(operators)
+        gate_descriptors(self.terms.connections, self.addresses.len(), loops).saturating_add(
+            operators,
+        )
     }
 }
 
 /// How many descriptors a gate may need: one for each connection, two for each door with its lock,
-/// and three to wait by.
-fn gate_descriptors(connections: usize, doors: usize) -> u64 {
+/// two for each loop to wait by, and three to wait at the doors.
+fn gate_descriptors(connections: usize, doors: usize, loops: usize) -> u64 {
     (connections as u64)
         .saturating_add((doors as u64).saturating_mul(2))
+        .saturating_add((loops as u64).saturating_mul(2))
         .saturating_add(3)
 }
 

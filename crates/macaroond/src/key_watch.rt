@@ -169,7 +169,7 @@ where
     if let Err(fault) = status {
         warn_of_no_status(rt, terms.path, &fault);
     }
-    let gate = start_gate(rt, doors, editor, &daemon, http.terms)?;
+    let gate = start_gate(rt, doors, editor, &daemon, terms.shape.loops, http.terms)?;
     let operators = start_operators(rt, for_operators, &daemon)?;
     Ok(Started {
         daemon,
@@ -205,12 +205,14 @@ fn followers_of(connections: usize) -> usize
     }
 }
 
-/// Has the connections that come in through these doors served, where there are any.
+/// Has the connections that come in through these doors served by so many loops, where there are
+/// any doors.
 fn start_gate<'a, R>(
     rt: &R,
     doors: Doors,
     editor: &Editor<R>,
     daemon: &Daemon,
+    loops: usize,
     terms: mac_gate::Terms,
 ) -> Result<Option<Gate>, ListenFault<'a>>
 where
@@ -221,7 +223,8 @@ where
         return Ok(None);
     }
     let followers = editor.followers()?;
-    let gate = open_gate(rt, rt.alloc(), doors, followers, daemon.guests()?, terms)?;
+    let guests = daemon.guests()?;
+    let gate = open_gate(rt, rt.alloc(), doors, followers, guests, loops, terms)?;
     Ok(Some(gate))
 }
 

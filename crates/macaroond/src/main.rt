@@ -238,7 +238,8 @@ where
     warn_of_readers(rt, keys);
     let names = first.table.len();
     warn_of_no_keys(rt, keys, names);
-    let terms = name_terms(rt, options, names, http.descriptors(), has_requests);
+    let reserved = http.descriptors(count_loops(rt, options.loops));
+    let terms = name_terms(rt, options, names, reserved, has_requests);
     let Ok((rights, side)) = read_sockets(rt.alloc(), options) else {
         return tell_fault(rt, Status::NoMemory);
     };

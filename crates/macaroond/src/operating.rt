@@ -21,6 +21,9 @@ const STATUS_PERMISSIONS: u32 = 0o600;
 /// How many connections of operators there are at a time.
 pub(crate) const OPERATORS_MAX: usize = 16;
 
+/// How many loops serve them.
+pub(crate) const OPERATORS_LOOPS: usize = 1;
+
 /// How many seconds an operator may bring no whole request.
 const PATIENCE: u64 = 10;
 
@@ -93,6 +96,7 @@ where
         doors,
         followers,
         daemon.guests()?,
+        OPERATORS_LOOPS,
         operators_terms(),
     )?;
     Ok(Some(OperatorsGate {

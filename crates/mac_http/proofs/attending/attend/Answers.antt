@@ -1,32 +1,7 @@
-use Rattle.std.proofs.Common.{◌∙◌, ℕ, List, ◌++◌, sym, ap, subst}
-use Rattle.std.specs.List.{AllZip}
-use Rattle.std.specs.Io.KnownBytes.{Appends, Consumes}
-use Rattle.http_server.specs.declared.state.Config.{Config}
-use Rattle.http_server.specs.Connection.{history}
-use Rattle.http_server.specs.Exchange.{Call}
-use Rattle.http_server.specs.History.{History, IsServed}
-use Rattle.http_server.proofs.Theorems.{always_served}
-use Rattle.mac_http.specs.Faced.{IsRight}
-use Rattle.mac_http.proofs.CallLemmas.{right_each}
+use Rattle.mac_http.proofs.TurnLemmas.{faced_from}
 use Rattle.mac_http.proofs.attending.attend.Goals as goal
 
 pub returns : goal.returns
 returns g c =
-    let fresh = c.new-connection.ensures.history in
-    let read = c.serve.ensures.read in
-    let written = c.serve.ensures.written in
-    let calls = c.serve.ensures.calls in
-    let received = read.2 ∙ ap (λ (h : History). h.received ++ read.0) fresh in
-    let sent = written.2 ∙ ap (λ (h : History). h.sent ++ written.0) fresh in
-    let called = calls.1 ∙ ap (λ (h : History). h.calls ++ calls.0) fresh in
-    let each = right_each _ g.K.Tables.tells (λ s. g.K.Tables.known s.keys) (λ s. s.rules) (λ s. g.M.Moments.told s.moments) (λ s q r t x. x) calls.0 _ _ calls.2 in
-    record {
-      history = history c.serve.new.connection;
-      read = subst (λ (t : List ℕ). Consumes (g.R.Read.remaining c.args.reader.now) (g.R.Read.remaining c.serve.new.reader) t) (sym received) read.1;
-      written = subst (λ (t : List ℕ). Appends (g.W.Write.contents c.args.writer.now) (g.W.Write.contents c.serve.new.writer) t) (sym sent) written.1;
-      served = subst (λ (k : Config). ∥ IsServed k (history c.serve.new.connection) ∥₁) (c.serve.ensures.config ∙ c.new-connection.ensures.config) (always_served c.serve.new.connection);
-      under = each.0;
-      taken = each.1;
-      told_more = each.2;
-      right = subst (λ (cs : List Call). AllZip (IsRight c.args.face.now.rules) each.0 cs) (sym called) each.3;
-    }
+    faced_from _ g.K.Tables.tells (λ s. g.K.Tables.known s.keys) (λ s. s.rules) (λ s. g.M.Moments.told s.moments) (λ s q r t x. x)
+    _ _ _ _ _ _ _ _ c.new-connection.ensures.history c.new-connection.ensures.config c.serve.ensures.turn

@@ -14,9 +14,9 @@ use Rattle.mac_page.proofs.attending.attend_page.Goals as goal
 pub returns : goal.returns
 returns g c =
     let fresh = c.new-connection.ensures.history in
-    let read = c.serve.ensures.read in
-    let written = c.serve.ensures.written in
-    let calls = c.serve.ensures.calls in
+    let read = c.serve.ensures.turn.read in
+    let written = c.serve.ensures.turn.written in
+    let calls = c.serve.ensures.turn.calls in
     let received = read.2 ∙ ap (λ (h : History). h.received ++ read.0) fresh in
     let sent = written.2 ∙ ap (λ (h : History). h.sent ++ written.0) fresh in
     let called = calls.1 ∙ ap (λ (h : History). h.calls ++ calls.0) fresh in
@@ -25,6 +25,6 @@ returns g c =
       history = history c.serve.new.connection;
       read = subst (λ (t : List ℕ). Consumes (g.R.Read.remaining c.args.reader.now) (g.R.Read.remaining c.serve.new.reader) t) (sym received) read.1;
       written = subst (λ (t : List ℕ). Appends (g.W.Write.contents c.args.writer.now) (g.W.Write.contents c.serve.new.writer) t) (sym sent) written.1;
-      served = subst (λ (k : Config). ∥ IsServed k (history c.serve.new.connection) ∥₁) (c.serve.ensures.config ∙ c.new-connection.ensures.config) (always_served c.serve.new.connection);
+      served = subst (λ (k : Config). ∥ IsServed k (history c.serve.new.connection) ∥₁) (c.serve.ensures.turn.config ∙ c.new-connection.ensures.config) (always_served c.serve.new.connection);
       right = subst (λ (cs : List Call). All (λ call. Responds c.args.face.now.site.now call.0 call.1) cs) (sym called) each;
     }

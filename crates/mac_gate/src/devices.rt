@@ -1,0 +1,91 @@
+//! What is read of a stream in a turn, and what is written to it.
+
+use crate::stream::Stream;
+use std::io;
+use std::io::{ErrorKind, Read, Write};
+
+/// What is read of a stream.
+#[derive(Drop)]
+pub struct Heard<'a> {
+    stream: &'a Stream,
+    /// Whether bytes came.
+    pub has_come: bool,
+    /// Whether there may be more to be read.
+    pub has_more: bool,
+}
+
+impl<'a> Heard<'a> {
+    /// A turn's reader, where there may be something to be read, or not.
+    pub fn new(stream: &'a Stream, has_more: bool) -> Heard<'a> {
+        Heard {
+            stream,
+            has_come: false,
+            has_more,
+        }
+    }
+}
+
+impl<'a> Read for Heard<'a> {
+    fn read(&mut self, buf: &mut [u8]) -> io::Result<usize> {
+        for _ in 0..u64::MAX {
+            match self.stream.read(buf) {
+                Err(fault) if fault.kind() == ErrorKind::Interrupted => {}
+                Err(fault) => {
+                    self.has_more = false;
+                    return Err(fault);
+                }
+                Ok(count) => {
+                    self.has_come = count > 0;
+                    self.has_more = count == buf.len();
+                    return Ok(count);
+                }
+            }
+        }
+        Err(ErrorKind::Interrupted.into())
+    }
+}
+
+/// What is written to a stream.
+#[derive(Drop)]
+pub struct Spoken<'a> {
+    stream: &'a Stream,
+    /// Whether bytes went.
+    pub has_gone: bool,
+    /// Whether there may be room for more.
+    pub has_room: bool,
+}
+
+impl<'a> Spoken<'a> {
+    /// A turn's writer, where there may be room, or not.
+    pub fn new(stream: &'a Stream, has_room: bool) -> Spoken<'a> {
+        Spoken {
+            stream,
+            has_gone: false,
+            has_room,
+        }
+    }
+}
+
+impl<'a> Write for Spoken<'a> {
+    fn write(&mut self, buf: &[u8]) -> io::Result<usize> {
+        for _ in 0..u64::MAX {
+            match self.stream.write(buf) {
+                Err(fault) if fault.kind() == ErrorKind::Interrupted => {}
+                Err(fault) => {
+                    self.has_room = false;
+                    return Err(fault);
+                }
+                Ok(count) => {
+                    self.has_gone = count > 0;
+                    self.has_room = count == buf.len();
+                    return Ok(count);
+                }
+            }
+        }
+        Err(ErrorKind::Interrupted.into())
+    }
+
+    fn flush(&mut self) -> io::Result<()> {
+        Ok(())
+    }
+}
