@@ -112,7 +112,7 @@ where
 impl Gate {
     /// Takes no further connection, closes those that are idle, and has the others close behind
     /// their next response.
-    pub fn end<R: Wait>(&self, rt: &R) {
-        self.house.end(rt);
+    pub fn end(&self) {
+        self.house.end();
     }
 }

@@ -203,7 +203,7 @@ impl House {
     }
 
     /// Takes no further connection, and ends those that are idle.
-    pub fn end<R: Wait>(&self, _rt: &R) {
+    pub fn end(&self) {
         self.is_ending.store(true, SeqCst);
         let _ = self.waker.wake();
         self.wake_loops();

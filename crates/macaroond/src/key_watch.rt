@@ -186,10 +186,10 @@ fn end_all<R: Wait + Clock + Drop>(rt: &R, started: Started<R>) {
         operators,
     } = started;
     if let Some(gate) = gate {
-        gate.end(rt);
+        gate.end();
     }
     if let Some(operators) = operators {
-        operators.end(rt);
+        operators.end();
     }
     daemon.see_off(rt);
 }

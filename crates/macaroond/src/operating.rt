@@ -37,8 +37,8 @@ pub(crate) struct OperatorsGate<R: Wait + Drop> {
 
 impl<R: Wait + Drop> OperatorsGate<R> {
     /// Takes no further connection, and closes those that are idle.
-    pub(crate) fn end(&self, rt: &R) {
-        self.gate.end(rt);
+    pub(crate) fn end(&self) {
+        self.gate.end();
     }
 }
 
