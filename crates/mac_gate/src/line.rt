@@ -172,7 +172,7 @@ impl<S: Service> Line<S> {
     fn drop_piece(&mut self, left: usize, now: Duration, piece: &mut [u8]) -> bool {
         match self.stream.read(piece) {
             Ok(count) if count > 0 && left > 0 => {
-                self.parting = Some(left - 1);
+                self.parting = Some(left.saturating_sub(1));
                 self.since = now;
                 true
             }

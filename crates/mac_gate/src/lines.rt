@@ -88,10 +88,13 @@ impl<S: Service + Drop> Lines<S> {
 
     /// Some peer may have taken too long then.
     fn expect(&mut self, then: Duration) {
-        self.due = match self.due {
-            Some(due) if due <= then => Some(due),
-            _ => Some(then),
+        let is_sooner = match self.due {
+            Some(due) => then < due,
+            None => true,
         };
+        if is_sooner {
+            self.due = Some(then);
+        }
     }
 
     /// A poll has told of a place.

@@ -71,11 +71,11 @@ impl Loop {
         Builder::new().stack_size(STACK).spawn(&rt, work).is_ok()
     }
 
-    fn run<R: Wait + Clock + RandomSource>(
+    fn run<'x, R: Wait + Clock + RandomSource>(
         &mut self,
-        rt: &R,
+        rt: &'x R,
         alloc: Global,
-        house: &House,
+        house: &'x House,
         terms: Terms,
     ) {
         let mut lines = Lines::new(alloc, terms.patience);
