@@ -24,7 +24,7 @@ use std::alloc::Global;
 use std::hash::{BuildHasher, Hasher, RandomState};
 use std::sync::atomic::AtomicU32;
 use std::sync::atomic::Ordering::SeqCst;
-use std::sync::{Arc, Mutex};
+use std::sync::{Arc, Mutex, MutexGuard};
 
 /// The longest text of a token that is remembered, in bytes.
 pub const SEEN_MAX: usize = 2_048;
@@ -197,58 +197,11 @@ impl Shared {
         self.parts.get((mark % PARTS as u64) as usize)
     }
 
-    fn has(&self, mark: u64, keys: &Keys, text: &[u8]) -> bool
-        ensures { IsTrue result → is_minted_text keys.now text.now ≡ true }
-    {
-        match self.part(mark).and_then(|part| part.try_lock()) {
-            Some(mut guard) => {
-                let part = &mut *guard;
-                part.find(mark, keys, text).is_some()
-            }
-            None => false,
-        }
-    }
-
-    fn reply(
-        &self,
-        alloc: Global,
-        mark: u64,
-        keys: &Keys,
-        text: &[u8],
-        grant: Grant,
-        context: &Context<'_>,
-    ) -> Result<Option<Reply>, NoMemory>
-        ensures { IfOk result (λ found. IfSome found (λ r.
-            r ≡ answers.verify_reply grant text.now context.now keys.now)) }
-    {
-        let Some(mut guard) = self.part(mark).and_then(|part| part.try_lock()) else {
-            return Ok(None);
-        };
-        let part = &mut *guard;
-        match part.find(mark, keys, text) {
-            Some(token) => Ok(Some(reply_to(alloc, keys, token, grant, context)?)),
-            None => Ok(None),
-        }
-    }
-
     fn is_again(&self, mark: u64) -> bool {
         let rest = (mark >> 32) as u32;
         match self.once.get((mark % ONCE as u64) as usize) {
             Some(place) => place.swap(rest, SeqCst) == rest,
             None => false,
-        }
-    }
-
-    fn keep(&self, alloc: Global, mark: u64, keys: &Keys, text: &[u8])
-        requires { is_minted_text keys.now text.now ≡ true }
-    {
-        if let Some(mut guard) = self.part(mark).and_then(|part| part.try_lock()) {
-            let part = &mut *guard;
-            if part.admits(text) {
-                if let Ok(seen) = SeenToken::of(alloc, keys, text) {
-                    part.keep(mark, seen);
-                }
-            }
         }
     }
 }
@@ -323,12 +276,20 @@ impl SeenTokens {
         }
     }
 
+    /// The part for tokens of this mark, unless there is no memory or another thread has taken it.
+    fn take_part(&self, mark: u64) -> Option<MutexGuard<'_, Part>> {
+        self.shared.as_ref()?.part(mark)?.try_lock()
+    }
+
     /// Whether the text of this mark is there, found to be minted under one of these keys.
     pub(crate) fn has(&self, mark: u64, keys: &Keys, text: &[u8]) -> bool
         ensures { IsTrue result → is_minted_text keys.now text.now ≡ true }
     {
-        match &self.shared {
-            Some(shared) => shared.has(mark, keys, text),
+        match self.take_part(mark) {
+            Some(mut guard) => {
+                let part = &mut *guard;
+                part.find(mark, keys, text).is_some()
+            }
             None => false,
         }
     }
@@ -347,8 +308,12 @@ impl SeenTokens {
         ensures { IfOk result (λ found. IfSome found (λ r.
             r ≡ answers.verify_reply grant text.now context.now keys.now)) }
     {
-        match &self.shared {
-            Some(shared) => shared.reply(alloc, mark, keys, text, grant, context),
+        let Some(mut guard) = self.take_part(mark) else {
+            return Ok(None);
+        };
+        let part = &mut *guard;
+        match part.find(mark, keys, text) {
+            Some(token) => Ok(Some(reply_to(alloc, keys, token, grant, context)?)),
             None => Ok(None),
         }
     }
@@ -368,8 +333,13 @@ impl SeenTokens {
     pub(crate) fn keep(&self, alloc: Global, mark: u64, keys: &Keys, text: &[u8])
         requires { is_minted_text keys.now text.now ≡ true }
     {
-        if let Some(shared) = &self.shared {
-            shared.keep(alloc, mark, keys, text);
+        if let Some(mut guard) = self.take_part(mark) {
+            let part = &mut *guard;
+            if part.admits(text) {
+                if let Ok(seen) = SeenToken::of(alloc, keys, text) {
+                    part.keep(mark, seen);
+                }
+            }
         }
     }
 }
