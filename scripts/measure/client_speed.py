@@ -3,12 +3,14 @@
 
     client_speed.py [SECONDS [ROUNDS]]
 
-Each way of asking goes on for so many seconds (1), in so many rounds (5), all in turns; told are the
-middle rates, and the middle of each round's rates beside the bare loop's. Every request is a verify
-of 3 caveats. Making the bytes is what the Python client does before anything is sent. Asks for
-bin/macaroond, or the program that MACAROOND names, and for Go where it is there.
+Each way of asking goes on for so many seconds (1), in so many rounds (5), all in turns, with a
+daemon that remembers no token and with one that does; told of each are the middle rates, and the
+middle of each round's rates beside the bare loop's. Every request is a verify of 3 caveats. Making
+the bytes is what the Python client does before anything is sent. Asks for bin/macaroond, or the
+program that MACAROOND names, and for Go where it is there.
 """
 import asyncio
+import contextlib
 import os
 import pathlib
 import statistics
@@ -30,6 +32,8 @@ FACTS = ["account = 3735928559", "service = mail", "action = read"]
 # How many are asked for together.
 MANY = 10_000
 BARE = "a bare loop"
+# The daemons, and the options of each.
+DAEMONS = {"`--remember 0`": ["--remember", "0"], "default": []}
 
 
 def counted(ask, until):
@@ -141,15 +145,28 @@ def go_program(folder):
     return program
 
 
+def rates(program, path, seconds):
+    """The rate of each way of asking the daemon at this socket."""
+    return {**(go_rates(program, path, seconds) if program else {}), **python_rates(path, seconds)}
+
+
+def told(runs, name):
+    """The middle rate of a way of asking, and its middle beside the bare loop, as two cells."""
+    rate = statistics.median(run[name] for run in runs)
+    beside = statistics.median(run[name] / run.get(BARE, run[name]) for run in runs)
+    return f"{rate:,.0f} | {beside:.2f}"
+
+
 def main(words):
     seconds, rounds = float(words[0]) if words else 1.0, int(words[1]) if len(words) > 1 else 5
-    with listening("--workers", "2", stderr=subprocess.DEVNULL) as (path, _), tempfile.TemporaryDirectory() as folder:
+    with contextlib.ExitStack() as held:
+        folder = held.enter_context(tempfile.TemporaryDirectory())
         program = go_program(folder) if clients.has_go() else None
-        runs = [{**(go_rates(program, path, seconds) if program else {}), **python_rates(path, seconds)} for _ in range(rounds)]
-    for name in runs[0]:
-        rate = statistics.median(run[name] for run in runs)
-        beside = statistics.median(run[name] / run.get(BARE, run[name]) for run in runs)
-        print(f"| {name} | {rate:,.0f} | {beside:.2f} |")
+        sockets = [held.enter_context(listening(*options, stderr=subprocess.DEVNULL))[0] for options in DAEMONS.values()]
+        runs = [[rates(program, path, seconds) for path in sockets] for _ in range(rounds)]
+    print(f"| | {' | | '.join(DAEMONS)} | |")
+    for name in runs[0][0]:
+        print(f"| {name} | {' | '.join(told(daemon, name) for daemon in zip(*runs))} |")
 
 
 if __name__ == "__main__":
