@@ -28,7 +28,7 @@ const (
 var (
 	background = context.Background()
 	facts      = []string{"account = 3735928559", "service = mail", "action = read"}
-	granted    = []byte{0, 0, 0, 1, 0}
+	granted    = []byte("\x00\x00\x00\x0a\x03\x00\x05alice\x00\x00")
 )
 
 // A way of asking: it asks until told to stop, and counts.
@@ -62,11 +62,11 @@ func check(err error) {
 	}
 }
 
-// frame is that of a verify.
+// frame is that of a verify as the client asks it: at the daemon's clock, and whose the token is.
 func frame(token string) []byte {
-	payload := append([]byte{3, 4}, "bank"...)
+	payload := append([]byte{5, 4}, "bank"...)
 	payload = append(binary.BigEndian.AppendUint16(payload, uint16(len(token))), token...)
-	payload = append(binary.BigEndian.AppendUint64(payload, 0), byte(len(facts)))
+	payload = append(payload, byte(len(facts)))
 	for _, fact := range facts {
 		payload = append(binary.BigEndian.AppendUint16(payload, uint16(len(fact))), fact...)
 	}
