@@ -30,8 +30,6 @@ MINT = {"v2-binary": 3, "v1-text": 3, "v2-text": 3}
 MOST = {f"verify {form}": most for form, most in VERIFY.items()}
 MOST |= {f"mint {form}": most for form, most in MINT.items()}
 MOST |= {f"attenuate {old} {new}": VERIFY[old] + MINT[new] - 1 for old in VERIFY for new in MINT}
-# A token in JSON asks most for the tree that `serde_json` reads.
-MOST["attenuate v2-json v2-json"] = 35
 
 
 def piped(line, count, watch=None):
