@@ -5,6 +5,7 @@
 mod fault;
 mod hand;
 pub mod laws;
+mod passes;
 mod pool;
 
 pub use fault::{DeskFault, HandFault, PoolFault};

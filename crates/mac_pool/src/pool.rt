@@ -1,6 +1,6 @@
 //! A pool: a queue with workers in threads of their own, and desks for connections.
 
-ghost use Rattle.std.specs.Prelude.{◌≡◌, ◌≢◌, ◌+◌, ◌≤◌, ◌<◌, ◌⊎◌, ◌↔◌, ◌++◌, [], Option, Some, None, Ok, Err, IfOk, IfErr, IsErr, MatchOption, OnOk, OnErr, IfSome, map, take, length, slice_get, slice_set};
+ghost use Rattle.std.specs.Prelude.{◌≡◌, ◌≢◌, ◌+◌, ◌≤◌, ◌<◌, ◌⊎◌, ◌↔◌, [], Err, IfOk, IfErr, IsErr, OnOk, OnErr, IfSome, map, length};
 ghost use Rattle.mac_pool.specs.Pool.{IsStarted, IsStopped, IsFinished, IsGiven, IsHome, IsBrought, AreOut, AreIdle, at_home, with_home};
 ghost use Rattle.std.specs.Arc.{arc_value};
 ghost use Rattle.std.specs.Vec.{vec_capacity};
@@ -8,6 +8,7 @@ ghost use Rattle.mac_worker.specs.Working.{HasWorked};
 
 use crate::fault::{DeskFault, HandFault, PoolFault};
 use crate::hand::Hand;
+use crate::passes::{Slots, bring_home, first_home, home_count, slots_of, take_out};
 use mac_mail::History;
 use mac_order::{NoMemory, Service};
 use mac_queue::{Desk, PASSES, Queue, QueuePass, Tally};
@@ -39,8 +40,6 @@ impl<S: Service> Promise<Worked<S>> for FromPass<S> {
 }
 
 type Thread<S> = PromisedHandle<Worked<S>, FromPass<S>>;
-
-type Slots<S> = Vec<Option<QueuePass<S>>>;
 
 /// What a pool leaves behind.
 #[derive(Drop)]
@@ -336,47 +335,6 @@ where
         .ok()
 }
 
-/// The first pass at home from one number up to another.
-fn first_home<S: Service>(slots: &Slots<S>, from: usize, to: usize) -> Option<usize>
-    requires { (from ≤ to) × (to ≤ length slots.now.items) }
-    ensures { MatchOption result (AreOut from to slots.now.items)
-        (λ number. (from ≤ number) × (number < to) × IsHome number slots.now.items) }
-{
-    for number in from..to {
-        match &slots[number] {
-            Some(_) => return Some(number),
-            None => {}
-        }
-    }
-    None
-}
-
-/// Takes the pass of this number out.
-fn take_out<S: Service>(slots: &mut Slots<S>, number: usize) -> QueuePass<S>
-    requires home { IsHome number slots.old.items }
-    ensures was { slice_get slots.old.items number ≡ Some (Some result) }
-    ensures out { slots.new.items ≡ slice_set slots.old.items number None }
-{
-    match slots[number].take() {
-        Some(pass) => pass,
-        None => unreachable!(),
-    }
-}
-
-/// How many passes are at home.
-fn home_count<S: Service>(slots: &Slots<S>) -> usize
-    ensures { result ≡ length (at_home slots.now.items) }
-{
-    let mut count = 0;
-    for slot in slots {
-        match slot {
-            Some(_) => count += 1,
-            None => {}
-        }
-    }
-    count
-}
-
 /// Waits for the workers, keeps their passes, and tells what they did.
 fn bring_back<S: Service, R: Threads>(
     rt: &R,
@@ -397,27 +355,4 @@ fn bring_back<S: Service, R: Threads>(
         came.add(&worked);
         all.push_reserved(worked.pass);
     }
-}
-
-/// Keeps the passes that are at home.
-fn bring_home<S: Service>(slots: Slots<S>, all: &mut Vec<QueuePass<S>>)
-    requires room { length all.old.items + length (at_home slots.items) ≤ vec_capacity all.old }
-    ensures { all.new.items ≡ all.old.items ++ at_home slots.items }
-{
-    for slot in slots {
-        if let Some(pass) = slot {
-            all.push_reserved(pass);
-        }
-    }
-}
-
-/// Each pass in a slot of its own.
-fn slots_of<S: Service>(alloc: Global, passes: Vec<QueuePass<S>>) -> Result<Slots<S>, NoMemory>
-    ensures { IfOk result (λ slots. slots.items ≡ map Some passes.items) }
-{
-    let mut slots = Vec::with_capacity(alloc, PASSES)?;
-    for pass in passes {
-        slots.push(Some(pass))?;
-    }
-    Ok(slots)
 }

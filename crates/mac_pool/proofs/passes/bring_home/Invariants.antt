@@ -2,7 +2,7 @@ use Rattle.std.proofs.Common.{◌≡◌, ◌++◌}
 use Rattle.std.specs.Vec.{vec_capacity}
 use Rattle.std.specs.Vec.Iter.{into_iter_items}
 use Rattle.mac_pool.specs.Pool.{at_home}
-use Rattle.mac_pool.proofs.pool.bring_home.Given as goal
+use Rattle.mac_pool.proofs.passes.bring_home.Given as goal
 
 abbrev pub invariant-loop-slot : goal.invariant-loop-slot
 invariant-loop-slot g l = record {

@@ -4,7 +4,7 @@ use Rattle.mac_queue.specs.Pass.{Pass}
 use Rattle.mac_pool.specs.Pool.{at_home}
 use Rattle.mac_queue.proofs.Balance.{empty_list}
 use Rattle.mac_pool.proofs.Slots.{home_none, home_room}
-use Rattle.mac_pool.proofs.pool.bring_home.Goals as goal
+use Rattle.mac_pool.proofs.passes.bring_home.Goals as goal
 
 pub push_reserved-requires : goal.push_reserved-requires
 push_reserved-requires g c =

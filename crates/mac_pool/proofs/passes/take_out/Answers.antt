@@ -1,7 +1,7 @@
 use Rattle.std.proofs.Common.{Some, Option, set, ap, sym, ◌∙◌, arith}
 use Rattle.mac_queue.specs.Pass.{Pass}
 use Rattle.mac_pool.proofs.Slots.{get_read, get_below}
-use Rattle.mac_pool.proofs.pool.take_out.Goals as goal
+use Rattle.mac_pool.proofs.passes.take_out.Goals as goal
 
 pub index_mut-requires : goal.index_mut-requires
 index_mut-requires g c =

@@ -2,7 +2,7 @@ use Rattle.std.proofs.Common.{◌≡◌, [], ◌∷◌, ◌++◌, List, Some, ma
 use Rattle.std.specs.Vec.Iter.{into_iter_items}
 use Rattle.mac_queue.specs.Pass.{Pass}
 use Rattle.mac_queue.proofs.Balance.{empty_list}
-use Rattle.mac_pool.proofs.pool.slots_of.Goals as goal
+use Rattle.mac_pool.proofs.passes.slots_of.Goals as goal
 
 pub loop-pass-init : goal.loop-pass-init
 loop-pass-init g c =

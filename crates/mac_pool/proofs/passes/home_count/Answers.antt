@@ -1,8 +1,8 @@
 use Rattle.std.proofs.Common.{◌≡◌, ◌<◌, List, Option, length, arith, ap, sym, ◌∙◌, get_or}
 use Rattle.mac_queue.specs.Pass.{Pass}
 use Rattle.mac_pool.proofs.Slots.{count_none, count_some}
-use Rattle.mac_pool.proofs.pool.home_count.Goals as goal
-use Rattle.mac_pool.proofs.pool.home_count.Goals.{in-Some, in-None}
+use Rattle.mac_pool.proofs.passes.home_count.Goals as goal
+use Rattle.mac_pool.proofs.passes.home_count.Goals.{in-Some, in-None}
 
 pub loop-slot-preserved : goal.loop-slot-preserved
 loop-slot-preserved g c =

@@ -1,6 +1,6 @@
 use Rattle.std.proofs.Common.{◌≡◌, ◌++◌, map, Some}
 use Rattle.std.specs.Vec.Iter.{into_iter_items}
-use Rattle.mac_pool.proofs.pool.slots_of.Given as goal
+use Rattle.mac_pool.proofs.passes.slots_of.Given as goal
 
 abbrev pub invariant-loop-pass : goal.invariant-loop-pass
 invariant-loop-pass g l = record {

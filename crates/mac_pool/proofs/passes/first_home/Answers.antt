@@ -1,6 +1,6 @@
 use Rattle.std.proofs.Common.{◌<◌, Some, length, ap, ◌∙◌, arith}
 use Rattle.mac_pool.proofs.Slots.{get_read, out_next}
-use Rattle.mac_pool.proofs.pool.first_home.Goals as goal
+use Rattle.mac_pool.proofs.passes.first_home.Goals as goal
 
 pub loop-number-init : goal.loop-number-init
 loop-number-init g c = λ number least under. absurd (omega arith)
