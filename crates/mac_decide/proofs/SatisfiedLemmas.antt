@@ -1,11 +1,12 @@
 -- When a caveat is satisfied.
-use Rattle.std.proofs.Common.{◌≡◌, ◌↔◌, ℕ, ℤ, pos, negsuc, unsigned_abs, ◌<ℤ◌, ◌≤ℤ◌, nat_lt, nat_le, FitsSigned, w64, List, ◌∷◌, codes, true, IsTrue, arith, subst}
+use Rattle.std.proofs.Common.{◌≡◌, ◌↔◌, ℕ, ◌<◌, ◌^◌, ℤ, pos, negsuc, to_z, of_z, unsigned_abs, ◌<ℤ◌, ◌≤ℤ◌, FitsSigned, w64, List, ◌∷◌, codes, true, IsTrue, arith, refl, subst}
 use Rattle.std.specs.List.{list_any, Contains}
 use Rattle.std.specs.Str.{bytes_eq}
 use Rattle.std.specs.Cmp.Lexicographic.{nat_list_eq_equiv}
-use Rattle.std.specs.Int.{FitsUnsignedBits}
+use Rattle.std.specs.Int.{w128}
+use Rattle.std.specs.Int.Signed.{le_z, lt_z}
 use Rattle.std.proofs.lemmas.Bool.Decides.{nat_tests}
-use Rattle.std.proofs.lemmas.Int.{ints}
+use Rattle.std.proofs.lemmas.Int.{fits_signed_from_abs, ints, to_z-of_z}
 use Rattle.std.proofs.lemmas.Slice.Eq.{bytes_eq-Decides}
 use Rattle.std.proofs.lemmas.List.Elements.{All-head, All-tail}
 use Rattle.std.proofs.lemmas.Map.Views.{list_any-from_Contains, Contains-from_any}
@@ -34,22 +35,23 @@ among-first facts ahead others fact among is =
     let all = subst (λ some. AreAmong some facts) is among in
     (All-head (Contains facts) fact others all, All-tail (Contains facts) fact others all)
 
--- no moment is below a limit that no unsigned number is
-pub too_low : (limit : ℤ) → FitsSigned w64 limit → ¬ (FitsUnsignedBits 64 limit) → (moment : ℕ) → ¬ (pos moment <ℤ limit)
-too_low (pos n) fits none moment below = none (omega (arith, ints))
-too_low (negsuc n) fits none moment below = omega (arith, ints)
+-- numbers of 64 bits are what they were in 128
+pub wide_moment : (moment : ℕ) → moment < 2 ^ 64 → to_z w128 (of_z w128 (pos moment)) ≡ pos moment
+wide_moment moment fits = to_z-of_z w128 (pos moment) (fits_signed_from_abs w128 (pos moment) (omega (arith, fits)))
 
--- each moment has reached a lower bound that no unsigned number is
-pub low_enough : (bound : ℤ) → FitsSigned w64 bound → ¬ (FitsUnsignedBits 64 bound) → (moment : ℕ) → bound ≤ℤ pos moment
-low_enough (pos n) fits none moment = absurd (none (omega (arith, ints)))
-low_enough (negsuc n) fits none moment = omega (arith, ints)
+wide_abs : (bound : ℤ) → FitsSigned w64 bound → unsigned_abs bound < 2 ^ 127
+wide_abs (pos n) fits = omega (arith, ints)
+wide_abs (negsuc n) fits = omega (arith, ints)
 
--- a lower bound as an unsigned number
-pub reached-as_unsigned : (moment n : ℕ) (bound : ℤ) → FitsUnsignedBits 64 bound → n ≡ unsigned_abs bound → IsTrue (nat_le n moment) ↔ (bound ≤ℤ pos moment)
-reached-as_unsigned moment n (pos k) fits same = ((λ e. grind (arith, nat_tests, ints)), (λ h. grind (arith, nat_tests, ints)))
-reached-as_unsigned moment n (negsuc k) fits same = absurd fits
+pub wide_bound : (bound : ℤ) → FitsSigned w64 bound → to_z w128 (of_z w128 bound) ≡ bound
+wide_bound bound fits = to_z-of_z w128 bound (fits_signed_from_abs w128 bound (wide_abs bound fits))
 
--- a limit as an unsigned number
-pub below-as_unsigned : (moment n : ℕ) (limit : ℤ) → FitsUnsignedBits 64 limit → n ≡ unsigned_abs limit → IsTrue (nat_lt moment n) ↔ (pos moment <ℤ limit)
-below-as_unsigned moment n (pos k) fits same = ((λ e. grind (arith, nat_tests, ints)), (λ h. grind (arith, nat_tests, ints)))
-below-as_unsigned moment n (negsuc k) fits same = absurd fits
+-- whether a moment is below a limit
+pub below-tested : (moment : ℕ) (limit : ℤ) → IsTrue (lt_z (pos moment) limit) ↔ (pos moment <ℤ limit)
+below-tested moment (pos k) = ((λ e. grind (arith, nat_tests, ints)), (λ h. grind (arith, nat_tests, ints)))
+below-tested moment (negsuc k) = ((λ e. absurd cc), (λ h. absurd (omega (arith, ints))))
+
+-- and whether it has reached a lower bound
+pub reached-tested : (bound : ℤ) (moment : ℕ) → IsTrue (le_z bound (pos moment)) ↔ (bound ≤ℤ pos moment)
+reached-tested (pos k) moment = ((λ e. grind (arith, nat_tests, ints)), (λ h. grind (arith, nat_tests, ints)))
+reached-tested (negsuc k) moment = ((λ e. omega (arith, ints)), (λ h. refl))

@@ -1,8 +1,9 @@
 -- Texts that are folded onto a signature one by one (this project's own).
 use Rattle.std.specs.Prelude.{ℕ, List, [], ◌∷◌, Option, Some, None}
 use Rattle.mac_hmac.specs.Chain.{extended}
+use Rattle.mac_token.specs.RawToken.{byte_lists}
 use Rattle.mac_decide.specs.declared.folding.Texts.{Texts}
-use Rattle.mac_decide.specs.declared.folding.Texts.TheVariants.{Caveats, Fields}
+use Rattle.mac_decide.specs.declared.folding.Texts.TheVariants.{Caveats, Fields, Held}
 use Rattle.mac_decide.specs.declared.folding.Under.{Under}
 use Rattle.mac_decide.specs.declared.folding.Under.TheVariants.{Key, Signature}
 
@@ -26,6 +27,7 @@ texts_left (Some text) rest = text ∷ rest
 -- texts, wherever they lie
 abbrev pub texts_of : Texts → List (List ℕ)
 texts_of (Caveats texts) = texts
+texts_of (Held texts) = byte_lists texts.now
 texts_of (Fields texts) = texts
 
 -- the bytes that the next text is folded under: a key's, or the signature's so far

@@ -21,10 +21,7 @@ fn is_before(moment: u64, caveat: &[u8]) -> bool
     ensures { IsTrue result ↔ IsBefore moment caveat.now }
 {
     match time_limit(caveat) {
-        Some(limit) => match u64::try_from(limit) {
-            Ok(limit) => moment < limit,
-            Err(_) => false,
-        },
+        Some(limit) => i128::from(moment) < i128::from(limit),
         None => false,
     }
 }
@@ -34,10 +31,7 @@ fn is_since(moment: u64, caveat: &[u8]) -> bool
     ensures { IsTrue result ↔ IsSince moment caveat.now }
 {
     match time_since(caveat) {
-        Some(bound) => match u64::try_from(bound) {
-            Ok(bound) => bound <= moment,
-            Err(_) => true,
-        },
+        Some(bound) => i128::from(bound) <= i128::from(moment),
         None => false,
     }
 }

@@ -10,10 +10,12 @@ use mac_token::{TokenView, Walk};
 use mac_wire::FieldList;
 use std::marker::Model;
 
-/// Texts, where they lie: the caveats of a token, or the fields of a request's list.
+/// Texts, where they lie: the caveats of a token, which lies in its bytes or is held, or the fields
+/// of a request's list.
 #[derive(Drop)]
 pub enum Texts<'a> {
     Caveats(Walk<'a>),
+    Held(&'a [Vec<u8>]),
     Fields(FieldList<'a>),
 }
 
@@ -25,6 +27,11 @@ impl<'a> Texts<'a> {
     {
         match self {
             Texts::Caveats(texts) => texts.next(),
+            Texts::Held(texts) => {
+                let (text, rest) = texts.split_first()?;
+                *texts = rest;
+                Some(text)
+            }
             Texts::Fields(texts) => texts.next(),
         }
     }
@@ -37,38 +44,6 @@ pub enum Under {
     Key(RootKey),
     /// The signature so far.
     Signature(Sig),
-}
-
-impl Under {
-    /// The bytes of either, as a signature's.
-    fn signature(&self) -> Sig
-        ensures { result ≡ under_of self.now }
-    {
-        match self {
-            Under::Key(key) => Sig::from_bytes(key.bytes()),
-            Under::Signature(signature) => *signature,
-        }
-    }
-
-    /// The key, where it is one.
-    fn key(&self) -> Option<RootKey>
-        ensures { IfSome result (λ key. key ≡ under_of self.now) }
-    {
-        match self {
-            Under::Key(key) => Some(*key),
-            Under::Signature(_) => None,
-        }
-    }
-
-    /// The signature after this text.
-    fn sign(&self, text: &[u8]) -> Sig
-        ensures { result ≡ extended (under_of self.now) (text.now ∷ []) }
-    {
-        match self {
-            Under::Key(key) => start(key, text),
-            Under::Signature(signature) => extend(*signature, text),
-        }
-    }
 }
 
 /// A signature so far, and the texts that are still to be folded onto it: how many, the next one,
@@ -147,21 +122,30 @@ impl<'a> Folding<'a> {
     pub fn signature(&self) -> Sig
         ensures { result ≡ self.now.signature }
     {
-        self.under.signature()
+        match self.under {
+            Under::Key(key) => Sig::from_bytes(key.bytes()),
+            Under::Signature(signature) => signature,
+        }
     }
 
     /// The key, before a token's identifier is folded on.
     pub fn key(&self) -> Option<RootKey>
         ensures { IfSome result (λ key. key ≡ self.now.signature) }
     {
-        self.under.key()
+        match self.under {
+            Under::Key(key) => Some(key),
+            Under::Signature(_) => None,
+        }
     }
 
     /// The signature after the text that is to be folded on next.
     pub fn next_signature(&self) -> Sig
         ensures { result ≡ extended self.now.signature (get_or self.now.left 0 [] ∷ []) }
     {
-        self.under.sign(self.text())
+        match self.under {
+            Under::Key(key) => start(&key, self.text()),
+            Under::Signature(signature) => extend(signature, self.text()),
+        }
     }
 
     /// The text that is to be folded on next; no bytes where none is left.

@@ -3,7 +3,6 @@
 ghost use Rattle.std.specs.Option.{option_copied};
 ghost use Rattle.std.specs.Prelude.{◌≡◌};
 ghost use Rattle.mac_wire.specs.declared.arrival.Arrival.TheVariants as arrival;
-ghost use Rattle.mac_decide.specs.Answer as answers;
 ghost use Rattle.mac_decide.specs.Answer.{keys_for};
 ghost use Rattle.mac_decide.specs.Terms.{lent_terms};
 ghost use Rattle.mac_decide.specs.World.{job_under};
@@ -35,37 +34,24 @@ pub struct Job {
 pub fn job_of(terms: Terms<'_>, arrival: Arrival) -> Job
     ensures { result ≡ job_under (lent_terms terms.entry) arrival }
 {
+    let keys = match &arrival {
+        Arrival::Payload(payload) => keys_named(terms, payload.as_slice()).copied(),
+        Arrival::Oversize => None,
+    };
     let basis = Basis {
-        keys: named_keys(terms, &arrival),
+        keys,
         may_mint: terms.rights.may_mint,
         moment: terms.moment,
     };
     Job { arrival, basis }
 }
 
-/// The keys of the name in the arrival's front.
-fn named_keys(terms: Terms<'_>, arrival: &Arrival) -> Option<Keys>
-    ensures { result ≡ keys_for (lent_terms terms.entry) arrival.now }
-{
-    match arrival {
-        Arrival::Payload(payload) => keys_named(terms, payload.as_slice()).copied(),
-        Arrival::Oversize => None,
-    }
-}
-
-/// The keys of the name in the payload's front, lent.
+/// The keys of the name in the payload's front, where it may be used, lent.
 pub(crate) fn keys_named<'a>(terms: Terms<'a>, payload: &[u8]) -> Option<&'a Keys>
     ensures { option_copied result
         ≡ keys_for (lent_terms terms.entry) (arrival.Payload payload.now) }
 {
     let name = key_name(payload)?;
-    keys_of(terms, name)
-}
-
-/// The keys of a name, where it may be used.
-fn keys_of<'a>(terms: Terms<'a>, name: &[u8]) -> Option<&'a Keys>
-    ensures { option_copied result ≡ answers.keys_of (lent_terms terms.entry) name.now }
-{
     if terms.rights.allows(name) {
         terms.table.find(name)
     } else {

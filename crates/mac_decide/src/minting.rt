@@ -69,7 +69,7 @@ pub fn attenuate(
 }
 
 /// The signature with each of the caveats folded on, in order.
-fn extended_by(mut signature: Sig, caveats: &[Vec<u8>]) -> Sig
+pub(crate) fn extended_by(mut signature: Sig, caveats: &[Vec<u8>]) -> Sig
     ensures { result ≡ extended signature (byte_lists caveats.now) }
 {
     for caveat in caveats {

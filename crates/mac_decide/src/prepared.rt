@@ -66,17 +66,6 @@ pub enum Purpose<'a> {
 }
 
 impl<'a> Purpose<'a> {
-    /// The texts that lead to another signature, where this one decides nothing yet.
-    fn begin_anew(&mut self, signature: Sig) -> Option<Folding<'a>>
-        ensures { MatchOption result (self.new ≡ self.old)
-            (λ folding. reply_by self.new (end_of folding) ≡ reply_by self.old signature) }
-    {
-        match self {
-            Purpose::Verdict(question) => question.take_second(signature),
-            _ => None,
-        }
-    }
-
     /// The reply, once the signature is there.
     fn reply(self, alloc: Global, signature: Sig) -> Result<Reply, NoMemory>
         ensures { IfOk result (λ r. r ≡ reply_by self.entry signature) }
@@ -96,14 +85,6 @@ pub struct Signing<'a> {
 }
 
 impl<'a> Signing<'a> {
-    /// The mark of the token of a verify.
-    fn mark(&self) -> Option<u64> {
-        match &self.purpose {
-            Purpose::Verdict(question) => question.mark,
-            _ => None,
-        }
-    }
-
     /// Takes the signature after the next text. After the last one under a first key that doesn't
     /// sign the token, the token's texts are left anew, for the second key.
     fn fold(&mut self, signature: Sig)
@@ -122,8 +103,10 @@ impl<'a> Signing<'a> {
         requires { self.old.folding.left ≡ [] }
         ensures { ends_in self.new ≡ ends_in self.old }
     {
-        if let Some(folding) = self.purpose.begin_anew(self.folding.signature()) {
-            self.folding = folding;
+        if let Purpose::Verdict(question) = &mut self.purpose {
+            if let Some(folding) = question.take_second(self.folding.signature()) {
+                self.folding = folding;
+            }
         }
     }
 }
@@ -148,8 +131,13 @@ impl<'a> Prepared<'a> {
     /// By what a memory may be told that the token of a verify is minted.
     pub fn mark(&self) -> Option<u64> {
         match self {
-            Prepared::Pending(signing) => signing.mark(),
-            Prepared::Told(_) => None,
+            Prepared::Pending(
+                Signing {
+                    purpose: Purpose::Verdict(question),
+                    ..
+                },
+            ) => question.mark,
+            _ => None,
         }
     }
 

@@ -1,9 +1,7 @@
 //! The answer to a job.
 
-ghost use Rattle.std.specs.Prelude.{◌≡◌, ◌↔◌, IfOk, OnErr, List, Result, ℕ};
-ghost use Rattle.mac_token.specs.Answers.{Answers as IsWritten};
+ghost use Rattle.std.specs.Prelude.{◌≡◌, ◌↔◌, IfOk, OnErr, List, ℕ};
 ghost use Rattle.mac_token.specs.RawToken.{TokenParts};
-ghost use Rattle.mac_token.specs.declared.fault.TokenRefusal.{TokenRefusal};
 ghost use Rattle.mac_wire.specs.Reply.{IsReply};
 ghost use Rattle.mac_wire.specs.Request.{Asks, verify};
 ghost use Rattle.mac_decide.specs.Answer as answers;
@@ -64,29 +62,14 @@ pub(crate) fn verdict_reply(
     ensures { (t : TokenParts) → t.identifier ≡ identifier.now → t.location ≡ location.now
         → IfOk result (λ r. r ≡ answers.verdict_reply grant t verdict) }
 {
-    match verdict {
-        Verdict::Granted => grant_reply(alloc, grant, identifier, location),
-        Verdict::BadSignature => Ok(refused(Refusal::BadSignature)),
-        Verdict::Unsatisfied(index) => Ok(Reply::Unsatisfied(index)),
-    }
-}
-
-/// What is told of such a token that is granted.
-fn grant_reply(
-    alloc: Global,
-    grant: Grant,
-    identifier: &[u8],
-    location: &str,
-) -> Result<Reply, NoMemory>
-    ensures { (t : TokenParts) → t.identifier ≡ identifier.now → t.location ≡ location.now
-        → IfOk result (λ r. r ≡ answers.grant_reply grant t) }
-{
-    match grant {
-        Grant::Bare => Ok(Reply::Granted),
-        Grant::Owner => Ok(Reply::GrantedTo {
+    match (verdict, grant) {
+        (Verdict::Granted, Grant::Bare) => Ok(Reply::Granted),
+        (Verdict::Granted, Grant::Owner) => Ok(Reply::GrantedTo {
             identifier: Bytes::new(Vec::from_slice(alloc, identifier)?),
             location: Bytes::new(Vec::from_slice(alloc, location.as_bytes())?),
         }),
+        (Verdict::BadSignature, _) => Ok(refused(Refusal::BadSignature)),
+        (Verdict::Unsatisfied(index), _) => Ok(Reply::Unsatisfied(index)),
     }
 }
 
@@ -94,15 +77,7 @@ fn grant_reply(
 pub(crate) fn signed_reply(alloc: Global, draft: Draft, signature: Sig) -> Result<Reply, NoMemory>
     ensures { IfOk result (λ r. r ≡ signed_reply draft signature) }
 {
-    reply_with(draft.sign(alloc, signature.bytes()))
-}
-
-/// The reply with what is written of a token, or why nothing is.
-fn reply_with(written: Result<Vec<u8>, TokenFault>) -> Result<Reply, NoMemory>
-    ensures { (end : Result (List ℕ) TokenRefusal) → IsWritten (λ text. text.items) written end
-        → IfOk result (λ r. r ≡ answers.told end Reply.Token) }
-{
-    match written {
+    match draft.sign(alloc, signature.bytes()) {
         Ok(bytes) => Ok(Reply::Token(Bytes::new(bytes))),
         Err(TokenFault::Refused(reason)) => Ok(refused(refusal_of(reason))),
         Err(TokenFault::Memory) => Err(AllocError),

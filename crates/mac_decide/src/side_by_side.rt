@@ -26,7 +26,7 @@ use std::alloc::Global;
 const CHAINS: usize = 2;
 
 /// The replies to the jobs, in order. Signatures are computed up to eight side by side: those that
-/// verifies compare, but for tokens in JSON, and those of tokens that are minted or attenuated.
+/// verifies compare, and those of tokens that are minted or attenuated.
 pub fn answer_all(alloc: Global, jobs: &[Job]) -> Result<Vec<Reply>, NoMemory>
     ensures { IfOk result (λ replies. replies.items ≡ map reply_to_job jobs.now) }
 {

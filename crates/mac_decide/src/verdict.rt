@@ -1,20 +1,21 @@
 //! Whether a name's keys grant a token.
 
-ghost use Rattle.std.specs.Prelude.{◌≡◌, ◌↔◌, ◌∷◌, All, IfSome, IsTrue, MatchOption, Ok};
+ghost use Rattle.std.specs.Prelude.{◌≡◌, ◌↔◌, ◌∷◌, ◌<◌, ◌^◌, All, IfSome, IsTrue, MatchOption, Ok, length};
 ghost use Rattle.std.specs.Prelude.{option_to_list};
-ghost use Rattle.mac_hmac.specs.Chain.{chain};
 ghost use Rattle.mac_keys.specs.Keys.{listed};
 ghost use Rattle.mac_token.specs.RawToken.{TokenParts};
 ghost use Rattle.mac_token.specs.Read.{read_of};
+ghost use Rattle.mac_decide.specs.Folding.{texts_of};
 ghost use Rattle.mac_decide.specs.Minted.{Signs, Minted};
-ghost use Rattle.mac_decide.specs.Verdict.{AreAmong, Satisfied, IsFirstUnsatisfied, IsVerdict, found_verdict};
+ghost use Rattle.mac_decide.specs.Verdict.{Satisfied, IsFirstUnsatisfied, IsVerdict, found_verdict};
 
 use crate::context::{Context, satisfied_in_order};
+use crate::folding::Texts;
+use crate::minting::extended_by;
 use crate::seen::SeenTokens;
-use mac_hmac::{Chain, RootKey, Sig, same};
+use mac_hmac::{RootKey, Sig, same, start};
 use mac_keys::Keys;
 use mac_token::Token;
-use mac_wire::FieldList;
 use std::alloc::Global;
 
 /// The verdict on a token.
@@ -94,11 +95,8 @@ pub(crate) fn other_key(keys: &Keys) -> Option<RootKey>
 fn signs(key: &RootKey, token: &Token) -> bool
     ensures { IsTrue result ↔ Signs key.now token.now }
 {
-    let mut chain = Chain::start(key, token.identifier());
-    for caveat in token.caveat_list() {
-        chain.push(caveat);
-    }
-    same(&Sig::from_bytes(token.sig()), &chain.sig())
+    let signature = extended_by(start(key, token.identifier()), token.caveat_list());
+    same(&Sig::from_bytes(token.sig()), &signature)
 }
 
 /// The index of the first caveat that isn't satisfied.
@@ -106,15 +104,25 @@ pub(crate) fn unsatisfied_of(token: &Token, context: &Context<'_>) -> Option<u16
     ensures { MatchOption result (All (λ caveat. Satisfied caveat context.now) token.now.caveats)
         (IsFirstUnsatisfied token.now.caveats context.now) }
 {
-    let mut unsatisfied = None;
+    unsatisfied_in(Texts::Held(token.caveat_list()), context)
+}
+
+/// The index of the first of a token's caveats that isn't satisfied.
+pub(crate) fn unsatisfied_in(mut caveats: Texts<'_>, context: &Context<'_>) -> Option<u16>
+    requires { length (texts_of caveats) < 2 ^ 16 }
+    ensures { let all = texts_of caveats.entry in
+        MatchOption result (All (λ caveat. Satisfied caveat context.now) all)
+        (IsFirstUnsatisfied all context.now) }
+{
     let mut index = 0;
     let mut ahead = context.facts.walk();
-    let caveats = token.caveat_list();
-    for caveat in caveats {
-        unsatisfied = first_unsatisfied(unsatisfied, index, caveat, context, &mut ahead);
+    while let Some(caveat) = caveats.next() {
+        if !satisfied_in_order(caveat, context, &mut ahead) {
+            return Some(index);
+        }
         index += 1;
     }
-    unsatisfied
+    None
 }
 
 /// The verdict where a key gives the signature, by the caveat that was found.
@@ -124,29 +132,5 @@ pub(crate) fn found_verdict(unsatisfied: Option<u16>) -> Verdict
     match unsatisfied {
         None => Verdict::Granted,
         Some(index) => Verdict::Unsatisfied(index),
-    }
-}
-
-/// The index of the first caveat that isn't satisfied, where `found` is that of the caveats before
-/// this one; `ahead` are some of the facts.
-pub(crate) fn first_unsatisfied(
-    found: Option<u16>,
-    index: u16,
-    caveat: &[u8],
-    context: &Context<'_>,
-    ahead: &mut FieldList<'_>,
-) -> Option<u16>
-    requires { AreAmong ahead.old context.now.facts }
-    ensures found { MatchOption found
-        (MatchOption result
-        (Satisfied caveat.now context.now)
-        (λ i. (i ≡ index) × ¬ (Satisfied caveat.now context.now)))
-        (λ i. result ≡ Some i) }
-    ensures ahead { AreAmong ahead.new context.now.facts }
-{
-    match found {
-        Some(earlier) => Some(earlier),
-        None if satisfied_in_order(caveat, context, ahead) => None,
-        None => Some(index),
     }
 }

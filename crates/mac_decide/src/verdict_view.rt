@@ -6,8 +6,9 @@ ghost use Rattle.mac_decide.specs.Prepared.{verdict_by};
 ghost use Rattle.mac_decide.specs.Verdict.{Satisfied, IsFirstUnsatisfied};
 
 use crate::context::Context;
-use crate::verdict::{Verdict, first_unsatisfied, found_verdict};
-use mac_hmac::{Chain, RootKey, Sig, same};
+use crate::folding::{Folding, Texts};
+use crate::verdict::{Verdict, found_verdict, unsatisfied_in};
+use mac_hmac::{RootKey, Sig, same};
 use mac_token::TokenView;
 
 /// Whether there is a second key and it gives the token's signature.
@@ -24,11 +25,8 @@ fn second_signs(second: Option<RootKey>, token: &TokenView<'_>) -> bool
 fn signs_view(key: &RootKey, token: &TokenView<'_>) -> bool
     ensures { IsTrue result ↔ Signs key.now token.now }
 {
-    let mut chain = Chain::start(key, token.identifier());
-    for caveat in token.walk() {
-        chain.push(caveat);
-    }
-    same(&Sig::from_bytes(token.sig()), &chain.sig())
+    let signature = Folding::of_token(*key, token).finish();
+    same(&Sig::from_bytes(token.sig()), &signature)
 }
 
 /// The verdict by the signature that the first key gives the token. Only where it isn't the token's
@@ -61,14 +59,6 @@ pub(crate) fn unsatisfied_caveat(token: &TokenView<'_>, context: &Context<'_>) -
     ensures { MatchOption result (All (λ caveat. Satisfied caveat context.now) token.now.caveats)
         (IsFirstUnsatisfied token.now.caveats context.now) }
 {
-    let mut unsatisfied = None;
-    let mut index = 0;
-    let mut ahead = context.facts.walk();
     let _count = token.caveats();
-    let walk = token.walk();
-    for caveat in walk {
-        unsatisfied = first_unsatisfied(unsatisfied, index, caveat, context, &mut ahead);
-        index += 1;
-    }
-    unsatisfied
+    unsatisfied_in(Texts::Caveats(token.walk()), context)
 }

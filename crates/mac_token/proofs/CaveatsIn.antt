@@ -7,8 +7,8 @@ use Rattle.mac_token.specs.RawToken.{CaveatParts}
 use Rattle.mac_token.specs.Location.{location_at}
 use Rattle.mac_token.specs.Section.{SectionParts, location_bytes, caveat_said}
 use Rattle.mac_token.specs.Reads.{Fails}
-use Rattle.mac_token.specs.declared.fault.ReadFault.{ReadFault}
-use Rattle.mac_token.specs.declared.fault.ReadFault.TheVariants.{Malformed, Memory}
+use Rattle.mac_token.specs.declared.fault.TokenFault.{TokenFault}
+use Rattle.mac_token.specs.declared.fault.TokenFault.TheVariants.{Refused, Memory}
 use Rattle.mac_token.specs.Steps.{◌>>=◌}
 use Rattle.mac_token.specs.V1.{packet}
 use Rattle.mac_token.specs.V1Reading.{has_key, field_at, section_at, caveat_at}
@@ -161,12 +161,12 @@ pub copies_shorter : (version : Version) (bytes : List ℕ) (done : List CaveatP
     → length after < length rest
 copies_shorter version bytes done rest s c after so_far read says = (caveat_shorter version rest s after c so_far.fits read says).0
 
-pub copies_refused : (version : Version) (bytes : List ℕ) (done : List CaveatParts) (rest : List ℕ) (s : SectionParts) (after : List ℕ) (fault : ReadFault) → Copies version bytes done rest → section_in version rest ≡ Some (s, after) → Fails fault (caveat_said s)
+pub copies_refused : (version : Version) (bytes : List ℕ) (done : List CaveatParts) (rest : List ℕ) (s : SectionParts) (after : List ℕ) (fault : TokenFault) → Copies version bytes done rest → section_in version rest ≡ Some (s, after) → Fails fault (caveat_said s)
     → Fails fault (Some (spelled_in version bytes))
 copies_refused version bytes done rest s after Memory so_far read fails = tt
-copies_refused version bytes done rest s after Malformed so_far read fails =
+copies_refused version bytes done rest s after (Refused reason) so_far read fails =
     let says = says_some version rest s after so_far.read so_far.fits read in
-    let no = sym fails ∙ says.1 in
+    let no = sym fails.1 ∙ says.1 in
     absurd cc
 
 pub copies_end : (version : Version) (bytes : List ℕ) (done : List CaveatParts) (rest : List ℕ) → Copies version bytes done rest → section_in version rest ≡ None → spelled_in version bytes ≡ done

@@ -144,6 +144,9 @@ read_caveats (caveat ∷ caveats) =
     let later = read_caveats caveats in
     (rw (first.0, later.0) refl, omega (arith, first.1, later.1), (first.2, later.2))
 
+two : number_of (decimal 2) ≡ Some (unsigned 2)
+two = number_of-decimal 2 (lit< tt)
+
 -- by the test for text and by whether there is a location
 read_token : (test : Bool) (location identifier : List ℕ) (caveats : List (List ℕ)) (sig : List ℕ) (d : Data)
     → d ≡ object (member (codes "c") (array (items_of (map caveat_object caveats)))
@@ -153,19 +156,15 @@ read_token : (test : Bool) (location identifier : List ℕ) (caveats : List (Lis
 unfolding last_members
 read_token true [] identifier caveats sig d e =
     let inside = read_caveats caveats in
-    let two : number_of (decimal 2) ≡ Some (unsigned 2) = number_of-decimal 2 (lit< tt) in
     rw e (rw (inside.0, two) refl, omega (arith, inside.1), (inside.2, (tt, (tt, (IsNumber-decimal 2 (lit< tt), tt)))))
 read_token true (b ∷ bs) identifier caveats sig d e =
     let inside = read_caveats caveats in
-    let two : number_of (decimal 2) ≡ Some (unsigned 2) = number_of-decimal 2 (lit< tt) in
     rw e (rw (inside.0, two) refl, omega (arith, inside.1), (inside.2, (tt, (tt, (tt, (IsNumber-decimal 2 (lit< tt), tt))))))
 read_token false [] identifier caveats sig d e =
     let inside = read_caveats caveats in
-    let two : number_of (decimal 2) ≡ Some (unsigned 2) = number_of-decimal 2 (lit< tt) in
     rw e (rw (inside.0, two) refl, omega (arith, inside.1), (inside.2, (tt, (tt, (IsNumber-decimal 2 (lit< tt), tt)))))
 read_token false (b ∷ bs) identifier caveats sig d e =
     let inside = read_caveats caveats in
-    let two : number_of (decimal 2) ≡ Some (unsigned 2) = number_of-decimal 2 (lit< tt) in
     rw e (rw (inside.0, two) refl, omega (arith, inside.1), (inside.2, (tt, (tt, (tt, (IsNumber-decimal 2 (lit< tt), tt))))))
 
 -- what is written for a token is read as that token

@@ -1,23 +1,22 @@
 -- What bytes carry, and the bare form in it: what is read is spelled so, and what is spelled is read.
-use Rattle.std.proofs.Common.{◌≡◌, ◌≢◌, ℕ, Bool, true, false, cond, List, [], ◌∷◌, Option, Some, None, refl, sym, ap, subst, ◌∙◌, ◌⊎◌, inl, inr, arith}
+use Rattle.std.proofs.Common.{◌≡◌, ◌≢◌, ℕ, Bool, true, false, cond, List, [], ◌∷◌, Option, Some, None, Err, refl, sym, ap, subst, ◌∙◌, ◌⊎◌, inl, inr, arith}
 use Rattle.std.specs.Prelude.{◌==◌, ◌||◌}
 use Rattle.std.specs.Bool.{Decides}
 use Rattle.std.proofs.lemmas.Bool.{eqb-true, eq-eqb, ne_eqb, both_ways}
 use Rattle.std.proofs.lemmas.Bool.Decides.{Decides-or}
 use Rattle.std.proofs.lemmas.Option.{same_Some}
 use Rattle.base64.specs.GeneralPurpose.{IsBytes}
-use Rattle.mac_token.specs.declared.fault.ReadFault.{ReadFault}
-use Rattle.mac_token.specs.declared.fault.ReadFault.TheVariants.{Malformed, Memory}
+use Rattle.mac_token.specs.declared.fault.TokenFault.{TokenFault}
+use Rattle.mac_token.specs.declared.fault.TokenFault.TheVariants.{Refused, Memory}
 use Rattle.mac_token.specs.RawToken.{RawParts}
 use Rattle.mac_token.specs.Answers.{IsFault}
-use Rattle.mac_token.specs.Fault.{fault_of}
 use Rattle.mac_token.specs.Reads.{Fails}
 use Rattle.mac_token.specs.Base64Reading.{base64_bytes}
 use Rattle.mac_token.specs.V1Reading.{v1_of}
 use Rattle.mac_token.specs.V2Whole.{v2_of}
 use Rattle.mac_token.specs.JsonReading.{json_text_of}
 use Rattle.mac_token.specs.Spells.{BeginsWith, CallsForBare, IsBare, Carries, Spells}
-use Rattle.mac_token.specs.Read.{calls_for_bare, bare_bytes, bare_of, or_malformed}
+use Rattle.mac_token.specs.Read.{calls_for_bare, bare_bytes, bare_of, or_malformed, token_of_read}
 use Rattle.mac_token.proofs.Base64Read.{base64_takes, base64_again}
 use Rattle.mac_token.proofs.V1Laws.{v1_takes, v1_again}
 use Rattle.mac_token.proofs.V2Whole.{v2_takes, v2_again}
@@ -126,6 +125,11 @@ spells_one bytes r s (a, carries_a, is_r) (b, carries_b, is_s) =
 -- ---- what readers answer
 
 -- where a reading gives nothing, the bytes are malformed
-pub told_from_fails : (fault : ReadFault) (reading : Option RawParts) → Fails fault reading → IsFault (fault_of fault) (or_malformed reading)
-told_from_fails Malformed reading fails = ap or_malformed fails
+pub told_from_fails : (fault : TokenFault) (reading : Option RawParts) → Fails fault reading → IsFault fault (or_malformed reading)
+told_from_fails (Refused reason) reading fails = ap or_malformed fails.1 ∙ ap Err (sym fails.0)
 told_from_fails Memory reading fails = tt
+
+-- and of the token
+pub view_from_fails : (fault : TokenFault) (reading : Option RawParts) → Fails fault reading → IsFault fault (token_of_read (or_malformed reading))
+view_from_fails (Refused reason) reading fails = ap token_of_read (told_from_fails (Refused reason) reading fails)
+view_from_fails Memory reading fails = tt

@@ -1,7 +1,5 @@
 -- The numbers of the refusals on the wire.
 use Rattle.std.specs.Prelude.{ℕ, Option, Some, None}
-use Rattle.mac_token.specs.declared.fault.ReadFault.{ReadFault}
-use Rattle.mac_token.specs.declared.fault.ReadFault.TheVariants as reading
 use Rattle.mac_token.specs.declared.fault.TokenFault.{TokenFault}
 use Rattle.mac_token.specs.declared.fault.TokenFault.TheVariants.{Refused, Memory}
 use Rattle.mac_token.specs.declared.fault.TokenRefusal.{TokenRefusal}
@@ -19,8 +17,3 @@ refusal_code CaveatLocation = 26
 abbrev pub fault_code : TokenFault → Option ℕ
 fault_code (Refused refusal) = Some (refusal_code refusal)
 fault_code Memory = None
-
--- what the fault of a form's reader is told as
-abbrev pub fault_of : ReadFault → TokenFault
-fault_of reading.Malformed = Refused Malformed
-fault_of reading.Memory = Memory

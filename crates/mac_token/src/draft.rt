@@ -1,19 +1,19 @@
 //! Tokens that are written before their signature is known. One in JSON is V2 binary until it is
 //! signed, since V1 packets and V2 binary end in the signature.
 
-ghost use Rattle.std.specs.Prelude.{◌≡◌, ◌∷◌, ◌++◌, [], OnOk};
+ghost use Rattle.std.specs.Prelude.{◌≡◌, ◌∷◌, ◌++◌, [], IfErr, IfOk, OnOk};
 ghost use Rattle.mac_token.specs.Answers.{Answers};
 ghost use Rattle.mac_token.specs.Draft.{Drafts, IsDraftOf, caveat_bytes, end_bytes, head_bytes, in_form, signed};
 ghost use Rattle.mac_token.specs.Push.{with_caveats, with_sig};
 ghost use Rattle.mac_token.specs.RawToken.{TokenParts, token_parts};
 ghost use Rattle.mac_token.specs.Writes.{Writes};
-ghost use Rattle.mac_token.specs.Written.{write_of};
+ghost use Rattle.mac_token.specs.Written.{token_bytes, write_of};
 ghost use Rattle.mac_token.specs.declared.form.Form.{Form as PlainForm};
 
 use crate::fault::{NoMemory, TokenFault, TokenRefusal};
 use crate::form::Form;
 use crate::limits::{CAVEAT_MAX, CAVEATS_MAX, TOKEN_MAX};
-use crate::token::is_within;
+use crate::token::{Token, is_within};
 use crate::writing::{as_bare, as_json, as_text};
 use crate::{v1, v2};
 use std::alloc::Global;
@@ -88,6 +88,15 @@ pub struct Expected {
     pub bytes: usize,
 }
 
+/// How many bytes the caveats have together.
+fn bytes_in(caveats: &[Vec<u8>]) -> usize {
+    let mut bytes: usize = 0;
+    for caveat in caveats {
+        bytes = bytes.saturating_add(caveat.len());
+    }
+    bytes
+}
+
 /// A token as it is written, all but its signature. Contracts see it as a `DraftParts`.
 #[derive(Drop)]
 pub struct Draft {
@@ -128,6 +137,23 @@ impl Draft {
         })
     }
 
+    /// A draft of a token.
+    pub(crate) fn of(alloc: Global, form: Form, token: &Token) -> Result<Draft, TokenFault>
+        ensures ok { IfOk result (IsDraftOf form (with_sig token.now [])) }
+        ensures err { IfErr result (λ fault. fault ≡ TokenFault.Memory) }
+    {
+        let caveats = token.caveat_list();
+        let expected = Expected {
+            caveats: caveats.len(),
+            bytes: bytes_in(caveats),
+        };
+        let mut draft = Draft::begin(alloc, form, token.location(), token.identifier(), expected)?;
+        for caveat in caveats {
+            draft = draft.push(caveat)?;
+        }
+        Ok(draft)
+    }
+
     /// The draft with one caveat more. `Limit` where the caveat or the number of caveats passes its
     /// limit, tested before anything is written.
     pub fn push(self, caveat: &[u8]) -> Result<Draft, TokenFault>
@@ -154,6 +180,8 @@ impl Draft {
     /// may be. A text and JSON take memory of their own.
     pub fn sign(self, alloc: Global, sig: [u8; 32]) -> Result<Vec<u8>, TokenFault>
         ensures exact { Answers (λ text. text.items) result (signed self sig) }
+        ensures writes { (form : PlainForm) (t : TokenParts) → IsDraftOf form t self
+            → Writes (token_bytes (with_sig t sig) form) result }
         ensures written { (form : PlainForm) (t : TokenParts) → IsDraftOf form t self
             → Answers (λ text. text.items) result (write_of (with_sig t sig) form) }
     {

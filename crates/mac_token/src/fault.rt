@@ -1,8 +1,7 @@
 //! Why a token is refused.
 
 ghost use Rattle.std.specs.Prelude.{◌≡◌};
-ghost use Rattle.mac_token.specs.Fault.{refusal_code, fault_code, fault_of};
-ghost use Rattle.mac_token.specs.declared.fault.ReadFault.TheVariants as reading;
+ghost use Rattle.mac_token.specs.Fault.{refusal_code, fault_code};
 ghost use Rattle.mac_token.specs.declared.fault.TokenFault.TheVariants.{Refused, Memory};
 
 use std::alloc::{AllocError, AllocFailed};
@@ -90,53 +89,5 @@ impl<T: Drop> From<AllocFailed<T>> for TokenFault {
 
     fn from(_refused: AllocFailed<T>) -> TokenFault {
         TokenFault::Memory
-    }
-}
-
-/// What stands there is no part of a token's form.
-#[derive(Clone, Copy)]
-pub(crate) struct Malformed;
-
-/// Why the reader of a form gives no token.
-#[derive(Clone, Copy)]
-pub(crate) enum ReadFault {
-    /// The bytes spell none.
-    Malformed,
-    /// Memory was refused.
-    Memory,
-}
-
-impl From<Malformed> for ReadFault {
-    ghost from_gives = { λ _ fault. fault ≡ reading.Malformed };
-
-    fn from(_refused: Malformed) -> ReadFault {
-        ReadFault::Malformed
-    }
-}
-
-impl From<AllocError> for ReadFault {
-    ghost from_gives = { λ _ fault. fault ≡ reading.Memory };
-
-    fn from(_refused: AllocError) -> ReadFault {
-        ReadFault::Memory
-    }
-}
-
-impl<T: Drop> From<AllocFailed<T>> for ReadFault {
-    ghost from_gives = { λ _ fault. fault ≡ reading.Memory };
-
-    fn from(_refused: AllocFailed<T>) -> ReadFault {
-        ReadFault::Memory
-    }
-}
-
-impl From<ReadFault> for TokenFault {
-    ghost from_gives = { λ fault told. told ≡ fault_of fault };
-
-    fn from(fault: ReadFault) -> TokenFault {
-        match fault {
-            ReadFault::Malformed => TokenFault::Refused(TokenRefusal::Malformed),
-            ReadFault::Memory => TokenFault::Memory,
-        }
     }
 }

@@ -8,7 +8,7 @@ ghost use Rattle.mac_token.specs.Read.{bare_of, parts_of};
 ghost use Rattle.mac_token.specs.Reads.{Answers};
 ghost use Rattle.mac_token.specs.Spells.{BeginsWith};
 
-use crate::fault::ReadFault;
+use crate::fault::TokenFault;
 use crate::limits::{CAVEATS_MAX, IDENTIFIER_MAX, LOCATION_MAX};
 use crate::raw::{RawCaveat, RawToken};
 use crate::tally::Tally;
@@ -50,7 +50,7 @@ impl<'a> Model for RawView<'a> {
 }
 
 /// Copies of the caveats at the front.
-fn copies(version: Version, bytes: &[u8], alloc: Global) -> Result<Vec<RawCaveat>, ReadFault>
+fn copies(version: Version, bytes: &[u8], alloc: Global) -> Result<Vec<RawCaveat>, TokenFault>
     requires { IsSome (caveats_in version bytes.now) }
     ensures { Answers (λ list. list.items) result (Some (spelled_in version bytes.now)) }
 {
@@ -79,7 +79,7 @@ impl<'a> RawView<'a> {
     }
 
     /// A copy of what was found.
-    pub(crate) fn copied(&self, alloc: Global) -> Result<RawToken, ReadFault>
+    pub(crate) fn copied(&self, alloc: Global) -> Result<RawToken, TokenFault>
         ensures { Answers (λ raw. raw) result (Some self.now) }
     {
         let location = String::from_str(alloc, self.location)?;

@@ -18,7 +18,7 @@ ghost use Rattle.mac_token.specs.Reads as reads;
 ghost use Rattle.mac_token.specs.Room.{Holds};
 ghost use Rattle.std.specs.Borrow.{sem};
 
-use crate::fault::{ReadFault, TokenFault, TokenRefusal};
+use crate::fault::{TokenFault, TokenRefusal};
 use crate::limits::TOKEN_MAX;
 use crate::raw::RawToken;
 use crate::raw_view::RawView;
@@ -89,7 +89,7 @@ fn decode_into(room: &mut Vec<u8>, text: &[u8]) -> Result<(), TokenFault>
 
 /// What a bare form spells.
 #[tactic(auto, unfolding(crate::specs::Read::bare_of))]
-pub(crate) fn spelled(alloc: Global, bytes: &[u8]) -> Result<RawToken, ReadFault>
+pub(crate) fn spelled(alloc: Global, bytes: &[u8]) -> Result<RawToken, TokenFault>
     ensures { reads.Answers (λ raw. raw) result (bare_of bytes.now) }
 {
     if let [b'{', ..] = bytes {
@@ -97,7 +97,7 @@ pub(crate) fn spelled(alloc: Global, bytes: &[u8]) -> Result<RawToken, ReadFault
     }
     match RawView::of(bytes) {
         Some(view) => view.copied(alloc),
-        None => Err(ReadFault::Malformed),
+        None => Err(TokenFault::Refused(TokenRefusal::Malformed)),
     }
 }
 

@@ -1,12 +1,10 @@
 //! The fields of a caveat, or of a token's own section in V2 binary, as they stand in the bytes.
 
-ghost use Rattle.std.specs.Prelude.{◌≡◌, IfOk};
-ghost use Rattle.std.specs.Option.{option_copied};
-ghost use Rattle.mac_token.specs.RawToken.{bytes_of};
+ghost use Rattle.std.specs.Prelude.{◌≡◌};
 ghost use Rattle.mac_token.specs.Reads.{Answers};
 ghost use Rattle.mac_token.specs.Section.{caveat_said, location_bytes};
 
-use crate::fault::{NoMemory, ReadFault};
+use crate::fault::TokenFault;
 use crate::location::copied_location;
 use crate::raw::RawCaveat;
 use std::alloc::Global;
@@ -45,21 +43,15 @@ impl<'a> Section<'a> {
     }
 
     /// The caveat that the fields are; `Malformed` where the location is not UTF-8.
-    pub(crate) fn caveat(&self, alloc: Global) -> Result<RawCaveat, ReadFault>
+    pub(crate) fn caveat(&self, alloc: Global) -> Result<RawCaveat, TokenFault>
         ensures { Answers (λ c. c) result (caveat_said self.now) }
     {
         let location = copied_location(alloc, self.location_or_empty())?;
-        let vid = copied_vid(alloc, self.vid)?;
+        let vid = match self.vid {
+            Some(bytes) => Some(Vec::from_slice(alloc, bytes)?),
+            None => None,
+        };
         let id = Vec::from_slice(alloc, self.identifier)?;
         Ok(RawCaveat { id, vid, location })
-    }
-}
-
-fn copied_vid(alloc: Global, vid: Option<&[u8]>) -> Result<Option<Vec<u8>>, NoMemory>
-    ensures { IfOk result (λ copy. bytes_of copy ≡ option_copied vid.entry) }
-{
-    match vid {
-        Some(bytes) => Ok(Some(Vec::from_slice(alloc, bytes)?)),
-        None => Ok(None),
     }
 }

@@ -16,5 +16,5 @@ mod writing;
 
 pub(crate) use reading::{after_caveats, next_section, view};
 pub(crate) use writing::{
-    BESIDE_CAVEAT, BESIDE_PARTS, put_caveat, put_head, put_signature, write, written_len,
+    BESIDE_CAVEAT, BESIDE_PARTS, put_caveat, put_head, put_signature, written_len,
 };

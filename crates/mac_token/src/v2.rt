@@ -17,7 +17,7 @@ mod writing;
 
 pub(crate) use reading::{end, section, view};
 pub(crate) use writing::{
-    BESIDE_CAVEAT, BESIDE_PARTS, put_caveat, put_head, put_parts, put_signature, write, written_len,
+    BESIDE_CAVEAT, BESIDE_PARTS, put_caveat, put_head, put_parts, put_signature, written_len,
 };
 
 /// The first byte, which tells V2 binary from the other forms.

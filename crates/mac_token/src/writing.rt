@@ -1,16 +1,14 @@
 //! Tokens written, in each form.
 
-ghost use Rattle.std.specs.Prelude.{◌≡◌, ◌≢◌, ◌≤◌, ◌↔◌, IsTrue, length};
+ghost use Rattle.std.specs.Prelude.{◌≡◌, ◌≢◌, ◌<◌, ◌≤◌, ◌↔◌, IsTrue, false, length, true};
 ghost use Rattle.base64.specs.Rfc4648.{unpadded_len};
 ghost use Rattle.mac_token.specs.Answers.{Answers};
 ghost use Rattle.mac_token.specs.Base64Text.{base64_of};
 ghost use Rattle.mac_token.specs.Draft.{json_in};
-ghost use Rattle.mac_token.specs.Json.{json_bytes};
-ghost use Rattle.mac_token.specs.V1.{v1_bytes};
-ghost use Rattle.mac_token.specs.V2.{v2_bytes};
 ghost use Rattle.mac_token.specs.Written.{token_bytes, write_of};
 ghost use Rattle.mac_token.specs.Writes.{Writes};
 
+use crate::draft::Draft;
 use crate::fault::{TokenFault, TokenRefusal};
 use crate::form::Form;
 use crate::limits::TOKEN_MAX;
@@ -49,43 +47,6 @@ pub(crate) fn as_bare(bytes: Vec<u8>) -> Result<Vec<u8>, TokenFault>
     Ok(bytes)
 }
 
-/// The token's V1 packets in base64. The length is tested before memory is taken.
-fn as_v1_text(alloc: Global, token: &Token) -> Result<Vec<u8>, TokenFault>
-    ensures written { Writes (base64_of (v1_bytes token.now)) result }
-    ensures memory { result ≡ Err TokenFault.Memory
-        → length (base64_of (v1_bytes token.now)) ≤ TOKEN_MAX }
-{
-    if !text_fits(v1::written_len(token)) {
-        return Err(TokenFault::Refused(TokenRefusal::Limit));
-    }
-    let packets = v1::write(alloc, token)?;
-    Ok(base64_text::encode(alloc, &packets)?.into_bytes())
-}
-
-/// The token in V2 binary. The length is tested before memory is taken.
-fn as_v2_binary(alloc: Global, token: &Token) -> Result<Vec<u8>, TokenFault>
-    ensures written { Writes (v2_bytes token.now) result }
-    ensures memory { result ≡ Err TokenFault.Memory → length (v2_bytes token.now) ≤ TOKEN_MAX }
-{
-    if v2::written_len(token) > TOKEN_MAX {
-        return Err(TokenFault::Refused(TokenRefusal::Limit));
-    }
-    Ok(v2::write(alloc, token)?)
-}
-
-/// The token's V2 binary in base64. The length is tested before memory is taken.
-fn as_v2_text(alloc: Global, token: &Token) -> Result<Vec<u8>, TokenFault>
-    ensures written { Writes (base64_of (v2_bytes token.now)) result }
-    ensures memory { result ≡ Err TokenFault.Memory
-        → length (base64_of (v2_bytes token.now)) ≤ TOKEN_MAX }
-{
-    if !text_fits(v2::written_len(token)) {
-        return Err(TokenFault::Refused(TokenRefusal::Limit));
-    }
-    let binary = v2::write(alloc, token)?;
-    Ok(base64_text::encode(alloc, &binary)?.into_bytes())
-}
-
 /// The JSON of the token that V2 binary spells, which is built before its length is known; no bytes
 /// where none is spelled.
 pub(crate) fn as_json(alloc: Global, binary: &[u8]) -> Result<Vec<u8>, TokenFault>
@@ -100,25 +61,19 @@ pub(crate) fn as_json(alloc: Global, binary: &[u8]) -> Result<Vec<u8>, TokenFaul
     }
 }
 
-/// The token in V2 JSON, by way of V2 binary.
-fn as_v2_json(alloc: Global, token: &Token) -> Result<Vec<u8>, TokenFault>
-    ensures { Writes (json_bytes token.now) result }
-{
-    let binary = v2::write(alloc, token)?;
-    as_json(alloc, &binary)
-}
-
+/// Whether the token in this form is no longer than a token may be, before it is written; of JSON
+/// that isn't known then.
 #[tactic(auto, unfolding(crate::specs::Written::token_bytes))]
-fn write_form(alloc: Global, token: &Token, form: Form) -> Result<Vec<u8>, TokenFault>
-    ensures written { Writes (token_bytes token.now form) result }
-    ensures memory { result ≡ Err TokenFault.Memory → form ≢ Form.V2Json
+fn may_fit(token: &Token, form: Form) -> bool
+    ensures long { result ≡ false → TOKEN_MAX < length (token_bytes token.now form) }
+    ensures short { result ≡ true → form ≢ Form.V2Json
         → length (token_bytes token.now form) ≤ TOKEN_MAX }
 {
     match form {
-        Form::V1Text => as_v1_text(alloc, token),
-        Form::V2Binary => as_v2_binary(alloc, token),
-        Form::V2Json => as_v2_json(alloc, token),
-        Form::V2Text => as_v2_text(alloc, token),
+        Form::V1Text => text_fits(v1::written_len(token)),
+        Form::V2Binary => v2::written_len(token) <= TOKEN_MAX,
+        Form::V2Json => true,
+        Form::V2Text => text_fits(v2::written_len(token)),
     }
 }
 
@@ -130,5 +85,8 @@ pub fn write(alloc: Global, token: &Token, form: Form) -> Result<Vec<u8>, TokenF
     ensures memory { result ≡ Err TokenFault.Memory → form ≢ Form.V2Json
         → length (token_bytes token.now form) ≤ TOKEN_MAX }
 {
-    write_form(alloc, token, form)
+    if !may_fit(token, form) {
+        return Err(TokenFault::Refused(TokenRefusal::Limit));
+    }
+    Draft::of(alloc, form, token)?.sign(alloc, token.sig())
 }

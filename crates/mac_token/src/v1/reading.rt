@@ -2,7 +2,7 @@
 
 ghost use Rattle.std.specs.Prelude.{◌≡◌, ◌<◌, option_map, IfSome};
 ghost use Rattle.std.specs.Option.{option_copied};
-ghost use Rattle.mac_token.specs.V1Reading.{hex_value, hex_number, line_at, field_at, has_key, optional_at, section_at, signature_at, v1_of};
+ghost use Rattle.mac_token.specs.V1Reading.{hex_value, hex_number, line_at, field_at, has_key, optional_at, signature_at, v1_of};
 ghost use Rattle.mac_token.specs.CaveatsIn.{section_in, end_in};
 ghost use Rattle.mac_token.specs.declared.version.Version.TheVariants as Version;
 
@@ -90,11 +90,14 @@ fn optional(key: Key, bytes: &[u8]) -> Option<(Option<&[u8]>, &[u8])>
     Some((Some(value), rest))
 }
 
-/// A caveat's fields, and what follows them.
+/// The fields of the caveat that comes next, where one does, and what follows them.
 #[tactic(auto, unfolding(crate::specs::V1Reading::section_at))]
-fn section(bytes: &[u8]) -> Option<(Section<'_>, &[u8])>
-    ensures { option_map (λ x. (x.0, x.1.now)) result ≡ section_at bytes.now }
+pub(crate) fn next_section(bytes: &[u8]) -> Option<(Section<'_>, &[u8])>
+    ensures { option_map (λ x. (x.0, x.1.now)) result ≡ section_in Version.V1 bytes.now }
 {
+    if !has_key(Key::Cid, bytes) {
+        return None;
+    }
     let (identifier, rest) = field(Key::Cid, bytes)?;
     let (vid, rest) = optional(Key::Vid, rest)?;
     let (location, rest) = optional(Key::Cl, rest)?;
@@ -106,16 +109,6 @@ fn section(bytes: &[u8]) -> Option<(Section<'_>, &[u8])>
         },
         rest,
     ))
-}
-
-/// The fields of the caveat that comes next, where one does, and what follows them.
-pub(crate) fn next_section(bytes: &[u8]) -> Option<(Section<'_>, &[u8])>
-    ensures { option_map (λ x. (x.0, x.1.now)) result ≡ section_in Version.V1 bytes.now }
-{
-    if !has_key(Key::Cid, bytes) {
-        return None;
-    }
-    section(bytes)
 }
 
 /// The bytes, where no caveat comes next.

@@ -70,7 +70,7 @@ fn caveats_len(caveats: &[Vec<u8>]) -> usize
     len
 }
 
-/// How many bytes [`write`] gives for the token; linear in the number of its caveats.
+/// How many bytes the token's packets have; linear in the number of its caveats.
 #[tactic(auto, using(crate::proofs::Packets::v1_lengths))]
 pub(crate) fn written_len(token: &Token) -> usize
     ensures value { result ≡ length (v1_bytes token.now) }
@@ -102,31 +102,9 @@ pub(crate) fn put_caveat(out: &mut Vec<u8>, caveat: &[u8]) -> Result<(), NoMemor
     put_packet(out, Key::Cid, caveat)
 }
 
-/// Appends the caveats' packets.
-fn put_caveats(out: &mut Vec<u8>, caveats: &[Vec<u8>]) -> Result<(), NoMemory>
-    ensures { OnOk result (out.new.items
-        ≡ out.old.items ++ flat_map packet (map caveat_field (byte_lists caveats.now))) }
-{
-    for caveat in caveats {
-        put_caveat(out, caveat)?;
-    }
-    Ok(())
-}
-
 /// Appends the signature's packet.
 pub(crate) fn put_signature(out: &mut Vec<u8>, sig: &[u8]) -> Result<(), NoMemory>
     ensures { OnOk result (out.new.items ≡ out.old.items ++ v1_end sig.now) }
 {
     put_packet(out, Key::Signature, sig)
-}
-
-/// The token's packets, in a buffer of exactly their length.
-pub(crate) fn write(alloc: Global, token: &Token) -> Result<Vec<u8>, NoMemory>
-    ensures { IfOk result (λ out. out.items ≡ v1_bytes token.now) }
-{
-    let mut out = Vec::with_capacity(alloc, written_len(token))?;
-    put_head(&mut out, token.location().as_bytes(), token.identifier())?;
-    put_caveats(&mut out, token.caveat_list())?;
-    put_signature(&mut out, &token.sig())?;
-    Ok(out)
 }

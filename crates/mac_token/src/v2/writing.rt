@@ -63,7 +63,7 @@ fn caveats_len(caveats: &[Vec<u8>]) -> usize
     len
 }
 
-/// How many bytes [`write`] gives for the token; linear in the number of its caveats.
+/// How many bytes the token has in V2 binary; linear in the number of its caveats.
 pub(crate) fn written_len(token: &Token) -> usize
     ensures { result ≡ length (v2_bytes token.now) }
 {
@@ -126,35 +126,12 @@ pub(crate) fn put_caveat(out: &mut Vec<u8>, caveat: &[u8]) -> Result<(), NoMemor
     put_section(out, &[], caveat)
 }
 
-/// Appends the caveats' sections.
-fn put_caveats(out: &mut Vec<u8>, caveats: &[Vec<u8>]) -> Result<(), NoMemory>
-    ensures { OnOk result (out.new.items
-        ≡ out.old.items ++ flat_map section (map (written_section None) (byte_lists caveats.now))) }
-{
-    for caveat in caveats {
-        put_caveat(out, caveat)?;
-    }
-    Ok(())
-}
-
 /// Appends the end of the caveats and the signature's field.
 pub(crate) fn put_signature(out: &mut Vec<u8>, sig: &[u8]) -> Result<(), NoMemory>
     ensures { OnOk result (out.new.items ≡ out.old.items ++ v2_end sig.now) }
 {
     out.push(END)?;
     put_field(out, FieldType::Signature, sig)
-}
-
-/// The token in V2 binary, in a buffer of exactly its length.
-pub(crate) fn write(alloc: Global, token: &Token) -> Result<Vec<u8>, NoMemory>
-    ensures written { IfOk result (λ out. out.items ≡ v2_bytes token.now) }
-    ensures seen { OnOk result (v2_of (v2_bytes token.now) ≡ Some (raw_of token.now)) }
-{
-    let mut out = Vec::with_capacity(alloc, written_len(token))?;
-    put_head(&mut out, token.location().as_bytes(), token.identifier())?;
-    put_caveats(&mut out, token.caveat_list())?;
-    put_signature(&mut out, &token.sig())?;
-    Ok(out)
 }
 
 /// Appends the sections of raw caveats, by their own bytes alone.

@@ -7,25 +7,25 @@ ghost use Rattle.mac_token.specs.Json.{HasBytes, MayHaveBytes, HasText, MayHaveT
 ghost use Rattle.mac_token.specs.JsonReading.{json_text_of};
 ghost use Rattle.mac_token.specs.JsonMembers.{text_member_of};
 ghost use Rattle.mac_token.specs.RawToken.{bytes_of, text_of};
-ghost use Rattle.mac_token.specs.Reads.{Reads, Answers};
+ghost use Rattle.mac_token.specs.Reads.{Answers, Fails, Reads};
 
 use crate::base64_text;
-use crate::fault::{Malformed, ReadFault};
+use crate::fault::{TokenFault, TokenRefusal};
 use crate::raw::{RawCaveat, RawToken};
 use crate::signature::signature_of;
 use serde_json::Value;
 use std::alloc::Global;
 
 /// The text of a member, `None` where there is no such member.
-fn text_member<'v>(object: &'v Value, name: &str) -> Result<Option<&'v str>, Malformed>
+fn text_member<'v>(object: &'v Value, name: &str) -> Result<Option<&'v str>, TokenFault>
     ensures { let member = text_member_of (get name.now (view object.now)) in MatchResult result
-        (λ text. member ≡ Some (option_map (λ t. t.now) text)) (λ _. member ≡ None) }
+        (λ text. member ≡ Some (option_map (λ t. t.now) text)) (λ fault. Fails fault member) }
 {
     match object.get(name) {
         None => Ok(None),
         Some(value) => match value.as_str() {
             Some(text) => Ok(Some(text)),
-            None => Err(Malformed),
+            None => Err(TokenFault::Refused(TokenRefusal::Malformed)),
         },
     }
 }
@@ -36,7 +36,7 @@ fn bytes_member(
     object: &Value,
     plain: &str,
     coded: &str,
-) -> Result<Vec<u8>, ReadFault>
+) -> Result<Vec<u8>, TokenFault>
     ensures { Reads (λ bytes. bytes.items)
         (HasBytes (get plain.now (view object.now)) (get coded.now (view object.now))) result }
 {
@@ -44,9 +44,9 @@ fn bytes_member(
         (Some(text), None) => Ok(Vec::from_slice(alloc, text.as_bytes())?),
         (None, Some(letters)) => match base64_text::decode(alloc, letters.as_bytes())? {
             Some(bytes) => Ok(bytes),
-            None => Err(ReadFault::Malformed),
+            None => Err(TokenFault::Refused(TokenRefusal::Malformed)),
         },
-        _ => Err(ReadFault::Malformed),
+        _ => Err(TokenFault::Refused(TokenRefusal::Malformed)),
     }
 }
 
@@ -56,7 +56,7 @@ fn optional_bytes_member(
     object: &Value,
     plain: &str,
     coded: &str,
-) -> Result<Option<Vec<u8>>, ReadFault>
+) -> Result<Option<Vec<u8>>, TokenFault>
     ensures { Reads (λ bytes. bytes_of bytes)
         (MayHaveBytes (get plain.now (view object.now)) (get coded.now (view object.now))) result }
 {
@@ -67,7 +67,7 @@ fn optional_bytes_member(
 }
 
 /// A token's location, which is empty where the member is absent.
-fn location_member(alloc: Global, object: &Value) -> Result<String, ReadFault>
+fn location_member(alloc: Global, object: &Value) -> Result<String, TokenFault>
     ensures { Reads (λ text. string_bytes text)
         (HasText (get (codes "l") (view object.now))) result }
 {
@@ -76,7 +76,7 @@ fn location_member(alloc: Global, object: &Value) -> Result<String, ReadFault>
 }
 
 /// A caveat's location, `None` where the member is absent or empty.
-fn caveat_location_member(alloc: Global, object: &Value) -> Result<Option<String>, ReadFault>
+fn caveat_location_member(alloc: Global, object: &Value) -> Result<Option<String>, TokenFault>
     ensures { Reads (λ text. text_of text)
         (MayHaveText (get (codes "l") (view object.now))) result }
 {
@@ -88,7 +88,7 @@ fn caveat_location_member(alloc: Global, object: &Value) -> Result<Option<String
 }
 
 /// The caveat that an object is.
-fn caveat_of(alloc: Global, object: &Value) -> Result<RawCaveat, ReadFault>
+fn caveat_of(alloc: Global, object: &Value) -> Result<RawCaveat, TokenFault>
     ensures { Reads (λ caveat. caveat) (IsCaveat (view object.now)) result }
 {
     Ok(RawCaveat {
@@ -99,7 +99,7 @@ fn caveat_of(alloc: Global, object: &Value) -> Result<RawCaveat, ReadFault>
 }
 
 /// The caveats, none where the member is absent.
-fn caveats_member(alloc: Global, object: &Value) -> Result<Vec<RawCaveat>, ReadFault>
+fn caveats_member(alloc: Global, object: &Value) -> Result<Vec<RawCaveat>, TokenFault>
     ensures { Reads (λ caveats. caveats.items)
         (HasCaveats (get (codes "c") (view object.now))) result }
 {
@@ -107,7 +107,7 @@ fn caveats_member(alloc: Global, object: &Value) -> Result<Vec<RawCaveat>, ReadF
         return Ok(Vec::new(alloc));
     };
     let Some(list) = value.as_array() else {
-        return Err(ReadFault::Malformed);
+        return Err(TokenFault::Refused(TokenRefusal::Malformed));
     };
     let mut caveats = Vec::with_capacity(alloc, list.len())?;
     for item in list {
@@ -117,14 +117,14 @@ fn caveats_member(alloc: Global, object: &Value) -> Result<Vec<RawCaveat>, ReadF
 }
 
 /// The signature, 32 bytes.
-fn signature_member(alloc: Global, object: &Value) -> Result<[u8; 32], ReadFault>
+fn signature_member(alloc: Global, object: &Value) -> Result<[u8; 32], TokenFault>
     ensures { Reads (λ sig. sig) (λ sig. HasBytes (get (codes "s") (view object.now))
         (get (codes "s64") (view object.now)) sig × (length sig ≡ 32)) result }
 {
     let bytes = bytes_member(alloc, object, "s", "s64")?;
     match signature_of(bytes.as_slice()) {
         Some(sig) => Ok(sig),
-        None => Err(ReadFault::Malformed),
+        None => Err(TokenFault::Refused(TokenRefusal::Malformed)),
     }
 }
 
@@ -139,11 +139,11 @@ fn has_version(object: &Value) -> bool
 }
 
 /// The token that an object is.
-fn token_of(alloc: Global, object: &Value) -> Result<RawToken, ReadFault>
+fn token_of(alloc: Global, object: &Value) -> Result<RawToken, TokenFault>
     ensures { Reads (λ token. token) (Json (view object.now)) result }
 {
     if !has_version(object) {
-        return Err(ReadFault::Malformed);
+        return Err(TokenFault::Refused(TokenRefusal::Malformed));
     }
     Ok(RawToken {
         location: location_member(alloc, object)?,
@@ -153,19 +153,19 @@ fn token_of(alloc: Global, object: &Value) -> Result<RawToken, ReadFault>
     })
 }
 
-fn read_text(alloc: Global, bytes: &[u8]) -> Result<RawToken, ReadFault>
+fn read_text(alloc: Global, bytes: &[u8]) -> Result<RawToken, TokenFault>
     ensures { Reads (λ token. token) (JsonText bytes.now) result }
 {
     match Value::from_slice(alloc, bytes) {
         Ok(value) => token_of(alloc, &value),
-        Err(error) if error.is_memory() => Err(ReadFault::Memory),
-        Err(_) => Err(ReadFault::Malformed),
+        Err(error) if error.is_memory() => Err(TokenFault::Memory),
+        Err(_) => Err(TokenFault::Refused(TokenRefusal::Malformed)),
     }
 }
 
 /// The token that the bytes are in V2 JSON: one object, with white space as JSON has it, of nesting
 /// at most 127. Of a name that stands twice the last value counts. Time is linear in the bytes.
-pub(crate) fn read(alloc: Global, bytes: &[u8]) -> Result<RawToken, ReadFault>
+pub(crate) fn read(alloc: Global, bytes: &[u8]) -> Result<RawToken, TokenFault>
     ensures exact { Answers (λ token. token) result (json_text_of bytes.now) }
     ensures read { Reads (λ token. token) (JsonText bytes.now) result }
 {

@@ -1,8 +1,0 @@
-use Rattle.std.proofs.Common.{◌≡◌, ◌++◌, take}
-use Rattle.mac_token.specs.RawToken.{byte_lists}
-use Rattle.mac_token.proofs.V2Writing.{caveat_sections}
-use Rattle.mac_token.proofs.v2.writing.put_caveats.Given as goal
-
--- the sections so far are appended
-abbrev pub invariant-loop-caveat : goal.invariant-loop-caveat
-invariant-loop-caveat l = l.out.items ≡ l.fn.out.items ++ caveat_sections (byte_lists (take l.caveat-index l.caveats))
