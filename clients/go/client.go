@@ -51,7 +51,7 @@ func WithRetry() Option {
 }
 
 // WithConnections says how many connections there are at most: 4 where it isn't said, and
-// never less than 1. Another one is opened where each that is there has 32 requests out, and
+// never less than 1. Another one is opened where each that is there has 16 requests out, and
 // stays.
 func WithConnections(most int) Option {
 	return func(c *Client) {

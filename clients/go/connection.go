@@ -212,6 +212,8 @@ func (c *connection) readReplies() error {
 	buffer := make([]byte, readSize)
 	end := 0
 	for {
+		// Whoever was just answered may ask again first: what comes meanwhile is one read.
+		runtime.Gosched()
 		count, err := c.socket.Read(buffer[end:])
 		if err != nil {
 			return err

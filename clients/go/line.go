@@ -10,7 +10,7 @@ import (
 const (
 	defaultConnections = 4
 	// Another connection is opened where each that is there has so many requests out.
-	fewOut = 32
+	fewOut = 16
 )
 
 // What a connection is asked before calls depend on it: an attenuate that adds nothing

@@ -4,6 +4,7 @@ how it ends connections."""
 import contextlib
 import os
 import pathlib
+import random
 import resource
 import subprocess
 import sys
@@ -28,8 +29,18 @@ TORN_FAULT = "the stream ended inside a frame"
 OVERSIZE, TOO_LONG = 200_000, frame(b"\x11")
 # The bytes of a stack that a daemon is started under, and how deep the JSON of a request is nested then.
 LITTLE_STACK, DEPTH = 98_304, 120
+# How many such requests one client sends at once.
+MANY_DEEP = 400
 # A verify whose signature isn't the chain's is refused so; how many of them are sent at once.
 BAD_SIGNATURE, OWED = frame(b"\x17"), 400
+# What a client sends without waiting, with the reply to each, and how many of them.
+KINDS = [
+    (frame(b""), NO_REQUEST),
+    (frame(MINT), frame(b"\x01" + TOKEN)),
+    (frame(request.verify("bank", TOKEN.decode(), 0)), frame(b"\x00")),
+    (frame(request.verify("shop", TOKEN.decode(), 0)), BAD_SIGNATURE),
+]
+PIPELINE = 40_000
 # How many clients send bursts of requests, how many requests each, and for how many seconds.
 BURSTERS, BURST, BURSTING = 24, 40, 4
 # What they send, and how many bytes the reply to it has.
@@ -131,6 +142,10 @@ def deep_requests():
             with connected(path) as stream:
                 stream.sendall(frame(request.verify("bank", '{"v":' + deep + "}", 0)))
                 yield f"{kind} nested {DEPTH} deep, on little stack", received(stream, len(MALFORMED)), MALFORMED
+            with connected(path) as stream:
+                stream.sendall(frame(request.verify("bank", '{"v":' + deep + "}", 0)) * MANY_DEEP)
+                replies = received(stream, len(MALFORMED) * MANY_DEEP)
+                yield f"many {kind} nested so, at once", replies == MALFORMED * MANY_DEEP, True
         yield "the next client", answered(path), NO_REQUEST
         yield "the daemon stays up", run.poll(), None
 
@@ -167,6 +182,21 @@ def owed_replies():
             replies = received(stream, len(BAD_SIGNATURE) * OWED)
             sender.join()
             yield "the replies to what takes long", replies == BAD_SIGNATURE * OWED, True
+
+
+def long_pipelines():
+    """A client that sends without waiting more than one loop keeps up with, while the other loops rest."""
+    asked = random.Random(PIPELINE).choices(KINDS, k=PIPELINE)
+    with listening(subprocess.DEVNULL, "--loops", "4") as (path, _):
+        with connected(path) as stream:
+            stream.settimeout(LONGEST_WAIT)
+            requests = b"".join(sent for sent, _ in asked)
+            sender = threading.Thread(target=stream.sendall, args=(requests,))
+            sender.start()
+            due = b"".join(reply for _, reply in asked)
+            replies = received(stream, len(due))
+            sender.join()
+            yield "the replies to a long pipeline", replies == due, True
 
 
 def bursts(path, until, ended):
@@ -223,7 +253,8 @@ def end_of(stream):
 
 def faults():
     """What went otherwise than it must, and how many checks there were."""
-    parts = [unread_errors, oversize_frames, deep_requests, begun_frames, owed_replies, busy_clients, past_the_limit]
+    parts = [unread_errors, oversize_frames, deep_requests, begun_frames, owed_replies]
+    parts += [long_pipelines, busy_clients, past_the_limit]
     seen = [check for part in parts for check in part()]
     found = [f"lasting: {what}: {got!r} where {due!r} is due" for what, got, due in seen if got != due]
     return found, len(seen)

@@ -8,6 +8,7 @@ use crate::entrance::Entrance;
 use crate::fault::DaemonFault;
 use crate::keeping::keep_desks;
 use crate::quay::Quay;
+use crate::stacks::{STACK, has_roomy_stacks};
 use mac_board::{Follower, Followers, TimedTables};
 use mac_decide::SeenTokens;
 use mac_loop::{Loop, Loops, make_loops};
@@ -19,9 +20,6 @@ use std::random::RandomSource;
 use std::sync::{Arc, Wait};
 use std::thread::{Builder, JoinHandle, Threads};
 use std::time::Clock;
-
-/// The stack of a loop's thread, in bytes, whatever limit the process was started under.
-const STACK: usize = 1_048_576;
 
 /// How many followers of the key tables a daemon has at most: for its loops, of which there are 64
 /// at most, for its wide connections, and for those whose threads are ending.
@@ -66,7 +64,8 @@ impl Idlers {
         shape: Shape,
         seen: &SeenTokens,
     ) -> Result<Idlers, DaemonFault> {
-        let (loops, made) = make_loops(rt, alloc, shape.loops, shape.idle, seen)?;
+        let may_share = has_roomy_stacks();
+        let (loops, made) = make_loops(rt, alloc, shape.loops, shape.idle, seen, may_share)?;
         Ok(Idlers { loops, made })
     }
 }

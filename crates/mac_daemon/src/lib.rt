@@ -24,6 +24,7 @@ mod place;
 mod quay;
 mod roster;
 mod serving;
+mod stacks;
 mod stay;
 mod surroundings;
 

@@ -38,6 +38,6 @@ pub use reply::{answer, refusal_of};
 pub use rights::{Names, Rights, Terms};
 pub use rooms::{RUN, Rooms};
 pub use seen::{SEEN_MAX, SeenTokens};
-pub use side_by_side::{answer_all, answer_run};
+pub use side_by_side::{answer_all, answer_run, answer_views};
 pub use time::{time_limit, time_since};
 pub use verdict::{Verdict, verify, verify_read};

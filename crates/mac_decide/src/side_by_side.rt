@@ -40,6 +40,25 @@ pub fn answer_all(alloc: Global, jobs: &[Job]) -> Result<Vec<Reply>, NoMemory>
     Ok(replies)
 }
 
+/// The replies to the jobs, in order, where they lie: many runs of [`answer_run`], in rooms of
+/// their own beside the memory of tokens.
+pub fn answer_views(
+    seen: &SeenTokens,
+    alloc: Global,
+    jobs: &[JobView<'_>],
+) -> Result<Vec<Reply>, NoMemory>
+    ensures replies { IfOk result (λ replies.
+        replies.items ≡ map reply_to_job (map viewed jobs.now)) }
+    ensures sendable { IfOk result (λ replies. All IsReply replies.items) }
+{
+    let mut replies = Vec::with_capacity(alloc, jobs.len())?;
+    let mut rooms = Rooms::new(alloc, seen.share()?);
+    for run in jobs.chunks(RUN) {
+        append(&mut replies, answer_run(&mut rooms, alloc, run)?)?;
+    }
+    Ok(replies)
+}
+
 /// Puts the replies to a run behind those that are there.
 fn append(replies: &mut Vec<Reply>, answered: ArrayVec<Reply, RUN>) -> Result<(), NoMemory>
     ensures { OnOk result (replies.new.items ≡ replies.old.items ++ answered.items) }

@@ -8,7 +8,7 @@ use mio::Waker;
 use std::alloc::{AllocError, Global};
 use std::sync::Wait;
 use std::sync::atomic::Ordering::SeqCst;
-use std::sync::atomic::{AtomicBool, AtomicU64};
+use std::sync::atomic::{AtomicBool, AtomicU64, AtomicUsize};
 
 /// How many bytes may be unsent on all clients before each may have less.
 const UNSENT_ALL: u64 = 67_108_864;
@@ -39,16 +39,22 @@ impl Inbox {
 #[derive(Drop)]
 pub struct Loops {
     inboxes: Vec<Inbox>,
+    // Whether a turn may be answered by several threads.
+    may_share: bool,
+    // How many loops are in a turn.
+    busy: AtomicUsize,
     unsent: AtomicU64,
     is_draining: AtomicBool,
     is_closed: AtomicBool,
 }
 
 impl Loops {
-    /// No loops yet.
-    pub fn new(alloc: Global) -> Loops {
+    /// No loops yet, whose turns may be answered by several threads, or not.
+    pub fn new(alloc: Global, may_share: bool) -> Loops {
         Loops {
             inboxes: Vec::new(alloc),
+            may_share,
+            busy: AtomicUsize::new(0),
             unsent: AtomicU64::new(0),
             is_draining: AtomicBool::new(false),
             is_closed: AtomicBool::new(false),
@@ -82,6 +88,22 @@ impl Loops {
             Some(inbox) => inbox.queue.pop(rt),
             None => None,
         }
+    }
+
+    /// A loop begins a turn. How many threads it may answer with: those of loops that rest are
+    /// shared out to those that don't.
+    pub fn begin_turn(&self) -> usize {
+        let busy = self.busy.fetch_add(1, SeqCst).saturating_add(1);
+        if self.may_share {
+            self.len() / busy.max(1)
+        } else {
+            1
+        }
+    }
+
+    /// A loop ends a turn.
+    pub fn end_turn(&self) {
+        self.busy.fetch_sub(1, SeqCst);
     }
 
     /// Adds what a turn of a loop took.

@@ -17,6 +17,7 @@ use mio::{Events, Poll, Token, Waker};
 use std::alloc::Global;
 use std::net::Net;
 use std::sync::{Arc, Wait};
+use std::thread::Threads;
 use std::time::{Clock, Duration};
 
 /// The token of a loop's inbox, which no slot has.
@@ -61,15 +62,17 @@ pub struct Loop {
 
 /// As many loops as are asked for, which end a client that makes no progress for so many seconds.
 /// Where none are asked for, they end one that has sent nothing whole for five minutes. They share
-/// a memory of tokens.
+/// a memory of tokens, and turns where they may: threads that begin for one have the stack that the
+/// process was started under.
 pub fn make_loops<R: Net>(
     rt: &R,
     alloc: Global,
     count: usize,
     idle: Option<u64>,
     seen: &SeenTokens,
+    may_share: bool,
 ) -> Result<(Arc<Loops, Global>, Vec<Loop>), LoopFault> {
-    let mut loops = Loops::new(alloc);
+    let mut loops = Loops::new(alloc, may_share);
     let mut made = Vec::with_capacity(alloc, count)?;
     for number in 0..count {
         let poll = Poll::new(rt)?;
@@ -99,7 +102,7 @@ impl Loop {
     /// under the key table that is up once it is read, and at the moment of then.
     pub fn run<R, K, W>(mut self, rt: &R, loops: &Loops, outlook: &mut K, watch: &W)
     where
-        R: Wait + Clock,
+        R: Wait + Clock + Threads + Sync,
         K: Outlook,
         W: Watch,
     {
@@ -205,7 +208,7 @@ impl Loop {
     }
 
     /// Answers what clients that are ready have sent.
-    fn serve_ready<R: Wait + Clock, K: Outlook, W: Watch>(
+    fn serve_ready<R: Wait + Clock + Threads + Sync, K: Outlook, W: Watch>(
         &mut self,
         rt: &R,
         loops: &Loops,
@@ -214,8 +217,12 @@ impl Loop {
     ) {
         self.pick(rt, loops);
         let unsent_max = loops.unsent_max();
-        self.round
-            .serve(outlook, self.batch.as_mut_slice(), unsent_max);
+        let spare = loops.begin_turn();
+        // What makes turns long is read in small pieces.
+        let threads = if self.parts < PARTS_MAX { 1 } else { spare };
+        let batch = self.batch.as_mut_slice();
+        self.round.serve(rt, threads, outlook, batch, unsent_max);
+        loops.end_turn();
         let mut traffic = Traffic::NONE;
         for _ in rt.forever() {
             let (Some(client), Some(slot)) = (self.batch.pop(), self.turn.pop()) else {

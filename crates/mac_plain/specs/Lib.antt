@@ -6,4 +6,5 @@ pub mod Goes
 pub mod Requests
 pub mod Receiving
 pub mod Rounds
+pub mod Shares
 pub mod Tally

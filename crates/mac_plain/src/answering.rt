@@ -1,6 +1,6 @@
 //! The replies to all requests of a round, and whose they are.
 
-ghost use Rattle.std.specs.Prelude.{◌≡◌, ◌≤◌, ℕ, List, [], ◌∷◌, length, map, slice_get, All, IfOk, IfSome, Some};
+ghost use Rattle.std.specs.Prelude.{◌≡◌, ◌≤◌, ◌<◌, ℕ, List, [], ◌∷◌, length, map, slice_get, All, IfOk, IfSome, Some};
 ghost use Rattle.mac_board.specs.Noticed.{Current as PlainCurrent, lent_current};
 ghost use Rattle.mac_wire.specs.Reply.{IsReply};
 ghost use Rattle.mac_decide.specs.Prepared.{reply_to_job};
@@ -13,22 +13,96 @@ use crate::NoMemory;
 use crate::client::Client;
 use crate::port::Port;
 use crate::request::Request;
+use crate::sharing::answer_shared;
 use crate::tally::Tally;
 use arrayvec::ArrayVec;
 use mac_board::Current;
-use mac_decide::{ArrivalView, JobView, RUN, Rooms, Terms, answer_run, job_view_of};
+use mac_decide::{ArrivalView, JobView, RUN, Rooms, SeenTokens, Terms, answer_run, job_view_of};
 use mac_wire::Reply;
 use std::alloc::Global;
+use std::thread::Threads;
 
-/// What answering keeps from run to run: rooms for tokens, and a tally of what was answered.
+/// How many bytes of requests are worth several threads: fewer are answered before threads begin.
+const SHARED_MIN: usize = 65_536;
+
+/// What answering keeps from run to run: rooms for tokens, a memory of those that were seen, and a
+/// tally of what was answered.
 #[derive(Drop)]
 pub struct Bench {
     pub rooms: Rooms,
+    pub seen: SeenTokens,
     pub tally: Tally,
 }
 
+/// Answers the requests, and gives each client the replies to its own. Where they are many, so many
+/// threads answer them together.
+pub fn answer_requests<R: Threads + Sync, P: Port>(
+    rt: &R,
+    threads: usize,
+    bench: &mut Bench,
+    alloc: Global,
+    current: Current<'_>,
+    arena: &[u8],
+    requests: &[Request],
+    clients: &mut [Client<P>],
+)
+    requires { AreWithin (length arena.now) requests.now }
+    ensures { AreAnswered P.tells P.taken P.written (lent_current current.entry)
+        (λ k. asked_of k arena.now requests.now) clients.old clients.new }
+{
+    if threads > 1 && arena.len() >= SHARED_MIN {
+        let shared = replies_from(rt, threads, bench, alloc, current, arena, requests, clients);
+        if let Ok(replies) = shared {
+            return hand_out(requests, replies.as_slice(), clients);
+        }
+    }
+    answer_runs(bench, alloc, current, arena, requests, clients);
+}
+
+/// The replies to the requests, each under the rights of its client, from so many threads.
+fn replies_from<R: Threads + Sync, P: Port>(
+    rt: &R,
+    threads: usize,
+    bench: &mut Bench,
+    alloc: Global,
+    current: Current<'_>,
+    arena: &[u8],
+    requests: &[Request],
+    clients: &[Client<P>],
+) -> Result<Vec<Reply>, NoMemory>
+    requires threads { 0 < threads }
+    requires within { AreWithin (length arena.now) requests.now }
+    ensures replies { IfOk result (λ replies. AreReplies
+        (jobs_at (lent_current current.entry) clients.now arena.now requests.now) replies.items) }
+    ensures sendable { IfOk result (λ replies. All IsReply replies.items) }
+{
+    let jobs = jobs_of_all(alloc, current, arena, requests, clients)?;
+    let replies = answer_shared(rt, alloc, &bench.seen, jobs.as_slice(), threads)?;
+    bench.tally.count(jobs.as_slice(), replies.as_slice());
+    Ok(replies)
+}
+
+/// The requests, where they lie, with what each is answered on.
+fn jobs_of_all<'a, P: Port>(
+    alloc: Global,
+    current: Current<'a>,
+    arena: &'a [u8],
+    requests: &[Request],
+    clients: &'a [Client<P>],
+) -> Result<Vec<JobView<'a>>, NoMemory>
+    requires { AreWithin (length arena.now) requests.now }
+    ensures { IfOk result (λ jobs. map viewed jobs.items
+        ≡ jobs_at (lent_current current.entry) clients.now arena.now requests.now) }
+{
+    let mut jobs = Vec::with_capacity(alloc, requests.len())?;
+    for request in requests {
+        jobs.push_reserved(job_of_request(current, arena, request, clients));
+    }
+    Ok(jobs)
+}
+
 /// Answers the requests in runs, and gives each client the replies to its own.
-pub fn answer_requests<P: Port>(
+fn answer_runs<P: Port>(
     bench: &mut Bench,
     alloc: Global,
     current: Current<'_>,

@@ -13,6 +13,7 @@ mod port;
 mod receiving;
 mod request;
 mod round;
+mod sharing;
 mod tally;
 
 pub use client::{Client, PLAIN_MAX, UNSENT_MAX};

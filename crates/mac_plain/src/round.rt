@@ -18,8 +18,9 @@ use mac_board::Outlook;
 use mac_count::REQUESTS;
 use mac_decide::{Rooms, SeenTokens};
 use std::alloc::Global;
+use std::thread::Threads;
 
-/// How many bytes a read asks for.
+/// How many bytes a read asks for, where many clients are read or one thread answers.
 pub const PIECE: usize = 16_384;
 
 /// How many bytes a round reads from all clients together: past them the others wait for the next.
@@ -39,14 +40,15 @@ impl Round {
     /// Room for a round, beside a memory of tokens.
     pub fn new(alloc: Global, seen: SeenTokens) -> Result<Round, NoMemory> {
         let mut piece = Vec::new(alloc);
-        piece.resize(PIECE, 0)?;
+        piece.resize(ROUND_MAX, 0)?;
         Ok(Round {
             alloc,
             piece,
-            arena: Vec::with_capacity(alloc, ROUND_MAX + PIECE)?,
+            arena: Vec::with_capacity(alloc, 2 * ROUND_MAX)?,
             requests: Vec::new(alloc),
             bench: Bench {
-                rooms: Rooms::new(alloc, seen),
+                rooms: Rooms::new(alloc, seen.share()?),
+                seen,
                 tally: Tally::new(),
             },
         })
@@ -54,9 +56,12 @@ impl Round {
 
     /// Serves each of the clients once: reads it, looks at the tables and the clock, answers all
     /// requests of all clients together under the table that is up and at the moment that is told,
-    /// and writes. A client with `unsent_max` bytes unsent isn't read.
-    pub fn serve<P: Port, K: Outlook>(
+    /// and writes. A client with `unsent_max` bytes unsent isn't read. So many threads answer what
+    /// is much, and so few clients are read further for them.
+    pub fn serve<R: Threads + Sync, P: Port, K: Outlook>(
         &mut self,
+        rt: &R,
+        threads: usize,
         outlook: &mut K,
         clients: &mut [Client<P>],
         unsent_max: usize,
@@ -67,8 +72,9 @@ impl Round {
     {
         self.arena.clear();
         self.requests.clear();
+        let size = piece_size(threads, clients.len()).min(self.piece.len());
         receive_all(
-            self.piece.as_mut_slice(),
+            &mut self.piece[..size],
             &mut self.arena,
             &mut self.requests,
             clients,
@@ -76,6 +82,8 @@ impl Round {
         );
         outlook.look();
         answer_requests(
+            rt,
+            threads,
             &mut self.bench,
             self.alloc,
             outlook.current(),
@@ -89,6 +97,16 @@ impl Round {
     /// How many requests were answered since the last call, each kind at its place.
     pub fn take_counts(&mut self) -> [u64; REQUESTS] {
         self.bench.tally.take()
+    }
+}
+
+/// How many bytes a read of one of so many clients asks for, where so many threads answer: several
+/// threads are kept busy by what a round takes.
+fn piece_size(threads: usize, clients: usize) -> usize {
+    if threads > 1 {
+        (ROUND_MAX / clients.max(1)).max(PIECE)
+    } else {
+        PIECE
     }
 }
 

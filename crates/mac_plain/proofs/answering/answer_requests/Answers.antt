@@ -1,25 +1,10 @@
-use Rattle.std.proofs.Common.{◌-◌, List, drop, take, take_all, rules, subst, arith}
+use Rattle.std.proofs.Common.{List, sym, subst}
 use Rattle.mac_board.specs.Noticed.{lent_current}
-use Rattle.mac_plain.specs.Goes.{AreAnswered}
-use Rattle.mac_plain.specs.Requests.{asked_of}
-use Rattle.mac_plain.specs.declared.request.Request.{Request}
-use Rattle.mac_plain.proofs.Pairs.{more_answered, run_more}
+use Rattle.mac_wire.specs.declared.reply.Reply.{Reply}
+use Rattle.mac_plain.specs.Requests.{AreReplies, jobs_at}
 use Rattle.mac_plain.proofs.answering.answer_requests.Goals as goal
 
-pub loop-at-preserved : goal.loop-at-preserved
-loop-at-preserved g c =
-    let at = c.loop-at.at in
-    let end = c.min-end.result in
-    let requests = c.args.requests.now in
-    record {
-      inside = omega (arith, c.min-end.ensures);
-      answered = subst (λ (l : List Request). AreAnswered g.P.Port.tells g.P.Port.taken g.P.Port.written (lent_current c.args.current) (λ k. asked_of k c.args.arena.now l) c.args.clients.now
-          c.answer_some.new.clients) (run_more at end requests (omega (arith, c.min-end.ensures, c.loop-at.invariant.inside)))
-          (more_answered g.P.Port.tells g.P.Port.taken g.P.Port.written (lent_current c.args.current) c.args.arena.now (take at requests) (take (end - at) (drop at requests)) c.args.clients.now c.loop-at.clients
-          c.answer_some.new.clients (search rules) c.loop-at.invariant.answered c.answer_some.ensures);
-    }
-
-pub returns : goal.returns
-returns g c =
-    subst (λ (l : List Request). AreAnswered g.P.Port.tells g.P.Port.taken g.P.Port.written (lent_current c.args.current) (λ k. asked_of k c.args.arena.now l) c.args.clients.now c.loop-at.clients)
-    (take_all c.loop-at.at c.args.requests.now (omega (arith, c.loop-at-test.false))) c.loop-at.invariant.answered
+pub returns-in-Ok : goal.returns-in-Ok
+returns-in-Ok g c =
+    c.hand_out.ensures (lent_current c.args.current) c.args.arena.now
+    (subst (λ (l : List Reply). AreReplies (jobs_at (lent_current c.args.current) c.args.clients.now c.args.arena.now c.args.requests.now) l) (sym c.as_slice.ensures.value) c.in-Ok.ensures.replies)

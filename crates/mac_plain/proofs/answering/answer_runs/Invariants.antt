@@ -2,7 +2,7 @@ use Rattle.std.proofs.Common.{◌≤◌, ◌-◌, length, take}
 use Rattle.mac_board.specs.Noticed.{lent_current}
 use Rattle.mac_plain.specs.Goes.{AreAnswered}
 use Rattle.mac_plain.specs.Requests.{asked_of}
-use Rattle.mac_plain.proofs.answering.answer_requests.Given as goal
+use Rattle.mac_plain.proofs.answering.answer_runs.Given as goal
 
 abbrev pub invariant-loop-at : goal.invariant-loop-at
 invariant-loop-at g l = record {

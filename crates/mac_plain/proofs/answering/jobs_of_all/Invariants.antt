@@ -1,0 +1,13 @@
+use Rattle.std.proofs.Common.{◌≡◌, ◌≤◌, length, map, take}
+use Rattle.std.specs.Vec.{vec_capacity}
+use Rattle.mac_board.specs.Noticed.{lent_current}
+use Rattle.mac_decide.specs.Viewed.{viewed}
+use Rattle.mac_plain.specs.Requests.{jobs_at}
+use Rattle.mac_plain.proofs.answering.jobs_of_all.Given as goal
+
+abbrev pub invariant-loop-request : goal.invariant-loop-request
+invariant-loop-request g l = record {
+  jobs : map viewed l.jobs.items ≡ jobs_at (lent_current l.current) l.clients l.arena (take l.request-index l.requests);
+  count : length l.jobs.items ≡ l.request-index;
+  room : length l.requests ≤ vec_capacity l.jobs;
+}
