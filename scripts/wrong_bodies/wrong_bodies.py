@@ -137,10 +137,16 @@ class Report:
         for path in filter(function.owns, self.unproved):
             if self.unproved[path].startswith("no proof: expected"):
                 found.append(self.unproved[path])
-            folder = "./proofs/" + "/".join(path.split("::")[1:]) + "/"
-            of_proof = [it for it in self.lines if it.startswith(folder) and ": error: " in it]
+            folders = proof_folders(path)
+            of_proof = [it for it in self.lines if it.startswith(folders) and ": error: " in it]
             found += of_proof + [it for it in self.lines if is_at(it, function)]
         return found
+
+
+def proof_folders(path):
+    """Where a function's answers stand: a function that calls itself has a + before its name."""
+    *above, name = path.split("::")[1:]
+    return tuple("/".join(["./proofs", *above, mark + name]) + "/" for mark in ("", "+"))
 
 
 def is_at(line, function):

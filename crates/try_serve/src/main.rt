@@ -20,6 +20,7 @@ mod streams;
 mod table;
 mod tables;
 mod waiting;
+mod whole;
 
 use runs::told;
 use std::{env, io};

@@ -1,7 +1,7 @@
 //! The runs, and what does each.
 
 use crate::fault::RunFault;
-use crate::{duplex, false_worker, given_up, load, many, overtaking, serving, tables};
+use crate::{duplex, false_worker, given_up, load, many, overtaking, serving, tables, whole};
 use mac_wire::Version;
 use std::alloc::{AllocError, Global};
 use std::sync::Wait;
@@ -33,6 +33,7 @@ enum Kind {
     Posts,
     Two,
     Many,
+    Whole,
     Load,
     Made,
 }
@@ -50,6 +51,7 @@ enum Kind {
 /// posts:HOW                   two frames, by a worker that posts false answers
 /// two:NAME:NAME               two streams at once by two workers, a byte a call
 /// many:REQUESTS:SEED          requests that look random, over three connections, by four workers
+/// whole:WORKERS:CONNECTIONS   so many connections at once, each of 50 requests, by so many workers
 /// load:KIND:WORKERS:REQUESTS  requests of one kind, to be timed: mint, verify or empty
 /// made:KIND:REQUESTS          what is done for it before it is served
 /// ```
@@ -64,6 +66,7 @@ const RUNS: &[(&str, Kind)] = &[
     ("posts", Kind::Posts),
     ("two", Kind::Two),
     ("many", Kind::Many),
+    ("whole", Kind::Whole),
     ("load", Kind::Load),
     ("made", Kind::Made),
 ];
@@ -99,6 +102,10 @@ where
         Kind::Posts => false_worker::false_worker_told(rt, alloc, rest),
         Kind::Two => many::two_told(rt, alloc, first, behind),
         Kind::Many => many::many_told(rt, alloc, number(first)?, number(behind)?),
+        Kind::Whole => {
+            let (workers, connections) = numbers(rest)?;
+            whole::whole_told(rt, alloc, workers as usize, connections as usize)
+        }
         Kind::Load => {
             let (workers, count) = numbers(behind)?;
             load::load_told(rt, alloc, first, workers as usize, count)

@@ -1,0 +1,3 @@
+pub mod Caller
+pub mod Seating
+pub mod Whole
