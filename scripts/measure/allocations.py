@@ -30,6 +30,8 @@ MINT = {"v2-binary": 3, "v1-text": 3, "v2-text": 3}
 MOST = {f"verify {form}": most for form, most in VERIFY.items()}
 MOST |= {f"mint {form}": most for form, most in MINT.items()}
 MOST |= {f"attenuate {old} {new}": VERIFY[old] + MINT[new] - 1 for old in VERIFY for new in MINT}
+# A token in JSON is read into a tree, and written as V2 binary; JSON is made of what was signed.
+MOST |= {"verify v2-json": 29, "mint v2-json": 4, "attenuate v2-json v2-json": 32}
 
 
 def piped(line, count, watch=None):
