@@ -23,6 +23,17 @@ pub record Devices (In Out K : Type 0) : Type 0 where
   pub tells : Bool
   pub known : K → Noticed
 
+abbrev pub devices : {In Out K : Type 0} → Bool → (In → List ℕ) → Bool → (Out → List ℕ) → Bool
+    → (K → Noticed) → Devices In Out K
+devices tells_in taken tells_out written tells known = record {
+  tells_in = tells_in;
+  taken = taken;
+  tells_out = tells_out;
+  written = written;
+  tells = tells;
+  known = known;
+}
+
 -- a stay at a desk: as it was given, and as it came home
 pub record Stay : Type 0 where
   pub given : Desk Macaroons Job Reply

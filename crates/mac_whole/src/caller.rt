@@ -2,7 +2,7 @@
 
 ghost use Rattle.std.specs.Prelude.{◌≡◌, None, Some};
 ghost use Rattle.mac_serve.specs.Serving.{fault_of, served_of};
-ghost use Rattle.mac_whole.specs.Caller.{Devices, HasDesk, IsAttendedThere, served_with};
+ghost use Rattle.mac_whole.specs.Caller.{devices, HasDesk, IsAttendedThere, served_with};
 
 use mac_board::Outlook;
 use mac_decide::{Macaroons, Rights};
@@ -80,14 +80,9 @@ impl<In: Source, Out: Sink, K: Outlook> Caller<In, Out, K> {
     /// Serves the connection at the desk that it has.
     pub(crate) fn attend<R: Threads + Wait + Sync>(&mut self, rt: &R, alloc: Global)
         requires { HasDesk self.old }
-        ensures { IsAttendedThere (record {
-          tells_in = In.tells;
-          taken = In.taken;
-          tells_out = Out.tells;
-          written = Out.written;
-          tells = K.tells;
-          known = K.known;
-        }) self.old self.new }
+        ensures { IsAttendedThere
+            (devices In.tells In.taken Out.tells Out.written K.tells K.known)
+            self.old self.new }
     {
         let Some(desk) = self.desk.take() else {
             unreachable!()

@@ -1,7 +1,7 @@
 //! All the threads, from their start to their end.
 
-ghost use Rattle.std.specs.Prelude.{◌≡◌, ◌≢◌, ◌⊎◌, ◌↔◌, ◌≤◌, ◌<◌, Err, IfOk, IsErr, OnOk, OnErr, length};
-ghost use Rattle.mac_whole.specs.Caller.{Devices, AttendsEach, HasDesk, HaveDesks, IsAttendedThere};
+ghost use Rattle.std.specs.Prelude.{◌≡◌, ◌≢◌, ◌⊎◌, ◌↔◌, ◌≤◌, ◌<◌, Err, IfOk, OnOk, OnErr, length};
+ghost use Rattle.mac_whole.specs.Caller.{devices, AttendsEach, HasDesk, HaveDesks, IsAttendedThere};
 ghost use Rattle.mac_whole.specs.Seating.{AreUntouched, IsSamePool, IsSeated, KeepDesks};
 ghost use Rattle.mac_whole.specs.Whole.{IsWhole};
 
@@ -27,16 +27,12 @@ pub fn serve_all<R, In: Source, Out: Sink, K: Outlook>(
 where
     R: Threads + Wait + Sync + Copy + Send + 'static,
     ensures count { (result ≡ Err WholeFault.Count) ↔ ((workers ≡ 0) ⊎ (WORKERS_MAX < workers)) }
-    ensures crowd { DESKS_MAX < length callers.old → IsErr result }
+    ensures crowd { DESKS_MAX < length callers.old
+        → (result ≡ Err WholeFault.Count) ⊎ (result ≡ Err WholeFault.Crowd) }
     ensures untouched { OnErr result (AreUntouched callers.old callers.new) }
-    ensures whole { IfOk result (λ end. IsWhole (record {
-      tells_in = In.tells;
-      taken = In.taken;
-      tells_out = Out.tells;
-      written = Out.written;
-      tells = K.tells;
-      known = K.known;
-    }) workers callers.old callers.new end.workers end.tally) }
+    ensures whole { IfOk result (λ end. IsWhole
+        (devices In.tells In.taken Out.tells Out.written K.tells K.known)
+        workers callers.old callers.new end.workers end.tally) }
 {
     if workers == 0 || workers > WORKERS_MAX {
         return Err(WholeFault::Count);
@@ -72,14 +68,9 @@ fn seat_from<R: Threads + Wait + Sync, In: Source, Out: Sink, K: Outlook>(
 ) -> Result<(), WholeFault>
     requires within { next ≤ length callers.old }
     requires desks { HaveDesks next callers.old }
-    ensures seated { OnOk result (IsSeated (record {
-      tells_in = In.tells;
-      taken = In.taken;
-      tells_out = Out.tells;
-      written = Out.written;
-      tells = K.tells;
-      known = K.known;
-    }) next callers.old callers.new pool.old pool.new) }
+    ensures seated { OnOk result (IsSeated
+        (devices In.tells In.taken Out.tells Out.written K.tells K.known)
+        next callers.old callers.new pool.old pool.new) }
     ensures untouched { OnErr result (AreUntouched callers.old callers.new) }
     ensures fault { result ≢ Err WholeFault.Count }
     ensures pool { IsSamePool pool.old pool.new }
@@ -107,14 +98,9 @@ fn attend_each<R: Threads + Wait + Sync, In: Source, Out: Sink, K: Outlook>(
     callers: &mut [Caller<In, Out, K>],
 )
     requires { HaveDesks (length callers.old) callers.old }
-    ensures { AttendsEach (record {
-      tells_in = In.tells;
-      taken = In.taken;
-      tells_out = Out.tells;
-      written = Out.written;
-      tells = K.tells;
-      known = K.known;
-    }) callers.old callers.new }
+    ensures { AttendsEach
+        (devices In.tells In.taken Out.tells Out.written K.tells K.known)
+        callers.old callers.new }
 {
     let count = callers.len();
     if count == 0 {
@@ -122,14 +108,9 @@ fn attend_each<R: Threads + Wait + Sync, In: Source, Out: Sink, K: Outlook>(
     }
     let attend = |_: usize, caller: &mut Caller<In, Out, K>|
         requires { HasDesk caller.now }
-        ensures { IsAttendedThere (record {
-          tells_in = In.tells;
-          taken = In.taken;
-          tells_out = Out.tells;
-          written = Out.written;
-          tells = K.tells;
-          known = K.known;
-        }) caller.entry.now caller.exit.now }
+        ensures { IsAttendedThere
+            (devices In.tells In.taken Out.tells Out.written K.tells K.known)
+            caller.entry.now caller.exit.now }
     { caller.attend(rt, alloc) };
     for_each_mut(rt, callers, count, &attend);
 }
