@@ -1,9 +1,9 @@
 //! The sockets of the HTTP face: where gateways connect, and loops that answer them.
 //!
 //! [`read_addresses`] reads what people write, [`Doors`] are opened there, and [`open_gate`] starts
-//! the thread that accepts, and loops. A loop is a thread that waits for many connections: each that
-//! is ready takes a turn of `mac_http`, over its stream, which never waits. A [`Gate`] is told to
-//! end, and waited for.
+//! the thread that accepts, and loops. A loop is a thread that waits for many connections: each
+//! that is ready takes a turn of `mac_http`, over its stream, which never waits. A [`Gate`] is told
+//! to end, and waited for.
 #![tactic(auto)]
 
 mod address;

@@ -159,8 +159,8 @@ impl<S: Service> Line<S> {
         true
     }
 
-    /// Ends what is written, behind the last response. What still comes is read and dropped, so that
-    /// the peer reads that response and no reset.
+    /// Ends what is written, behind the last response. What still comes is read and dropped, so
+    /// that the peer reads that response and no reset.
     fn part(&mut self, now: Duration) {
         self.stream.shut(Shutdown::Write);
         self.parting = Some(DROPPED_READS);

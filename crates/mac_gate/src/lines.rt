@@ -133,8 +133,8 @@ impl<S: Service + Drop> Lines<S> {
         self.list(place);
     }
 
-    /// The next one that is ready does what it can; what it drops is read into the piece. Its place,
-    /// where it has ended.
+    /// The next one that is ready does what it can; what it drops is read into the piece. Its
+    /// place, where it has ended.
     pub fn advance_next(
         &mut self,
         registry: &Registry,

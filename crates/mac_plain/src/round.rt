@@ -56,8 +56,8 @@ impl Round {
 
     /// Serves each of the clients once: reads it, looks at the tables and the clock, answers all
     /// requests of all clients together under the table that is up and at the moment that is told,
-    /// and writes. A client with `unsent_max` bytes unsent isn't read. So many threads answer what
-    /// is much, and so few clients are read further for them.
+    /// and writes. A client with `unsent_max` bytes unsent isn't read. Where much is asked, so many
+    /// threads answer it; few clients are read further at a time then.
     pub fn serve<R: Threads + Sync, P: Port, K: Outlook>(
         &mut self,
         rt: &R,
