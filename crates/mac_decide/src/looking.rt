@@ -74,7 +74,8 @@ fn look_at_job(seen: &SeenTokens, alloc: Global, job: &JobView<'_>) -> Result<Si
     }
 }
 
-/// The same of what a payload asks on its basis.
+/// The same of what a payload asks on its basis. Without a memory an empty payload alone is told at
+/// once: all others would be parsed twice.
 fn look_at_payload(
     seen: &SeenTokens,
     alloc: Global,
@@ -84,7 +85,7 @@ fn look_at_payload(
     ensures { IfOk result (λ sight.
         IsRight sight (answers.asked_reply (request_of payload.now) basis)) }
 {
-    if seen.is_none() {
+    if seen.is_none() && !payload.is_empty() {
         return Ok(Sight::Asked(None));
     }
     match parse_request(payload) {
