@@ -64,8 +64,13 @@ pub(crate) fn count_asked(sights: &[Sight]) -> usize {
     count
 }
 
+/// What is known of the reply to a job.
 #[tactic(auto, unfolding(crate::specs::Answer::reply_of))]
-fn look_at_job(seen: &SeenTokens, alloc: Global, job: &JobView<'_>) -> Result<Sight, NoMemory>
+pub(crate) fn look_at_job(
+    seen: &SeenTokens,
+    alloc: Global,
+    job: &JobView<'_>,
+) -> Result<Sight, NoMemory>
     ensures { IfOk result (λ sight. IsRight sight (reply_to_job (viewed job.now))) }
 {
     match job.arrival {
