@@ -42,8 +42,9 @@ const PARTS: usize = 64;
 /// How many tokens that came once are noted.
 const ONCE: usize = 65_536;
 
-/// How many bytes at the end of a text its mark is made of: a signature has 32, and in base64 43.
-const END: usize = 64;
+/// How many bytes at the end of a text its mark is made of: all of a signature stands in them. It
+/// has 32, and in base64, with what may follow it, 47 at most.
+const END: usize = 48;
 
 /// Where others have to give way, one token in so many is kept: where more come again and again
 /// than there is room for, keeping each would cost more than it saves.
