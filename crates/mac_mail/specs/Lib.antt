@@ -1,3 +1,4 @@
 pub mod Fault
 pub mod History
+pub mod Mail
 pub mod Post

@@ -3,17 +3,18 @@
 ghost use Rattle.std.specs.Prelude.{◌≡◌};
 ghost use Rattle.mac_mail.specs.Fault.{put_code};
 
+use crate::closing::{Closed, Open};
 use thiserror::Error;
 
 /// Why a ticket or a post was not put.
-#[derive(Clone, Copy, Debug, PartialEq, Eq, Error)]
+#[derive(Debug, Drop, Error)]
 pub enum PutFault {
-    /// The queue or the mailbox holds as many as it can: there is room later.
+    /// The queue or the mailbox holds as many as it can, and was found open: there is room later.
     #[error("the queue is full")]
-    Full,
-    /// The queue or the mailbox is closed.
+    Full(Open),
+    /// The queue or the mailbox is closed, as this shows.
     #[error("the queue is closed")]
-    Closed,
+    Closed(Closed),
     /// There was no further handle on the mailbox.
     #[error("memory ran out for a handle on the mailbox")]
     NoMemory,
@@ -28,8 +29,8 @@ impl PutFault {
         ensures { result ≡ put_code self.now }
     {
         match self {
-            PutFault::Full => 1,
-            PutFault::Closed => 2,
+            PutFault::Full(_) => 1,
+            PutFault::Closed(_) => 2,
             PutFault::NoMemory => 3,
             PutFault::Spent => 4,
         }

@@ -13,7 +13,7 @@ mod receipt;
 mod taker;
 
 pub use bell::{Bell, Notice};
-pub use closing::{Closed, Closing};
+pub use closing::{Closed, Closing, Open};
 pub use fault::PutFault;
 pub use history::History;
 pub use mailbox::{MAIL_MAX, Mailbox};

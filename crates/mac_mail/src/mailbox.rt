@@ -1,11 +1,12 @@
 //! A mailbox: posts wait here for the one who takes them.
 
 ghost use Rattle.std.specs.Prelude.{◌≡◌, Option, [], ◌∷◌, ◌++◌, IfErr, IfOk, IfSome, IfNone};
+ghost use Rattle.mac_mail.specs.Fault.{IsMailFault};
 ghost use Rattle.mac_mail.specs.Post.{entry_of, handled, receipt_of, IsDelivered};
 ghost use Rattle.crossbeam_queue.specs.Passes.{view, IsSamePass};
 
 use crate::bell::{Bell, Notice};
-use crate::closing::Closing;
+use crate::closing::{Closed, Closing};
 use crate::fault::PutFault;
 use crate::post::Post;
 use crate::receipt::{Delivery, Receipt};
@@ -85,7 +86,7 @@ pub struct Mailbox<S: Service> {
 }
 
 impl<S: Service> Model for Mailbox<S> {
-    ghost use Rattle.mac_mail.specs.Post.{Mail, mail_code};
+    ghost use Rattle.mac_mail.specs.Mail.{Mail, mail_code};
 
     ghost Value = { Mail };
 
@@ -109,7 +110,7 @@ impl<S: Service> Mailbox<S> {
             came: CachePadded::new(AtomicU64::new(0)),
             awaited: CachePadded::new(AtomicU64::new(0)),
             answers: Bell::new(),
-            closing: Closing::new(),
+            closing: Closing::new(alloc)?,
         };
         Ok((mail, pass))
     }
@@ -117,29 +118,32 @@ impl<S: Service> Mailbox<S> {
     /// Puts the post in, and wakes who waits for posts.
     pub fn push<R: Wait>(&self, rt: &R, post: Post<S>) -> Result<Receipt<S>, (PutFault, Post<S>)>
         ensures posted { IfOk result (λ receipt. receipt ≡ receipt_of self.now post) }
+        ensures fault { IfErr result (λ e. IsMailFault self.now e.0) }
         ensures back { IfErr result (λ e. e.1 ≡ post) }
     {
-        if self.closing.look().is_some() {
-            return Err((PutFault::Closed, post));
-        }
+        let found = match self.closing.look() {
+            Ok(found) => found,
+            Err(closed) => return Err((PutFault::Closed(closed), post)),
+        };
         match self.put_in(rt, post) {
-            Ok(receipt) => {
+            Ok(pass) => {
                 self.posts.ring();
-                Ok(receipt)
+                Ok(Receipt { pass, found })
             }
-            Err(post) => Err((PutFault::Full, post)),
+            Err(post) => Err((PutFault::Full(found), post)),
         }
     }
 
     /// Puts the post in, where there is room, and wakes nobody.
-    fn put_in<R: Wait>(&self, rt: &R, post: Post<S>) -> Result<Receipt<S>, Post<S>>
-        ensures posted { IfOk result (λ receipt. receipt ≡ receipt_of self.now post) }
+    fn put_in<R: Wait>(&self, rt: &R, post: Post<S>) -> Result<MailPass<S>, Post<S>>
+        ensures posted { IfOk result (λ pass. (pass.table_id ≡ self.now.posts)
+            × ((view pass).posted ≡ entry_of post ∷ [])) }
         ensures back { IfErr result (λ back. back ≡ post) }
     {
         let mut pass = self.queue.pass();
         self.queue.push_as::<Puts, R>(rt, &mut pass, post)?;
         self.tell_came();
-        Ok(Receipt { pass })
+        Ok(pass)
     }
 
     /// One more post has come: wakes who puts jobs, where that one waits for no more.
@@ -224,11 +228,12 @@ impl<S: Service> Mailbox<S> {
         ensures delivered { IfOk result (λ delivery. IsDelivered self.now post delivery) }
         ensures back { IfErr result (λ back. back ≡ post) }
     {
-        if let Some(closed) = self.closing.look() {
-            return Ok(Delivery::Closed(closed));
-        }
-        let receipt = self.put_in(rt, post)?;
-        Ok(Delivery::Posted(receipt))
+        let found = match self.closing.look() {
+            Ok(found) => found,
+            Err(closed) => return Ok(Delivery::Closed(closed)),
+        };
+        let pass = self.put_in(rt, post)?;
+        Ok(Delivery::Posted(Receipt { pass, found }))
     }
 
     /// Wakes who waits for posts.
@@ -237,10 +242,13 @@ impl<S: Service> Mailbox<S> {
     }
 
     /// Closes the mailbox to further posts, and wakes all who wait at it.
-    pub fn close(&self) {
-        self.closing.close();
+    pub fn close(&self) -> Closed
+        ensures { result ≡ self.now.closing }
+    {
+        let closed = self.closing.close();
         self.posts.ring_all();
         self.room.ring_all();
+        closed
     }
 
     /// Whether who waits for posts waits for that of this place. Asked after the post went in.

@@ -66,7 +66,7 @@ impl<S: Service> Taker<S> {
                 return Some(post);
             }
             let notice = self.announce();
-            let is_closed = self.mail.closing.look().is_some();
+            let is_closed = self.mail.closing.look().is_err();
             match self.take(rt) {
                 None if !is_closed => self.sleep(rt, notice),
                 post => {

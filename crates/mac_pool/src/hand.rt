@@ -27,7 +27,7 @@ impl<S: Service> Model for Hand<S> {
 
     ghost view = { λ h. h.pass };
 
-    ghost invariant = { λ h. h.pass.queue ≡ arc_value h.queue };
+    ghost invariant = { λ h. h.pass.queue ≡ (arc_value h.queue).tickets };
 }
 
 impl<S: Service> Hand<S> {

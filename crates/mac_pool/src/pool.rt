@@ -75,13 +75,13 @@ impl<S: Service, G: Gate> Model for Pool<S, G> {
     ghost use Rattle.mac_pool.specs.Pool.{IsKept};
 
     ghost view = { λ p. record {
-      queue = arc_value p.queue;
+      queue = (arc_value p.queue).tickets;
       workers = length p.workers.items;
       passes = p.passes.items;
     } };
 
     ghost invariant = { λ p.
-        IsKept (arc_value p.queue) (map (λ w. w.promise.0.value) p.workers.items)
+        IsKept (arc_value p.queue).tickets (map (λ w. w.promise.0.value) p.workers.items)
         (vec_capacity p.workers) p.passes.items p.all.items (vec_capacity p.all) };
 }
 
@@ -224,7 +224,7 @@ impl<S: Service, G: Gate> Pool<S, G> {
     fn give(&mut self, number: usize) -> Result<(Arc<Queue<S>, Global>, QueuePass<S>), NoMemory>
         requires home { IsHome number self.old.passes }
         ensures given { IfOk result (λ given. IsGiven self.old given.1 self.new
-            × (given.1.number ≡ number) × (given.1.queue ≡ arc_value given.0)) }
+            × (given.1.number ≡ number) × (given.1.queue ≡ (arc_value given.0).tickets)) }
         ensures same { OnErr result (self.new ≡ self.old) }
     {
         let queue = Arc::try_clone(&self.queue)?;
@@ -321,12 +321,12 @@ where
     S::Reply: 'static,
     G: Gate + 'static,
     R: Threads + Wait + Copy + Send + 'static,
-    requires queue { pass.queue ≡ arc_value queue }
+    requires queue { pass.queue ≡ (arc_value queue).tickets }
     ensures { IfSome result (λ thread. thread.promise.0.value ≡ pass) }
 {
     let promise = FromPass(Snapshot::of(&pass));
     let work = move || -> Worked<S>
-        requires { pass.queue ≡ arc_value queue }
+        requires { pass.queue ≡ (arc_value queue).tickets }
         ensures { HasWorked pass result.claimed result.pass result.deliveries }
     { worker(&rt, alloc, &queue, pass, &*gate) };
     Builder::new()
@@ -344,10 +344,10 @@ fn bring_back<S: Service, R: Threads>(
     came: &mut History<Worked<S>>,
 )
     requires room { length all.old.items + length workers.items ≤ vec_capacity all.old }
-    requires given { AreIdle queue.now (map (λ worker. worker.promise.0.value) workers.items) }
+    requires given { AreIdle queue.now.tickets (map (λ worker. worker.promise.0.value) workers.items) }
     requires none { came.old ≡ [] }
     ensures capacity { vec_capacity all.new ≡ vec_capacity all.old }
-    ensures brought { IsBrought queue.now (length workers.items) all.old.items all.new.items
+    ensures brought { IsBrought queue.now.tickets (length workers.items) all.old.items all.new.items
         came.new }
 {
     while let Some(thread) = workers.pop() {

@@ -40,7 +40,7 @@ impl<S: Service> Model for Putter<S> {
 
     ghost view = { λ p. p.pass };
 
-    ghost invariant = { λ p. p.pass.queue ≡ arc_value p.queue };
+    ghost invariant = { λ p. p.pass.queue ≡ (arc_value p.queue).tickets };
 }
 
 impl<S: Service> Desk<S> {
@@ -51,7 +51,7 @@ impl<S: Service> Desk<S> {
         queue: Arc<Queue<S>, Global>,
         pass: QueuePass<S>,
     ) -> Result<Desk<S>, QueuePass<S>>
-        requires { pass.queue ≡ arc_value queue }
+        requires { pass.queue ≡ (arc_value queue).tickets }
         ensures desk { IfOk result (λ desk. (desk.putter ≡ pass) × (desk.taker ≡ [])) }
         ensures back { IfErr result (λ back. back ≡ pass) }
     {
@@ -98,7 +98,7 @@ impl<S: Service> Putter<S> {
         };
         let ticket = Ticket { place, job, mail };
         match self.queue.put(rt, &mut self.pass, ticket) {
-            Ok(()) => Ok(()),
+            Ok(_) => Ok(()),
             Err((fault, ticket)) => Err((fault, ticket.job)),
         }
     }

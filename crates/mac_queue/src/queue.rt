@@ -2,7 +2,8 @@
 
 ghost use Rattle.std.specs.Prelude.{◌≡◌, ◌≢◌, ◌+◌, ◌-◌, ◌≤◌, ◌<◌, ◌^◌, [], length, IfErr, IfOk, OnOk, OnErr};
 ghost use Rattle.mac_queue.specs.Balance.{account, entry_of};
-ghost use Rattle.mac_queue.specs.Claim.{after_claim};
+ghost use Rattle.mac_mail.specs.Fault.{IsSoFound};
+ghost use Rattle.mac_queue.specs.Claim.{after_claim, IsSoClaimed};
 ghost use Rattle.mac_queue.specs.Pass.{with_put, AreFresh};
 ghost use Rattle.crossbeam_queue.specs.Passes.{view as what, IsPassOf};
 
@@ -10,13 +11,13 @@ use self::account::{Balance, Books, Claims, Cut, Puts};
 use crate::ticket::Ticket;
 use crossbeam_queue::protocol::Free;
 use crossbeam_queue::{Pass, RuledArrayQueue};
-use mac_mail::{Bell, Notice, PutFault};
+use mac_mail::{Bell, Closed, Closing, Notice, Open, PutFault};
 use mac_order::{NoMemory, Service};
 use std::alloc::Global;
 use std::marker::Model;
 use std::sync::Wait;
+use std::sync::atomic::AtomicU64;
 use std::sync::atomic::Ordering::SeqCst;
-use std::sync::atomic::{AtomicBool, AtomicU64};
 
 mod account;
 mod tally;
@@ -36,25 +37,26 @@ pub type Cells<S> = RuledArrayQueue<Ticket<S>, Books<S>, Balance>;
 
 pub type Seat<S> = Pass<Ticket<S>, Books<S>>;
 
-/// Tickets wait here, at most 8,192, for the workers. Contracts see its name.
+/// Tickets wait here, at most 8,192, for the workers. Contracts see its names.
 #[derive(Drop)]
 pub struct Queue<S: Service> {
     cells: Cells<S>,
     // Workers that find no ticket sleep on it.
     tickets: Bell,
     workers: AtomicU64,
-    is_closed: AtomicBool,
+    closing: Closing,
 }
 
 impl<S: Service> Model for Queue<S> {
     ghost use Rattle.std.specs.Prelude.{◌≡◌};
-    ghost use Rattle.atomic_table.specs.Seated.{TableId, table_id_coded};
+    ghost use Rattle.mac_queue.specs.Line.{Line, line_code};
 
-    ghost Value = { TableId };
+    ghost Value = { Line };
 
-    ghost coded = { table_id_coded };
+    ghost coded = { line_code };
 
-    ghost view = { λ l. l.cells.table.shared.table_id };
+    ghost view = { λ l.
+        record { tickets = l.cells.table.shared.table_id; closing = l.closing } };
 
     ghost use Rattle.crossbeam_queue.specs.Passes.{ruled_capacity};
     ghost use Rattle.mac_queue.specs.declared.queue.TheConstants.{QUEUE_MAX};
@@ -111,17 +113,17 @@ impl<S: Service> QueuePass<S> {
 pub enum Claim<S: Service> {
     /// The oldest ticket.
     Got(Ticket<S>),
-    /// The queue held no ticket.
-    Empty,
-    /// The queue was closed, and held no ticket after that was seen.
-    Closed,
+    /// The queue was open, as this shows, and held no ticket after that was seen.
+    Empty(Open),
+    /// The queue was closed, as this shows, and held no ticket after that was seen.
+    Closed(Closed),
 }
 
 impl<S: Service> Queue<S> {
     /// An open, empty queue with its passes. Takes all the memory that the queue ever takes.
     pub fn new(alloc: Global) -> Result<(Queue<S>, Vec<QueuePass<S>>), NoMemory>
         ensures count { IfOk result (λ r. length r.1.items ≡ PASSES) }
-        ensures fresh { IfOk result (λ r. AreFresh r.0 r.1.items) }
+        ensures fresh { IfOk result (λ r. AreFresh r.0.tickets r.1.items) }
     {
         let (cells, seat) = Cells::ruled(alloc, QUEUE_MAX)?;
         let passes = passes_of(alloc, &cells, seat)?;
@@ -129,58 +131,65 @@ impl<S: Service> Queue<S> {
             cells,
             tickets: Bell::new(),
             workers: AtomicU64::new(0),
-            is_closed: AtomicBool::new(false),
+            closing: Closing::new(alloc)?,
         };
         Ok((queue, passes))
     }
 
-    /// Puts the ticket at the end, and wakes a worker that sleeps.
+    /// Puts the ticket at the end, and wakes a worker that sleeps. What shows that the queue was
+    /// found open before.
     pub fn put<R: Wait>(
         &self,
         rt: &R,
         pass: &mut QueuePass<S>,
         ticket: Ticket<S>,
-    ) -> Result<(), (PutFault, Ticket<S>)>
-        requires { pass.old.queue ≡ self.now }
+    ) -> Result<Open, (PutFault, Ticket<S>)>
+        requires { pass.old.queue ≡ self.now.tickets }
         ensures put { OnOk result (pass.new ≡ with_put pass.old (entry_of ticket)) }
+        ensures was_open { IfOk result (λ found. found ≡ self.now.closing) }
         ensures same { OnErr result (pass.new ≡ pass.old) }
+        ensures found { IfErr result (λ e. IsSoFound self.now.closing e.0) }
         ensures back { IfErr result (λ e. e.1 ≡ ticket) }
         ensures fault { IfErr result (λ e. e.0 ≢ PutFault.NoMemory) }
         ensures spent { IfErr result (λ e. e.0 ≡ PutFault.Spent
             → length pass.old.put ≡ PUTS_MAX) }
     {
-        if self.is_closed.load(SeqCst) {
-            return Err((PutFault::Closed, ticket));
-        }
+        let found = match self.closing.look() {
+            Ok(found) => found,
+            Err(found) => return Err((PutFault::Closed(found), ticket)),
+        };
         if pass.puts >= PUTS_MAX {
             return Err((PutFault::Spent, ticket));
         }
         if let Err(ticket) = self.cells.push_as::<Puts, R>(rt, &mut pass.seat, ticket) {
-            return Err((PutFault::Full, ticket));
+            return Err((PutFault::Full(found), ticket));
         }
         pass.puts += 1;
         self.tickets.ring();
-        Ok(())
+        Ok(found)
     }
 
     /// Claims the oldest ticket.
     pub fn claim<R: Wait>(&self, rt: &R, pass: &mut QueuePass<S>) -> Claim<S>
-        requires { pass.old.queue ≡ self.now }
+        requires { pass.old.queue ≡ self.now.tickets }
         ensures claimed { pass.new ≡ after_claim pass.old result }
+        ensures found { IsSoClaimed self.now result }
         ensures few { length pass.old.claimed < length pass.new.claimed →
             length pass.new.claimed < 2 ^ 62 }
     {
-        let is_closed = self.is_closed.load(SeqCst);
+        let looked = self.closing.look();
         match self.cells.pop_as::<Claims, R>(rt, &mut pass.seat) {
             Some(ticket) => Claim::Got(ticket),
-            None if is_closed => Claim::Closed,
-            None => Claim::Empty,
+            None => match looked {
+                Ok(found) => Claim::Empty(found),
+                Err(found) => Claim::Closed(found),
+            },
         }
     }
 
     /// How many tickets wait in the queue.
     pub fn waiting<R: Wait>(&self, rt: &R, pass: &mut QueuePass<S>) -> usize
-        requires { pass.old.queue ≡ self.now }
+        requires { pass.old.queue ≡ self.now.tickets }
         ensures same { pass.new ≡ pass.old }
         ensures few { result ≤ QUEUE_MAX }
     {
@@ -224,9 +233,12 @@ impl<S: Service> Queue<S> {
     }
 
     /// Closes the queue to further tickets, and wakes all who sleep. Those that are in stay.
-    pub fn close(&self) {
-        self.is_closed.store(true, SeqCst);
+    pub fn close(&self) -> Closed
+        ensures { result ≡ self.now.closing }
+    {
+        let closed = self.closing.close();
         self.tickets.ring_all();
+        closed
     }
 }
 

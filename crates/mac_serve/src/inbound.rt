@@ -162,10 +162,10 @@ impl Inbound {
         for _ in rt.forever() {
             match self.putter.put(rt, place, job) {
                 Ok(()) => return Ok(()),
-                Err((PutFault::Closed, _)) => return Err(InboundFault::Exhausted),
+                Err((PutFault::Closed(_), _)) => return Err(InboundFault::Exhausted),
                 Err((PutFault::Spent, _)) => return Err(InboundFault::Exhausted),
                 Err((PutFault::NoMemory, _)) => return Err(InboundFault::NoMemory),
-                Err((PutFault::Full, back)) => job = back,
+                Err((PutFault::Full(_), back)) => job = back,
             }
             if signals.has_outbound_ended() {
                 return Err(InboundFault::Stopped);

@@ -1,7 +1,7 @@
 -- What a pass has claimed grows by one ticket after another, and each is answered.
 use Rattle.std.proofs.Common.{◌≡◌, ℕ, ◌+◌, ◌<◌, ◌^◌, List, [], length, ◌∷◌, ◌++◌, map, length-append, sym, ◌∙◌, ap, refl, subst, arith, append_assoc, append-nil}
 use Rattle.std.proofs.lemmas.List.{length-map}
-use Rattle.mac_mail.specs.Post.{Mail}
+use Rattle.mac_mail.specs.Mail.{Mail}
 use Rattle.mac_mail.specs.declared.receipt.Delivery.{Delivery}
 use Rattle.mac_queue.specs.Balance.{claim_of}
 use Rattle.mac_queue.specs.Pass.{Pass, with_claimed}

@@ -1,7 +1,8 @@
 -- What was posted answers what was claimed.
 use Rattle.std.proofs.Common.{◌≡◌, ℕ, ◌⊎◌, inl, inr, List, [], ◌∷◌, ◌++◌, None, Some, map, sym, ◌∙◌, ap, refl, subst, ⊎_elim, append-nil, append_assoc}
 use Rattle.std.specs.Arc.{arc_value}
-use Rattle.mac_mail.specs.Post.{Mail, entry_of, IsDelivered}
+use Rattle.mac_mail.specs.Mail.{Mail}
+use Rattle.mac_mail.specs.Post.{entry_of, IsDelivered}
 use Rattle.mac_mail.specs.declared.receipt.Delivery.{Delivery}
 use Rattle.mac_mail.specs.declared.receipt.Delivery.TheVariants.{Posted, Closed}
 use Rattle.mac_queue.specs.Balance.{claim_of}
@@ -36,9 +37,9 @@ module _ {S Job Reply : Type 0} where
   answered_one : (ticket : Ticket S Job Reply) (parcel : Parcel S Job Reply) (delivery : Delivery S Job Reply) → IsAnswerTo ticket parcel → IsSent parcel delivery → IsAnswered (claim_of ticket) delivery
   answered_one ticket parcel (Posted receipt) to is =
       let mail : arc_value parcel.mail ≡ arc_value ticket.mail = ap (λ m. arc_value m) to.0 in
-      let there = is ∙ ap (λ (m : Mail). (m.posts, entry_of parcel.post ∷ [])) mail in
-      ⊎_elim (λ (some : entry_of parcel.post ≡ (ticket.place, Some ticket.job)). inl (there ∙ ap (λ e. ((arc_value ticket.mail).posts, e ∷ [])) some))
-      (λ (none : entry_of parcel.post ≡ (ticket.place, None)). inr (there ∙ ap (λ e. ((arc_value ticket.mail).posts, e ∷ [])) none)) to.1
+      let there = is ∙ ap (λ (m : Mail). (m, entry_of parcel.post ∷ [])) mail in
+      ⊎_elim (λ (some : entry_of parcel.post ≡ (ticket.place, Some ticket.job)). inl (there ∙ ap (λ e. (arc_value ticket.mail, e ∷ [])) some))
+      (λ (none : entry_of parcel.post ≡ (ticket.place, None)). inr (there ∙ ap (λ e. (arc_value ticket.mail, e ∷ [])) none)) to.1
   answered_one ticket parcel (Closed closed) to is =
       let mail : arc_value parcel.mail ≡ arc_value ticket.mail = ap (λ m. arc_value m) to.0 in
       is ∙ ap (λ (m : Mail). m.closing) mail

@@ -1,7 +1,8 @@
 -- What a worker makes of tickets.
 use Rattle.std.specs.Prelude.{◌≡◌, ◌⊎◌, ⊤, ℕ, List, [], ◌∷◌, ◌++◌, None, Some}
 use Rattle.std.specs.Arc.{arc_value}
-use Rattle.mac_mail.specs.Post.{Mail, entry_of, IsDelivered}
+use Rattle.mac_mail.specs.Mail.{Mail}
+use Rattle.mac_mail.specs.Post.{entry_of, IsDelivered}
 use Rattle.mac_mail.specs.declared.receipt.Delivery.{Delivery}
 use Rattle.mac_mail.specs.declared.receipt.Delivery.TheVariants.{Posted, Closed}
 use Rattle.mac_queue.specs.declared.ticket.Ticket.{Ticket}
@@ -33,8 +34,8 @@ module _ {S Job Reply : Type 0} where
   -- that memory ran out there; or its mailbox was found closed
   abbrev pub IsAnswered : Mail × (ℕ × Job) → Delivery S Job Reply → Type 0
   IsAnswered claim (Posted receipt) =
-      (receipt ≡ (claim.0.posts, (claim.1.0, Some claim.1.1) ∷ []))
-      ⊎ (receipt ≡ (claim.0.posts, (claim.1.0, None) ∷ []))
+      (receipt ≡ (claim.0, (claim.1.0, Some claim.1.1) ∷ []))
+      ⊎ (receipt ≡ (claim.0, (claim.1.0, None) ∷ []))
   IsAnswered claim (Closed closed) = closed ≡ claim.0.closing
 
   -- the parcel was delivered

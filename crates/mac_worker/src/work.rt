@@ -83,7 +83,7 @@ pub fn worker<S: Service, G: Gate, R: Wait>(
     mut pass: QueuePass<S>,
     gate: &G,
 ) -> Worked<S>
-    requires { pass.queue ≡ queue.now }
+    requires { pass.queue ≡ queue.now.tickets }
     ensures { HasWorked pass result.claimed result.pass result.deliveries }
 {
     queue.enter();
@@ -124,7 +124,7 @@ fn next_ticket<S: Service, R: Wait>(
     queue: &Queue<S>,
     pass: &mut QueuePass<S>,
 ) -> Option<Ticket<S>>
-    requires { pass.old.queue ≡ queue.now }
+    requires { pass.old.queue ≡ queue.now.tickets }
     ensures claimed { IfSome result (λ ticket.
         pass.new ≡ with_claimed pass.old (claim_of ticket)) }
     ensures few { OnSome result (length pass.new.claimed < 2 ^ 62) }
@@ -133,8 +133,8 @@ fn next_ticket<S: Service, R: Wait>(
     for _ in rt.forever() {
         match queue.claim(rt, pass) {
             Claim::Got(ticket) => return Some(ticket),
-            Claim::Closed => return None,
-            Claim::Empty => {}
+            Claim::Closed(_) => return None,
+            Claim::Empty(_) => {}
         }
         let notice = queue.announce();
         match queue.claim(rt, pass) {
@@ -142,11 +142,11 @@ fn next_ticket<S: Service, R: Wait>(
                 queue.withdraw(notice);
                 return Some(ticket);
             }
-            Claim::Closed => {
+            Claim::Closed(_) => {
                 queue.withdraw(notice);
                 return None;
             }
-            Claim::Empty => queue.sleep(rt, notice),
+            Claim::Empty(_) => queue.sleep(rt, notice),
         }
     }
     unreachable!()
@@ -164,7 +164,7 @@ fn turn_from<S: Service, G: Gate, R: Wait>(
     ticket: Ticket<S>,
     book: &mut History<Delivery<S>>,
 ) -> u64
-    requires { pass.old.queue ≡ queue.now }
+    requires { pass.old.queue ≡ queue.now.tickets }
     ensures answered { HasTurned ticket pass.old result pass.new book.old book.new }
     ensures few { result ≤ TURN_MAX }
 {
@@ -203,7 +203,7 @@ fn claim_more<S: Service, R: Wait>(
     most: usize,
     tickets: &mut Tickets<S>,
 ) -> u64
-    requires queue { pass.old.queue ≡ queue.now }
+    requires queue { pass.old.queue ≡ queue.now.tickets }
     requires room { deque_len tickets.old + most ≤ deque_capacity tickets.old }
     ensures claimed { (got : List (Ticket S S.Job S.Reply)) × (length got ≡ result)
         × (tickets.new.items ≡ tickets.old.items ++ got)

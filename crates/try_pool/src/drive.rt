@@ -95,7 +95,7 @@ pub(crate) fn put_waiting<R: Wait>(
     for _ in rt.forever() {
         match putter.put(rt, place, job) {
             Ok(()) => return true,
-            Err((PutFault::Full, _)) => thread::yield_now(),
+            Err((PutFault::Full(_), _)) => thread::yield_now(),
             Err(_) => return false,
         }
     }

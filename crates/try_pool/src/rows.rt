@@ -68,7 +68,7 @@ fn fills<R: Wait>(rt: &R, desk: &mut Desk<Digits>) -> bool
     ensures { desk.new.putter.queue ≡ desk.old.putter.queue }
 {
     let is_put = put_run(rt, &mut desk.putter, 0, TICKETS);
-    is_put && desk.putter.put(rt, 7, 8) == Err((PutFault::Full, 8))
+    is_put && matches!(desk.putter.put(rt, 7, 8), Err((PutFault::Full(_), 8)))
 }
 
 /// Puts at a closed queue, of a ticket and of a job.
@@ -84,7 +84,7 @@ fn closed<R: Wait>(rt: &R, alloc: Global) -> Result<Outcome, RunFault> {
     };
     let is_put = put_run(rt, &mut desk.putter, 5, 2);
     let is_refused = refuses_a_ticket(rt, &queue, &mut second);
-    let is_late = desk.putter.put(rt, 7, 8) == Err((PutFault::Closed, 8));
+    let is_late = matches!(desk.putter.put(rt, 7, 8), Err((PutFault::Closed(_), 8)));
     let is_left = claims(rt, &queue, &mut second, 6);
     right_if(is_put && is_refused && is_late && is_left)
 }
@@ -94,8 +94,9 @@ fn two_of(
     queue: &Queue<Digits>,
     passes: Vec<QueuePass<Digits>>,
 ) -> Option<(QueuePass<Digits>, QueuePass<Digits>)>
-    requires { AreFresh queue.now passes.items }
-    ensures { IfSome result (λ two. (two.0.queue ≡ queue.now) × (two.1.queue ≡ queue.now)) }
+    requires { AreFresh queue.now.tickets passes.items }
+    ensures { IfSome result (λ two.
+        (two.0.queue ≡ queue.now.tickets) × (two.1.queue ≡ queue.now.tickets)) }
 {
     let _queue = queue;
     let mut passes = passes.into_iter();
@@ -106,7 +107,7 @@ fn two_of(
 
 /// Claims a ticket, closes the queue and puts the ticket again. Whether it is handed back.
 fn refuses_a_ticket<R: Wait>(rt: &R, queue: &Queue<Digits>, pass: &mut QueuePass<Digits>) -> bool
-    requires { pass.old.queue ≡ queue.now }
+    requires { pass.old.queue ≡ queue.now.tickets }
     ensures { pass.new.queue ≡ pass.old.queue }
 {
     let Claim::Got(ticket) = queue.claim(rt, pass) else {
@@ -114,20 +115,20 @@ fn refuses_a_ticket<R: Wait>(rt: &R, queue: &Queue<Digits>, pass: &mut QueuePass
     };
     queue.close();
     match queue.put(rt, pass, ticket) {
-        Err((PutFault::Closed, back)) => back.place == 5 && back.job == 5,
+        Err((PutFault::Closed(_), back)) => back.place == 5 && back.job == 5,
         _ => false,
     }
 }
 
 /// Whether the ticket of this place is claimed, and the closed queue is empty then.
 fn claims<R: Wait>(rt: &R, queue: &Queue<Digits>, pass: &mut QueuePass<Digits>, place: u64) -> bool
-    requires { pass.old.queue ≡ queue.now }
+    requires { pass.old.queue ≡ queue.now.tickets }
 {
     let is_got = match queue.claim(rt, pass) {
         Claim::Got(ticket) => ticket.place == place,
         _ => false,
     };
-    is_got && matches!(queue.claim(rt, pass), Claim::Closed)
+    is_got && matches!(queue.claim(rt, pass), Claim::Closed(_))
 }
 
 /// One worker meets want of memory at the second of three jobs, and goes on.
@@ -283,7 +284,7 @@ fn is_filled<R: Wait>(rt: &R, mail: &Mailbox<Digits>) -> bool {
     is_in
         && matches!(
             mail.push(rt, Post::Failed(POSTS)),
-            Err((PutFault::Full, Post::Failed(POSTS)))
+            Err((PutFault::Full(_), Post::Failed(POSTS)))
         )
 }
 
@@ -294,7 +295,7 @@ fn is_taken<R: Wait>(rt: &R, mail: &Mailbox<Digits>, taker: &mut Taker<Digits>) 
     taker.close();
     let is_late = matches!(
         mail.push(rt, Post::Failed(9)),
-        Err((PutFault::Closed, Post::Failed(9)))
+        Err((PutFault::Closed(_), Post::Failed(9)))
     );
     is_first && is_second && is_late && matches!(taker.take(rt), Some(Post::Failed(2)))
 }

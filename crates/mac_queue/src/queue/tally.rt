@@ -23,7 +23,7 @@ impl<S: Service> Queue<S> {
     /// What the passes of the queue did, all of which are asked for.
     pub fn tally<R: Wait>(&self, rt: &R, passes: Vec<QueuePass<S>>) -> Tally
         requires count { length passes.items ≡ PASSES }
-        requires queue { All (λ pass. pass.queue ≡ self.now) passes.items }
+        requires queue { All (λ pass. pass.queue ≡ self.now.tickets) passes.items }
         ensures { IsTally passes.items result }
     {
         let mut passes = passes.into_iter();

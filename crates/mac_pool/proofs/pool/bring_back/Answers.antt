@@ -24,8 +24,8 @@ loop-thread-preserved g c =
     let given = λ (w : PromisedHandle (Worked g.row.S.Denot g.row.S-Job.Denot g.row.S-Reply.Denot) (FromPass g.row.S.Denot g.row.S-Job.Denot g.row.S-Reply.Denot)). w.promise.0.value in
     let rest = c.pop.new.self.items in
     let parts : map given c.loop-thread.workers.items ≡ map given rest ++ given c.in-Some.thread ∷ [] = ap (map given) split ∙ map_push given rest c.in-Some.thread in
-    let left = subst (λ (l : List (Pass g.row.S-Job.Denot)). AreIdle c.args.queue.now l) parts invariant.left in
-    let idle = λ (p : Pass g.row.S-Job.Denot). IsWorkers c.args.queue.now p × (p.claimed ≡ []) in
+    let left = subst (λ (l : List (Pass g.row.S-Job.Denot)). AreIdle c.args.queue.now.tickets l) parts invariant.left in
+    let idle = λ (p : Pass g.row.S-Job.Denot). IsWorkers c.args.queue.now.tickets p × (p.claimed ≡ []) in
     let first = each_last idle (map given rest) (given c.in-Some.thread) left in
     let back = c.join-worked.result in
     let came = c.loop-thread.came in
@@ -33,7 +33,7 @@ loop-thread-preserved g c =
       capacity = c.push_reserved.ensures.capacity ∙ invariant.capacity;
       all = came_more c.args.all.now.items c.loop-thread.all.items _ came _ back c.push_reserved.ensures.items invariant.all c.add.ensures;
       count = omega (arith, invariant.count, ap length split, length-append rest (c.in-Some.thread ∷ []), ap length c.add.ensures, length-append came (back ∷ []));
-      answered = rw c.add.ensures (each_push (HasAnswered c.args.queue.now) came back invariant.answered (worked_is c.args.queue.now (given c.in-Some.thread) back first.0 first.1 c.join-worked.ensures));
+      answered = rw c.add.ensures (each_push (HasAnswered c.args.queue.now.tickets) came back invariant.answered (worked_is c.args.queue.now.tickets (given c.in-Some.thread) back first.0 first.1 c.join-worked.ensures));
       left = each_front idle (map given rest) (given c.in-Some.thread) left;
     }
 

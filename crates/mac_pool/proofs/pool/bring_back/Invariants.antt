@@ -8,8 +8,8 @@ invariant-loop-thread g l = record {
   capacity : vec_capacity l.all ≡ vec_capacity l.fn.all;
   all : l.all.items ≡ l.fn.all.items ++ passes_of l.came;
   count : length l.came + length l.workers.items ≡ length l.fn.workers.items;
-  answered : HaveAnswered l.queue l.came;
-  left : AreIdle l.queue (map (λ worker. worker.promise.0.value) l.workers.items);
+  answered : HaveAnswered l.queue.tickets l.came;
+  left : AreIdle l.queue.tickets (map (λ worker. worker.promise.0.value) l.workers.items);
 }
 
 abbrev pub decreases-loop-thread : goal.decreases-loop-thread

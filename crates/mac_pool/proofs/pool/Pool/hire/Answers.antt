@@ -2,6 +2,7 @@ use Rattle.std.proofs.Common.{◌≡◌, ℕ, ◌+◌, ◌++◌, ◌∷◌, [], 
 use Rattle.std.proofs.lemmas.List.{length-map}
 use Rattle.std.specs.Arc.{arc_value}
 use Rattle.std.specs.declared.thread.PromisedHandle.{PromisedHandle}
+use Rattle.mac_queue.specs.Line.{Line}
 use Rattle.mac_queue.specs.Pass.{Pass}
 use Rattle.mac_worker.specs.declared.work.Worked.{Worked}
 use Rattle.mac_pool.specs.declared.pool.FromPass.{FromPass}
@@ -22,7 +23,7 @@ take_out-pass-requires-clause-home g c =
 pub started-requires-clause-queue : goal.started-requires-clause-queue
 started-requires-clause-queue g c =
     let mine = c.self.invariant.homes c.len.result c.take_out-pass.result c.take_out-pass.ensures.was in
-    λ _ _. mine.0 ∙ sym c.in-Ok.ensures
+    λ _ _. mine.0 ∙ sym (ap (λ (l : Line). l.tickets) c.in-Ok.ensures)
 
 pub invariant_of-self : goal.invariant_of-self
 invariant_of-self g c =
@@ -45,7 +46,7 @@ invariant_of-self g c =
       homes = rw c.take_out-pass.ensures.out (unset_homes _ c.self.inside.passes.items c.len.result was.homes);
       given_fit = omega (arith, ap length grown, length-append (map given old) (pass ∷ []), length-map old given);
       given_room = omega arith;
-      given_are = rw grown (each_push (λ (p : Pass g.row.S-Job.Denot). IsWorkers (arc_value c.self.inside.queue) p × (p.claimed ≡ [])) (map given old) pass was.given_are ((mine.0, idle.0), idle.1));
+      given_are = rw grown (each_push (λ (p : Pass g.row.S-Job.Denot). IsWorkers (arc_value c.self.inside.queue).tickets p × (p.claimed ≡ [])) (map given old) pass was.given_are ((mine.0, idle.0), idle.1));
       all_empty = was.all_empty;
       all_fits = was.all_fits;
     }
@@ -74,6 +75,6 @@ returns-in-Some-clause-hired g c =
     let len = c.len.ensures in
     let same : c.len.result ≡ length old = omega arith in
     let grown : length new ≡ length old + 1 = ap length c.push_reserved.ensures.items ∙ length-append old (c.in-Some.thread ∷ []) in (
-      started_more (arc_value c.self.inside.queue) c.args.self.now.workers (length old) (length new) slots c.take_out-pass.new.slots.items (omega arith) started grown (c.take_out-pass.ensures.out ∙ ap (λ (m : ℕ). set slots m None) same),
+      started_more (arc_value c.self.inside.queue).tickets c.args.self.now.workers (length old) (length new) slots c.take_out-pass.new.slots.items (omega arith) started grown (c.take_out-pass.ensures.out ∙ ap (λ (m : ℕ). set slots m None) same),
       omega arith,
     )

@@ -2,6 +2,7 @@ use Rattle.std.proofs.Common.{◌≡◌, ◌<◌, List, Option, Some, slice_get,
 use Rattle.std.proofs.lemmas.List.{length-map}
 use Rattle.std.specs.Arc.{arc_value}
 use Rattle.atomic_table.specs.Seated.{TableId}
+use Rattle.mac_queue.specs.Line.{Line}
 use Rattle.mac_queue.specs.Pass.{Pass, IsFresh}
 use Rattle.mac_pool.proofs.Slots.{get_within, get_map, map_get}
 use Rattle.mac_pool.proofs.pool.Pool.idle.Goals as goal
@@ -9,7 +10,7 @@ use Rattle.mac_pool.proofs.pool.Pool.idle.Goals as goal
 pub returns : goal.returns
 returns g c =
     let row = c.in_ok-row.ensures in
-    let queue : arc_value c.in_ok-queue.queue ≡ c.in_ok-row.row = c.in_ok-queue.ensures.ok in
+    let queue : (arc_value c.in_ok-queue.queue).tickets ≡ c.in_ok-row.row.tickets = ap (λ (l : Line). l.tickets) c.in_ok-queue.ensures.ok in
     let slots : c.in_ok-passes.passes.items ≡ map Some c.in_ok-row.fresh.items = c.in_ok-passes.ensures in
     record {
       count = ap length c.in_ok-workers.ensures.items;
@@ -28,7 +29,7 @@ returns g c =
 pub invariant_of-result : goal.invariant_of-result
 invariant_of-result g c =
     let row = c.in_ok-row.ensures in
-    let queue : arc_value c.in_ok-queue.queue ≡ c.in_ok-row.row = c.in_ok-queue.ensures.ok in
+    let queue : (arc_value c.in_ok-queue.queue).tickets ≡ c.in_ok-row.row.tickets = ap (λ (l : Line). l.tickets) c.in_ok-queue.ensures.ok in
     let slots : c.in_ok-passes.passes.items ≡ map Some c.in_ok-row.fresh.items = c.in_ok-passes.ensures in
     let none = c.in_ok-workers.ensures.items in
     let threads = c.in_ok-workers.ensures.exact in
