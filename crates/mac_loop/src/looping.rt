@@ -51,6 +51,8 @@ pub struct Loop {
     round: Round,
     parts: usize,
     shares: Shares,
+    // At how many looks in a row it has worked nearly all of the time.
+    late: u8,
     // The seconds after which a client that makes no progress is ended, where they were asked for.
     idle: Option<u64>,
     // Whether its clients are read no further than what has come.
@@ -88,6 +90,7 @@ pub fn make_loops<R: Net>(
             round: Round::new(alloc, seen.share()?)?,
             parts: PARTS_MAX,
             shares: Shares::new(alloc, count)?,
+            late: 0,
             idle,
             is_draining: false,
             swept: 0,

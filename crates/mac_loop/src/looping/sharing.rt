@@ -12,6 +12,11 @@ const SHARE_HIGH: u64 = 900;
 /// A loop that worked no more may take them.
 const SHARE_LOW: u64 = 500;
 
+/// At how many looks in a row a loop can't keep up, where no client has sent more than it reads in
+/// a turn. What they sent then waits for replies: a moment without time is no lack of it, and what
+/// two loops answer apart costs more than what one answers together.
+const LOOKS: u8 = 4;
+
 /// Two loops that together worked no more become one.
 const SHARE_ONE: u64 = 600;
 
@@ -21,7 +26,9 @@ impl Loop {
     pub(super) fn spread<R: Wait + Clock, W: Watch>(&mut self, rt: &R, loops: &Loops, watch: &W) {
         let own = self.shares.of(self.number);
         let least = self.shares.least();
-        if own >= SHARE_HIGH && self.shares.of(least) <= SHARE_LOW {
+        self.note_share(own);
+        if self.is_late() && self.shares.of(least) <= SHARE_LOW {
+            self.late = 0;
             self.give(rt, loops, watch, least, 2);
         } else if own <= SHARE_ONE {
             if let Some(before) = self.shares.first_below(SHARE_ONE - own) {
@@ -31,6 +38,20 @@ impl Loop {
             }
         }
         self.rest();
+    }
+
+    /// Notes a look at which it worked this share of the time.
+    fn note_share(&mut self, own: u64) {
+        self.late = if own >= SHARE_HIGH {
+            self.late.saturating_add(1)
+        } else {
+            0
+        };
+    }
+
+    /// Whether it can't keep up.
+    fn is_late(&self) -> bool {
+        self.late >= LOOKS || (self.late > 0 && self.members.has_ready())
     }
 
     /// Gives one of so many active clients to another loop.
