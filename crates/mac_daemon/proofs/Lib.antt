@@ -1,2 +1,3 @@
 pub mod CrewLemmas
 pub mod DeskLemmas
+pub mod ManningLemmas

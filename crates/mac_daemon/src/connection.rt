@@ -1,6 +1,7 @@
 //! One wide connection, in threads of its own.
-ghost use Rattle.std.specs.Prelude.{◌≡◌, IfErr, IfOk};
+ghost use Rattle.std.specs.Prelude.{◌≡◌, IfErr, IfOk, MatchOption};
 ghost use Rattle.mac_queue.specs.Pass.{IsSamePass};
+ghost use Rattle.mac_daemon.specs.Parting.{GoesBack, HasParted, IsOver, WasServed};
 
 use crate::quay::Mooring;
 use crate::stay::{Stay, StayReader};
@@ -64,18 +65,28 @@ pub struct Left {
     pub desk: Desk<Macaroons>,
 }
 
-/// The desk comes back with the pass that it was made with.
+/// A connection is told as it was served. It holds what its thread was given.
 #[derive(Drop)]
-pub struct SamePass(Snapshot<Desk<Macaroons>>);
+pub struct AsServed {
+    /// The desk, whose pass comes back.
+    pub desk: Snapshot<Desk<Macaroons>>,
+    /// How the connection stood.
+    pub session: Snapshot<Session>,
+    /// What it is known by.
+    pub badge: Badge,
+    /// The bit of its berth.
+    pub mark: u64,
+}
 
-impl Promise<Left> for SamePass {
-    ghost use Rattle.mac_queue.specs.Pass.{IsSamePass};
+impl Promise<Left> for AsServed {
+    ghost use Rattle.mac_daemon.specs.Parting.{HasParted};
 
-    ghost kept_by = { λ p left. IsSamePass p.0.value.putter left.desk.putter };
+    ghost kept_by = { λ p left. HasParted p.badge p.session.value p.desk.value.putter
+        p.desk.value.taker left };
 }
 
 /// A connection that is served in a thread.
-pub type Connection = PromisedHandle<Left, SamePass>;
+pub type Connection = PromisedHandle<Left, AsServed>;
 
 /// Whether a connection's thread was refused.
 type Flag = Arc<AtomicBool, Global>;
@@ -91,24 +102,28 @@ pub fn start_connection<R>(
 ) -> Result<Connection, Desk<Macaroons>>
 where
     R: Threads + Wait + Clock + Sync + Copy + Send + 'static,
-    ensures connection { IfOk result (λ connection.
-        connection.promise.0.value.putter ≡ desk.putter) }
+    ensures desk { IfOk result (λ connection. connection.promise.desk.value ≡ desk) }
+    ensures session { IfOk result (λ connection.
+        connection.promise.session.value ≡ client.session) }
+    ensures badge { IfOk result (λ connection. connection.promise.badge ≡ client.badge) }
+    ensures mark { IfOk result (λ connection. connection.promise.mark ≡ mooring.mark) }
     ensures back { IfErr result (λ back. IsSamePass desk.putter back.putter) }
 {
     let Ok((refusal, heard)) = refusal(alloc) else {
         return Err(desk);
     };
-    let promise = SamePass(Snapshot::of(&desk));
-    let life = client.life();
+    let promise = AsServed {
+        desk: Snapshot::of(&desk),
+        session: Snapshot::of(&client.session),
+        badge: client.badge,
+        mark: mooring.mark,
+    };
     let work = move || -> Left
-        ensures { IsSamePass desk.putter result.desk.putter }
+        ensures { HasParted client.badge client.session desk.putter desk.taker result }
     {
         let (own, client, mooring, keys) = (desk, client, mooring, keys);
         if heard.load(SeqCst) {
-            return Left {
-                parting: Parting::Over(life, Some(ServeFault::NoMemory)),
-                desk: own,
-            };
+            return stuck(client, own);
         }
         let left = serve_client(&rt, alloc, client, keys, own, &mooring);
         mooring.quay.leave(mooring.mark);
@@ -128,6 +143,18 @@ where
     }
 }
 
+/// What a connection leaves that was not served, since the system failed.
+fn stuck(client: Handover, desk: Desk<Macaroons>) -> Left
+    ensures { HasParted client.badge client.session desk.putter desk.taker result }
+{
+    let badge = client.badge;
+    let answered = client.session.answered;
+    Left {
+        parting: Parting::Stuck(Life { badge, answered }),
+        desk,
+    }
+}
+
 /// A flag that tells a thread's work that no thread was given, with two handles on it.
 fn refusal(alloc: Global) -> Result<(Flag, Flag), NoMemory> {
     let flag = Arc::new(alloc, AtomicBool::new(false))?;
@@ -144,9 +171,8 @@ fn serve_client<R: Threads + Wait + Clock + Sync>(
     desk: Desk<Macaroons>,
     mooring: &Mooring,
 ) -> Left
-    ensures { IsSamePass desk.putter result.desk.putter }
+    ensures { HasParted client.badge client.session desk.putter desk.taker result }
 {
-    let life = client.life();
     let Handover {
         port,
         session,
@@ -154,9 +180,10 @@ fn serve_client<R: Threads + Wait + Clock + Sync>(
         since,
         badge,
     } = client;
+    let answered = session.answered;
     let Ok(stay) = Stay::begin(port, badge) else {
         return Left {
-            parting: Parting::Stuck(life),
+            parting: Parting::Stuck(Life { badge, answered }),
             desk,
         };
     };
@@ -170,20 +197,36 @@ fn serve_client<R: Threads + Wait + Clock + Sync>(
         session,
     } = served;
     mooring.quay.numbers().count_wide(sent, written);
-    let parting = match session {
-        Some(session) => {
-            let since = if arrived > 0 { microseconds(rt) } else { since };
-            go_back(rt, stay, session, rights, since, badge)
-        }
+    let since = if arrived > 0 { microseconds(rt) } else { since };
+    let answered = answered.saturating_add(sent);
+    let life = Life { badge, answered };
+    let parting = part(rt, stay, session, rights, since, life, fault, ending);
+    Left { parting, desk }
+}
+
+/// How a connection parts: it goes on where a session was given back, and else is over.
+fn part<R: Wait>(
+    rt: &R,
+    stay: Stay,
+    session: Option<Session>,
+    rights: Arc<Rights, Global>,
+    since: u64,
+    life: Life,
+    fault: Option<ServeFault>,
+    ending: Ending,
+) -> Parting
+    ensures { MatchOption session (IsOver life.badge fault result)
+        (λ next. GoesBack life.badge next result) }
+{
+    match session {
+        Some(session) => go_back(rt, stay, session, rights, since, life.badge),
         None => {
             if ending == Ending::Oversize {
                 drop_rest(&stay.stream);
             }
-            let answered = life.answered.saturating_add(sent);
-            Parting::Over(Life { badge, answered }, fault)
+            Parting::Over(life, fault)
         }
-    };
-    Left { parting, desk }
+    }
 }
 
 /// A connection that goes on in a loop, if the system lets it.
@@ -194,7 +237,9 @@ fn go_back<R: Wait>(
     rights: Arc<Rights, Global>,
     since: u64,
     badge: Badge,
-) -> Parting {
+) -> Parting
+    ensures { GoesBack badge session result }
+{
     let answered = session.answered;
     match stay.end(rt) {
         Ok(port) => Parting::Back(Handover {
@@ -219,7 +264,8 @@ fn serve_stream<R: Threads + Wait + Clock + Sync>(
     session: Session,
     mooring: &Mooring,
 ) -> (Option<ServeFault>, Served)
-    ensures { IsSamePass desk.putter result.1.desk.putter }
+    ensures served { WasServed session desk.putter desk.taker result.0 result.1 }
+    ensures same_pass { IsSamePass desk.putter result.1.desk.putter }
 {
     let mut outlook = TimedTables::new(keys, SystemMoments::new(rt));
     let mut source = ReaderSource::new(StayReader::begin(rt, stay, mooring));

@@ -1,6 +1,8 @@
 //! The pool of a daemon, and the wide connections that have its desks.
-ghost use Rattle.std.specs.Prelude.{◌≡◌, ◌<◌, IfOk, IfSome, false, length};
-ghost use Rattle.mac_daemon.specs.Crew.{AreFree, EachBerth, KeepsHome};
+ghost use Rattle.std.specs.Prelude.{◌≡◌, ◌<◌, ◌^◌, IfOk, IsFalse, IsTrue, MatchOption, length};
+ghost use Rattle.mac_daemon.specs.Crew.{AreFree, AreTaken, EachBerth, IsFree, IsManned, KeepsHome};
+ghost use Rattle.mac_daemon.specs.Parting.{HasLeft, HasTaken};
+ghost use Rattle.mac_queue.specs.declared.queue.TheConstants.{PASSES};
 ghost use Rattle.mac_daemon.specs.declared.crew.TheConstants.{WIDE_MAX};
 
 use crate::connection::{Connection, Parting, start_connection};
@@ -23,8 +25,13 @@ pub struct Crew {
     pool: Pool<Macaroons, NoGate>,
     berths: Vec<Option<Connection>>,
     ghost size: { length berths.items ≡ WIDE_MAX },
-    ghost home: { EachBerth berths.items (λ connection.
-        connection.promise.0.value.putter.queue ≡ pool.queue) },
+    ghost home: { EachBerth berths.items (λ _ connection.
+        connection.promise.desk.value.putter.queue ≡ pool.queue) },
+    ghost marked: { EachBerth berths.items (λ berth connection.
+        connection.promise.mark ≡ 2 ^ berth) },
+    ghost passes: { length pool.passes ≡ PASSES },
+    ghost manned: { IsManned pool.workers pool.passes
+        (λ connection. connection.promise.desk.value.putter.number) berths.items },
 }
 
 impl Crew {
@@ -45,19 +52,31 @@ impl Crew {
 
     /// The first berth that is free.
     pub fn first_free(&self) -> Option<usize>
-        ensures { IfSome result (λ berth. berth < WIDE_MAX) }
+        ensures { MatchOption result (AreTaken WIDE_MAX self.now.berths.items)
+            (λ berth. (berth < WIDE_MAX) × IsFree berth self.now.berths.items
+            × AreTaken berth self.now.berths.items) }
     {
         for berth in 0..WIDE_MAX {
-            if self.berths[berth].is_none() {
-                return Some(berth);
+            match &self.berths[berth] {
+                None => return Some(berth),
+                Some(_) => {}
             }
         }
         None
     }
 
     /// Whether nobody is in a berth.
-    pub fn is_idle(&self) -> bool {
-        self.berths.iter().all(|berth| berth.is_none())
+    pub fn is_idle(&self) -> bool
+        ensures idle { IsTrue result → AreFree WIDE_MAX self.now.berths.items }
+        ensures busy { IsFalse result → ¬ AreFree WIDE_MAX self.now.berths.items }
+    {
+        for berth in 0..WIDE_MAX {
+            match &self.berths[berth] {
+                None => {}
+                Some(_) => return false,
+            }
+        }
+        true
     }
 
     /// Serves a connection from a free berth. Without a desk, a thread or memory it is dropped, and
@@ -73,8 +92,11 @@ impl Crew {
     ) -> bool
     where
         R: Threads + Wait + Clock + Sync + Copy + Send + 'static,
-        requires { berth < WIDE_MAX }
-        ensures { result ≡ false → KeepsHome self.old.pool.passes self.new.pool.passes }
+        requires { IsFree berth self.old.berths.items }
+        ensures taken { IsTrue result → HasTaken berth client.badge client.session
+            self.old.berths.items self.new.berths.items self.old.pool self.new.pool }
+        ensures refused { IsFalse result → (self.new.berths.items ≡ self.old.berths.items)
+            × KeepsHome self.old.pool.passes self.new.pool.passes }
     {
         let Ok(keys) = followers.follower() else {
             return false;
@@ -87,7 +109,7 @@ impl Crew {
         };
         let mooring = Mooring {
             quay,
-            mark: 1 << berth,
+            mark: mark_of(berth),
         };
         match start_connection(rt, alloc, client, keys, desk, mooring) {
             Ok(connection) => {
@@ -105,11 +127,20 @@ impl Crew {
     /// connection parted.
     pub fn leave<R: Threads>(&mut self, rt: &R, berth: usize) -> Option<Parting>
         requires { berth < WIDE_MAX }
+        ensures { MatchOption result
+            (IsFree berth self.old.berths.items × (self.new.berths.items ≡ self.old.berths.items)
+            × (self.new.pool ≡ self.old.pool))
+            (λ parting. HasLeft berth self.old.berths.items self.new.berths.items
+            self.old.pool self.new.pool parting) }
     {
-        let connection = self.berths[berth].take()?;
-        let left = connection.join(rt);
-        self.pool.home(left.desk);
-        Some(left.parting)
+        match self.berths[berth].take() {
+            None => None,
+            Some(connection) => {
+                let left = connection.join(rt);
+                self.pool.home(left.desk);
+                Some(left.parting)
+            }
+        }
     }
 
     /// Ends the workers once all berths are free. While a desk is lost the pool is dropped instead.
@@ -117,6 +148,14 @@ impl Crew {
         let Crew { pool, berths: _ } = self;
         let _ = pool.stop(rt);
     }
+}
+
+/// The bit of a berth.
+pub fn mark_of(berth: usize) -> u64
+    requires { berth < WIDE_MAX }
+    ensures { result ≡ 2 ^ berth }
+{
+    1 << berth
 }
 
 /// As many free berths as there are.

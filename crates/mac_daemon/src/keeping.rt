@@ -3,7 +3,7 @@ ghost use Rattle.std.specs.Prelude.{◌<◌};
 ghost use Rattle.mac_daemon.specs.declared.crew.TheConstants.{WIDE_MAX};
 
 use crate::connection::Parting;
-use crate::crew::{Crew, WIDE_MAX};
+use crate::crew::{Crew, WIDE_MAX, mark_of};
 use crate::notices::Notice;
 use crate::quay::Quay;
 use mac_board::Followers;
@@ -103,7 +103,7 @@ where
         let life = client.life();
         if crew.take_on(*rt, alloc, berth, client, followers, quay) {
             quay.note_wide(life);
-            *starting = 1 << berth;
+            *starting = mark_of(berth);
         } else {
             quay.end(rt, life, Some(Notice::Dropped));
         }

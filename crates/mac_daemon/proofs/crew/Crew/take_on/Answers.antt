@@ -1,20 +1,87 @@
-use Rattle.std.proofs.Common.{◌≡◌, ℕ, List, Option, None, Some, slice_set, ap, ◌∙◌, subst, sym}
+use Rattle.std.proofs.Common.{◌≡◌, ◌^◌, ℕ, List, Option, None, Some, length, slice_set, ap, ◌∙◌, subst, sym, refl, length-set}
 use Rattle.mac_decide.specs.declared.job.Job.{Job}
 use Rattle.mac_queue.specs.Pass.{Pass}
-use Rattle.mac_pool.specs.Pool.{Slots, IsHome}
-use Rattle.std.specs.declared.thread.PromisedHandle.{PromisedHandle}
-use Rattle.mac_daemon.specs.declared.connection.Left.{Left}
-use Rattle.mac_daemon.specs.declared.connection.SamePass.{SamePass}
+use Rattle.mac_pool.specs.Pool.{Slots, IsGiven, IsHome, with_home}
+use Rattle.mac_daemon.specs.Crew.{IsManned}
+use Rattle.mac_daemon.specs.Parting.{Handle}
 use Rattle.mac_daemon.proofs.CrewLemmas.{each_taken}
 use Rattle.mac_daemon.proofs.DeskLemmas.{home_again}
+use Rattle.mac_daemon.proofs.ManningLemmas.{manned_refused, manned_taken}
 use Rattle.mac_daemon.proofs.crew.Crew.take_on.Goals as goal
 
--- a connection's thread
-abbrev Handle : Type 0
-Handle = PromisedHandle Left SamePass
+-- the number of a connection's desk
+abbrev number_of : Handle → ℕ
+number_of who = who.promise.desk.value.putter.number
 
-pub returns-in-Err : goal.returns-in-Err
-returns-in-Err g c =
+pub invariant_of-self-in-Ok-start_connection-clause-home : goal.invariant_of-self-in-Ok-start_connection-clause-home
+invariant_of-self-in-Ok-start_connection-clause-home g c =
+    let given = c.in-Ok-desk.ensures.desk.0 in
+    let kept = ap (λ (p : Slots Job). p.queue) given.after_is in
+    each_taken (λ _ (who : Handle). who.promise.desk.value.putter.queue ≡ c.desk.new.self.queue)
+    c.args.self.now.berths.items c.args.berth c.in-Ok-start_connection.connection
+    (λ k x at. c.args.self.now.home k x at ∙ sym kept)
+    (ap (λ d. d.putter.queue) c.in-Ok-start_connection.ensures.desk ∙ given.queue_is ∙ sym kept)
+
+pub invariant_of-self-in-Ok-start_connection-clause-marked : goal.invariant_of-self-in-Ok-start_connection-clause-marked
+invariant_of-self-in-Ok-start_connection-clause-marked g c =
+    each_taken (λ berth (who : Handle). who.promise.mark ≡ 2 ^ berth)
+    c.args.self.now.berths.items c.args.berth c.in-Ok-start_connection.connection
+    c.args.self.now.marked
+    (c.in-Ok-start_connection.ensures.mark ∙ c.mark_of.ensures)
+
+pub invariant_of-self-in-Ok-start_connection-clause-passes : goal.invariant_of-self-in-Ok-start_connection-clause-passes
+invariant_of-self-in-Ok-start_connection-clause-passes g c =
+    let given = c.in-Ok-desk.ensures.desk.0 in
+    ap (λ (p : Slots Job). length p.passes) given.after_is
+    ∙ length-set c.args.self.now.pool.passes c.in-Ok-desk.desk.putter.number None ∙ c.args.self.now.passes
+
+pub invariant_of-self-in-Ok-start_connection-clause-manned : goal.invariant_of-self-in-Ok-start_connection-clause-manned
+invariant_of-self-in-Ok-start_connection-clause-manned g c =
+    let given = c.in-Ok-desk.ensures.desk.0 in
+    let pool = c.args.self.now.pool in
+    let berths = c.args.self.now.berths.items in
+    let who = c.in-Ok-start_connection.connection in
+    subst (λ (p : Slots Job). IsManned p.workers p.passes number_of (slice_set berths c.args.berth (Some who))) (sym given.after_is)
+    (manned_taken pool.workers number_of pool.passes berths c.args.berth c.in-Ok-desk.desk.putter.number who c.in-Ok-desk.desk.putter
+    c.args.self.now.manned given.was_home c.requires (ap (λ d. d.putter.number) c.in-Ok-start_connection.ensures.desk))
+
+pub invariant_of-self-in-Err : goal.invariant_of-self-in-Err
+invariant_of-self-in-Err g c =
+    let given = c.in-Ok-desk.ensures.desk.0 in
+    let pool = c.args.self.now.pool in
+    let slots = pool.passes in
+    let berths = c.args.self.now.berths.items in
+    let putter = c.in-Ok-desk.desk.putter in
+    let back = c.in-Err.desk.putter in
+    let n = putter.number in
+    let whole : c.home.new.self ≡ record pool { passes = slice_set (slice_set slots n None) n (Some back) } =
+    c.home.ensures ∙ ap (λ (p : Slots Job). with_home p back) given.after_is
+    ∙ ap (λ (k : ℕ). record pool { passes = slice_set (slice_set slots n None) k (Some back) }) c.in-Err.ensures.back.2 in
+    record {
+      size = c.args.self.now.size;
+      home = λ k x at. c.args.self.now.home k x at ∙ sym (ap (λ (p : Slots Job). p.queue) whole);
+      marked = c.args.self.now.marked;
+      passes = ap (λ (p : Slots Job). length p.passes) whole ∙ length-set (slice_set slots n None) n (Some back) ∙ length-set slots n None ∙ c.args.self.now.passes;
+      manned = subst (λ (p : Slots Job). IsManned p.workers p.passes number_of berths) (sym whole)
+          (manned_refused pool.workers number_of slots berths n putter back c.args.self.now.manned given.was_home);
+    }
+
+pub returns-in-Ok-start_connection-clause-taken : goal.returns-in-Ok-start_connection-clause-taken
+returns-in-Ok-start_connection-clause-taken g c =
+    let given = c.in-Ok-desk.ensures.desk.0 in
+    let started = c.in-Ok-start_connection.ensures in
+    λ _. record {
+      who = c.in-Ok-start_connection.connection;
+      was_free = c.requires;
+      berths_are = refl;
+      badge_is = started.badge;
+      session_is = started.session;
+      mark_is = started.mark ∙ c.mark_of.ensures;
+      given = subst (λ (pass : Pass Job). IsGiven c.args.self.now.pool pass c.desk.new.self) (sym (ap (λ d. d.putter) started.desk)) given;
+    }
+
+pub returns-in-Err-clause-refused : goal.returns-in-Err-clause-refused
+returns-in-Err-clause-refused g c =
     let given = c.in-Ok-desk.ensures.desk.0 in
     let putter = c.in-Ok-desk.desk.putter in
     let back = c.in-Err.desk.putter in
@@ -23,20 +90,8 @@ returns-in-Err g c =
     ap (λ (p : Slots Job). p.passes) c.home.ensures
     ∙ ap (λ (p : Slots Job). slice_set p.passes back.number (Some back)) given.after_is
     ∙ ap (λ (k : ℕ). slice_set (slice_set slots putter.number None) k (Some back)) c.in-Err.ensures.back.2 in
-    λ _ number was.
-    subst (λ (after : List (Option (Pass Job))). IsHome number after) (sym after) (home_again slots putter.number putter back given.was_home number was)
-
-pub invariant_of-self-in-Ok-start_connection-clause-home : goal.invariant_of-self-in-Ok-start_connection-clause-home
-invariant_of-self-in-Ok-start_connection-clause-home g c =
-    let given = c.in-Ok-desk.ensures.desk.0 in
-    let kept : c.desk.new.self.queue ≡ c.args.self.now.pool.queue = ap (λ (p : Slots Job). p.queue) given.after_is in
-    let own = ap (λ (p : Pass Job). p.queue) c.in-Ok-start_connection.ensures.connection ∙ given.queue_is ∙ sym kept in
-    each_taken (λ (x : Handle). x.promise.0.value.putter.queue ≡ c.desk.new.self.queue)
-    c.args.self.now.berths.items c.args.berth c.in-Ok-start_connection.connection
-    (λ k x at. c.args.self.now.home k x at ∙ sym kept) own
-
-pub invariant_of-self-in-Err-clause-home : goal.invariant_of-self-in-Err-clause-home
-invariant_of-self-in-Err-clause-home g c =
-    let given = c.in-Ok-desk.ensures.desk.0 in
-    let kept = ap (λ (p : Slots Job). p.queue) c.home.ensures ∙ ap (λ (p : Slots Job). p.queue) given.after_is in
-    λ k x at. c.args.self.now.home k x at ∙ sym kept
+    λ _. (
+      refl,
+      λ number was.
+          subst (λ (after : List (Option (Pass Job))). IsHome number after) (sym after) (home_again slots putter.number putter back given.was_home number was),
+    )
