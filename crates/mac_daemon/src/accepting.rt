@@ -2,6 +2,7 @@
 ghost use Rattle.std.specs.Prelude.{◌≡◌, IfOk};
 ghost use Rattle.mac_daemon.specs.Day.{MeetsCount};
 
+use crate::counting::CountedEntrance;
 use crate::entrance::{Arrived, Entrance};
 use crate::fault::DaemonFault;
 use crate::notices::Notice;
@@ -65,7 +66,7 @@ where
     let work = move || -> Result<u64, DaemonFault>
         ensures { IfOk result (λ served. MeetsCount limits.count served) }
     {
-        let mut entrance = entrance;
+        let mut entrance = CountedEntrance::new(entrance);
         accept_to_end(&rt, alloc, &mut entrance, &loops, &quay, limits)
     };
     match Builder::new()
@@ -83,14 +84,15 @@ where
 fn accept_to_end<R>(
     rt: &R,
     alloc: Global,
-    entrance: &mut Entrance,
+    entrance: &mut CountedEntrance,
     loops: &Loops,
     quay: &Quay,
     limits: Limits,
 ) -> Result<u64, DaemonFault>
 where
     R: Wait + Clock,
-    ensures { IfOk result (λ served. MeetsCount limits.count served) }
+    ensures { IfOk result (λ served. MeetsCount limits.count served
+        × (served ≡ entrance.new.count)) }
 {
     let served = accept_each(rt, alloc, entrance, loops, quay, limits);
     entrance.close();
@@ -110,27 +112,29 @@ where
 fn accept_each<R>(
     rt: &R,
     alloc: Global,
-    entrance: &mut Entrance,
+    entrance: &mut CountedEntrance,
     loops: &Loops,
     quay: &Quay,
     limits: Limits,
 ) -> Result<u64, DaemonFault>
 where
     R: Wait + Clock,
-    ensures { IfOk result (λ served. MeetsCount limits.count served) }
+    ensures { IfOk result (λ served. MeetsCount limits.count served
+        × (served ≡ entrance.new.count)) }
 {
-    let mut served: u64 = 0;
     for _ in rt.forever() {
+        let served = entrance.count();
         match limits.count {
             Some(count) if count == served => return Ok(served),
             _ => {}
         }
         match entrance.accept(rt) {
             Some(Ok(arrived)) => {
-                served = served.saturating_add(1);
                 if quay.admit(rt, limits.connections) {
-                    let badge = quay.badge(rt, served, arrived.door);
+                    let badge = quay.badge(rt, entrance.count(), arrived.door);
                     welcome(rt, alloc, arrived, badge, loops, quay);
+                } else {
+                    turn_away(arrived);
                 }
             }
             Some(Err(fault)) if limits.count.is_some() => return Err(DaemonFault::System(fault)),
@@ -150,6 +154,15 @@ fn pause<R: Wait + Clock>(rt: &R, alloc: Global, fault: io::Error, quay: &Quay) 
     thread::sleep(rt, Duration::from_millis(PAUSE_MILLIS));
 }
 
+/// Closes a connection that there is no room for.
+fn turn_away(arrived: Arrived) {
+    let Arrived {
+        stream: _,
+        rights: _,
+        door: _,
+    } = arrived;
+}
+
 /// Hands a connection to a loop. One for which there is no memory is closed, and that is told.
 fn welcome<R: Wait + Clock>(
     rt: &R,
@@ -160,7 +173,11 @@ fn welcome<R: Wait + Clock>(
     quay: &Quay,
 ) {
     let life = Life { badge, answered: 0 };
-    let Arrived { stream, rights, .. } = arrived;
+    let Arrived {
+        stream,
+        rights,
+        door: _,
+    } = arrived;
     let Ok(port) = SocketPort::new(stream, quay.transcript(alloc)) else {
         quay.end(rt, life, Some(Notice::System));
         return;

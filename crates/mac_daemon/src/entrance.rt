@@ -45,8 +45,7 @@ pub struct Shutter {
     is_shut: AtomicBool,
 }
 
-/// A connection that has come in.
-#[derive(Drop)]
+/// A connection that has come in. It can't be dropped, only taken apart.
 pub struct Arrived {
     /// Its stream.
     pub stream: UnixStream,

@@ -7,6 +7,7 @@
 
 mod accepting;
 mod connection;
+mod counting;
 mod crew;
 mod descriptors;
 mod door;
