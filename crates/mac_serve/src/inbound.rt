@@ -4,6 +4,7 @@ ghost use Rattle.std.specs.Prelude.{◌≡◌, ◌≢◌, ◌<◌, ◌++◌, ◌
 ghost use Rattle.mac_decide.specs.Terms.{lent_terms};
 ghost use Rattle.mac_decide.specs.declared.rights.Rights.{Rights as PlainRights};
 ghost use Rattle.mac_decide.specs.World.{job_under};
+ghost use Rattle.mac_serve.specs.Room.{payload_size, IsCounted, IsCountedBeside};
 
 use crate::incoming::{InboundFault, Incoming};
 use crate::outstanding::Outstanding;
@@ -67,6 +68,8 @@ impl Inbound {
         ensures place { IfOk result (λ place. place ≡ length (admitted self.old.ring)) }
         ensures admitted { OnOk result
             (admitted self.new.ring ≡ admitted self.old.ring ++ job ∷ []) }
+        ensures counted { OnOk result
+            (IsCountedBeside (payload_size job) self.old.unsent self.new.unsent) }
         ensures refused { IfErr result (λ e.
             (admitted self.new.ring ≡ admitted self.old.ring) × (e.1 ≡ job)) }
     {
@@ -86,6 +89,7 @@ impl Inbound {
         ensures place { IfOk result (λ place. place ≡ length (admitted self.old.ring)) }
         ensures admitted { OnOk result
             (admitted self.new.ring ≡ admitted self.old.ring ++ job ∷ []) }
+        ensures counted { OnOk result (IsCounted (payload_size job) self.new.unsent) }
         ensures refused { OnErr result (admitted self.new.ring ≡ admitted self.old.ring) }
         ensures no_read { result ≢ Err InboundFault.Read }
     {
@@ -339,7 +343,9 @@ impl Inbound {
 }
 
 /// The length of a job's payload.
-fn payload_length(job: &Job) -> usize {
+fn payload_length(job: &Job) -> usize
+    ensures { result ≡ payload_size job.now }
+{
     match &job.arrival {
         Arrival::Payload(payload) => payload.as_slice().len(),
         Arrival::Oversize => 0,

@@ -1,5 +1,7 @@
 //! The jobs of a connection that are out, and the memory that they hold.
 
+ghost use Rattle.std.specs.Prelude.{IsTrue};
+
 /// How many jobs may be out.
 const PLACES: u64 = 256;
 
@@ -8,7 +10,7 @@ const PLACES: u64 = 256;
 const PLACES_LEFT: u64 = 64;
 
 /// The lengths of the payloads of jobs that are out: put and not answered, or without a reply that
-/// was sent. They bound what a connection holds: no contract speaks of them.
+/// was sent. They bound what a connection holds.
 #[derive(Drop)]
 pub struct Outstanding {
     /// The length of the payload at each place, by the place's remainder.
@@ -24,6 +26,8 @@ pub struct Outstanding {
 }
 
 impl Outstanding {
+    ghost use Rattle.mac_serve.specs.Room.{HasRoom, IsFreed, HasOneMore};
+
     /// There is no job yet, and jobs may hold so many bytes.
     pub fn new(most: usize) -> Outstanding {
         Outstanding {
@@ -37,7 +41,10 @@ impl Outstanding {
 
     /// Whether there is room for one more job of that length. The jobs at the places below `done`
     /// are out no more.
-    pub fn has_room(&mut self, length: usize, done: u64) -> bool {
+    pub fn has_room(&mut self, length: usize, done: u64) -> bool
+        ensures room { IsTrue result → HasRoom self.new length }
+        ensures freed { IsFreed done self.old self.new }
+    {
         while self.first < done && self.first < self.next {
             let freed = self.lengths[(self.first % PLACES) as usize];
             self.bytes = self.bytes.saturating_sub(freed as usize);
@@ -45,7 +52,7 @@ impl Outstanding {
         }
         let is_first = self.first == self.next;
         let has_place = self.next.saturating_sub(self.first) < PLACES;
-        is_first || has_place && self.bytes.saturating_add(length) <= self.most
+        is_first || has_place && self.bytes <= self.most && length <= self.most - self.bytes
     }
 
     /// Below which place no job may be out before it is worth while to go on.
@@ -61,7 +68,9 @@ impl Outstanding {
     }
 
     /// One more job of that length.
-    pub fn push(&mut self, length: usize) {
+    pub fn push(&mut self, length: usize)
+        ensures { HasOneMore length self.old self.new }
+    {
         self.lengths[(self.next % PLACES) as usize] = length.min(0xffff_ffff) as u32;
         self.bytes = self.bytes.saturating_add(length);
         self.next = self.next.saturating_add(1);
