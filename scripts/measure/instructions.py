@@ -4,7 +4,11 @@ over libexec/macaroond/x86-64-v2, or the program that LEVEL names, and bin/time_
 
 A count doesn't depend on what else the machine does. What a request takes is the difference between
 two runs, so that starting the program and reading the keys count for nothing.
+
+A fill by `rep stosb` and a copy by `rep movsb` are one instruction each. valgrind counts one for each
+byte of them, so the C library is told to fill and copy by vectors.
 """
+import os
 import re
 import pathlib
 import shutil
@@ -17,12 +21,16 @@ from measure import bench
 
 FEW, MANY = 20, 120
 FEW_BLOCKS, MANY_BLOCKS = 1_000, 3_000
+# From so many bytes on the C library would use them.
+NEVER = 1 << 30
+BY_VECTORS = f"glibc.cpu.x86_rep_stosb_threshold={NEVER}:glibc.cpu.x86_rep_movsb_threshold={NEVER}"
 
 
 def instructions(command, text=""):
     """How many instructions a run executes."""
     counting = ["valgrind", "--tool=callgrind", "--callgrind-out-file=/dev/null"]
-    run = subprocess.run([*counting, *map(str, command)], input=text, capture_output=True, text=True)
+    how = {"env": {**os.environ, "GLIBC_TUNABLES": BY_VECTORS}, "capture_output": True, "text": True}
+    run = subprocess.run([*counting, *map(str, command)], input=text, **how)
     found = re.search(r"Collected : (\d+)", run.stderr)
     if run.returncode != 0 or not found:
         sys.exit(f"valgrind doesn't count {command}: {run.stderr}")
