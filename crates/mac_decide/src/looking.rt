@@ -1,6 +1,6 @@
 //! What a memory tells of jobs at first sight, before anything is hashed.
 
-ghost use Rattle.std.specs.Prelude.{◌≤◌, IfOk, length, map};
+ghost use Rattle.std.specs.Prelude.{◌≡◌, ◌++◌, ◌≤◌, [], IfOk, OnOk, drop, length, map};
 ghost use Rattle.mac_wire.specs.Reading.{request_of};
 ghost use Rattle.mac_wire.specs.Request.{asked as asked_of};
 ghost use Rattle.mac_decide.specs.Answer as answers;
@@ -53,6 +53,29 @@ pub(crate) fn look_at_all(
     Ok(sights)
 }
 
+/// Puts the replies to the first jobs where nothing is, up to the first that isn't told at first
+/// sight.
+pub(crate) fn tell_front(
+    replies: &mut ArrayVec<Reply, RUN>,
+    seen: &SeenTokens,
+    alloc: Global,
+    jobs: &[JobView<'_>],
+) -> Result<(), NoMemory>
+    requires empty { replies.old.items ≡ [] }
+    requires count { length jobs.now ≤ RUN }
+    ensures { OnOk result (replies.new.items
+        ++ map reply_to_job (map viewed (drop (length replies.new.items) jobs.now))
+        ≡ map reply_to_job (map viewed jobs.now)) }
+{
+    for job in jobs {
+        match look_at_job(seen, alloc, job)? {
+            Sight::Told(reply) => replies.push(reply),
+            Sight::Asked(_) => return Ok(()),
+        }
+    }
+    Ok(())
+}
+
 /// How many replies are still asked for.
 pub(crate) fn count_asked(sights: &[Sight]) -> usize {
     let mut count: usize = 0;
@@ -66,11 +89,7 @@ pub(crate) fn count_asked(sights: &[Sight]) -> usize {
 
 /// What is known of the reply to a job.
 #[tactic(auto, unfolding(crate::specs::Answer::reply_of))]
-pub(crate) fn look_at_job(
-    seen: &SeenTokens,
-    alloc: Global,
-    job: &JobView<'_>,
-) -> Result<Sight, NoMemory>
+fn look_at_job(seen: &SeenTokens, alloc: Global, job: &JobView<'_>) -> Result<Sight, NoMemory>
     ensures { IfOk result (λ sight. IsRight sight (reply_to_job (viewed job.now))) }
 {
     match job.arrival {

@@ -1,6 +1,6 @@
 //! The replies to a run of jobs, whose texts are hashed side by side.
 
-ghost use Rattle.std.specs.Prelude.{◌≡◌, ◌+◌, ◌++◌, ◌≤◌, [], All, IfOk, OnOk, drop, length, map, slice_get, Some, get_or};
+ghost use Rattle.std.specs.Prelude.{◌≡◌, ◌+◌, ◌++◌, ◌≤◌, [], All, IfOk, OnOk, length, map, slice_get, Some, get_or};
 ghost use Rattle.mac_wire.specs.Reply.{IsReply};
 ghost use Rattle.mac_decide.specs.Prepared.{AreNext, comes_to, left_of, reply_to_job, signature_of};
 ghost use Rattle.mac_decide.specs.Seen.{AreRight, IsRight};
@@ -10,7 +10,7 @@ use crate::choosing::{FEWEST, LANES, Step, next_step};
 use crate::job::Job;
 use crate::job_view::{ArrivalView, JobView};
 use crate::keyed::keys_at;
-use crate::looking::{Sight, count_asked, look_at_all, look_at_job};
+use crate::looking::{Sight, count_asked, look_at_all, tell_front};
 use crate::prepared::Prepared;
 use crate::preparing::prepare;
 use crate::remembering::remember;
@@ -119,29 +119,6 @@ fn replies_to(
         join(&mut replies, others);
     }
     Ok(replies)
-}
-
-/// Puts the replies to the first jobs where nothing is, up to the first that isn't told at first
-/// sight.
-fn tell_front(
-    replies: &mut ArrayVec<Reply, RUN>,
-    seen: &SeenTokens,
-    alloc: Global,
-    jobs: &[JobView<'_>],
-) -> Result<(), NoMemory>
-    requires empty { replies.old.items ≡ [] }
-    requires count { length jobs.now ≤ RUN }
-    ensures { OnOk result (replies.new.items
-        ++ map reply_to_job (map viewed (drop (length replies.new.items) jobs.now))
-        ≡ map reply_to_job (map viewed jobs.now)) }
-{
-    for job in jobs {
-        match look_at_job(seen, alloc, job)? {
-            Sight::Told(reply) => replies.push(reply),
-            Sight::Asked(_) => return Ok(()),
-        }
-    }
-    Ok(())
 }
 
 /// Puts further replies behind those that are there.

@@ -344,7 +344,8 @@ fn bring_back<S: Service, R: Threads>(
     came: &mut History<Worked<S>>,
 )
     requires room { length all.old.items + length workers.items ≤ vec_capacity all.old }
-    requires given { AreIdle queue.now.tickets (map (λ worker. worker.promise.0.value) workers.items) }
+    requires given { AreIdle queue.now.tickets
+        (map (λ worker. worker.promise.0.value) workers.items) }
     requires none { came.old ≡ [] }
     ensures capacity { vec_capacity all.new ≡ vec_capacity all.old }
     ensures brought { IsBrought queue.now.tickets (length workers.items) all.old.items all.new.items

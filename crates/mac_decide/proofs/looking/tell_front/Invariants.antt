@@ -1,7 +1,7 @@
 use Rattle.std.proofs.Common.{◌≡◌, ◌++◌, drop, length, map}
 use Rattle.mac_decide.specs.Prepared.{reply_to_job}
 use Rattle.mac_decide.specs.Viewed.{viewed}
-use Rattle.mac_decide.proofs.side_by_side.tell_front.Given as goal
+use Rattle.mac_decide.proofs.looking.tell_front.Given as goal
 
 -- the replies so far, and those to the jobs that are left, are all
 abbrev pub invariant-loop-job : goal.invariant-loop-job
