@@ -1,5 +1,6 @@
 //! What answering keeps from one run of jobs to the next.
 
+use crate::choosing::LANES;
 use crate::seen::SeenTokens;
 use std::alloc::Global;
 use std::array;
@@ -16,6 +17,8 @@ const ROOM_KEPT: usize = 65_536;
 pub struct Rooms {
     pub(crate) held: [Vec<u8>; RUN],
     seen: SeenTokens,
+    /// How many jobs of the last run no memory told.
+    asked: usize,
 }
 
 impl Rooms {
@@ -24,12 +27,18 @@ impl Rooms {
         Rooms {
             held: array::from_fn(|_| Vec::new(alloc)),
             seen,
+            asked: 0,
         }
     }
 
-    /// The rooms and the memory of tokens, lent.
-    pub(crate) fn lend(&mut self) -> (&mut [Vec<u8>; RUN], &SeenTokens) {
-        (&mut self.held, &self.seen)
+    /// Whether the last run hashed for so many jobs that others like it are worth further threads.
+    pub fn was_dear(&self) -> bool {
+        self.asked >= LANES
+    }
+
+    /// The rooms, the memory of tokens, and how many jobs it didn't tell, lent.
+    pub(crate) fn lend(&mut self) -> (&mut [Vec<u8>; RUN], &SeenTokens, &mut usize) {
+        (&mut self.held, &self.seen, &mut self.asked)
     }
 
     /// Gives back the memory of each room that has grown large.

@@ -1,10 +1,11 @@
 //! Tokens that were found to be minted: whoever verifies one of them again computes no signature.
 //!
-//! A memory is shared by threads, and no one waits for it: who finds a part of it taken does
-//! without. It knows a token by all bytes of its text, and has it as it was read, so that one that
-//! comes again is not read again. It finds texts by a hash of what the signature stands in, under a
-//! key that nobody is told: a guess is compared with nothing that is kept. A token is kept once it
-//! comes for the second time, so that those that come once cost next to nothing and push out none.
+//! A memory is shared by threads: any number of them find tokens in a part of it at a time, and one
+//! alone changes it. No one waits for another: who finds a part taken does without. A memory knows
+//! a token by all bytes of its text, and has it as it was read, so that one that comes again is not
+//! read again. It finds texts by a hash of what the signature stands in, under a key that nobody is
+//! told: a guess is compared with nothing that is kept. A token is kept once it comes again, so
+//! that those that come once cost next to nothing and push out none.
 
 ghost use Rattle.std.specs.Prelude.{◌≡◌, IfOk, IfSome, IsTrue, Ok, true};
 ghost use Rattle.mac_keys.specs.Keys.{listed};
@@ -22,9 +23,9 @@ use mac_token::{Token, TokenFault, read};
 use mac_wire::{Grant, NoMemory, Reply};
 use std::alloc::Global;
 use std::hash::{BuildHasher, Hasher, RandomState};
-use std::sync::atomic::AtomicU32;
 use std::sync::atomic::Ordering::SeqCst;
-use std::sync::{Arc, Mutex, MutexGuard};
+use std::sync::atomic::{AtomicBool, AtomicU32};
+use std::sync::{Arc, RwLock, RwLockReadGuard, RwLockWriteGuard};
 
 /// The longest text of a token that is remembered, in bytes.
 pub const SEEN_MAX: usize = 2_048;
@@ -56,6 +57,8 @@ struct SeenToken {
     keys: Keys,
     text: Vec<u8>,
     token: Token,
+    /// Whether it was asked for since others last had to give way to some token.
+    is_used: AtomicBool,
     ghost spelled: { read_of text.items ≡ Ok token },
     ghost minted: { is_minted (listed keys) token ≡ true },
 }
@@ -71,6 +74,7 @@ impl SeenToken {
             keys: *keys,
             text,
             token,
+            is_used: AtomicBool::new(false),
         })
     }
 
@@ -79,6 +83,14 @@ impl SeenToken {
         ensures { IsTrue result → IsFound keys.now text.now self.now.token }
     {
         self.keys == *keys && self.text.as_slice() == text
+    }
+
+    /// Notes that it is used. Who finds that noted writes nothing: threads that use one token don't
+    /// wait for one another's writes.
+    fn note_use(&self) {
+        if !self.is_used.load(SeqCst) {
+            self.is_used.store(true, SeqCst);
+        }
     }
 
     /// How many bytes it takes.
@@ -93,7 +105,8 @@ fn least_size(text: &[u8]) -> usize {
     text.len().saturating_mul(2).saturating_add(ASIDE)
 }
 
-/// A part of a memory: tokens by their marks, those that were used last first.
+/// A part of a memory: tokens by their marks. Those stand first that came last, or were used when
+/// they would have given way.
 #[derive(Drop)]
 struct Part {
     tokens: LruCache<u64, SeenToken>,
@@ -115,12 +128,15 @@ impl Part {
         })
     }
 
-    /// The token of this text, if it was found under these keys. It is the last used then.
-    fn find(&mut self, mark: u64, keys: &Keys, text: &[u8]) -> Option<&Token>
+    /// The token of this text, if it was found under these keys. Its use is noted.
+    fn find(&self, mark: u64, keys: &Keys, text: &[u8]) -> Option<&Token>
         ensures { IfSome result (λ token. IsFound keys.now text.now token.now) }
     {
-        match self.tokens.get(&mark) {
-            Some(seen) if seen.is(keys, text) => Some(&seen.token),
+        match self.tokens.peek(&mark) {
+            Some(seen) if seen.is(keys, text) => {
+                seen.note_use();
+                Some(&seen.token)
+            }
             _ => None,
         }
     }
@@ -134,7 +150,7 @@ impl Part {
         self.waited % ONE_IN == 0
     }
 
-    /// Keeps a token. Those that weren't used for longest give way to it.
+    /// Keeps a token. Those that came first and weren't used since give way to it.
     fn keep(&mut self, mark: u64, seen: SeenToken) {
         let size = seen.size();
         if size > self.most {
@@ -147,15 +163,33 @@ impl Part {
         }
     }
 
-    /// Lets go of tokens until so many bytes are free.
+    /// Lets go of tokens until so many bytes are free. Each that was used is passed over once.
     fn make_room(&mut self, size: usize) {
-        for _ in 0..self.tokens.len() {
+        for _ in 0..self.tokens.len().saturating_mul(2) {
             if self.taken.saturating_add(size) <= self.most {
                 return;
             }
-            if let Some((_, other)) = self.tokens.pop_lru() {
-                self.taken = self.taken.saturating_sub(other.size());
+            match self.last_used() {
+                Some(mark) => {
+                    self.tokens.promote(&mark);
+                }
+                None => self.let_go(),
             }
+        }
+    }
+
+    /// The mark of the last token, if it was used. That it was is noted no more.
+    fn last_used(&self) -> Option<u64> {
+        match self.tokens.peek_lru() {
+            Some((mark, seen)) if seen.is_used.swap(false, SeqCst) => Some(*mark),
+            _ => None,
+        }
+    }
+
+    /// Lets go of the last token.
+    fn let_go(&mut self) {
+        if let Some((_, other)) = self.tokens.pop_lru() {
+            self.taken = self.taken.saturating_sub(other.size());
         }
     }
 }
@@ -163,9 +197,11 @@ impl Part {
 /// What threads share of a memory.
 #[derive(Drop)]
 struct Shared {
-    parts: Vec<Mutex<Part>>,
+    parts: Vec<RwLock<Part>>,
     /// Of tokens that came once, what the place leaves of the mark.
     once: Vec<AtomicU32>,
+    /// How many came at whose place another one was noted.
+    others: AtomicU32,
     hashes: RandomState,
 }
 
@@ -173,7 +209,7 @@ impl Shared {
     fn new(alloc: Global, hashes: RandomState, most: usize) -> Result<Shared, NoMemory> {
         let mut parts = Vec::with_capacity(alloc, PARTS)?;
         for _ in 0..PARTS {
-            parts.push(Mutex::new(Part::new(alloc, most / PARTS)?))?;
+            parts.push(RwLock::new(Part::new(alloc, most / PARTS)?))?;
         }
         let mut once = Vec::with_capacity(alloc, ONCE)?;
         for _ in 0..ONCE {
@@ -182,6 +218,7 @@ impl Shared {
         Ok(Shared {
             parts,
             once,
+            others: AtomicU32::new(0),
             hashes,
         })
     }
@@ -194,16 +231,22 @@ impl Shared {
     }
 
     /// The part for tokens of a mark.
-    fn part(&self, mark: u64) -> Option<&Mutex<Part>> {
+    fn part(&self, mark: u64) -> Option<&RwLock<Part>> {
         self.parts.get((mark % PARTS as u64) as usize)
     }
 
+    /// Whether a token of this mark came before. That it came is noted. Where another one is noted,
+    /// one in two takes its place, so that of those that come in turn there each is found in time.
     fn is_again(&self, mark: u64) -> bool {
         let rest = (mark >> 32) as u32;
-        match self.once.get((mark % ONCE as u64) as usize) {
-            Some(place) => place.swap(rest, SeqCst) == rest,
-            None => false,
+        let Some(place) = self.once.get((mark % ONCE as u64) as usize) else {
+            return false;
+        };
+        let noted = place.load(SeqCst);
+        if noted == 0 || (noted != rest && self.others.fetch_add(1, SeqCst) % 2 == 0) {
+            place.store(rest, SeqCst);
         }
+        noted == rest
     }
 }
 
@@ -254,7 +297,7 @@ impl SeenTokens {
     }
 
     /// Whether there is no memory.
-    pub(crate) fn is_none(&self) -> bool {
+    pub fn is_none(&self) -> bool {
         self.shared.is_none()
     }
 
@@ -277,18 +320,24 @@ impl SeenTokens {
         }
     }
 
-    /// The part for tokens of this mark, unless there is no memory or another thread has taken it.
-    fn take_part(&self, mark: u64) -> Option<MutexGuard<'_, Part>> {
-        self.shared.as_ref()?.part(mark)?.try_lock()
+    /// The part for tokens of this mark, to find one in; unless there is no memory, or another
+    /// thread changes it.
+    fn read_part(&self, mark: u64) -> Option<RwLockReadGuard<'_, Part>> {
+        self.shared.as_ref()?.part(mark)?.try_read()
+    }
+
+    /// The same, to change it; unless there is no memory, or another thread has taken it.
+    fn write_part(&self, mark: u64) -> Option<RwLockWriteGuard<'_, Part>> {
+        self.shared.as_ref()?.part(mark)?.try_write()
     }
 
     /// Whether the text of this mark is there, found to be minted under one of these keys.
     pub(crate) fn has(&self, mark: u64, keys: &Keys, text: &[u8]) -> bool
         ensures { IsTrue result → is_minted_text keys.now text.now ≡ true }
     {
-        match self.take_part(mark) {
-            Some(mut guard) => {
-                let part = &mut *guard;
+        match self.read_part(mark) {
+            Some(guard) => {
+                let part = &*guard;
                 part.find(mark, keys, text).is_some()
             }
             None => false,
@@ -309,10 +358,10 @@ impl SeenTokens {
         ensures { IfOk result (λ found. IfSome found (λ r.
             r ≡ answers.verify_reply grant text.now context.now keys.now)) }
     {
-        let Some(mut guard) = self.take_part(mark) else {
+        let Some(guard) = self.read_part(mark) else {
             return Ok(None);
         };
-        let part = &mut *guard;
+        let part = &*guard;
         match part.find(mark, keys, text) {
             Some(token) => Ok(Some(reply_to(alloc, keys, token, grant, context)?)),
             None => Ok(None),
@@ -334,7 +383,7 @@ impl SeenTokens {
     pub(crate) fn keep(&self, alloc: Global, mark: u64, keys: &Keys, text: &[u8])
         requires { is_minted_text keys.now text.now ≡ true }
     {
-        if let Some(mut guard) = self.take_part(mark) {
+        if let Some(mut guard) = self.write_part(mark) {
             let part = &mut *guard;
             if part.admits(text) {
                 if let Ok(seen) = SeenToken::of(alloc, keys, text) {

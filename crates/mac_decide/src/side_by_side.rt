@@ -93,16 +93,17 @@ pub fn answer_run(
         replies.items ≡ map reply_to_job (map viewed jobs.now)) }
     ensures sendable { IfOk result (λ replies. All IsReply replies.items) }
 {
-    let (held, seen) = rooms.lend();
-    let replies = replies_to(held, seen, alloc, jobs);
+    let (held, seen, asked) = rooms.lend();
+    let replies = replies_to(held, seen, asked, alloc, jobs);
     rooms.give_back(alloc);
     replies
 }
 
-/// The same in these rooms.
+/// The same in these rooms. It counts the jobs that aren't told at first sight.
 fn replies_to(
     rooms: &mut [Vec<u8>],
     seen: &SeenTokens,
+    asked: &mut usize,
     alloc: Global,
     jobs: &[JobView<'_>],
 ) -> Result<ArrayVec<Reply, RUN>, NoMemory>
@@ -114,8 +115,9 @@ fn replies_to(
     let mut replies = ArrayVec::new();
     tell_front(&mut replies, seen, alloc, jobs)?;
     let told = replies.len();
+    *asked = 0;
     if told < jobs.len() {
-        let others = replies_to_others(&mut rooms[told..], seen, alloc, &jobs[told..])?;
+        let others = replies_to_others(&mut rooms[told..], seen, asked, alloc, &jobs[told..])?;
         join(&mut replies, others);
     }
     Ok(replies)
@@ -135,6 +137,7 @@ fn join(replies: &mut ArrayVec<Reply, RUN>, others: ArrayVec<Reply, RUN>)
 fn replies_to_others(
     rooms: &mut [Vec<u8>],
     seen: &SeenTokens,
+    asked: &mut usize,
     alloc: Global,
     jobs: &[JobView<'_>],
 ) -> Result<ArrayVec<Reply, RUN>, NoMemory>
@@ -144,7 +147,8 @@ fn replies_to_others(
         replies.items ≡ map reply_to_job (map viewed jobs.now)) }
 {
     let sights = look_at_all(seen, alloc, jobs)?;
-    if count_asked(sights.as_slice()) < FEWEST {
+    *asked = count_asked(sights.as_slice());
+    if *asked < FEWEST {
         replies_one_by_one(rooms, seen, alloc, jobs, sights)
     } else {
         replies_side_by_side(rooms, seen, alloc, jobs, sights)
