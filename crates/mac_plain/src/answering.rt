@@ -22,8 +22,11 @@ use mac_wire::Reply;
 use std::alloc::Global;
 use std::thread::Threads;
 
-/// How many bytes of requests are worth several threads: fewer are answered before threads begin.
+/// How many bytes of requests are worth several threads. Fewer are answered before threads begin.
 const SHARED_MIN: usize = 65_536;
+
+/// How many threads answer together what a memory tells: for more there is too little to do.
+const TELLERS: usize = 2;
 
 /// What answering keeps from run to run: rooms for tokens, a memory of those that were seen, and a
 /// tally of what was answered.
@@ -34,8 +37,20 @@ pub struct Bench {
     pub tally: Tally,
 }
 
-/// Answers the requests, and gives each client the replies to its own. Where they are many, so many
-/// threads answer them together.
+impl Bench {
+    /// How many threads are worth what is like the last run, of so many. Without a memory all is
+    /// hashed.
+    fn worth(&self, threads: usize) -> usize {
+        if self.seen.is_none() || self.rooms.was_dear() {
+            threads
+        } else {
+            threads.min(TELLERS)
+        }
+    }
+}
+
+/// Answers the requests, and gives each client the replies to its own. Where they are many, several
+/// threads answer them together, so many at most. The first run shows how many are worth it.
 pub fn answer_requests<R: Threads + Sync, P: Port>(
     rt: &R,
     threads: usize,
@@ -50,13 +65,47 @@ pub fn answer_requests<R: Threads + Sync, P: Port>(
     ensures { AreAnswered P.tells P.taken P.written (lent_current current.entry)
         (λ k. asked_of k arena.now requests.now) clients.old clients.new }
 {
-    if threads > 1 && arena.len() >= SHARED_MIN {
+    let first = if bench.seen.is_none() {
+        0
+    } else {
+        requests.len().min(RUN)
+    };
+    let (run, rest) = requests.split_at(first);
+    answer_runs(bench, alloc, current, arena, run, clients);
+    let threads = bench.worth(threads);
+    answer_rest(rt, threads, bench, alloc, current, arena, rest, clients);
+}
+
+/// The same of what is left, by so many threads where it is much.
+fn answer_rest<R: Threads + Sync, P: Port>(
+    rt: &R,
+    threads: usize,
+    bench: &mut Bench,
+    alloc: Global,
+    current: Current<'_>,
+    arena: &[u8],
+    requests: &[Request],
+    clients: &mut [Client<P>],
+)
+    requires { AreWithin (length arena.now) requests.now }
+    ensures { AreAnswered P.tells P.taken P.written (lent_current current.entry)
+        (λ k. asked_of k arena.now requests.now) clients.old clients.new }
+{
+    if threads > 1 && span(requests) >= SHARED_MIN {
         let shared = replies_from(rt, threads, bench, alloc, current, arena, requests, clients);
         if let Ok(replies) = shared {
             return hand_out(requests, replies.as_slice(), clients);
         }
     }
     answer_runs(bench, alloc, current, arena, requests, clients);
+}
+
+/// How many bytes the requests stand in.
+fn span(requests: &[Request]) -> usize {
+    match (requests.first(), requests.last()) {
+        (Some(first), Some(last)) => last.end.saturating_sub(first.start),
+        _ => 0,
+    }
 }
 
 /// The replies to the requests, each under the rights of its client, from so many threads.

@@ -1,0 +1,10 @@
+use Rattle.std.proofs.Common.{List, sym, subst}
+use Rattle.mac_board.specs.Noticed.{lent_current}
+use Rattle.mac_wire.specs.declared.reply.Reply.{Reply}
+use Rattle.mac_plain.specs.Requests.{AreReplies, jobs_at}
+use Rattle.mac_plain.proofs.answering.answer_rest.Goals as goal
+
+pub returns-in-Ok : goal.returns-in-Ok
+returns-in-Ok g c =
+    c.hand_out.ensures (lent_current c.args.current) c.args.arena.now
+    (subst (λ (l : List Reply). AreReplies (jobs_at (lent_current c.args.current) c.args.clients.now c.args.arena.now c.args.requests.now) l) (sym c.as_slice.ensures.value) c.in-Ok.ensures.replies)
