@@ -1,6 +1,9 @@
 -- Who has which desk, as berths are taken and left.
-use Rattle.std.proofs.Common.{◌≡◌, ◌≢◌, ℕ, zero, suc, ◌+◌, ◌<◌, ◌≤◌, ◌⊎◌, Bool, true, false, cond, ◌&&◌, ◌==◌, nat_le, nat_lt, List, [], ◌∷◌, length, Option, None, Some, slice_get, set, arith, ap, subst, sym, refl, ◌∙◌, length-set, le-leb, lt-ltb, leb-false, ltb-false, inl, inr, ⊎_elim}
+use Rattle.std.proofs.Common.{◌≡◌, ◌≢◌, ℕ, zero, suc, ◌+◌, ◌<◌, ◌≤◌, ◌⊎◌, true, false, cond, ◌&&◌, ◌==◌, nat_le, nat_lt, List, [], ◌∷◌, length, Option, None, Some, slice_get, set, arith, ap, sym, refl, ◌∙◌, length-set, le-leb, lt-ltb, inl, inr, ⊎_elim}
 use Rattle.std.proofs.lemmas.Bool.Decides.{nat_tests}
+use Rattle.std.proofs.lemmas.Option.{slice_get_within}
+use Rattle.mac_queue.specs.Pass.{Pass}
+use Rattle.mac_pool.specs.Pool.{at_home}
 use Rattle.mac_daemon.specs.Crew.{AreFree, EachBerth, IsFree, IsManned, count_at, count_in}
 
 module _ {A : Type 0} where
@@ -194,3 +197,42 @@ module _ {X Y : Type 0} (workers : ℕ) (f : X → ℕ) (passes : List (Option Y
       omega (arith, nobody, at, none))
       (side number (length passes)))
       (side number workers)
+
+-- no more passes are out than there are
+pub few_out : {X : Type 0} (workers : ℕ) (passes : List (Option X))
+    → ((number : ℕ) → number < workers → slice_get passes number ≡ Some None) → workers ≤ length passes
+few_out zero passes out = omega arith
+few_out (suc workers) passes out = let at = slice_get_within passes workers None (out workers (omega arith)) in omega (arith, at)
+
+-- where the passes of workers are out and all others at home, each is a worker's or at home
+all_told : {J : Type 0} (workers : ℕ) (slots : List (Option (Pass J))) → workers ≤ length slots
+    → ((n : ℕ) → n < workers → count_at (slice_get slots n) ≡ 0)
+    → ((n : ℕ) → workers ≤ n → n < length slots → count_at (slice_get slots n) ≡ 1)
+    → length (at_home slots) + workers ≡ length slots
+all_told zero [] fit out home = refl
+all_told (suc workers) [] fit out home = absurd (omega (arith, fit))
+all_told zero (None ∷ slots) fit out home = absurd (let e = home 0 (omega arith) (omega arith) in omega (arith, e))
+all_told zero (Some pass ∷ slots) fit out home =
+    let rest = all_told 0 slots (omega arith) (λ n below. absurd (omega (arith, below))) (λ n least below. home (suc n) (omega arith) (omega (arith, below))) in
+    omega (arith, rest)
+all_told (suc workers) (None ∷ slots) fit out home =
+    let rest = all_told workers slots (omega (arith, fit)) (λ n below. out (suc n) (omega (arith, below))) (λ n least below. home (suc n) (omega (arith, least)) (omega (arith, below))) in
+    omega (arith, rest)
+all_told (suc workers) (Some pass ∷ slots) fit out home = absurd (let e = out 0 (omega arith) in omega (arith, e))
+
+module _ {X J : Type 0} (workers : ℕ) (f : X → ℕ) (passes : List (Option (Pass J))) (berths : List (Option X)) where
+  -- once all berths are free, each pass is a worker's or at home
+  pub manned_home : (count : ℕ) → IsManned workers passes f berths → AreFree count berths → workers ≤ length passes
+      → length (at_home passes) + workers ≡ length passes
+  manned_home count manned free fit =
+      all_told workers passes fit
+      (λ n below.
+      let was = manned n in
+      let nobody = count_free f n berths free.1 in
+      let none = counted_below workers n (length passes) below in
+      omega (arith, was, nobody, none))
+      (λ n least below.
+      let was = manned n in
+      let nobody = count_free f n berths free.1 in
+      let one = counted_within workers n (length passes) least below in
+      omega (arith, was, nobody, one))

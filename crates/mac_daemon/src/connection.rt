@@ -1,6 +1,6 @@
 //! One wide connection, in threads of its own.
 ghost use Rattle.std.specs.Prelude.{◌≡◌, IfErr, IfOk, MatchOption};
-ghost use Rattle.mac_queue.specs.Pass.{IsSamePass};
+ghost use Rattle.mac_queue.specs.Desk.{IsSameDesk};
 ghost use Rattle.mac_daemon.specs.Parting.{GoesBack, HasParted, IsOver, WasServed};
 
 use crate::quay::Mooring;
@@ -81,8 +81,7 @@ pub struct AsServed {
 impl Promise<Left> for AsServed {
     ghost use Rattle.mac_daemon.specs.Parting.{HasParted};
 
-    ghost kept_by = { λ p left. HasParted p.badge p.session.value p.desk.value.putter
-        p.desk.value.taker left };
+    ghost kept_by = { λ p left. HasParted p.badge p.session.value p.desk.value left };
 }
 
 /// A connection that is served in a thread.
@@ -107,7 +106,7 @@ where
         connection.promise.session.value ≡ client.session) }
     ensures badge { IfOk result (λ connection. connection.promise.badge ≡ client.badge) }
     ensures mark { IfOk result (λ connection. connection.promise.mark ≡ mooring.mark) }
-    ensures back { IfErr result (λ back. IsSamePass desk.putter back.putter) }
+    ensures back { IfErr result (λ back. IsSameDesk desk back) }
 {
     let Ok((refusal, heard)) = refusal(alloc) else {
         return Err(desk);
@@ -119,7 +118,7 @@ where
         mark: mooring.mark,
     };
     let work = move || -> Left
-        ensures { HasParted client.badge client.session desk.putter desk.taker result }
+        ensures { HasParted client.badge client.session desk result }
     {
         let (own, client, mooring, keys) = (desk, client, mooring, keys);
         if heard.load(SeqCst) {
@@ -145,7 +144,7 @@ where
 
 /// What a connection leaves that was not served, since the system failed.
 fn stuck(client: Handover, desk: Desk<Macaroons>) -> Left
-    ensures { HasParted client.badge client.session desk.putter desk.taker result }
+    ensures { HasParted client.badge client.session desk result }
 {
     let badge = client.badge;
     let answered = client.session.answered;
@@ -171,7 +170,7 @@ fn serve_client<R: Threads + Wait + Clock + Sync>(
     desk: Desk<Macaroons>,
     mooring: &Mooring,
 ) -> Left
-    ensures { HasParted client.badge client.session desk.putter desk.taker result }
+    ensures { HasParted client.badge client.session desk result }
 {
     let Handover {
         port,
@@ -265,7 +264,7 @@ fn serve_stream<R: Threads + Wait + Clock + Sync>(
     mooring: &Mooring,
 ) -> (Option<ServeFault>, Served)
     ensures served { WasServed session desk.putter desk.taker result.0 result.1 }
-    ensures same_pass { IsSamePass desk.putter result.1.desk.putter }
+    ensures same_desk { IsSameDesk desk result.1.desk }
 {
     let mut outlook = TimedTables::new(keys, SystemMoments::new(rt));
     let mut source = ReaderSource::new(StayReader::begin(rt, stay, mooring));

@@ -1,7 +1,8 @@
 //! The pool of a daemon, and the wide connections that have its desks.
-ghost use Rattle.std.specs.Prelude.{◌≡◌, ◌<◌, ◌^◌, IfOk, IsFalse, IsTrue, MatchOption, length};
+ghost use Rattle.std.specs.Prelude.{◌≡◌, ◌≤◌, ◌<◌, ◌^◌, IfOk, IsFalse, IsTrue, MatchOption, length};
 ghost use Rattle.mac_daemon.specs.Crew.{AreFree, AreTaken, EachBerth, IsFree, IsManned, KeepsHome};
 ghost use Rattle.mac_daemon.specs.Parting.{HasLeft, HasTaken};
+ghost use Rattle.mac_pool.specs.Pool.{IsStopped};
 ghost use Rattle.mac_queue.specs.declared.queue.TheConstants.{PASSES};
 ghost use Rattle.mac_daemon.specs.declared.crew.TheConstants.{WIDE_MAX};
 
@@ -10,7 +11,7 @@ use crate::quay::{Mooring, Quay};
 use mac_board::Followers;
 use mac_decide::Macaroons;
 use mac_loop::Handover;
-use mac_pool::{NoGate, Pool, PoolFault};
+use mac_pool::{NoGate, Pool, PoolFault, Tally};
 use std::alloc::{AllocError, Global};
 use std::sync::{Arc, Wait};
 use std::thread::Threads;
@@ -30,6 +31,7 @@ pub struct Crew {
     ghost marked: { EachBerth berths.items (λ berth connection.
         connection.promise.mark ≡ 2 ^ berth) },
     ghost passes: { length pool.passes ≡ PASSES },
+    ghost few: { pool.workers ≤ PASSES },
     ghost manned: { IsManned pool.workers pool.passes
         (λ connection. connection.promise.desk.value.putter.number) berths.items },
 }
@@ -143,10 +145,16 @@ impl Crew {
         }
     }
 
-    /// Ends the workers once all berths are free. While a desk is lost the pool is dropped instead.
-    pub fn stop<R: Threads + Wait>(self, rt: &R) {
+    /// Ends the workers, and tells the books of their queue.
+    pub fn stop<R: Threads + Wait>(self, rt: &R) -> Tally
+        requires { AreFree WIDE_MAX self.berths.items }
+        ensures { IsStopped self.pool result }
+    {
         let Crew { pool, berths: _ } = self;
-        let _ = pool.stop(rt);
+        match pool.stop(rt) {
+            Ok(tally) => tally,
+            Err(_) => unreachable!(),
+        }
     }
 }
 

@@ -163,7 +163,7 @@ impl Fleet {
         for thread in threads {
             thread.join(rt);
         }
-        crew.stop(rt);
+        let _books = crew.stop(rt);
         let served = acceptor.join(rt)?;
         Ok(Day {
             served,

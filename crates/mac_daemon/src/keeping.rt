@@ -1,5 +1,6 @@
 //! The keeper: gives desks to connections that go wide, and takes both back.
 ghost use Rattle.std.specs.Prelude.{◌<◌};
+ghost use Rattle.mac_daemon.specs.Crew.{AreFree};
 ghost use Rattle.mac_daemon.specs.declared.crew.TheConstants.{WIDE_MAX};
 
 use crate::connection::Parting;
@@ -27,6 +28,7 @@ pub fn keep_desks<R>(
 )
 where
     R: Threads + Wait + Clock + Sync + Copy + Send + 'static,
+    ensures { AreFree WIDE_MAX crew.new.berths.items }
 {
     // The berth whose connection hasn't got both its threads yet, as its bit.
     let mut starting: u64 = 0;
@@ -40,6 +42,7 @@ where
         }
         quay.await_work(rt, has_room);
     }
+    unreachable!()
 }
 
 /// Sees off the connections of these berths, a bit for each.

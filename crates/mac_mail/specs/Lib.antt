@@ -2,3 +2,4 @@ pub mod Fault
 pub mod History
 pub mod Mail
 pub mod Post
+pub mod Taking

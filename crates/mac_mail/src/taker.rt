@@ -1,8 +1,9 @@
 //! A taker: the one who takes a mailbox's posts, and sleeps while there is none.
 
-ghost use Rattle.std.specs.Prelude.{◌≡◌, [], ◌∷◌, ◌++◌, IfOk, IfSome, IfNone};
+ghost use Rattle.std.specs.Prelude.{◌≡◌, IfOk, IfSome, IfNone};
 ghost use Rattle.std.specs.Arc.{arc_value};
 ghost use Rattle.mac_mail.specs.Post.{entry_of};
+ghost use Rattle.mac_mail.specs.Taking.{fresh_taking, with_taken};
 
 use crate::bell::Notice;
 use crate::mailbox::{MailPass, Mailbox};
@@ -12,8 +13,8 @@ use std::alloc::Global;
 use std::marker::Model;
 use std::sync::{Arc, Wait};
 
-/// Takes the posts of a mailbox. Contracts see those that it has taken, each as its place with its
-/// answer's job, or with none.
+/// Takes the posts of a mailbox. Contracts see which mailbox that is, and the posts that it has
+/// taken, each as its place with its answer's job, or with none.
 #[derive(Drop)]
 pub struct Taker<S: Service> {
     mail: Arc<Mailbox<S>, Global>,
@@ -21,16 +22,16 @@ pub struct Taker<S: Service> {
 }
 
 impl<S: Service> Model for Taker<S> {
-    ghost use Rattle.std.specs.Prelude.{◌≡◌, List, Option, ℕ, []};
+    ghost use Rattle.std.specs.Prelude.{◌≡◌, []};
     ghost use Rattle.std.specs.Arc.{arc_value};
-    ghost use Rattle.std.specs.Coded.{coded×, coded_list, coded_option, coded_ℕ};
     ghost use Rattle.crossbeam_queue.specs.Passes.{view as what};
+    ghost use Rattle.mac_mail.specs.Taking.{Taking, taking_code};
 
-    ghost Value = { List (ℕ × Option S.Job) };
+    ghost Value = { Taking S.Job };
 
-    ghost coded = { coded_list (coded× coded_ℕ (coded_option S.Job.code)) };
+    ghost coded = { taking_code S.Job.code };
 
-    ghost view = { λ t. (what t.pass).taken };
+    ghost view = { λ t. record { mail = arc_value t.mail; taken = (what t.pass).taken } };
 
     ghost invariant = { λ t. (t.pass.table_id ≡ (arc_value t.mail).posts) × (t.pass.me.1 ≡ []) };
 }
@@ -39,7 +40,7 @@ impl<S: Service> Taker<S> {
     /// A taker that has taken nothing, with its mailbox, open and empty. Takes all the memory that
     /// they ever take.
     pub fn new(alloc: Global) -> Result<(Taker<S>, Arc<Mailbox<S>, Global>), NoMemory>
-        ensures { IfOk result (λ t. t.0 ≡ []) }
+        ensures { IfOk result (λ t. t.0 ≡ fresh_taking (arc_value t.1)) }
     {
         let (mail, pass) = Mailbox::new(alloc)?;
         let mail = Arc::new(alloc, mail)?;
@@ -49,7 +50,7 @@ impl<S: Service> Taker<S> {
 
     /// Takes the oldest post, if there is one.
     pub fn take<R: Wait>(&mut self, rt: &R) -> Option<Post<S>>
-        ensures taken { IfSome result (λ post. self.new ≡ self.old ++ entry_of post ∷ []) }
+        ensures taken { IfSome result (λ post. self.new ≡ with_taken self.old (entry_of post)) }
         ensures same { IfNone result (self.new ≡ self.old) }
     {
         self.mail.take_as(rt, &mut self.pass)
@@ -58,7 +59,7 @@ impl<S: Service> Taker<S> {
     /// Takes the oldest post, and sleeps while there is none. `None` once the mailbox is closed and
     /// empty. Who waits for something else too announces its wait, looks and sleeps by itself.
     pub fn wait<R: Wait>(&mut self, rt: &R) -> Option<Post<S>>
-        ensures taken { IfSome result (λ post. self.new ≡ self.old ++ entry_of post ∷ []) }
+        ensures taken { IfSome result (λ post. self.new ≡ with_taken self.old (entry_of post)) }
         ensures same { IfNone result (self.new ≡ self.old) }
     {
         for _ in rt.forever() {

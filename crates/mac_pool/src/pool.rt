@@ -4,6 +4,8 @@ ghost use Rattle.std.specs.Prelude.{◌≡◌, ◌≢◌, ◌+◌, ◌≤◌, �
 ghost use Rattle.mac_pool.specs.Pool.{IsStarted, IsStopped, IsFinished, IsGiven, IsHome, IsBrought, AreOut, AreIdle, at_home, with_home};
 ghost use Rattle.std.specs.Arc.{arc_value};
 ghost use Rattle.std.specs.Vec.{vec_capacity};
+ghost use Rattle.mac_mail.specs.Taking.{fresh_taking};
+ghost use Rattle.mac_queue.specs.Putting.{pass_of};
 ghost use Rattle.mac_worker.specs.Working.{HasWorked};
 
 use crate::fault::{DeskFault, HandFault, PoolFault};
@@ -168,8 +170,9 @@ impl<S: Service, G: Gate> Pool<S, G> {
 
     /// A desk, with a fresh mailbox. Takes all the memory that the desk ever takes.
     pub fn desk(&mut self, alloc: Global) -> Result<Desk<S>, DeskFault>
-        ensures desk { IfOk result (λ desk. IsGiven self.old desk.putter self.new
-            × (WORKERS_MAX ≤ desk.putter.number) × (desk.taker ≡ [])) }
+        ensures desk { IfOk result (λ desk. IsGiven self.old (pass_of desk.putter) self.new
+            × (WORKERS_MAX ≤ desk.putter.number)) }
+        ensures fresh { IfOk result (λ desk. desk.taker ≡ fresh_taking desk.putter.mail) }
         ensures same { OnErr result (self.new ≡ self.old) }
         ensures out { (result ≡ Err DeskFault.AllOut) ↔ AreOut WORKERS_MAX PASSES self.old.passes }
     {
@@ -191,7 +194,7 @@ impl<S: Service, G: Gate> Pool<S, G> {
     /// Takes a desk back.
     pub fn home(&mut self, desk: Desk<S>)
         requires { desk.putter.queue ≡ self.old.queue }
-        ensures { self.new ≡ with_home self.old desk.putter }
+        ensures { self.new ≡ with_home self.old (pass_of desk.putter) }
     {
         self.take_home(desk.into_pass());
     }

@@ -10,7 +10,7 @@ use Rattle.mac_queue.specs.declared.queue.account.Account.{Account}
 use Rattle.mac_queue.specs.declared.queue.TheConstants.{PASSES, PUTS_MAX}
 use Rattle.mac_queue.specs.declared.ticket.Ticket.{Ticket}
 use Rattle.mac_mail.specs.Mail.{Mail}
-use Rattle.mac_queue.specs.Balance.{account, entry_of, claim_of, claimed_weight, IsWithin, IsBalanced, IsAll}
+use Rattle.mac_queue.specs.Balance.{account, entry_of, IsWithin, IsBalanced, IsAll}
 use Rattle.mac_queue.proofs.Totals.{total_set, part_of_total, total_within, total_nothing, ones}
 
 pub empty_list : {A : Type 0} (xs : List A) → length xs ≤ 0 → xs ≡ []
@@ -21,8 +21,11 @@ module _ {Job : Type 0} where
   abbrev parts_of : Account Job Mail → ℕ
   parts_of a = a.parts
 
-  abbrev put_weight : (ℕ × Job → ℕ) → Account Job Mail → ℕ
+  abbrev put_weight : (Mail × (ℕ × Job) → ℕ) → Account Job Mail → ℕ
   put_weight h a = sum_by h a.put
+
+  abbrev claimed_weight : (Mail × (ℕ × Job) → ℕ) → Account Job Mail → ℕ
+  claimed_weight h a = sum_by h a.claimed
 
   abbrev AllWithin : List (Account Job Mail) → Type 0
   AllWithin accounts = (seat : ℕ) (a : Account Job Mail) → get_elem? accounts seat ≡ some a → IsWithin a
@@ -47,7 +50,7 @@ module _ {Job : Type 0} where
       omega arith
 
 module _ {S Job Reply : Type 0} where
-  abbrev waiting_weight : (ℕ × Job → ℕ) → Ticket S Job Reply → ℕ
+  abbrev waiting_weight : (Mail × (ℕ × Job) → ℕ) → Ticket S Job Reply → ℕ
   waiting_weight h t = h (entry_of t)
 
   pub begins : IsBalanced {S = S} {Job = Job} {Reply = Reply} [] (account PASSES [] [] ∷ [])
@@ -87,9 +90,9 @@ module _ {S Job Reply : Type 0} where
       omega arith
 
   pub claims : (seat : ℕ) (a : Account Job Mail) → a.parts ≡ 1
-      → Pops (IsBalanced {S = S} {Job = Job} {Reply = Reply}) seat a (λ t b. (b ≡ account a.parts a.put (a.claimed ++ claim_of t ∷ [])) × (length b.claimed < 2 ^ 62))
+      → Pops (IsBalanced {S = S} {Job = Job} {Reply = Reply}) seat a (λ t b. (b ≡ account a.parts a.put (a.claimed ++ entry_of t ∷ [])) × (length b.claimed < 2 ^ 62))
   claims seat a one t tickets accounts was at =
-      let b : Account Job Mail = account a.parts a.put (a.claimed ++ claim_of t ∷ []) in
+      let b : Account Job Mail = account a.parts a.put (a.claimed ++ entry_of t ∷ []) in
       let mine = was.within seat a at in
       let old = few (t ∷ tickets) accounts seat a was at in (
         b,
@@ -100,9 +103,9 @@ module _ {S Job Reply : Type 0} where
               let s = total_set (put_weight h) accounts seat a b at in
               let c = total_set (claimed_weight h) accounts seat a b at in
               let w = was.weights h in
-              omega (arith, sum_by_push (λ (c : Mail × (ℕ × Job)). h c.1) a.claimed (claim_of t), sum_by-cons (waiting_weight h) t tickets);
+              omega (arith, sum_by_push h a.claimed (entry_of t), sum_by-cons (waiting_weight h) t tickets);
         },
-        (refl, omega (arith, length-append a.claimed (claim_of t ∷ []))),
+        (refl, omega (arith, length-append a.claimed (entry_of t ∷ []))),
       )
 
   pub cuts : (seat : ℕ) (a : Account Job Mail) → 0 < a.parts → a.put ≡ [] → a.claimed ≡ []
@@ -118,7 +121,7 @@ module _ {S Job Reply : Type 0} where
             let s = total_set (put_weight h) accounts seat a left at in
             let c = total_set (claimed_weight h) accounts seat a left at in
             let w = was.weights h in
-            omega (arith, sum_by_push (put_weight h) rest right, sum_by_push (claimed_weight h) rest right, ap (sum_by h) nothing, ap (sum_by (λ (c : Mail × (ℕ × Job)). h c.1)) none);
+            omega (arith, sum_by_push (put_weight h) rest right, sum_by_push (claimed_weight h) rest right, ap (sum_by h) nothing, ap (sum_by h) none);
       }
 
   pub merges : (seat : ℕ) (a : Account Job Mail) (other : ℕ) (b : Account Job Mail)
@@ -142,7 +145,7 @@ module _ {S Job Reply : Type 0} where
             let s' = total_set (put_weight h) rest other b spent at' in
             let c' = total_set (claimed_weight h) rest other b spent at' in
             let w = was.weights h in
-            omega (arith, sum_by-append h a.put b.put, sum_by-append (λ (c : Mail × (ℕ × Job)). h c.1) a.claimed b.claimed);
+            omega (arith, sum_by-append h a.put b.put, sum_by-append h a.claimed b.claimed);
       }
 
   pub learns : (seat : ℕ) (a : Account Job Mail) → a.parts ≡ PASSES
@@ -152,5 +155,5 @@ module _ {S Job Reply : Type 0} where
       let p = was.parts in
       let w = was.weights weight in
       let put = whole accounts seat a (put_weight weight) was.within at (omega arith) (λ v in' none. ap (sum_by weight) (empty_list v.put (let q = in'.0 in let m : v.parts * PUTS_MAX ≡ 0 = ap (λ (k : ℕ). k * PUTS_MAX) none in omega arith))) refl in
-      let claimed = whole accounts seat a (claimed_weight weight) was.within at (omega arith) (λ v in' none. ap (sum_by (λ (c : Mail × (ℕ × Job)). weight c.1)) (in'.1 none)) refl in
+      let claimed = whole accounts seat a (claimed_weight weight) was.within at (omega arith) (λ v in' none. ap (sum_by weight) (in'.1 none)) refl in
       omega arith

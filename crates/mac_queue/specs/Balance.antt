@@ -10,22 +10,14 @@ use Rattle.mac_queue.specs.declared.queue.account.Account.{Account}
 use Rattle.mac_queue.specs.declared.queue.TheConstants.{PASSES, PUTS_MAX}
 use Rattle.mac_queue.specs.declared.ticket.Ticket.{Ticket}
 
--- a ticket as its place and its job
-abbrev pub entry_of : {S Job Reply : Type 0} → Ticket S Job Reply → ℕ × Job
-entry_of ticket = (ticket.place, ticket.job)
-
--- the same with the mailbox for its answer
-abbrev pub claim_of : {S Job Reply : Type 0} → Ticket S Job Reply → Mail × (ℕ × Job)
-claim_of ticket = (arc_value ticket.mail, entry_of ticket)
+-- a ticket as its place and its job, with the mailbox for its answer
+abbrev pub entry_of : {S Job Reply : Type 0} → Ticket S Job Reply → Mail × (ℕ × Job)
+entry_of ticket = (arc_value ticket.mail, (ticket.place, ticket.job))
 
 module _ {Job : Type 0} where
-  abbrev pub account : {Mail : Type 0} → ℕ → List (ℕ × Job) → List (Mail × (ℕ × Job))
+  abbrev pub account : {Mail : Type 0} → ℕ → List (Mail × (ℕ × Job)) → List (Mail × (ℕ × Job))
       → Account Job Mail
   account parts put claimed = record { parts = parts; put = put; claimed = claimed }
-
-  -- what an account has claimed weighs as much as its entries do
-  abbrev pub claimed_weight : (ℕ × Job → ℕ) → Account Job Mail → ℕ
-  claimed_weight weight a = sum_by (λ (claim : Mail × (ℕ × Job)). weight claim.1) a.claimed
 
   -- no pass has put more than its parts allow, and one without a part has claimed nothing
   abbrev pub IsWithin : Account Job Mail → Type 0
@@ -37,16 +29,16 @@ pub record IsBalanced {S Job Reply : Type 0} (tickets : List (Ticket S Job Reply
     (accounts : List (Account Job Mail)) : Type 0 where
   pub parts : sum_by (λ (a : Account Job Mail). a.parts) accounts ≡ PASSES
   pub within : (seat : ℕ) (a : Account Job Mail) → get_elem? accounts seat ≡ some a → IsWithin a
-  pub weights : (weight : ℕ × Job → ℕ) →
+  pub weights : (weight : Mail × (ℕ × Job) → ℕ) →
       sum_by (λ (a : Account Job Mail). sum_by weight a.put) accounts
-      ≡ sum_by (λ (a : Account Job Mail). claimed_weight weight a) accounts
+      ≡ sum_by (λ (a : Account Job Mail). sum_by weight a.claimed) accounts
       + sum_by (λ (ticket : Ticket S Job Reply). weight (entry_of ticket)) tickets
 
 -- however entries are weighed, what this pass put weighs as much as what it claimed and what the
 -- array holds
 abbrev pub IsAll : {S Job Reply : Type 0} → Account Job Mail → List (Ticket S Job Reply) → Type 0
 IsAll {S} {Job} {Reply} a tickets =
-    (weight : ℕ × Job → ℕ) →
+    (weight : Mail × (ℕ × Job) → ℕ) →
     sum_by weight a.put
-    ≡ claimed_weight weight a
+    ≡ sum_by weight a.claimed
     + sum_by (λ (ticket : Ticket S Job Reply). weight (entry_of ticket)) tickets

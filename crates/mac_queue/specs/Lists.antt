@@ -1,4 +1,4 @@
--- Lists of entries, each a place and the job there, compared without their order.
+-- Lists of entries, compared without their order.
 use Rattle.std.specs.Prelude.{◌≡◌, ℕ, ◌+◌, List}
 use Rattle.std.specs.List.{sum_by}
 

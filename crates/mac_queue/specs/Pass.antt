@@ -5,20 +5,21 @@ use Rattle.std.specs.Coded.{Coded, code_by, coded×, coded_list, coded_ℕ}
 use Rattle.atomic_table.specs.Seated.{TableId, table_id_coded}
 use Rattle.mac_mail.specs.Mail.{Mail, mail_code}
 
--- a pass: its queue, its seat there, its number, the entries that it put, each a place and the job
--- there, and those that it claimed, each with the mailbox for its answer
+-- a pass: its queue, its seat there, its number, the entries that it put, and those that it claimed,
+-- each a place and the job there with the mailbox for its answer
 pub record Pass (Job : Type 0) : Type 0 where
   pub queue : TableId
   pub seat : ℕ
   pub number : ℕ
-  pub put : List (ℕ × Job)
+  pub put : List (Mail × (ℕ × Job))
   pub claimed : List (Mail × (ℕ × Job))
 
 abbrev pub pass_code : {Job : Type 0} → Coded Job → Coded (Pass Job)
 pass_code {Job} job =
-    code_by (TableId × (ℕ × (ℕ × (List (ℕ × Job) × List (Mail × (ℕ × Job))))))
+    code_by (TableId × (ℕ × (ℕ × (List (Mail × (ℕ × Job)) × List (Mail × (ℕ × Job))))))
     (coded× table_id_coded (coded× coded_ℕ (coded× coded_ℕ
-    (coded× (coded_list (coded× coded_ℕ job)) (coded_list (coded× mail_code (coded× coded_ℕ job)))))))
+    (coded× (coded_list (coded× mail_code (coded× coded_ℕ job)))
+    (coded_list (coded× mail_code (coded× coded_ℕ job)))))))
     (λ p. (p.queue, (p.seat, (p.number, (p.put, p.claimed)))))
     (λ p. record {
       queue = p.0;
@@ -31,12 +32,12 @@ pass_code {Job} job =
 
 module _ {Job : Type 0} where
   -- the pass once it has put one more entry
-  abbrev pub with_put : Pass Job → ℕ × Job → Pass Job
+  abbrev pub with_put : Pass Job → Mail × (ℕ × Job) → Pass Job
   with_put pass entry = record pass { put = pass.put ++ entry ∷ [] }
 
   -- the pass once it has claimed one more entry
   abbrev pub with_claimed : Pass Job → Mail × (ℕ × Job) → Pass Job
-  with_claimed pass claim = record pass { claimed = pass.claimed ++ claim ∷ [] }
+  with_claimed pass entry = record pass { claimed = pass.claimed ++ entry ∷ [] }
 
   -- one and the same pass, whatever it has put or claimed in between
   abbrev pub IsSamePass : Pass Job → Pass Job → Type 0
@@ -44,7 +45,7 @@ module _ {Job : Type 0} where
       (after.queue ≡ before.queue) × (after.seat ≡ before.seat) × (after.number ≡ before.number)
 
   -- the entries that the passes put, and those that they claimed, one pass after another
-  abbrev pub all_put : List (Pass Job) → List (ℕ × Job)
+  abbrev pub all_put : List (Pass Job) → List (Mail × (ℕ × Job))
   all_put passes = flat_map (λ (p : Pass Job). p.put) passes
 
   abbrev pub all_claimed : List (Pass Job) → List (Mail × (ℕ × Job))

@@ -1,8 +1,9 @@
 //! A desk: one connection's place at a pool, with an end for each of its two threads.
 
-ghost use Rattle.std.specs.Prelude.{◌≡◌, [], length, IfOk, IfErr, OnOk, OnErr};
+ghost use Rattle.std.specs.Prelude.{◌≡◌, length, IfOk, IfErr, OnOk, OnErr};
 ghost use Rattle.std.specs.Arc.{arc_value};
-ghost use Rattle.mac_queue.specs.Pass.{with_put};
+ghost use Rattle.mac_mail.specs.Taking.{fresh_taking};
+ghost use Rattle.mac_queue.specs.Putting.{pass_of, putting_of, with_put};
 
 use crate::queue::{PUTS_MAX, Queue, QueuePass};
 use crate::ticket::Ticket;
@@ -21,7 +22,8 @@ pub struct Desk<S: Service> {
     pub taker: Taker<S>,
 }
 
-/// Puts jobs into the queue, for posts to its desk. Contracts see its pass.
+/// Puts jobs into the queue, for posts to its desk. Contracts see its pass, and the mailbox that
+/// the posts come to.
 #[derive(Drop)]
 pub struct Putter<S: Service> {
     queue: Arc<Queue<S>, Global>,
@@ -32,13 +34,13 @@ pub struct Putter<S: Service> {
 impl<S: Service> Model for Putter<S> {
     ghost use Rattle.std.specs.Prelude.{◌≡◌};
     ghost use Rattle.std.specs.Arc.{arc_value};
-    ghost use Rattle.mac_queue.specs.Pass.{Pass, pass_code};
+    ghost use Rattle.mac_queue.specs.Putting.{Putting, putting_code, putting_of};
 
-    ghost Value = { Pass S.Job };
+    ghost Value = { Putting S.Job };
 
-    ghost coded = { pass_code S.Job.code };
+    ghost coded = { putting_code S.Job.code };
 
-    ghost view = { λ p. p.pass };
+    ghost view = { λ p. putting_of p.pass (arc_value p.mail) };
 
     ghost invariant = { λ p. p.pass.queue ≡ (arc_value p.queue).tickets };
 }
@@ -52,7 +54,8 @@ impl<S: Service> Desk<S> {
         pass: QueuePass<S>,
     ) -> Result<Desk<S>, QueuePass<S>>
         requires { pass.queue ≡ (arc_value queue).tickets }
-        ensures desk { IfOk result (λ desk. (desk.putter ≡ pass) × (desk.taker ≡ [])) }
+        ensures desk { IfOk result (λ desk. desk.putter ≡ putting_of pass desk.putter.mail) }
+        ensures fresh { IfOk result (λ desk. desk.taker ≡ fresh_taking desk.putter.mail) }
         ensures back { IfErr result (λ back. back ≡ pass) }
     {
         let Ok((taker, mail)) = Taker::new(alloc) else {
@@ -65,7 +68,7 @@ impl<S: Service> Desk<S> {
     /// The pass of the desk, which ends with it: its mailbox is closed, so that no worker waits for
     /// room there.
     pub fn into_pass(self) -> QueuePass<S>
-        ensures { result ≡ self.putter }
+        ensures { result ≡ pass_of self.putter }
     {
         let Desk { putter, taker: _ } = self;
         let Putter {

@@ -3,7 +3,7 @@ use Rattle.std.proofs.Common.{◌≡◌, inl, inr, ℕ, ◌+◌, List, [], ◌++
 use Rattle.std.specs.Prelude.{Option, Some, None, IfSome, ◌⊎◌}
 use Rattle.std.proofs.lemmas.List.{take-append-drop, length-append, length-map, nil_from_length}
 use Rattle.std.proofs.lemmas.List.Concat.{flat_map-append}
-use Rattle.mac_queue.specs.Pass.{Pass}
+use Rattle.mac_queue.specs.Putting.{Putting}
 use Rattle.mac_wire.specs.declared.arrival.Arrival.{Arrival}
 use Rattle.mac_wire.specs.declared.reply.Reply.{Reply}
 use Rattle.mac_wire.specs.declared.session.Session.{Session}
@@ -60,35 +60,35 @@ some-begins v place readings output served s =
       ap (text_from v place) (sym (take-append-drop served.sent all)) ∙ from-split v place front back ∙ ap (λ (l : List ℕ). l ++ text_from v (place + length front) back) (sym s.output_is),
     )
 
-all-begins : (v : Version) (place : ℕ) (readings : Readings) (unread : List Arrival) (pass : Pass Job) (output left : List ℕ) (served : Served) → SentAll v place readings unread pass output left served
+all-begins : (v : Version) (place : ℕ) (readings : Readings) (unread : List Arrival) (putter : Putting Job) (output left : List ℕ) (served : Served) → SentAll v place readings unread putter output left served
     → (rest : List ℕ) × (text_from v place (answers readings) ≡ output ++ rest)
-all-begins v place readings unread pass output left served s = ([], sym s.output_is ∙ sym (append-nil output))
+all-begins v place readings unread putter output left served s = ([], sym s.output_is ∙ sym (append-nil output))
 
-row-begins : (a : Arrivals) (place : ℕ) (readings : Readings) (unread : List Arrival) (pass : Pass Job) (output left : List ℕ) (why : Option ServeFault) (served : Served)
-    → Sent a place readings unread pass output left why served → (rest : List ℕ) × (text_from a.version place (answers readings) ≡ output ++ rest)
-row-begins a place readings unread pass output left None served row = all-begins a.version place readings unread pass output left served row.0
-row-begins a place readings unread pass output left (Some fault.Torn) served row = all-begins a.version place readings unread pass output left served row.0
-row-begins a place readings unread pass output left (Some fault.Read) served row = all-begins a.version place readings unread pass output left served row.0
-row-begins a place readings unread pass output left (Some fault.Write) served row =
+row-begins : (a : Arrivals) (place : ℕ) (readings : Readings) (unread : List Arrival) (putter : Putting Job) (output left : List ℕ) (why : Option ServeFault) (served : Served)
+    → Sent a place readings unread putter output left why served → (rest : List ℕ) × (text_from a.version place (answers readings) ≡ output ++ rest)
+row-begins a place readings unread putter output left None served row = all-begins a.version place readings unread putter output left served row.0
+row-begins a place readings unread putter output left (Some fault.Torn) served row = all-begins a.version place readings unread putter output left served row.0
+row-begins a place readings unread putter output left (Some fault.Read) served row = all-begins a.version place readings unread putter output left served row.0
+row-begins a place readings unread putter output left (Some fault.Write) served row =
     let text : List ℕ = text_from a.version place (answers readings) in
     (drop served.written text, sym (take-append-drop served.written text) ∙ ap (λ (l : List ℕ). l ++ drop served.written text) (sym row.output_is))
-row-begins a place readings unread pass output left (Some fault.NoMemory) served row = some-begins a.version place readings output served row
-row-begins a place readings unread pass output left (Some fault.Stranger) served row = some-begins a.version place readings output served row
-row-begins a place readings unread pass output left (Some fault.Exhausted) served row = some-begins a.version place readings output served row
+row-begins a place readings unread putter output left (Some fault.NoMemory) served row = some-begins a.version place readings output served row
+row-begins a place readings unread putter output left (Some fault.Stranger) served row = some-begins a.version place readings output served row
+row-begins a place readings unread putter output left (Some fault.Exhausted) served row = some-begins a.version place readings output served row
 
 abbrev Whole : Option ServeFault → Type 0
 Whole why = (why ≡ None) ⊎ ((why ≡ Some fault.Torn) ⊎ (why ≡ Some fault.Read))
 
-row-all : (a : Arrivals) (place : ℕ) (readings : Readings) (unread : List Arrival) (pass : Pass Job) (output left : List ℕ) (why : Option ServeFault) (served : Served)
-    → Sent a place readings unread pass output left why served → Whole why → SentAll a.version place readings unread pass output left served
-row-all a place readings unread pass output left why served row (inl is) =
-    let at_none : Sent a place readings unread pass output left None served = subst (λ (w : Option ServeFault). Sent a place readings unread pass output left w served) is row in
+row-all : (a : Arrivals) (place : ℕ) (readings : Readings) (unread : List Arrival) (putter : Putting Job) (output left : List ℕ) (why : Option ServeFault) (served : Served)
+    → Sent a place readings unread putter output left why served → Whole why → SentAll a.version place readings unread putter output left served
+row-all a place readings unread putter output left why served row (inl is) =
+    let at_none : Sent a place readings unread putter output left None served = subst (λ (w : Option ServeFault). Sent a place readings unread putter output left w served) is row in
     at_none.0
-row-all a place readings unread pass output left why served row (inr (inl is)) =
-    let at_torn : Sent a place readings unread pass output left (Some fault.Torn) served = subst (λ (w : Option ServeFault). Sent a place readings unread pass output left w served) is row in
+row-all a place readings unread putter output left why served row (inr (inl is)) =
+    let at_torn : Sent a place readings unread putter output left (Some fault.Torn) served = subst (λ (w : Option ServeFault). Sent a place readings unread putter output left w served) is row in
     at_torn.0
-row-all a place readings unread pass output left why served row (inr (inr is)) =
-    let at_read : Sent a place readings unread pass output left (Some fault.Read) served = subst (λ (w : Option ServeFault). Sent a place readings unread pass output left w served) is row in
+row-all a place readings unread putter output left why served row (inr (inr is)) =
+    let at_read : Sent a place readings unread putter output left (Some fault.Read) served = subst (λ (w : Option ServeFault). Sent a place readings unread putter output left w served) is row in
     at_read.0
 
 -- lists that are put together otherwise
@@ -124,7 +124,7 @@ abbrev answer_to_reading : Terms × Arrival → Reply
 answer_to_reading r = answer_of r.0 r.1
 
 pub serving-joins : ServingJoins
-serving-joins rights tells_in tells_out tells known known' session read written arrived replies given given' wrote wrote' pass taken why served s h =
+serving-joins rights tells_in tells_out tells known known' session read written arrived replies given given' wrote wrote' putter taker why served s h =
     let stream : List ℕ = read ++ h.stream in
     let v : Version = (arrivals_of stream).version in
     let more : List Reply = answers h.readings in
@@ -133,14 +133,14 @@ serving-joins rights tells_in tells_out tells known known' session read written 
     text-split v replies more session.answered s.counted
     ∙ ap (λ (l : List ℕ). l ++ text) (text-before session.version read session.carried.items written session.unsent h.stream arrived replies s.came s.went s.each
     ∙ ap (λ (l : List ℕ). written ++ l) h.parts) in
-    let sent : Whole why → SentAll v session.answered h.readings h.unread pass h.output h.left served = λ told.
-    row-all (arrivals_of stream) session.answered h.readings h.unread pass h.output h.left why served h.sent told in
+    let sent : Whole why → SentAll v session.answered h.readings h.unread putter h.output h.left served = λ told.
+    row-all (arrivals_of stream) session.answered h.readings h.unread putter h.output h.left why served h.sent told in
     let all : Whole why → written ++ (h.ahead ++ h.output) ≡ reply_text v (replies ++ more) = λ told.
     let row = sent told in
     sym (whole ∙ ap (λ (l : List ℕ). (written ++ (h.ahead ++ l)) ++ text) row.none_left ∙ ap (λ (l : List ℕ). (written ++ l) ++ text) (append-nil h.ahead)
     ∙ append_assoc written h.ahead text ∙ ap (λ (l : List ℕ). written ++ (h.ahead ++ l)) (sym row.output_is)) in
     record {
-      begins = begins_by h.ahead h.left h.output text (reply_text v (replies ++ more)) h.behind whole (row-begins (arrivals_of stream) session.answered h.readings h.unread pass h.output h.left why served h.sent);
+      begins = begins_by h.ahead h.left h.output text (reply_text v (replies ++ more)) h.behind whole (row-begins (arrivals_of stream) session.answered h.readings h.unread putter h.output h.left why served h.sent);
       all = λ told. ((sent told).none_unread, all told);
       onward = onward-stands served.session stream (written ++ (h.ahead ++ h.output)) (arrived ++ read_of h.readings) (replies ++ more) (session.answered + length h.readings) why
           (λ is. all (inr (inr is))) (omega (arith, s.each, length-append replies more, length-append arrived (read_of h.readings), length-map h.readings answer_to_reading, length-map h.readings (λ (r : Terms × Arrival). r.1)))

@@ -7,7 +7,8 @@ use Rattle.std.proofs.Math.Seq.{take-append-add, take-length}
 use Rattle.std.proofs.lemmas.List.{take-append-le}
 use Rattle.std.proofs.lemmas.List.{map-append}
 use Rattle.mac_ring.specs.Ring.{admitted, IsSameIntake}
-use Rattle.mac_queue.specs.Pass.{Pass, IsSamePass, with_put}
+use Rattle.mac_mail.specs.Mail.{Mail}
+use Rattle.mac_queue.specs.Putting.{Putting, IsSamePutter, with_put}
 use Rattle.mac_board.specs.Noticed.{Current, IsCurrent, Noticed, Notices}
 use Rattle.mac_wire.specs.declared.arrival.Arrival.{Arrival}
 use Rattle.mac_wire.specs.declared.arrival.Ending.{Ending}
@@ -26,12 +27,12 @@ use Rattle.mac_serve.specs.declared.incoming.InboundFault.TheVariants as fault
 use Rattle.mac_serve.specs.declared.inbound.Inbound.{Inbound}
 use Rattle.mac_serve.specs.Receiving.{Gave, IsSameHalf, HasTold, IsTold, Past, IsPast, Reads, Readings, TakesUnder, terms_of, read_of, jobs_of, placed, IsBehind, TakesIn, TakesSome, Receives, ReceivesUnder, HasRun, GoesOn, Continues, Ran}
 
-placed-append : (place : ℕ) (jobs more : List Job) → placed place (jobs ++ more) ≡ placed place jobs ++ placed (place + length jobs) more
+placed-append : (mail : Mail) (place : ℕ) (jobs more : List Job) → placed mail place (jobs ++ more) ≡ placed mail place jobs ++ placed mail (place + length jobs) more
 unfolding placed
-placed-append place [] more = ap (λ (n : ℕ). placed n more) (omega arith)
-placed-append place (job ∷ jobs) more =
-    ap (λ (l : List (ℕ × Job)). (place, job) ∷ l) (placed-append (place + 1) jobs more
-    ∙ ap (λ (n : ℕ). placed (place + 1) jobs ++ placed n more) (omega arith))
+placed-append mail place [] more = ap (λ (n : ℕ). placed mail n more) (omega arith)
+placed-append mail place (job ∷ jobs) more =
+    ap (λ (l : List (Mail × (ℕ × Job))). (mail, (place, job)) ∷ l) (placed-append mail (place + 1) jobs more
+    ∙ ap (λ (n : ℕ). placed mail (place + 1) jobs ++ placed mail n more) (omega arith))
 
 -- the intake of one ring
 same-intake : (a b c : Inbound) → IsSameIntake a.ring b.ring → IsSameIntake b.ring c.ring → IsSameIntake a.ring c.ring
@@ -43,17 +44,18 @@ took-nothing a = record { same = ((refl, refl, refl, refl), refl); admitted_is =
 
 -- what is put behind these jobs stands behind them
 put-more : (jobs more : List Job) (a b : Inbound) → TakesIn jobs a b
-    → record b.putter { put = b.putter.put ++ placed (length (admitted b.ring)) more }
-    ≡ record a.putter { put = a.putter.put ++ placed (length (admitted a.ring)) (jobs ++ more) }
+    → record b.putter { put = b.putter.put ++ placed b.putter.mail (length (admitted b.ring)) more }
+    ≡ record a.putter { put = a.putter.put ++ placed a.putter.mail (length (admitted a.ring)) (jobs ++ more) }
 put-more jobs more a b first =
-    let before : List (ℕ × Job) = a.putter.put in
+    let before : List (Mail × (ℕ × Job)) = a.putter.put in
+    let mail : Mail = a.putter.mail in
     let here : ℕ = length (admitted a.ring) in
     let grown : length (admitted b.ring) ≡ here + length jobs = ap length first.admitted_is ∙ length-append (admitted a.ring) jobs in
-    let lists : (before ++ placed here jobs) ++ placed (length (admitted b.ring)) more ≡ before ++ placed here (jobs ++ more) =
-    append_assoc before (placed here jobs) (placed (length (admitted b.ring)) more)
-    ∙ ap (λ (l : List (ℕ × Job)). before ++ l) (ap (λ (n : ℕ). placed here jobs ++ placed n more) grown ∙ sym (placed-append here jobs more)) in
-    ap (λ (p : Pass Job). record p { put = p.put ++ placed (length (admitted b.ring)) more }) first.put_is
-    ∙ ap (λ (l : List (ℕ × Job)). record a.putter { put = l }) lists
+    let lists : (before ++ placed mail here jobs) ++ placed mail (length (admitted b.ring)) more ≡ before ++ placed mail here (jobs ++ more) =
+    append_assoc before (placed mail here jobs) (placed mail (length (admitted b.ring)) more)
+    ∙ ap (λ (l : List (Mail × (ℕ × Job))). before ++ l) (ap (λ (n : ℕ). placed mail here jobs ++ placed mail n more) grown ∙ sym (placed-append mail here jobs more)) in
+    ap (λ (p : Putting Job). record p { put = p.put ++ placed p.mail (length (admitted b.ring)) more }) first.put_is
+    ∙ ap (λ (l : List (Mail × (ℕ × Job))). record a.putter { put = l }) lists
 
 -- first these jobs, and then those
 pub takes-in-more : (jobs more : List Job) (a b c : Inbound) → TakesIn jobs a b → TakesIn more b c → TakesIn (jobs ++ more) a c
@@ -74,7 +76,7 @@ behind-few few count (inr less) = omega (arith, less)
 
 -- where nothing was put, the pass is as it was
 put-nothing : (a : Inbound) → a.putter ≡ record a.putter { put = a.putter.put ++ [] }
-put-nothing a = ap (λ (l : List (ℕ × Job)). record a.putter { put = l }) (sym (append-nil a.putter.put))
+put-nothing a = ap (λ (l : List (Mail × (ℕ × Job))). record a.putter { put = l }) (sym (append-nil a.putter.put))
 
 -- nothing was admitted
 pub takes-none : (jobs : List Job) (a b : Inbound) → IsSameIntake a.ring b.ring → admitted b.ring ≡ admitted a.ring → b.putter ≡ a.putter → TakesSome jobs a b
@@ -101,7 +103,7 @@ takes-some-more jobs more a b c first then =
       puts = length jobs + then.puts;
       put_behind = behind-more (length jobs) then.puts then.count then.put_behind;
       put_is = then.put_is ∙ put-more jobs (take then.puts more) a b first
-          ∙ ap (λ (l : List Job). record a.putter { put = a.putter.put ++ placed (length (admitted a.ring)) l }) (sym (take-append-add jobs more then.puts));
+          ∙ ap (λ (l : List Job). record a.putter { put = a.putter.put ++ placed a.putter.mail (length (admitted a.ring)) l }) (sym (take-append-add jobs more then.puts));
     }
 
 pub takes-some-longer : (jobs more : List Job) (a b : Inbound) → TakesSome jobs a b → TakesSome (jobs ++ more) a b
@@ -113,7 +115,7 @@ takes-some-longer jobs more a b took = record {
   puts = took.puts;
   put_behind = took.put_behind;
   put_is = took.put_is
-      ∙ ap (λ (l : List Job). record a.putter { put = a.putter.put ++ placed (length (admitted a.ring)) l })
+      ∙ ap (λ (l : List Job). record a.putter { put = a.putter.put ++ placed a.putter.mail (length (admitted a.ring)) l })
       (sym (take-append-le took.puts jobs more (omega (arith, took.there, behind-few took.puts took.count took.put_behind))));
 }
 
@@ -127,26 +129,30 @@ takes-some-all jobs a b took = record {
   puts = length jobs;
   put_behind = inl refl;
   put_is = took.put_is
-      ∙ ap (λ (l : List Job). record a.putter { put = a.putter.put ++ placed (length (admitted a.ring)) l }) (sym (take-length jobs));
+      ∙ ap (λ (l : List Job). record a.putter { put = a.putter.put ++ placed a.putter.mail (length (admitted a.ring)) l }) (sym (take-length jobs));
 }
 
 -- the pass stays one pass
-pub same-after : (jobs : List Job) (a b : Inbound) → TakesSome jobs a b → IsSamePass a.putter b.putter
-same-after jobs a b took =
-    (ap (λ (p : Pass Job). p.queue) took.put_is, ap (λ (p : Pass Job). p.seat) took.put_is, ap (λ (p : Pass Job). p.number) took.put_is)
+pub same-after : (jobs : List Job) (a b : Inbound) → TakesSome jobs a b → IsSamePutter a.putter b.putter
+same-after jobs a b took = (
+  (ap (λ (p : Putting Job). p.queue) took.put_is, ap (λ (p : Putting Job). p.seat) took.put_is, ap (λ (p : Putting Job). p.number) took.put_is),
+  ap (λ (p : Putting Job). p.mail) took.put_is,
+)
 
--- the half stays that of the same ring and pass
+-- the half stays that of the same ring and putter
 pub same-nothing : (a : Inbound) → IsSameHalf a a
-same-nothing a = (((refl, refl, refl, refl), refl), (refl, refl, refl))
+same-nothing a = (((refl, refl, refl, refl), refl), ((refl, refl, refl), refl))
 
-same-pass : (jobs : List Job) (a b c : Inbound) → IsSameHalf a b → TakesSome jobs b c → IsSameHalf a c
-same-pass jobs a b c same took =
-    let pass = same-after jobs b c took in
-    (same-intake a b c same.0 took.same, (pass.0 ∙ same.1.0, pass.1 ∙ same.1.1, pass.2 ∙ same.1.2))
+same-putter : (jobs : List Job) (a b c : Inbound) → IsSameHalf a b → TakesSome jobs b c → IsSameHalf a c
+same-putter jobs a b c same took =
+    let now = same-after jobs b c took in
+    let pass = now.0 in
+    let was = same.1.0 in
+    (same-intake a b c same.0 took.same, ((pass.0 ∙ was.0, pass.1 ∙ was.1, pass.2 ∙ was.2), now.1 ∙ same.1.1))
 
 pub same-received : {T : Type 0} (jobs : List Job) (r : Result T InboundFault) (a b c : Inbound) → IsSameHalf a b → Receives jobs r b c → IsSameHalf a c
-same-received jobs (Ok x) a b c same took = same-pass jobs a b c same (takes-some-all jobs b c took)
-same-received jobs (Err why) a b c same took = same-pass jobs a b c same took.1
+same-received jobs (Ok x) a b c same took = same-putter jobs a b c same (takes-some-all jobs b c took)
+same-received jobs (Err why) a b c same took = same-putter jobs a b c same took.1
 
 -- a job that was admitted, and put or not
 pub receives-put : {T : Type 0} (result : Result T InboundFault) (job : Job) (place : ℕ) (before mid after : Inbound)
@@ -157,7 +163,7 @@ unfolding placed
 receives-put (Ok x) job place before mid after same no_read is_admitted is_putter is_ring is_place put kept = record {
   same = rw is_ring same;
   admitted_is = ap admitted is_ring ∙ is_admitted;
-  put_is = put ∙ ap (λ (p : Pass Job). with_put p (place, job)) is_putter ∙ ap (λ (n : ℕ). with_put before.putter (n, job)) is_place;
+  put_is = put ∙ ap (λ (p : Putting Job). with_put p (place, job)) is_putter ∙ ap (λ (n : ℕ). with_put before.putter (n, job)) is_place;
 }
 receives-put (Err why) job place before mid after same no_read is_admitted is_putter is_ring is_place put kept = (
   λ is. no_read (ap Err is),

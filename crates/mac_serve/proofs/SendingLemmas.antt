@@ -7,6 +7,7 @@ use Rattle.std.specs.declared.vec.Vec.{Vec}
 use Rattle.std.specs.declared.alloc.Global.{Global}
 use Rattle.std.proofs.lemmas.Option.{slice_get-map}
 use Rattle.std.specs.Option.{option_map}
+use Rattle.mac_mail.specs.Taking.{Taking, with_posts, with_taken}
 use Rattle.mac_ring.proofs.Releases.{item_is}
 use Rattle.std.proofs.lemmas.List.{append-nil, map-append, take-append-le, length-append, length-map, length-take-le, append_cancel_left}
 use Rattle.mac_order.specs.Buffer.{Buffer, fresh_buffer, settled, settle_fault, sent_off, closed_off}
@@ -34,13 +35,13 @@ abbrev Entry : Type 0
 Entry = ℕ × Option Job
 
 -- only received jobs were released
-released-within : (before : List Entry) (o : Outbound) → Holds before o → next o ≤ length (received o.ring)
+released-within : (before : Taking Job) (o : Outbound) → Holds before o → next o ≤ length (received o.ring)
 released-within before o h =
     let g = h.gathered in
     let size = ap length g.parts in
     omega (arith, size, length-payloads o.version o.base (replies o), length-map (received o.ring) answer_to, length-append g.out (g.held ++ g.others), length-append g.held g.others, g.is_next)
 
-sent-released : (before : List Entry) (o : Outbound) → Holds before o → o.sent ≤ next o
+sent-released : (before : Taking Job) (o : Outbound) → Holds before o → o.sent ≤ next o
 sent-released before o h = let g = h.gathered in omega (arith, g.is_sent, g.is_next)
 
 -- a half that has sent nothing
@@ -61,7 +62,7 @@ stands-new o fresh empty sent written none =
       holds = record {
         gathered = rw (at, sent, written, none) (gathered-none (payloads o));
         posts = [];
-        taken = sym (append-nil o.taker);
+        taken = ap (λ (l : List Entry). record o.taker { taken = l }) (sym (append-nil o.taker.taken));
         answered = rw at (none-answered (received o.ring));
       };
       kept = kept-new o.ring fresh empty;
@@ -72,7 +73,7 @@ stands-new o fresh empty sent written none =
     }
 
 -- more jobs were received
-stands-grown : (before : List Entry) (o : Outbound) (ring : Exit Job Global Numbered) (more : List Job) → Stands before o → IsKept ring
+stands-grown : (before : Taking Job) (o : Outbound) (ring : Exit Job Global Numbered) (more : List Job) → Stands before o → IsKept ring
     → received ring ≡ received o.ring ++ more → ring.buffer.next ≡ o.ring.buffer.next → ring.buffer.closed ≡ o.ring.buffer.closed → ring.buffer.answers ≡ o.ring.buffer.answers
     → Stands before (record o { ring = ring }) × (out_text (record o { ring = ring }) ≡ out_text o)
 stands-grown before o ring more s kept grown same_next same_closed same_answers =
@@ -97,9 +98,15 @@ stands-grown before o ring more s kept grown same_next same_closed same_answers 
           ∙ ap framed (take-append-le o.sent (payloads o) behind old.0) ∙ sym old.1,
     )
 
+-- one post more was taken
+posts-more : (before was taken : Taking Job) (posts : List Entry) (post : Entry) → taken ≡ with_taken was post → was ≡ with_posts before posts → taken ≡ with_posts before (posts ++ post ∷ [])
+posts-more before was taken posts post one_more is =
+    one_more ∙ ap (λ (t : Taking Job). with_taken t post) is
+    ∙ ap (λ (l : List Entry). record before { taken = l }) (append_assoc before.taken posts (post ∷ []))
+
 -- an answer was settled
-pub stands-settled : (before taken : List Entry) (o : Outbound) (ring : Exit Job Global Numbered) (place : ℕ) (job : Job) → Stands before o → IsKept ring
-    → taken ≡ o.taker ++ (place, Some job) ∷ [] → received ring ≡ received o.ring → ring.buffer ≡ settled o.ring.buffer place job
+pub stands-settled : (before taken : Taking Job) (o : Outbound) (ring : Exit Job Global Numbered) (place : ℕ) (job : Job) → Stands before o → IsKept ring
+    → taken ≡ with_taken o.taker (place, Some job) → received ring ≡ received o.ring → ring.buffer ≡ settled o.ring.buffer place job
     → Stands before (record o { ring = ring; taker = taken })
 stands-settled before taken o ring place job s kept one_more same is_settled =
     let posts = s.holds.posts in
@@ -108,7 +115,7 @@ stands-settled before taken o ring place job s kept one_more same is_settled =
       holds = record {
         gathered = rw (same, same_next) s.holds.gathered;
         posts = posts ++ (place, Some job) ∷ [];
-        taken = one_more ∙ ap (λ (l : List Entry). l ++ (place, Some job) ∷ []) s.holds.taken ∙ append_assoc before posts ((place, Some job) ∷ []);
+        taken = posts-more before o.taker taken posts (place, Some job) one_more s.holds.taken;
         answered = rw (same, same_next) (answered-more (received o.ring) (next o) posts ((place, Some job) ∷ []) s.holds.answered);
       };
       kept = kept;
@@ -116,8 +123,13 @@ stands-settled before taken o ring place job s kept one_more same is_settled =
       waiting = λ at other is. waiting-settled o.ring.buffer.answers place job posts s.waiting at other (ap (λ (b : Buffer Job). get b.answers at) (sym is_settled) ∙ is);
     }
 
+-- however a step ended, the half takes from the mailbox that it took from
+pub same-mail : {T : Type 0} (before : Taking Job) (r : Result T OutboundFault) (o : Outbound) → Sends before r o → o.taker.mail ≡ before.mail
+same-mail before (Ok x) o s = ap (λ (t : Taking Job). t.mail) s.holds.taken
+same-mail before (Err why) o fell = ap (λ (t : Taking Job). t.mail) fell.taken
+
 -- the half ends as it holds, after a stranger where one is told
-pub fell-with : (before : List Entry) (o : Outbound) (why : OutboundFault) (h : Holds before o) → (why ≡ fault.Stranger → TookForeign (received o.ring) o.sent h.posts) → Fell before why o
+pub fell-with : (before : Taking Job) (o : Outbound) (why : OutboundFault) (h : Holds before o) → (why ≡ fault.Stranger → TookForeign (received o.ring) o.sent h.posts) → Fell before why o
 fell-with before o why h foreign =
     let g = h.gathered in
     let frames = gathered-whole (payloads o) (next o) o.sent o.written o.gathered.items g in
@@ -131,24 +143,24 @@ fell-with before o why h foreign =
       foreign = foreign;
     }
 
-pub fell-held : (before : List Entry) (o : Outbound) (why : OutboundFault) → Holds before o → (why ≡ fault.Stranger → ⊥) → Fell before why o
+pub fell-held : (before : Taking Job) (o : Outbound) (why : OutboundFault) → Holds before o → (why ≡ fault.Stranger → ⊥) → Fell before why o
 fell-held before o why h known = fell-with before o why h (λ is. absurd (known is))
 
 -- a post told that memory ran out
-pub fell-failed : (before taken : List Entry) (o : Outbound) (place : ℕ) → Stands before o → taken ≡ o.taker ++ (place, None) ∷ []
+pub fell-failed : (before taken : Taking Job) (o : Outbound) (place : ℕ) → Stands before o → taken ≡ with_taken o.taker (place, None)
     → Fell before fault.NoMemory (record o { taker = taken })
 fell-failed before taken o place s one_more =
     let posts = s.holds.posts in
     fell-held before (record o { taker = taken }) fault.NoMemory (record {
       gathered = s.holds.gathered;
       posts = posts ++ (place, None) ∷ [];
-      taken = one_more ∙ ap (λ (l : List Entry). l ++ (place, None) ∷ []) s.holds.taken ∙ append_assoc before posts ((place, None) ∷ []);
+      taken = posts-more before o.taker taken posts (place, None) one_more s.holds.taken;
       answered = answered-more (received o.ring) (next o) posts ((place, None) ∷ []) s.holds.answered;
     }) (λ is. absurd cc)
 
 -- an answer couldn't be settled
-pub fell-unsettled : (before taken : List Entry) (o : Outbound) (ring : Exit Job Global Numbered) (place : ℕ) (job : Job) (why : SettleFault) → Stands before o
-    → taken ≡ o.taker ++ (place, Some job) ∷ [] → received ring ≡ received o.ring → ring.buffer ≡ o.ring.buffer → settle_fault o.ring.buffer place ≡ Some why
+pub fell-unsettled : (before taken : Taking Job) (o : Outbound) (ring : Exit Job Global Numbered) (place : ℕ) (job : Job) (why : SettleFault) → Stands before o
+    → taken ≡ with_taken o.taker (place, Some job) → received ring ≡ received o.ring → ring.buffer ≡ o.ring.buffer → settle_fault o.ring.buffer place ≡ Some why
     → Fell before fault.Stranger (record o { ring = ring; taker = taken })
 fell-unsettled before taken o ring place job why s one_more same same_buffer is =
     let posts = s.holds.posts in
@@ -157,7 +169,7 @@ fell-unsettled before taken o ring place job why s one_more same same_buffer is 
     let h : Holds before now = record {
       gathered = rw (same, same_next) s.holds.gathered;
       posts = posts ++ (place, Some job) ∷ [];
-      taken = one_more ∙ ap (λ (l : List Entry). l ++ (place, Some job) ∷ []) s.holds.taken ∙ append_assoc before posts ((place, Some job) ∷ []);
+      taken = posts-more before o.taker taken posts (place, Some job) one_more s.holds.taken;
       answered = rw (same, same_next) (answered-more (received o.ring) (next o) posts ((place, Some job) ∷ []) s.holds.answered);
     } in
     fell-with before now fault.Stranger h (λ _. rw same (took-last (received o.ring) o.sent posts place job
@@ -174,12 +186,12 @@ same-kept : (a b c : Outbound) → IsSame a b → c.ring ≡ b.ring → c.versio
 same-kept a b c h ring version base = (subst (λ (l : Exit Job Global Numbered). IsSameOutlet a.ring l) (sym ring) h.0, version ∙ h.1, base ∙ h.2)
 
 -- the slip at the front is the job that was received at the next place
-slip-received : (before : List Entry) (o : Outbound) (slip : Job) (rest : List Job) → Stands before o → o.ring.buffer.slips ≡ slip ∷ rest
+slip-received : (before : Taking Job) (o : Outbound) (slip : Job) (rest : List Job) → Stands before o → o.ring.buffer.slips ≡ slip ∷ rest
     → slice_get (received o.ring) (next o) ≡ Some slip
 slip-received before o slip rest s is = item_is (received o.ring) (next o) slip rest (sym (s.kept.slips s.live) ∙ is)
 
 -- a reply was released
-pub stands-released : (before : List Entry) (o : Outbound) (ring : Exit Job Global Numbered) (gathered : Vec ℕ Global) (slip answer : Job) (rest : List Job)
+pub stands-released : (before : Taking Job) (o : Outbound) (ring : Exit Job Global Numbered) (gathered : Vec ℕ Global) (slip answer : Job) (rest : List Job)
     → Stands before o → IsKept ring → received ring ≡ received o.ring → o.ring.buffer.slips ≡ slip ∷ rest → get o.ring.buffer.answers (next o) ≡ Some answer → answer ≡ slip
     → ring.buffer ≡ sent_off o.ring.buffer rest → gathered.items ≡ o.gathered.items ++ reply_frame o.version (o.base + next o) (answer_to slip)
     → Stands before (record o { ring = ring; gathered = gathered })
@@ -205,7 +217,7 @@ stands-released before o ring gathered slip answer rest s kept same slips settle
     }
 
 -- memory ran out for the frame of a reply
-pub fell-released : (before : List Entry) (o : Outbound) (ring : Exit Job Global Numbered) (gathered : Vec ℕ Global) → Stands before o → received ring ≡ received o.ring
+pub fell-released : (before : Taking Job) (o : Outbound) (ring : Exit Job Global Numbered) (gathered : Vec ℕ Global) → Stands before o → received ring ≡ received o.ring
     → Fell before fault.NoMemory (record o { ring = ring; gathered = gathered })
 fell-released before o ring gathered s same =
     let fell = fell-held before o fault.NoMemory s.holds (λ is. absurd cc) in
@@ -220,7 +232,7 @@ fell-released before o ring gathered s same =
     }
 
 -- an answer to another job closed the buffer
-pub holds-stranger : (before : List Entry) (o : Outbound) (ring : Exit Job Global Numbered) (answer job : Job) → Stands before o → received ring ≡ received o.ring
+pub holds-stranger : (before : Taking Job) (o : Outbound) (ring : Exit Job Global Numbered) (answer job : Job) → Stands before o → received ring ≡ received o.ring
     → ring.buffer ≡ closed_off o.ring.buffer → get o.ring.buffer.answers (next o) ≡ Some answer → slice_get (received o.ring) (next o) ≡ Some job → (job ≡ answer → ⊥)
     → (h : Holds before (record o { ring = ring })) × ((sent : ℕ) → TookForeign (received ring) sent h.posts)
 holds-stranger before o ring answer job s same after settled_is at unlike =
@@ -236,14 +248,14 @@ holds-stranger before o ring answer job s same after settled_is at unlike =
     )
 
 -- nothing was released
-pub stands-waiting : (before : List Entry) (o : Outbound) (ring : Exit Job Global Numbered) → Stands before o → IsKept ring → received ring ≡ received o.ring → ring.buffer ≡ o.ring.buffer
+pub stands-waiting : (before : Taking Job) (o : Outbound) (ring : Exit Job Global Numbered) → Stands before o → IsKept ring → received ring ≡ received o.ring → ring.buffer ≡ o.ring.buffer
     → Stands before (record o { ring = ring })
 stands-waiting before o ring s kept same after =
     (stands-grown before o ring [] s kept (same ∙ sym (append-nil (received o.ring)))
     (ap (λ (b : Buffer Job). b.next) after) (ap (λ (b : Buffer Job). b.closed) after) (ap (λ (b : Buffer Job). b.answers) after)).0
 
 -- all that was gathered went out
-pub holds-flushed : (before : List Entry) (o : Outbound) (gathered : Vec ℕ Global) (sent written : ℕ) → Holds before o → gathered.items ≡ [] → sent ≡ next o
+pub holds-flushed : (before : Taking Job) (o : Outbound) (gathered : Vec ℕ Global) (sent written : ℕ) → Holds before o → gathered.items ≡ [] → sent ≡ next o
     → written ≡ o.written + length o.gathered.items → Holds before (record o { gathered = gathered; sent = sent; written = written })
 holds-flushed before o gathered sent written h none sent_is written_is = record {
   gathered = rw (none, sent_is, written_is) (gathered-flushed (payloads o) (next o) o.sent o.written o.gathered.items h.gathered);
@@ -253,7 +265,7 @@ holds-flushed before o gathered sent written h none sent_is written_is = record 
 }
 
 -- what went out, after a beginning of what was gathered
-pub out-grown : (before : List Entry) (o : Outbound) (written n : ℕ) → Holds before o → n ≤ length o.gathered.items → written ≡ o.written + n
+pub out-grown : (before : Taking Job) (o : Outbound) (written n : ℕ) → Holds before o → n ≤ length o.gathered.items → written ≡ o.written + n
     → take written (framed (payloads o)) ≡ out_text o ++ take n o.gathered.items
 out-grown before o written n h within is =
     ap (λ (w : ℕ). take w (framed (payloads o))) is ∙ gathered-begins (payloads o) (next o) o.sent o.written n o.gathered.items h.gathered within
@@ -271,7 +283,7 @@ earlier-fit [] back all = tt
 earlier-fit (r ∷ rs) back all = (all.0, earlier-fit rs back all.1)
 
 -- the sink took a beginning of what was gathered
-pub fell-cut : (before : List Entry) (o : Outbound) (bytes : List ℕ) (count whole sent written : ℕ) → Holds before o → ((job : Job) → IsReply (answer_to job))
+pub fell-cut : (before : Taking Job) (o : Outbound) (bytes : List ℕ) (count whole sent written : ℕ) → Holds before o → ((job : Job) → IsReply (answer_to job))
     → next o < 2 ^ 64 → count < length o.gathered.items → bytes ≡ take count o.gathered.items
     → ((ps : List (List ℕ)) → All Fits ps → bytes ≡ take (length bytes) (framed ps) → HasWhole ps (length bytes) whole)
     → sent ≡ min (o.sent + whole) (2 ^ 64 - 1) → written ≡ o.written + count
@@ -309,9 +321,9 @@ fell-cut before o bytes count whole sent written h fits bound few is counts sent
     }
 
 -- what was flushed goes on as it stood
-stands-held : (before : List Entry) (o after : Outbound) → Stands before o → Holds before after → after.ring ≡ o.ring → after.taker ≡ o.taker → Stands before after
+stands-held : (before : Taking Job) (o after : Outbound) → Stands before o → Holds before after → after.ring ≡ o.ring → after.taker ≡ o.taker → Stands before after
 stands-held before o after s h ring taker =
-    let same : h.posts ≡ s.holds.posts = append_cancel_left before h.posts s.holds.posts (sym h.taken ∙ taker ∙ s.holds.taken) in
+    let same : h.posts ≡ s.holds.posts = append_cancel_left before.taken h.posts s.holds.posts (ap (λ (t : Taking Job). t.taken) (sym h.taken ∙ taker ∙ s.holds.taken)) in
     record {
       holds = h;
       kept = subst (λ (l : Exit Job Global Numbered). IsKept l) (sym ring) s.kept;
@@ -321,17 +333,17 @@ stands-held before o after s h ring taker =
     }
 
 -- what was flushed after a stranger ends with it
-fell-stranger : (before : List Entry) (o after : Outbound) (h : Holds before o) → ((sent : ℕ) → TookForeign (received o.ring) sent h.posts) → Holds before after
+fell-stranger : (before : Taking Job) (o after : Outbound) (h : Holds before o) → ((sent : ℕ) → TookForeign (received o.ring) sent h.posts) → Holds before after
     → after.ring ≡ o.ring → after.taker ≡ o.taker → Fell before fault.Stranger after
 fell-stranger before o after h took held ring taker =
-    let same : held.posts ≡ h.posts = append_cancel_left before held.posts h.posts (sym held.taken ∙ taker ∙ h.taken) in
+    let same : held.posts ≡ h.posts = append_cancel_left before.taken held.posts h.posts (ap (λ (t : Taking Job). t.taken) (sym held.taken ∙ taker ∙ h.taken)) in
     fell-with before after fault.Stranger held (λ _. subst (λ (posts : List Entry). TookForeign (received after.ring) after.sent posts) (sym same)
     (subst (λ (l : Exit Job Global Numbered). TookForeign (received l) after.sent h.posts) (sym ring) (took after.sent)))
 
 -- ---- steps
 
 -- a fault that is passed on
-sends-residual : {T : Type 0} (earlier : List Entry) (r : Result T OutboundFault) (why : OutboundFault) (o : Outbound) → IsErrAnd r (λ e. e ≡ why) → Fell earlier why o → Sends earlier r o
+sends-residual : {T : Type 0} (earlier : Taking Job) (r : Result T OutboundFault) (why : OutboundFault) (o : Outbound) → IsErrAnd r (λ e. e ≡ why) → Fell earlier why o → Sends earlier r o
 sends-residual earlier (Ok x) why o is fell = absurd is
 sends-residual earlier (Err e) why o is fell = subst (λ (f : OutboundFault). Fell earlier f o) (sym is) fell
 
@@ -402,7 +414,7 @@ IsNoWrite (Err fault.Exhausted) = Unit {0}
 
 -- a step that leaves the sink alone
 pub alone : {T : Type 0} (r : Result T OutboundFault) (a b : Outbound) → IsNoWrite r → IsSame a b → out_text b ≡ out_text a
-    → ((earlier : List Entry) → Stands earlier a → Sends earlier r b) → StepsAlone r a b
+    → ((earlier : Taking Job) → Stands earlier a → Sends earlier r b) → StepsAlone r a b
 alone {T} r a b no_write same out sends tells wrote faults = record {
   same = same;
   sends = sends;
@@ -421,9 +433,9 @@ pub out-same : (o : Outbound) (ring : Exit Job Global Numbered) → received rin
 out-same o ring same = ap (λ (jobs : List Job). take o.written (framed (payloads_from o.version o.base (map answer_to jobs)))) same
 
 -- a step that finds no post
-pub took-none : {T : Type 0} (x : T) (o : Outbound) (taken : List Entry) → taken ≡ o.taker → StepsAlone (Ok x) o (record o { taker = taken })
+pub took-none : {T : Type 0} (x : T) (o : Outbound) (taken : Taking Job) → taken ≡ o.taker → StepsAlone (Ok x) o (record o { taker = taken })
 took-none x o taken same tells wrote faults =
-    let P : List Entry → Type 0 = λ l. Steps tells wrote wrote faults faults (Ok x) o (record o { taker = l }) in
+    let P : Taking Job → Type 0 = λ t. Steps tells wrote wrote faults faults (Ok x) o (record o { taker = t }) in
     subst P (sym same) (stays tells wrote faults x o)
 
 -- a step that opens slips
@@ -431,7 +443,7 @@ pub grown : {T : Type 0} (x : T) (o : Outbound) (ring : Exit Job Global Numbered
     → received ring ≡ received o.ring ++ more → ring.buffer.next ≡ o.ring.buffer.next → ring.buffer.closed ≡ o.ring.buffer.closed → ring.buffer.answers ≡ o.ring.buffer.answers
     → StepsAlone (Ok x) o (record o { ring = ring })
 grown x o ring more same kept is_grown same_next same_closed same_answers tells wrote faults =
-    let stands : (earlier : List Entry) → Stands earlier o → Stands earlier (record o { ring = ring }) × (out_text (record o { ring = ring }) ≡ out_text o) =
+    let stands : (earlier : Taking Job) → Stands earlier o → Stands earlier (record o { ring = ring }) × (out_text (record o { ring = ring }) ≡ out_text o) =
     λ earlier s. stands-grown earlier o ring more s kept is_grown same_next same_closed same_answers in
     record {
       same = (same, refl, refl);
@@ -451,7 +463,7 @@ flushed {T} {tells} {w} {w'} {f} {f'} {r} {a} {b} fl = record {
   };
   sent = fl.sent;
 } where
-  by_result : (r : Result T OutboundFault) (earlier : List Entry) → Stands earlier a
+  by_result : (r : Result T OutboundFault) (earlier : Taking Job) → Stands earlier a
       → MatchResult r (λ _. Holds earlier b) (λ why. (why ≢ fault.Stranger) × Fell earlier why b) → Sends earlier r b
   by_result (Ok x) earlier s h = stands-held earlier a b s h fl.ring fl.taker
   by_result (Err why) earlier s h = h.1

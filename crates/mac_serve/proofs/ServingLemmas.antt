@@ -4,7 +4,9 @@ use Rattle.std.specs.Prelude.{Option, Some, None, Result, Ok, Err, OnOk, IfOk, I
 use Rattle.std.proofs.lemmas.List.{map-append, take_all, take-append-le, take-append-drop, length-append, length-map, length-take-le}
 use Rattle.std.proofs.lemmas.List.Concat.{flat_map-append}
 use Rattle.mac_ring.specs.Ring.{admitted, received}
-use Rattle.mac_queue.specs.Pass.{Pass, IsSamePass}
+use Rattle.mac_mail.specs.Taking.{Taking}
+use Rattle.mac_mail.specs.Mail.{Mail}
+use Rattle.mac_queue.specs.Putting.{Putting, IsSamePutter}
 use Rattle.mac_board.specs.Noticed.{Noticed}
 use Rattle.mac_wire.specs.declared.arrival.Arrival.{Arrival}
 use Rattle.mac_wire.specs.declared.arrival.Ending.{Ending}
@@ -117,7 +119,7 @@ module _ (version : Version) (base : ℕ) (readings : Readings) (o : Outbound) (
 -- source gave more of a stream, the sink took what was unsent before and what went out, and the ends
 -- met.
 module _ (tells_in tells_out : Bool) (AreTaken : List Terms → Type 0) (session : Session) (past : Past) (given given' wrote wrote' stream : List ℕ) (readings : Readings) (unread : List Arrival) (ahead left : List ℕ)
-    (pass : Pass Job) (taken : List Entry) (start i : Inbound) (o : Outbound) (rest : List Job) (count : ℕ) (reader : FrameReader)
+    (putter : Putting Job) (taker : Taking Job) (start i : Inbound) (o : Outbound) (rest : List Job) (count : ℕ) (reader : FrameReader)
     (gave : Gave tells_in given given' stream)
     (taken_are : AreTaken (terms_of readings))
     (came : (arrivals_of (past.read ++ stream)).arrived ≡ past.arrived ++ (read_of readings ++ unread))
@@ -125,7 +127,7 @@ module _ (tells_in tells_out : Bool) (AreTaken : List Terms → Type 0) (session
     (first_out : (left ≡ []) ⊎ (out_text o ≡ []))
     (took : IsTrue tells_out → wrote' ≡ wrote ++ (ahead ++ out_text o))
     (empty : admitted start.ring ≡ [])
-    (putter : start.putter ≡ pass)
+    (same_putter : start.putter ≡ putter)
     (met : received o.ring ++ rest ≡ admitted i.ring)
     (counted : count ≡ length (admitted i.ring))
     (same : o.version ≡ (arrivals_of (past.read ++ stream)).version)
@@ -143,7 +145,7 @@ module _ (tells_in tells_out : Bool) (AreTaken : List Terms → Type 0) (session
   IsOnward = GoesOnWith reader left (session.answered + count)
 
   abbrev Serves : Option ServeFault → Ending → Option Session → Type 0
-  Serves why end onward = HasServed tells_in tells_out AreTaken session past given given' wrote wrote' pass taken why (told o i count end onward)
+  Serves why end onward = HasServed tells_in tells_out AreTaken session past given given' wrote wrote' putter taker why (told o i count end onward)
 
   first : (t : TakesSome jobs start i) → admitted i.ring ≡ take t.count jobs
   first t = t.admitted_is ∙ ap (λ (l : List Job). l ++ take t.count jobs) empty
@@ -160,20 +162,20 @@ module _ (tells_in tells_out : Bool) (AreTaken : List Terms → Type 0) (session
       omega (arith, counted, size, pieces, length-append (take t.count jobs) (drop t.count jobs), length-map readings (λ (r : Terms × Arrival). job_under r.0 r.1))
 
   -- what is put into an empty ring stands at the places from 0 on
-  put-first : (js : List Job) → record start.putter { put = start.putter.put ++ placed (length (admitted start.ring)) js }
-      ≡ record pass { put = pass.put ++ placed 0 js }
+  put-first : (js : List Job) → record start.putter { put = start.putter.put ++ placed start.putter.mail (length (admitted start.ring)) js }
+      ≡ record putter { put = putter.put ++ placed putter.mail 0 js }
   put-first js =
-      ap (λ (p : Pass Job). record p { put = p.put ++ placed (length (admitted start.ring)) js }) putter
-      ∙ ap (λ (l : List Job). record pass { put = pass.put ++ placed (length l) js }) empty
+      ap (λ (p : Putting Job). record p { put = p.put ++ placed p.mail (length (admitted start.ring)) js }) same_putter
+      ∙ ap (λ (l : List Job). record putter { put = putter.put ++ placed putter.mail (length l) js }) empty
 
   abbrev IsBack : Option ServeFault → Option Session → Type 0
   IsBack why onward = IfSome onward (λ next. (why ≡ Some fault.Read)
       × IsLeft (past.read ++ stream) (past.arrived ++ read_of readings) (session.answered + length readings) next)
 
   -- what is the same for each fault
-  serves : (why : Option ServeFault) (end : Ending) (onward : Option Session) (w : OutboundFault) → Fell taken w o → TakesSome jobs start i
+  serves : (why : Option ServeFault) (end : Ending) (onward : Option Session) (w : OutboundFault) → Fell taker w o → TakesSome jobs start i
       → (why ≡ Some fault.Stranger → w ≡ sending.Stranger)
-      → Sent (arrivals_of (past.read ++ stream)) session.answered readings unread pass (out_text o) left why (told o i count end onward)
+      → Sent (arrivals_of (past.read ++ stream)) session.answered readings unread putter (out_text o) left why (told o i count end onward)
       → (why ≡ Some fault.Read → IsSome onward) → IsBack why onward → Serves why end onward
   serves why end onward w fell t strange row kept back =
       let more : List Job = rest ++ drop t.count jobs in
@@ -197,7 +199,7 @@ module _ (tells_in tells_out : Bool) (AreTaken : List Terms → Type 0) (session
         admitted = few t;
         answered_few = (let size = ap length met in
             omega (arith, counted, size, sent-received version session.answered readings o more is same at fell.frames.there, length-append (received o.ring) rest));
-        same_pool = subst (λ (p : Pass Job). IsSamePass p i.putter) putter (same-after jobs start i t);
+        same_putter = subst (λ (p : Putting Job). IsSamePutter p i.putter) same_putter (same-after jobs start i t);
         puts = t.puts;
         put_behind = subst (λ (n : ℕ). IsBehind t.puts n) (sym (counted ∙ ap length (first t) ∙ length-take-le t.count jobs t.there)) t.put_behind;
         put_is = t.put_is ∙ put-first (take t.puts jobs);
@@ -212,14 +214,14 @@ module _ (tells_in tells_out : Bool) (AreTaken : List Terms → Type 0) (session
       }
 
   -- the frames of the first replies went out
-  sent-some : (w : OutboundFault) → (w ≢ sending.Write) → Fell taken w o → TakesSome jobs start i → SentSome version session.answered readings (out_text o) (told o i count ending.Broken None)
+  sent-some : (w : OutboundFault) → (w ≢ sending.Write) → Fell taker w o → TakesSome jobs start i → SentSome version session.answered readings (out_text o) (told o i count ending.Broken None)
   sent-some w other fell t = record {
     output_is = some version session.answered readings o (rest ++ drop t.count jobs) (goes-on t) same at fell.frames.there (fell.whole other);
     ending_is = refl;
   }
 
   -- a beginning of the frames went out
-  sent-beginning : (w : OutboundFault) → Fell taken w o → TakesSome jobs start i → SentBeginning version session.answered readings (out_text o) (told o i count ending.Broken None)
+  sent-beginning : (w : OutboundFault) → Fell taker w o → TakesSome jobs start i → SentBeginning version session.answered readings (out_text o) (told o i count ending.Broken None)
   sent-beginning w fell t = record {
     output_is = beginning version session.answered readings o (rest ++ drop t.count jobs) (goes-on t) same at fell.within;
     ending_is = refl;
@@ -231,8 +233,8 @@ module _ (tells_in tells_out : Bool) (AreTaken : List Terms → Type 0) (session
       omega (arith, counted, size, length-map readings (λ (r : Terms × Arrival). job_under r.0 r.1))
 
   -- all went out, where all jobs were taken in and each reply was released
-  sent-all : (end : Ending) (onward : Option Session) → Fell taken sending.Exhausted o → unread ≡ [] → left ≡ [] → TakesIn jobs start i → o.sent ≡ count
-      → SentAll version session.answered readings unread pass (out_text o) left (told o i count end onward)
+  sent-all : (end : Ending) (onward : Option Session) → Fell taker sending.Exhausted o → unread ≡ [] → left ≡ [] → TakesIn jobs start i → o.sent ≡ count
+      → SentAll version session.answered readings unread putter (out_text o) left (told o i count end onward)
   sent-all end onward fell read none t sent =
       let s : TakesSome jobs start i = takes-some-all jobs start i t in
       let has : count ≡ length readings = all-counted t in
@@ -249,18 +251,18 @@ module _ (tells_in tells_out : Bool) (AreTaken : List Terms → Type 0) (session
   -- where a half that sends fell by another fault than the sink's, or stands and another fault is told
   serves-some : (why : ServeFault) (w : OutboundFault) → (w ≢ sending.Write) → (why ≡ fault.Stranger → w ≡ sending.Stranger) → (why ≢ fault.Read)
       → (SentSome version session.answered readings (out_text o) (told o i count ending.Broken None)
-      → Sent (arrivals_of (past.read ++ stream)) session.answered readings unread pass (out_text o) left (Some why) (told o i count ending.Broken None))
-      → Fell taken w o → TakesSome jobs start i → Serves (Some why) ending.Broken None
+      → Sent (arrivals_of (past.read ++ stream)) session.answered readings unread putter (out_text o) left (Some why) (told o i count ending.Broken None))
+      → Fell taker w o → TakesSome jobs start i → Serves (Some why) ending.Broken None
   serves-some why w other strange no_read row fell t =
       serves (Some why) ending.Broken None w fell t (λ is. strange cc) (row (sent-some w other fell t)) (λ is. absurd (no_read cc)) tt
 
   -- where the half that sends stands, and all is sent
-  serves-all : (why : Option ServeFault) (end : Ending) → Stands taken o → unread ≡ [] → left ≡ [] → TakesIn jobs start i → o.sent ≡ count → (why ≢ Some fault.Read) → (why ≢ Some fault.Stranger)
-      → (SentAll version session.answered readings unread pass (out_text o) left (told o i count end None)
-      → Sent (arrivals_of (past.read ++ stream)) session.answered readings unread pass (out_text o) left why (told o i count end None))
+  serves-all : (why : Option ServeFault) (end : Ending) → Stands taker o → unread ≡ [] → left ≡ [] → TakesIn jobs start i → o.sent ≡ count → (why ≢ Some fault.Read) → (why ≢ Some fault.Stranger)
+      → (SentAll version session.answered readings unread putter (out_text o) left (told o i count end None)
+      → Sent (arrivals_of (past.read ++ stream)) session.answered readings unread putter (out_text o) left why (told o i count end None))
       → Serves why end None
   serves-all why end s read none t sent no_read no_stranger row =
-      let fell = fell-held taken o sending.Exhausted s.holds (λ is. absurd cc) in
+      let fell = fell-held taker o sending.Exhausted s.holds (λ is. absurd cc) in
       serves why end None sending.Exhausted fell (takes-some-all jobs start i t) (λ is. absurd (no_stranger is)) (row (sent-all end None fell read none t sent)) (λ is. absurd (no_read is)) tt
 
   -- no session is given back
@@ -269,11 +271,11 @@ module _ (tells_in tells_out : Bool) (AreTaken : List Terms → Type 0) (session
       subst (λ (n : Option Session). Serves why end n) (sym e.1) (subst (λ (v : Option ServeFault). Serves v end None) (sym e.0) plain)
 
   -- the source failed where all is sent
-  serves-onward : (why : Option ServeFault) (onward : Option Session) → Stands taken o → unread ≡ [] → left ≡ [] → TakesIn jobs start i → o.sent ≡ count
+  serves-onward : (why : Option ServeFault) (onward : Option Session) → Stands taker o → unread ≡ [] → left ≡ [] → TakesIn jobs start i → o.sent ≡ count
       → HasRead reader (past.read ++ stream) (past.arrived ++ read_of readings) × (HasEnded reader → ⊥)
       → GivesBack IsOnward (Some fault.Read) why onward → Serves why ending.Broken onward
   serves-onward why (Some onward) s read none t sent reads (is, goes) =
-      let fell = fell-held taken o sending.Exhausted s.holds (λ is. absurd cc) in
+      let fell = fell-held taker o sending.Exhausted s.holds (λ is. absurd cc) in
       let row : Serves (Some fault.Read) ending.Broken (Some onward) =
       serves (Some fault.Read) ending.Broken (Some onward) sending.Exhausted fell (takes-some-all jobs start i t) (λ is. absurd cc)
       (sent-all ending.Broken (Some onward) fell read none t sent, refl) (λ _. refl) (
@@ -287,19 +289,19 @@ module _ (tells_in tells_out : Bool) (AreTaken : List Terms → Type 0) (session
       subst (λ (v : Option ServeFault). Serves v ending.Broken (Some onward)) (sym is) row
   serves-onward why None s read none t sent reads (inl is) =
       plainly (Some fault.NoMemory) why ending.Broken None
-      (serves-some fault.NoMemory sending.Exhausted (λ is. absurd cc) (λ is. absurd cc) (λ is. absurd cc) (λ row. row) (fell-held taken o sending.Exhausted s.holds (λ is. absurd cc)) (takes-some-all jobs start i t))
+      (serves-some fault.NoMemory sending.Exhausted (λ is. absurd cc) (λ is. absurd cc) (λ is. absurd cc) (λ row. row) (fell-held taker o sending.Exhausted s.holds (λ is. absurd cc)) (takes-some-all jobs start i t))
       (is, refl)
   serves-onward why None s read none t sent reads (inr is) =
       plainly (Some fault.Exhausted) why ending.Broken None
-      (serves-some fault.Exhausted sending.Exhausted (λ is. absurd cc) (λ is. absurd cc) (λ is. absurd cc) (λ row. row) (fell-held taken o sending.Exhausted s.holds (λ is. absurd cc)) (takes-some-all jobs start i t))
+      (serves-some fault.Exhausted sending.Exhausted (λ is. absurd cc) (λ is. absurd cc) (λ is. absurd cc) (λ row. row) (fell-held taker o sending.Exhausted s.holds (λ is. absurd cc)) (takes-some-all jobs start i t))
       (is, refl)
 
-  held : Stands taken o → Fell taken sending.Exhausted o
-  held s = fell-held taken o sending.Exhausted s.holds (λ is. absurd cc)
+  held : Stands taker o → Fell taker sending.Exhausted o
+  held s = fell-held taker o sending.Exhausted s.holds (λ is. absurd cc)
 
   -- what is told, case by case of how the halves ended
   rows : {T : Type 0} (sent : Result T OutboundFault) (read : Result Ending InboundFault) (all : Bool) (why : Option ServeFault) (onward : Option Session)
-      → Sends taken sent o → OnOk sent (o.sent ≡ next o) → OnOk sent (left ≡ [])
+      → Sends taker sent o → OnOk sent (o.sent ≡ next o) → OnOk sent (left ≡ [])
       → Ran readings unread last read start i → (read ≡ Err reading.Read → HasRead reader (past.read ++ stream) (past.arrived ++ read_of readings) × (HasEnded reader → ⊥))
       → (all ≡ true → count ≡ next o)
       → GivesBack IsOnward (outcome_of sent read all).0 why onward → Serves why (outcome_of sent read all).1 onward
@@ -346,7 +348,7 @@ module _ (tells_in tells_out : Bool) (AreTaken : List Terms → Type 0) (session
 
   -- the same by the names of what is told
   pub has-served : {T : Type 0} (sent : Result T OutboundFault) (read : Result Ending InboundFault) (all : Bool) (out : Option ServeFault × Ending) (why : Option ServeFault) (onward : Option Session)
-      → Sends taken sent o → OnOk sent (o.sent ≡ next o) → OnOk sent (left ≡ []) → Ran readings unread last read start i
+      → Sends taker sent o → OnOk sent (o.sent ≡ next o) → OnOk sent (left ≡ []) → Ran readings unread last read start i
       → (read ≡ Err reading.Read → HasRead reader (past.read ++ stream) (past.arrived ++ read_of readings) × (HasEnded reader → ⊥)) → (all ≡ true → count ≡ next o)
       → out ≡ outcome_of sent read all → GivesBack IsOnward out.0 why onward → Serves why out.1 onward
   has-served sent read all out why onward sends all_sent none ran reads due is gives =
@@ -372,16 +374,16 @@ nothing-out before after left none (inl is) = inl is
 nothing-out before after left none (inr is) = inr (ap (λ (n : ℕ). take n (framed (payloads after))) (is.0 ∙ none))
 
 -- a connection that was not served
-pub nothing-served : (rights : Rights) (tells_in tells_out : Bool) (told_keys : Bool) (known : Noticed) (session : Session) (past : Past) (given wrote : List ℕ) (pass : Pass Job) (taken : List Entry) (served : Served) → IsPast past
-    → served ≡ record { arrived = 0; sent = 0; written = 0; ending = ending.Broken; desk = record { putter = pass; taker = taken }; session = None }
-    → HasServed tells_in tells_out (TakesUnder rights told_keys known known) session past given given wrote wrote pass taken (Some fault.NoMemory) served
+pub nothing-served : (rights : Rights) (tells_in tells_out : Bool) (told_keys : Bool) (known : Noticed) (session : Session) (past : Past) (given wrote : List ℕ) (putter : Putting Job) (taker : Taking Job) (served : Served) → IsPast past
+    → served ≡ record { arrived = 0; sent = 0; written = 0; ending = ending.Broken; desk = record { putter = putter; taker = taker }; session = None }
+    → HasServed tells_in tells_out (TakesUnder rights told_keys known known) session past given given wrote wrote putter taker (Some fault.NoMemory) served
 unfolding placed
-nothing-served rights tells_in tells_out told_keys known session past given wrote pass taken served is_past is =
-    let none : Served = record { arrived = 0; sent = 0; written = 0; ending = ending.Broken; desk = record { putter = pass; taker = taken }; session = None } in
+nothing-served rights tells_in tells_out told_keys known session past given wrote putter taker served is_past is =
+    let none : Served = record { arrived = 0; sent = 0; written = 0; ending = ending.Broken; desk = record { putter = putter; taker = taker }; session = None } in
     let more = is_past [] in
     let version : Version = (arrivals_of (past.read ++ [])).version in
     let ps : List (List ℕ) = payloads_from version session.answered (answers []) in
-    let has : HasServed tells_in tells_out (TakesUnder rights told_keys known known) session past given given wrote wrote pass taken (Some fault.NoMemory) none = record {
+    let has : HasServed tells_in tells_out (TakesUnder rights told_keys known known) session past given given wrote wrote putter taker (Some fault.NoMemory) none = record {
       stream = [];
       gave = λ _. sym (append-nil given);
       readings = [];
@@ -399,18 +401,18 @@ nothing-served rights tells_in tells_out told_keys known session past given wrot
       whole = (gathered-whole ps 0 0 0 [] (gathered-none ps)).0;
       admitted = omega arith;
       answered_few = omega arith;
-      same_pool = (refl, refl, refl);
+      same_putter = ((refl, refl, refl), refl);
       puts = 0;
       put_behind = inl refl;
-      put_is = ap (λ (l : List (ℕ × Job)). record pass { put = l }) (sym (append-nil pass.put));
+      put_is = ap (λ (l : List (Mail × (ℕ × Job))). record putter { put = l }) (sym (append-nil putter.put));
       posts = [];
-      taken_is = sym (append-nil taken);
+      taken_is = ap (λ (l : List Entry). record taker { taken = l }) (sym (append-nil taker.taken));
       answered = none-answered [];
       foreign = λ no. absurd cc;
       kept = λ no. absurd cc;
       back = tt;
     } in
-    subst (λ (s : Served). HasServed tells_in tells_out (TakesUnder rights told_keys known known) session past given given wrote wrote pass taken (Some fault.NoMemory) s) (sym is) has
+    subst (λ (s : Served). HasServed tells_in tells_out (TakesUnder rights told_keys known known) session past given given wrote wrote putter taker (Some fault.NoMemory) s) (sym is) has
 
 -- what the devices counted, where a session is given back or not
 pub counts-back : (IsNext : Session → Type 0) (told why : Option ServeFault) (onward : Option Session) (r r' w w' : ℕ) → GivesBack IsNext told why onward → CountsServed told r r' w w' → CountsServed why r r' w w'

@@ -1,6 +1,7 @@
 -- A connection that was answered elsewhere before, and then served.
 use Rattle.std.specs.Prelude.{◌≡◌, ◌⊎◌, ℕ, Bool, List, [], ◌++◌, Option, Some, None, IfSome}
-use Rattle.mac_queue.specs.Pass.{Pass}
+use Rattle.mac_mail.specs.Taking.{Taking}
+use Rattle.mac_queue.specs.Putting.{Putting}
 use Rattle.mac_board.specs.Noticed.{Noticed}
 use Rattle.mac_wire.specs.declared.arrival.Arrival.{Arrival}
 use Rattle.mac_wire.specs.declared.reply.Reply.{Reply}
@@ -36,10 +37,10 @@ abbrev pub ServingJoins : Type 0
 ServingJoins =
     (rights : Rights) (tells_in tells_out tells : Bool) (known known' : Noticed) (session : Session)
     (read written : List ℕ) (arrived : List Arrival) (replies : List Reply)
-    (given given' wrote wrote' : List ℕ) (pass : Pass Job) (taken : List (ℕ × Option Job))
+    (given given' wrote wrote' : List ℕ) (putter : Putting Job) (taker : Taking Job)
     (why : Option ServeFault) (served : Served)
     → Stands session read written arrived replies
     → (h : HasServed tells_in tells_out (TakesUnder rights tells known known') session
-    (record { read = read; arrived = arrived }) given given' wrote wrote' pass taken why served)
+    (record { read = read; arrived = arrived }) given given' wrote wrote' putter taker why served)
     → Joins (read ++ h.stream) (written ++ (h.ahead ++ h.output)) arrived h.readings h.unread
     replies why served

@@ -3,7 +3,8 @@ use Rattle.std.specs.Prelude.{◌≡◌, ◌≢◌, ◌⊎◌, ℕ, ◌+◌, ◌
 use Rattle.std.specs.declared.alloc.Global.{Global}
 use Rattle.std.specs.declared.vec.Vec.{Vec}
 use Rattle.mac_ring.specs.Ring.{admitted, IsSameIntake}
-use Rattle.mac_queue.specs.Pass.{IsSamePass}
+use Rattle.mac_mail.specs.Mail.{Mail}
+use Rattle.mac_queue.specs.Putting.{IsSamePutter}
 use Rattle.mac_board.specs.Noticed.{Current, IsCurrent, Noticed, Notices}
 use Rattle.mac_wire.specs.declared.arrival.Arrival.{Arrival}
 use Rattle.mac_wire.specs.declared.arrival.Ending.{Ending}
@@ -84,26 +85,27 @@ read_of readings = map (λ reading. reading.1) readings
 abbrev pub jobs_of : Readings → List Job
 jobs_of readings = map (λ reading. job_under reading.0 reading.1) readings
 
--- jobs at their places, from a first place on
-unfoldable pub placed : ℕ → List Job → List (ℕ × Job)
-placed place [] = []
-placed place (job ∷ jobs) = (place, job) ∷ placed (place + 1) jobs
+-- jobs at their places, from a first place on, with the mailbox for their answers
+unfoldable pub placed : Mail → ℕ → List Job → List (Mail × (ℕ × Job))
+placed mail place [] = []
+placed mail place (job ∷ jobs) = (mail, (place, job)) ∷ placed mail (place + 1) jobs
 
 -- a count that is another, or one less
 abbrev pub IsBehind : ℕ → ℕ → Type 0
 IsBehind few count = (count ≡ few) ⊎ (count ≡ few + 1)
 
--- the half is still that of the same ring, and puts by the same pass
+-- the half is still that of the same ring, and puts by the same pass, for the same mailbox
 abbrev pub IsSameHalf : Inbound → Inbound → Type 0
 IsSameHalf before after =
-    IsSameIntake before.ring after.ring × IsSamePass before.putter after.putter
+    IsSameIntake before.ring after.ring × IsSamePutter before.putter after.putter
 
 -- from the one state to the other these jobs were admitted, and put into the queue at their places
 pub record TakesIn (jobs : List Job) (before after : Inbound) : Type 0 where
   pub same : IsSameIntake before.ring after.ring
   pub admitted_is : admitted after.ring ≡ admitted before.ring ++ jobs
-  pub put_is : after.putter
-      ≡ record before.putter { put = before.putter.put ++ placed (length (admitted before.ring)) jobs }
+  pub put_is : after.putter ≡ record before.putter {
+    put = before.putter.put ++ placed before.putter.mail (length (admitted before.ring)) jobs;
+  }
 
 -- from the one state to the other some of these jobs, the first ones, were admitted, and all of
 -- them put into the queue at their places, or all but the last
@@ -115,7 +117,8 @@ pub record TakesSome (jobs : List Job) (before after : Inbound) : Type 0 where
   pub puts : ℕ
   pub put_behind : IsBehind puts count
   pub put_is : after.putter ≡ record before.putter {
-    put = before.putter.put ++ placed (length (admitted before.ring)) (take puts jobs);
+    put = before.putter.put
+        ++ placed before.putter.mail (length (admitted before.ring)) (take puts jobs);
   }
 
 -- what a step did with these jobs, without the source: it took in all, or some where it failed

@@ -1,6 +1,7 @@
 -- How the outbound half of a connection stands, and how it ends.
 use Rattle.std.specs.Prelude.{◌≡◌, ◌≢◌, ◌⊎◌, ℕ, ◌+◌, ◌≤◌, Bool, false, List, [], ◌++◌, length, map, take, Option, Some, Contains, Result, Ok, Err, IsTrue, MatchResult, OnOk}
 use Rattle.std.specs.FinMap.{get}
+use Rattle.mac_mail.specs.Taking.{Taking, with_posts}
 use Rattle.mac_ring.specs.Ring.{received, IsKept, IsSameOutlet}
 use Rattle.mac_wire.specs.declared.reply.Reply.{Reply}
 use Rattle.mac_wire.specs.Frame.{framed}
@@ -43,16 +44,16 @@ IsSame before after =
     IsSameOutlet before.ring after.ring × (after.version ≡ before.version)
     × (after.base ≡ before.base)
 
--- The half holds what it should, where its taker took `before` earlier: replies are released and
+-- The half holds what it should, where its taker was `before` earlier: replies are released and
 -- gathered in order, and each that was released had its post.
-pub record Holds (before : List (ℕ × Option Job)) (o : Outbound) : Type 0 where
+pub record Holds (before : Taking Job) (o : Outbound) : Type 0 where
   pub gathered : Gathered (payloads o) (next o) o.sent o.written o.gathered.items
   pub posts : List (ℕ × Option Job)
-  pub taken : o.taker ≡ before ++ posts
+  pub taken : o.taker ≡ with_posts before posts
   pub answered : AreAnswered (received o.ring) (next o) posts
 
 -- it goes on: its buffer is open, and each answer that waits came by a post
-pub record Stands (before : List (ℕ × Option Job)) (o : Outbound) : Type 0 where
+pub record Stands (before : Taking Job) (o : Outbound) : Type 0 where
   pub holds : Holds before o
   pub kept : IsKept o.ring
   pub live : o.ring.buffer.closed ≡ false
@@ -61,17 +62,17 @@ pub record Stands (before : List (ℕ × Option Job)) (o : Outbound) : Type 0 wh
 
 -- It ended by this fault: `sent` replies went out whole, and but for a fault of the sink nothing
 -- else; each had its post; a stranger was told only where one came.
-pub record Fell (before : List (ℕ × Option Job)) (why : OutboundFault) (o : Outbound) : Type 0 where
+pub record Fell (before : Taking Job) (why : OutboundFault) (o : Outbound) : Type 0 where
   pub frames : HasWhole (payloads o) o.written o.sent
   pub within : o.written ≤ length (framed (payloads o))
   pub whole : why ≢ fault.Write → out_text o ≡ framed (take o.sent (payloads o))
   pub posts : List (ℕ × Option Job)
-  pub taken : o.taker ≡ before ++ posts
+  pub taken : o.taker ≡ with_posts before posts
   pub answered : AreAnswered (received o.ring) o.sent posts
   pub foreign : why ≡ fault.Stranger → TookForeign (received o.ring) o.sent posts
 
 -- how a step ended
-abbrev pub Sends : {T : Type 0} → List (ℕ × Option Job) → Result T OutboundFault → Outbound → Type 0
+abbrev pub Sends : {T : Type 0} → Taking Job → Result T OutboundFault → Outbound → Type 0
 Sends before (Ok x) o = Stands before o
 Sends before (Err why) o = Fell before why o
 
@@ -90,8 +91,8 @@ CountsWrite (Ok x) old new = new ≡ old
 pub record Steps {T : Type 0} (tells : Bool) (wrote wrote' : List ℕ) (faults faults' : ℕ)
     (result : Result T OutboundFault) (before after : Outbound) : Type 0 where
   pub same : IsSame before after
-  pub sends : (earlier : List (ℕ × Option Job)) → Stands earlier before → Sends earlier result after
-  pub written : IsTrue tells → (earlier : List (ℕ × Option Job)) (head : List ℕ)
+  pub sends : (earlier : Taking Job) → Stands earlier before → Sends earlier result after
+  pub written : IsTrue tells → (earlier : Taking Job) (head : List ℕ)
       → Stands earlier before → wrote ≡ head ++ out_text before → wrote' ≡ head ++ out_text after
   pub counts : CountsWrite result faults faults'
 
@@ -114,10 +115,10 @@ pub record Flushes {T : Type 0} (tells : Bool) (wrote wrote' : List ℕ) (faults
   pub taker : after.taker ≡ before.taker
   pub version : after.version ≡ before.version
   pub base : after.base ≡ before.base
-  pub holds : (earlier : List (ℕ × Option Job)) → Holds earlier before
+  pub holds : (earlier : Taking Job) → Holds earlier before
       → MatchResult result (λ _. Holds earlier after)
       (λ why. (why ≢ fault.Stranger) × Fell earlier why after)
-  pub written : IsTrue tells → (earlier : List (ℕ × Option Job)) (head : List ℕ)
+  pub written : IsTrue tells → (earlier : Taking Job) (head : List ℕ)
       → Holds earlier before → wrote ≡ head ++ out_text before → wrote' ≡ head ++ out_text after
   pub sent : OnOk result (after.sent ≡ next after)
   pub counts : CountsWrite result faults faults'
@@ -127,7 +128,7 @@ pub record Flushes {T : Type 0} (tells : Bool) (wrote wrote' : List ℕ) (faults
 pub record MeetsStranger (before after : Outbound) : Type 0 where
   pub same : IsSame before after
   pub out : out_text after ≡ out_text before
-  pub holds : (earlier : List (ℕ × Option Job)) → Stands earlier before
+  pub holds : (earlier : Taking Job) → Stands earlier before
       → (h : Holds earlier after) × ((sent : ℕ) → TookForeign (received after.ring) sent h.posts)
 
 -- what came of asking for the next reply
@@ -152,12 +153,12 @@ pub record SendsUnsent {T : Type 0} (tells : Bool) (unsent unsent' wrote wrote' 
 pub record SendsBoth {T : Type 0} (tells : Bool) (unsent unsent' wrote wrote' : List ℕ)
     (faults faults' : ℕ) (result : Result T OutboundFault) (before after : Outbound) : Type 0 where
   pub same : IsSame before after
-  pub sends : (earlier : List (ℕ × Option Job)) → Stands earlier before → Sends earlier result after
+  pub sends : (earlier : Taking Job) → Stands earlier before → Sends earlier result after
   pub sent : OnOk result (after.sent ≡ next after)
   pub counts : CountsWrite result faults faults'
   pub ahead : List ℕ
   pub parts : unsent ≡ ahead ++ unsent'
   pub all : OnOk result (unsent' ≡ [])
   pub none : (unsent' ≡ []) ⊎ ((after.written ≡ before.written) × (after.sent ≡ before.sent))
-  pub written : IsTrue tells → (earlier : List (ℕ × Option Job)) → Stands earlier before
+  pub written : IsTrue tells → (earlier : Taking Job) → Stands earlier before
       → out_text before ≡ [] → wrote' ≡ wrote ++ (ahead ++ out_text after)

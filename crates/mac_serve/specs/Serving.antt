@@ -1,6 +1,7 @@
 -- What a run of `serve` did, for its callers.
 use Rattle.std.specs.Prelude.{◌≡◌, ◌⊎◌, ℕ, ◌+◌, ◌≤◌, Bool, if◌then◌else◌, List, [], ◌++◌, length, map, take, Option, Some, None, Result, Ok, Err, IfSome, IsSome}
-use Rattle.mac_queue.specs.Pass.{Pass, IsSamePass}
+use Rattle.mac_mail.specs.Taking.{Taking, with_posts}
+use Rattle.mac_queue.specs.Putting.{Putting, IsSamePutter}
 use Rattle.mac_wire.specs.declared.arrival.Arrival.{Arrival}
 use Rattle.mac_wire.specs.declared.arrival.Ending.{Ending}
 use Rattle.mac_wire.specs.declared.arrival.Ending.TheVariants as ending
@@ -44,14 +45,14 @@ text_from version place replies = framed (payloads_from version place replies)
 -- every arrival was read and admitted, put into the queue at its place, and its reply was sent in
 -- the stream's version, and nothing else was written; nothing is left of what was unsent before
 pub record SentAll (version : Version) (place : ℕ) (readings : Readings) (unread : List Arrival)
-    (pass : Pass Job) (output left : List ℕ) (served : Served) : Type 0 where
+    (putter : Putting Job) (output left : List ℕ) (served : Served) : Type 0 where
   pub output_is : output ≡ text_from version place (answers readings)
   pub none_unread : unread ≡ []
   pub none_left : left ≡ []
   pub arrived_is : served.arrived ≡ length readings
   pub sent_is : served.sent ≡ length readings
   pub put_is : served.desk.putter
-      ≡ record pass { put = pass.put ++ placed 0 (jobs_of readings) }
+      ≡ record putter { put = putter.put ++ placed putter.mail 0 (jobs_of readings) }
 
 -- the frames of the replies that were sent were written, and nothing else; the stream was not read
 -- to its end, or not all was sent
@@ -67,24 +68,24 @@ pub record SentBeginning (version : Version) (place : ℕ) (readings : Readings)
   pub ending_is : served.ending ≡ ending.Broken
 
 -- What was written, and which ending is told, row by row: by the fault that is told, if any.
-abbrev pub Sent : Arrivals → ℕ → Readings → (unread : List Arrival) → Pass Job
+abbrev pub Sent : Arrivals → ℕ → Readings → (unread : List Arrival) → Putting Job
     → (output left : List ℕ) → Option ServeFault → Served → Type 0
-Sent a place readings unread pass output left None served =
-    SentAll a.version place readings unread pass output left served × (served.ending ≡ a.ending)
+Sent a place readings unread putter output left None served =
+    SentAll a.version place readings unread putter output left served × (served.ending ≡ a.ending)
     × ((a.ending ≡ ending.Clean) ⊎ (a.ending ≡ ending.Oversize))
-Sent a place readings unread pass output left (Some fault.Torn) served =
-    SentAll a.version place readings unread pass output left served × (served.ending ≡ a.ending)
+Sent a place readings unread putter output left (Some fault.Torn) served =
+    SentAll a.version place readings unread putter output left served × (served.ending ≡ a.ending)
     × (a.ending ≡ ending.Torn)
-Sent a place readings unread pass output left (Some fault.Read) served =
-    SentAll a.version place readings unread pass output left served
+Sent a place readings unread putter output left (Some fault.Read) served =
+    SentAll a.version place readings unread putter output left served
     × (served.ending ≡ ending.Broken)
-Sent a place readings unread pass output left (Some fault.Write) served =
+Sent a place readings unread putter output left (Some fault.Write) served =
     SentBeginning a.version place readings output served
-Sent a place readings unread pass output left (Some fault.NoMemory) served =
+Sent a place readings unread putter output left (Some fault.NoMemory) served =
     SentSome a.version place readings output served
-Sent a place readings unread pass output left (Some fault.Stranger) served =
+Sent a place readings unread putter output left (Some fault.Stranger) served =
     SentSome a.version place readings output served
-Sent a place readings unread pass output left (Some fault.Exhausted) served =
+Sent a place readings unread putter output left (Some fault.Exhausted) served =
     SentSome a.version place readings output served
 
 -- The connection can go on as this session: all that was read is whole frames and what is carried,
@@ -103,7 +104,8 @@ pub record IsLeft (stream : List ℕ) (arrived : List Arrival) (answered : ℕ)
 -- post with that place's job. A stranger is told only where a post was foreign. Where the source
 -- failed, and only there, the connection can go on.
 pub record HasServed (tells_in tells_out : Bool) (AreTaken : List Terms → Type 0)
-    (session : Session) (past : Past) (given given' wrote wrote' : List ℕ) (pass : Pass Job) (taken : List (ℕ × Option Job))
+    (session : Session) (past : Past) (given given' wrote wrote' : List ℕ)
+    (putter : Putting Job) (taker : Taking Job)
     (why : Option ServeFault) (served : Served) : Type 0 where
   pub stream : List ℕ
   pub gave : Gave tells_in given given' stream
@@ -119,21 +121,21 @@ pub record HasServed (tells_in tells_out : Bool) (AreTaken : List Terms → Type
   pub behind : (left ≡ []) ⊎ (output ≡ [])
   pub took : Gave tells_out wrote wrote' (ahead ++ output)
   pub written_is : served.written ≡ length output
-  pub sent : Sent (arrivals_of (past.read ++ stream)) session.answered readings unread pass output
+  pub sent : Sent (arrivals_of (past.read ++ stream)) session.answered readings unread putter output
       left why served
   pub whole : HasWhole
       (payloads_from (arrivals_of (past.read ++ stream)).version session.answered
       (answers readings)) served.written served.sent
   pub admitted : served.arrived ≤ length readings
   pub answered_few : served.sent ≤ served.arrived
-  pub same_pool : IsSamePass pass served.desk.putter
+  pub same_putter : IsSamePutter putter served.desk.putter
   pub puts : ℕ
   pub put_behind : IsBehind puts served.arrived
-  pub put_is : served.desk.putter ≡ record pass {
-    put = pass.put ++ placed 0 (take puts (jobs_of readings));
+  pub put_is : served.desk.putter ≡ record putter {
+    put = putter.put ++ placed putter.mail 0 (take puts (jobs_of readings));
   }
   pub posts : List (ℕ × Option Job)
-  pub taken_is : served.desk.taker ≡ taken ++ posts
+  pub taken_is : served.desk.taker ≡ with_posts taker posts
   pub answered : AreAnswered (jobs_of readings) served.sent posts
   pub foreign : why ≡ Some fault.Stranger
       → TookForeign (jobs_of readings) served.sent posts

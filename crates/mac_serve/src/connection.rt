@@ -1,7 +1,7 @@
 //! A connection, from a session on to its last byte, or to the next session.
 
 ghost use Rattle.std.specs.Prelude.{◌≡◌, ◌≢◌, ◌⊎◌, ◌+◌, ℕ, Bool, List, [], IsTrue, IsSome, IfOk, OnErr};
-ghost use Rattle.mac_queue.specs.Pass.{IsSamePass};
+ghost use Rattle.mac_queue.specs.Putting.{IsSamePutter};
 ghost use Rattle.mac_wire.specs.FrameReader.{HasEnded};
 ghost use Rattle.mac_wire.specs.Session.{HasCome};
 ghost use Rattle.mac_serve.specs.Receiving.{Past, Reads, CountsRead, Runs, TakesUnder};
@@ -64,7 +64,8 @@ pub fn serve<R: Threads + Wait + Sync, In: Source, Out: Sink, K: Outlook>(
         session past (In.taken source.old) (In.taken source.new)
         (Out.written sink.old) (Out.written sink.new) desk.putter desk.taker (fault_of result)
         (served_of result) }
-    ensures same_pool { IsSamePass desk.putter (served_of result).desk.putter }
+    ensures same_putter { IsSamePutter desk.putter (served_of result).desk.putter }
+    ensures same_mail { (served_of result).desk.taker.mail ≡ desk.taker.mail }
     ensures end { (past : Past)
         → HasCome session.version past.read past.arrived session.carried.items
         → (served_of result).ending ≢ Ending.Broken

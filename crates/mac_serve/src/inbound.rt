@@ -41,7 +41,7 @@ pub struct Inbound {
 
 impl Inbound {
     ghost use Rattle.mac_ring.specs.Ring.{admitted, IsSameIntake, Knows};
-    ghost use Rattle.mac_queue.specs.Pass.{with_put, IsSamePass};
+    ghost use Rattle.mac_queue.specs.Putting.{with_put};
     ghost use Rattle.mac_serve.specs.Receiving.{CountsRead, IsSameHalf, Receives, ReceivesUnder, TakesUnder, HasRun, Past, GoesOn, Continues, Runs};
     ghost use Rattle.mac_wire.specs.FrameReader.{HasEnded};
     ghost use Rattle.mac_board.specs.Noticed.{Noticed};

@@ -6,6 +6,7 @@ use Rattle.std.proofs.lemmas.List.Sums.{sum_by-cons, sum_by-append}
 use Rattle.atomic_table.specs.Seated.{TableId}
 use Rattle.mac_mail.specs.Mail.{Mail}
 use Rattle.mac_queue.specs.Pass.{Pass, IsFresh, all_put, all_claimed}
+use Rattle.mac_queue.specs.Putting.{pass_of}
 use Rattle.mac_queue.specs.declared.queue.TheConstants.{PASSES}
 use Rattle.mac_queue.specs.declared.queue.tally.Tally.{Tally}
 use Rattle.mac_queue.proofs.Totals.{ones, total_map}
@@ -55,12 +56,12 @@ module _ (count : ℕ) (pool pool' : Slots Job) (stays : List Stay) (started : I
       subst (λ (p : Pass Job). IsFresh pool.queue n p) e found.2)
       (less_or_least n count)
 
-  given_fresh : (n : ℕ) (stay : Stay) → slice_get stays n ≡ Some stay → IsFresh pool.queue stay.given.putter.number stay.given.putter
-  given_fresh n stay at = fresh_home stay.given.putter.number stay.given.putter (home.from n stay at).was_home
+  given_fresh : (n : ℕ) (stay : Stay) → slice_get stays n ≡ Some stay → IsFresh pool.queue stay.given.putter.number (pass_of stay.given.putter)
+  given_fresh n stay at = fresh_home stay.given.putter.number (pass_of stay.given.putter) (home.from n stay at).was_home
 
   begins : (n : ℕ) (stay : Stay) → slice_get stays n ≡ Some stay → BeginsFresh pool'.queue stay
   begins n stay at = record {
-    pass_is = subst (λ (q : TableId). IsFresh q stay.given.putter.number stay.given.putter) (sym same.same_queue) (given_fresh n stay at);
+    pass_is = subst (λ (q : TableId). IsFresh q stay.given.putter.number (pass_of stay.given.putter)) (sym same.same_queue) (given_fresh n stay at);
     none_taken = (home.from n stay at).none_taken;
   }
 
@@ -72,22 +73,22 @@ module _ (count : ℕ) (pool pool' : Slots Job) (stays : List Stay) (started : I
         let fresh = fresh_home slot.0 pass slot.1 in
         nothing pass fresh.put_is fresh.claimed_is)
 
-    when_given : sum_by (λ (stay : Stay). weight stay.given.putter) stays ≡ 0
-    when_given = all_nothing (λ (stay : Stay). weight stay.given.putter) stays (λ n stay at.
+    when_given : sum_by (λ (stay : Stay). weight (pass_of stay.given.putter)) stays ≡ 0
+    when_given = all_nothing (λ (stay : Stay). weight (pass_of stay.given.putter)) stays (λ n stay at.
         let fresh = given_fresh n stay at in
-        nothing stay.given.putter fresh.put_is fresh.claimed_is)
+        nothing (pass_of stay.given.putter) fresh.put_is fresh.claimed_is)
 
-    brought : sum_by weight (at_home pool'.passes) ≡ sum_by (λ (stay : Stay). weight stay.back.putter) stays
+    brought : sum_by weight (at_home pool'.passes) ≡ sum_by (λ (stay : Stay). weight (pass_of stay.back.putter)) stays
     brought = omega (arith, at_first, when_given, home.weights weight)
 
   module _ (workers : List (Worked Macaroons Job Reply)) (tally : Tally) (finished : IsFinished pool' workers tally) where
-    workers_put : (weight : ℕ × Job → ℕ) → sum_by (λ (p : Pass Job). sum_by weight p.put) (passes_of workers) ≡ 0
+    workers_put : (weight : Mail × (ℕ × Job) → ℕ) → sum_by (λ (p : Pass Job). sum_by weight p.put) (passes_of workers) ≡ 0
     workers_put weight =
         total_map (λ (p : Pass Job). sum_by weight p.put) (λ (w : Worked Macaroons Job Reply). w.pass) workers
         ∙ all_nothing (λ (w : Worked Macaroons Job Reply). sum_by weight w.pass.put) workers (λ n w at. ap (sum_by weight) (finished.answered n w at).0.1)
 
     -- what all put is what was put in the stays
-    puts : (weight : ℕ × Job → ℕ) → sum_by weight (all_put (passes_of workers ++ at_home pool'.passes)) ≡ sum_by weight (put_in stays)
+    puts : (weight : Mail × (ℕ × Job) → ℕ) → sum_by weight (all_put (passes_of workers ++ at_home pool'.passes)) ≡ sum_by weight (put_in stays)
     puts weight =
         let one = flat_weight weight (λ (p : Pass Job). p.put) (passes_of workers ++ at_home pool'.passes) in
         let two = sum_by-append (λ (p : Pass Job). sum_by weight p.put) (passes_of workers) (at_home pool'.passes) in
@@ -97,26 +98,23 @@ module _ (count : ℕ) (pool pool' : Slots Job) (stays : List Stay) (started : I
         omega (arith, one, two, three, four, five)
 
     -- and what all claimed is what the workers claimed
-    claims : (weight : ℕ × Job → ℕ) → sum_by weight (map (λ claim. claim.1) (all_claimed (passes_of workers ++ at_home pool'.passes))) ≡ sum_by weight (claimed_by workers)
+    claims : (weight : Mail × (ℕ × Job) → ℕ) → sum_by weight (all_claimed (passes_of workers ++ at_home pool'.passes)) ≡ sum_by weight (claimed_by workers)
     claims weight =
-        let one = total_map weight (λ (claim : Mail × (ℕ × Job)). claim.1) (all_claimed (passes_of workers ++ at_home pool'.passes)) in
-        let two = flat_weight (λ (claim : Mail × (ℕ × Job)). weight claim.1) (λ (p : Pass Job). p.claimed) (passes_of workers ++ at_home pool'.passes) in
-        let three = sum_by-append (λ (p : Pass Job). sum_by (λ (claim : Mail × (ℕ × Job)). weight claim.1) p.claimed) (passes_of workers) (at_home pool'.passes) in
-        let four = brought (λ (p : Pass Job). sum_by (λ (claim : Mail × (ℕ × Job)). weight claim.1) p.claimed) (λ pass put claimed. ap (sum_by (λ (claim : Mail × (ℕ × Job)). weight claim.1)) claimed) in
-        let five = all_nothing (λ (stay : Stay). sum_by (λ (claim : Mail × (ℕ × Job)). weight claim.1) stay.back.putter.claimed) stays
-        (λ n stay at. ap (sum_by (λ (claim : Mail × (ℕ × Job)). weight claim.1)) ((home.from n stay at).none_claimed ∙ (given_fresh n stay at).claimed_is)) in
-        let six = flat_weight (λ (claim : Mail × (ℕ × Job)). weight claim.1) (λ (p : Pass Job). p.claimed) (passes_of workers) in
-        let seven = total_map weight (λ (claim : Mail × (ℕ × Job)). claim.1) (all_claimed (passes_of workers)) in
-        omega (arith, one, two, three, four, five, six, seven)
+        let one = flat_weight weight (λ (p : Pass Job). p.claimed) (passes_of workers ++ at_home pool'.passes) in
+        let two = sum_by-append (λ (p : Pass Job). sum_by weight p.claimed) (passes_of workers) (at_home pool'.passes) in
+        let three = brought (λ (p : Pass Job). sum_by weight p.claimed) (λ pass put claimed. ap (sum_by weight) claimed) in
+        let four = all_nothing (λ (stay : Stay). sum_by weight stay.back.putter.claimed) stays
+        (λ n stay at. ap (sum_by weight) ((home.from n stay at).none_claimed ∙ (given_fresh n stay at).claimed_is)) in
+        let five = flat_weight weight (λ (p : Pass Job). p.claimed) (passes_of workers) in
+        omega (arith, one, two, three, four, five)
 
     counted_put : tally.put ≡ length (put_in stays)
     counted_put =
-        finished.tally_is.put_is ∙ sym (ones (all_put (passes_of workers ++ at_home pool'.passes))) ∙ puts (λ (e : ℕ × Job). 1) ∙ ones (put_in stays)
+        finished.tally_is.put_is ∙ sym (ones (all_put (passes_of workers ++ at_home pool'.passes))) ∙ puts (λ (e : Mail × (ℕ × Job)). 1) ∙ ones (put_in stays)
 
     counted_claims : tally.claimed ≡ length (claimed_by workers)
     counted_claims =
-        finished.tally_is.claimed_is ∙ sym (length-map (all_claimed (passes_of workers ++ at_home pool'.passes)) (λ (claim : Mail × (ℕ × Job)). claim.1))
-        ∙ sym (ones (map (λ (claim : Mail × (ℕ × Job)). claim.1) (all_claimed (passes_of workers ++ at_home pool'.passes)))) ∙ claims (λ (e : ℕ × Job). 1) ∙ ones (claimed_by workers)
+        finished.tally_is.claimed_is ∙ sym (ones (all_claimed (passes_of workers ++ at_home pool'.passes))) ∙ claims (λ (e : Mail × (ℕ × Job)). 1) ∙ ones (claimed_by workers)
 
 module _ {In Out K : Type 0} (d : Devices In Out K) where
   pub whole_is : (count : ℕ) (before after : List (Caller In Out K)) (pool pool' : Slots Job) (workers : List (Worked Macaroons Job Reply)) (tally : Tally)

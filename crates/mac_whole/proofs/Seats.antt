@@ -7,7 +7,10 @@ use Rattle.mac_queue.proofs.Totals.{ones}
 use Rattle.mac_decide.specs.declared.job.Job.{Job}
 use Rattle.mac_decide.specs.declared.macaroons.Macaroons.{Macaroons}
 use Rattle.mac_wire.specs.declared.reply.Reply.{Reply}
+use Rattle.mac_mail.specs.Taking.{Taking, fresh_taking}
+use Rattle.mac_queue.specs.Desk.{IsSameDesk}
 use Rattle.mac_queue.specs.Pass.{Pass, IsSamePass}
+use Rattle.mac_queue.specs.Putting.{Putting, pass_of}
 use Rattle.mac_queue.specs.declared.desk.Desk.{Desk}
 use Rattle.mac_pool.specs.Pool.{Slots, at_home, IsGiven, with_home}
 use Rattle.mac_pool.proofs.Slots.{get_set, get_set_here, get_set_other, get_below}
@@ -70,8 +73,8 @@ module _ (pool mid mid' pool' : Slots Job) (given back : Pass Job) (went : IsGiv
   queue_there rest = same.0 ∙ went.queue_is ∙ sym mid_queue ∙ sym rest.same_queue
 
 -- one stay more
-module _ (pool mid mid' pool' : Slots Job) (stay : Stay) (stays : List Stay) (went : IsGiven pool stay.given.putter mid) (same : IsSamePass stay.given.putter stay.back.putter) (came : pool' ≡ with_home mid' stay.back.putter)
-    (none : stay.given.taker ≡ []) (quiet : stay.back.putter.claimed ≡ stay.given.putter.claimed) (outs : IsSamePool mid mid') (rest : ComesHome mid mid' stays) where
+module _ (pool mid mid' pool' : Slots Job) (stay : Stay) (stays : List Stay) (went : IsGiven pool (pass_of stay.given.putter) mid) (same : IsSamePass (pass_of stay.given.putter) (pass_of stay.back.putter)) (came : pool' ≡ with_home mid' (pass_of stay.back.putter))
+    (none : stay.given.taker ≡ fresh_taking stay.given.putter.mail) (quiet : stay.back.putter.claimed ≡ stay.given.putter.claimed) (outs : IsSamePool mid mid') (rest : ComesHome mid mid' stays) where
   from_pool : (number : ℕ) (s : Stay) → slice_get (stay ∷ stays) number ≡ Some s → IsFrom pool s
   from_pool zero s at =
       let first : stay ≡ s = cc in
@@ -80,22 +83,22 @@ module _ (pool mid mid' pool' : Slots Job) (stay : Stay) (stays : List Stay) (we
       let r = rest.from number s at in
       let n = stay.given.putter.number in
       record {
-        queue_is = r.queue_is ∙ mid_queue pool mid mid' pool' stay.given.putter stay.back.putter went same came;
+        queue_is = r.queue_is ∙ mid_queue pool mid mid' pool' (pass_of stay.given.putter) (pass_of stay.back.putter) went same came;
         was_home = ⊎_elim
-            (λ (here : (s.given.putter.number ≡ n) × (None ≡ Some s.given.putter)). absurd (cc (here.1)))
-            (λ (there : slice_get pool.passes s.given.putter.number ≡ Some (Some s.given.putter)). there)
-            (get_set pool.passes n s.given.putter.number None (Some s.given.putter) (sym (ap (λ (l : List (Option (Pass Job))). slice_get l s.given.putter.number) (mid_passes pool mid mid' pool' stay.given.putter stay.back.putter went same came)) ∙ r.was_home));
+            (λ (here : (s.given.putter.number ≡ n) × (None ≡ Some (pass_of s.given.putter))). absurd (cc (here.1)))
+            (λ (there : slice_get pool.passes s.given.putter.number ≡ Some (Some (pass_of s.given.putter))). there)
+            (get_set pool.passes n s.given.putter.number None (Some (pass_of s.given.putter)) (sym (ap (λ (l : List (Option (Pass Job))). slice_get l s.given.putter.number) (mid_passes pool mid mid' pool' (pass_of stay.given.putter) (pass_of stay.back.putter) went same came)) ∙ r.was_home));
         none_taken = r.none_taken;
         none_claimed = r.none_claimed;
       }
 
-  all_weights : (weight : Pass Job → ℕ) → sum_by weight (at_home pool'.passes) + sum_by (λ (s : Stay). weight s.given.putter) (stay ∷ stays) ≡ sum_by weight (at_home pool.passes) + sum_by (λ (s : Stay). weight s.back.putter) (stay ∷ stays)
+  all_weights : (weight : Pass Job → ℕ) → sum_by weight (at_home pool'.passes) + sum_by (λ (s : Stay). weight (pass_of s.given.putter)) (stay ∷ stays) ≡ sum_by weight (at_home pool.passes) + sum_by (λ (s : Stay). weight (pass_of s.back.putter)) (stay ∷ stays)
   all_weights weight =
-      let out = outs.out stay.given.putter.number (is_out pool mid mid' pool' stay.given.putter stay.back.putter went same came) in
-      let left = mid_weight pool mid mid' pool' stay.given.putter stay.back.putter went same came weight in
-      let home = pool_weight pool mid mid' pool' stay.given.putter stay.back.putter went same came weight out in
+      let out = outs.out stay.given.putter.number (is_out pool mid mid' pool' (pass_of stay.given.putter) (pass_of stay.back.putter) went same came) in
+      let left = mid_weight pool mid mid' pool' (pass_of stay.given.putter) (pass_of stay.back.putter) went same came weight in
+      let home = pool_weight pool mid mid' pool' (pass_of stay.given.putter) (pass_of stay.back.putter) went same came weight out in
       let between = rest.weights weight in
-      omega (arith, sum_by-cons (λ (s : Stay). weight s.given.putter) stay stays, sum_by-cons (λ (s : Stay). weight s.back.putter) stay stays)
+      omega (arith, sum_by-cons (λ (s : Stay). weight (pass_of s.given.putter)) stay stays, sum_by-cons (λ (s : Stay). weight (pass_of s.back.putter)) stay stays)
 
   pub home_more : ComesHome pool pool' (stay ∷ stays)
   home_more = record { from = from_pool; weights = all_weights }
@@ -134,26 +137,26 @@ module _ {In Out K : Type 0} where
       (λ (under : number < next). have number caller under (sym (get_set_other callers next number (at_desk was desk) (λ e. absurd (omega arith))) ∙ at))
       (last_or_less number next less)
 
-  -- and still has one, with the same pass
+  -- and still has it
   pub kept_there : (callers after : List (Caller In Out K)) (next : ℕ) (was default : Caller In Out K) (given back : Desk Macaroons Job Reply) → next < length callers → KeepDesks (next + 1) (set callers next (at_desk was given)) after
-      → (desk : Desk Macaroons Job Reply) × ((get_or after next default).desk ≡ Some desk) × IsSamePass given.putter desk.putter
+      → (desk : Desk Macaroons Job Reply) × ((get_or after next default).desk ≡ Some desk) × IsSameDesk given desk
   kept_there callers after next was default given back below kept =
       let few : next < length after = omega (arith, kept.none_lost, length-set callers next (at_desk was given)) in
       kept.each next (at_desk was given) (get_or after next default) (omega arith) (get_set_here callers next (at_desk was given) below) (slice_get-get_or after next default few) given refl
 
   pub same_there : (callers after : List (Caller In Out K)) (next : ℕ) (was default : Caller In Out K) (given back : Desk Macaroons Job Reply) → next < length callers → KeepDesks (next + 1) (set callers next (at_desk was given)) after
-      → (get_or after next default).desk ≡ Some back → IsSamePass given.putter back.putter
+      → (get_or after next default).desk ≡ Some back → IsSameDesk given back
   same_there callers after next was default given back below kept is =
       let there = kept_there callers after next was default given back below kept in
       let found = there.1 in
       let e : there.0 ≡ back = cc in
-      subst (λ (desk : Desk Macaroons Job Reply). IsSamePass given.putter desk.putter) e there.2
+      subst (λ (desk : Desk Macaroons Job Reply). IsSameDesk given desk) e there.2
 
   -- nobody lost a desk where nothing was done
   pub keep_all : (next : ℕ) (callers : List (Caller In Out K)) → KeepDesks next callers callers
   keep_all next callers = record {
     none_lost = refl;
-    each = λ number b a less was is given at. let e : b ≡ a = cc in (given, ap (λ (x : Caller In Out K). x.desk) (sym e) ∙ at, (refl, refl, refl));
+    each = λ number b a less was is given at. let e : b ≡ a = cc in (given, ap (λ (x : Caller In Out K). x.desk) (sym e) ∙ at, ((refl, refl, refl), refl, refl));
   }
 
   -- nor where one more rose
@@ -205,7 +208,9 @@ module _ {In Out K : Type 0} (d : Devices In Out K) where
         let there = all.each number b a was is in
         let found = there.given_is in
         let e : there.stay.given ≡ given = cc in
-        (there.stay.back, there.back_is, subst (λ (desk : Desk Macaroons Job Reply). IsSamePass desk.putter there.stay.back.putter) e there.attended.served.same_pool);
+        let served = there.attended.served in
+        let same : IsSameDesk there.stay.given there.stay.back = (served.same_putter.0, served.same_putter.1, ap (λ (t : Taking Job). t.mail) served.taken_is) in
+        (there.stay.back, there.back_is, subst (λ (desk : Desk Macaroons Job Reply). IsSameDesk desk there.stay.back) e same);
   }
 
   pub attended_all : (next : ℕ) (callers after : List (Caller In Out K)) (pool : Slots Job) → next ≡ length callers → AttendsEach d callers after → IsSeated d next callers after pool pool
@@ -224,7 +229,7 @@ module _ {In Out K : Type 0} (d : Devices In Out K) where
 
   module _ (next : ℕ) (callers after : List (Caller In Out K)) (was default left : Caller In Out K) (given back : Desk Macaroons Job Reply) (pool mid mid' pool' : Slots Job)
       (below : next < length callers) (was_is : slice_get callers next ≡ Some was) (back_is : (get_or after next default).desk ≡ Some back) (left_is : left ≡ risen (get_or after next default))
-      (went : IsGiven pool given.putter mid) (none : given.taker ≡ []) (came : pool' ≡ with_home mid' back.putter) (outs : IsSamePool mid mid')
+      (went : IsGiven pool (pass_of given.putter) mid) (none : given.taker ≡ fresh_taking given.putter.mail) (came : pool' ≡ with_home mid' (pass_of back.putter)) (outs : IsSamePool mid mid')
       (rest : IsSeated d (next + 1) (set callers next (at_desk was given)) after mid mid') where
     few : next < length after
     few = omega (arith, rest.none_lost, length-set callers next (at_desk was given))
@@ -273,10 +278,10 @@ module _ {In Out K : Type 0} (d : Devices In Out K) where
       one_each = let r = rest.one_each in omega (arith, length-set callers next (at_desk was given));
       late = late_more;
       home = home_more pool mid mid' pool' there.stay rest.stays
-          (subst (λ (desk : Desk Macaroons Job Reply). IsGiven pool desk.putter mid) given_same went)
-          there.attended.served.same_pool
-          (subst (λ (desk : Desk Macaroons Job Reply). pool' ≡ with_home mid' desk.putter) back_same came)
-          (subst (λ (desk : Desk Macaroons Job Reply). desk.taker ≡ []) given_same none)
-          (ap (λ (p : Pass Job). p.claimed) there.attended.served.put_is)
+          (subst (λ (desk : Desk Macaroons Job Reply). IsGiven pool (pass_of desk.putter) mid) given_same went)
+          there.attended.served.same_putter.0
+          (subst (λ (desk : Desk Macaroons Job Reply). pool' ≡ with_home mid' (pass_of desk.putter)) back_same came)
+          (subst (λ (desk : Desk Macaroons Job Reply). desk.taker ≡ fresh_taking desk.putter.mail) given_same none)
+          (ap (λ (p : Putting Job). p.claimed) there.attended.served.put_is)
           outs rest.home;
     }

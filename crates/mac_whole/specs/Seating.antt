@@ -3,18 +3,23 @@ use Rattle.std.specs.Prelude.{◌≡◌, ℕ, ◌+◌, ◌<◌, List, [], length
 use Rattle.std.specs.List.{sum_by}
 use Rattle.mac_decide.specs.declared.job.Job.{Job}
 use Rattle.mac_decide.specs.declared.macaroons.Macaroons.{Macaroons}
-use Rattle.mac_queue.specs.Pass.{Pass, IsSamePass}
+use Rattle.mac_mail.specs.Taking.{fresh_taking}
+use Rattle.mac_queue.specs.Desk.{IsSameDesk}
+use Rattle.mac_queue.specs.Pass.{Pass}
+use Rattle.mac_queue.specs.Putting.{pass_of}
 use Rattle.mac_queue.specs.declared.desk.Desk.{Desk}
 use Rattle.mac_wire.specs.declared.reply.Reply.{Reply}
 use Rattle.mac_pool.specs.Pool.{Slots, at_home}
 use Rattle.mac_whole.specs.declared.caller.Caller.{Caller}
 use Rattle.mac_whole.specs.Caller.{Devices, Stay, IsAttended, IsAttendedThere}
 
--- the desk of a stay came from this pool, nothing had been taken there, and it claimed nothing
+-- the desk of a stay came from this pool, with one mailbox for both of its ends, where nothing had
+-- been taken, and it claimed nothing
 pub record IsFrom (pool : Slots Job) (stay : Stay) : Type 0 where
   pub queue_is : stay.given.putter.queue ≡ pool.queue
-  pub was_home : slice_get pool.passes stay.given.putter.number ≡ Some (Some stay.given.putter)
-  pub none_taken : stay.given.taker ≡ []
+  pub was_home : slice_get pool.passes stay.given.putter.number
+      ≡ Some (Some (pass_of stay.given.putter))
+  pub none_taken : stay.given.taker ≡ fresh_taking stay.given.putter.mail
   pub none_claimed : stay.back.putter.claimed ≡ stay.given.putter.claimed
 
 -- The desks of these stays came from the pool, and went home: however passes are weighed, those at
@@ -23,9 +28,9 @@ pub record ComesHome (before after : Slots Job) (stays : List Stay) : Type 0 whe
   pub from : (number : ℕ) (stay : Stay) → slice_get stays number ≡ Some stay → IsFrom before stay
   pub weights : (weight : Pass Job → ℕ)
       → sum_by weight (at_home after.passes)
-      + sum_by (λ (stay : Stay). weight stay.given.putter) stays
+      + sum_by (λ (stay : Stay). weight (pass_of stay.given.putter)) stays
       ≡ sum_by weight (at_home before.passes)
-      + sum_by (λ (stay : Stay). weight stay.back.putter) stays
+      + sum_by (λ (stay : Stay). weight (pass_of stay.back.putter)) stays
 
 -- as many passes are at home as before, and those that were out are out
 pub record IsSamePool (before after : Slots Job) : Type 0 where
@@ -35,12 +40,12 @@ pub record IsSamePool (before after : Slots Job) : Type 0 where
   pub out : (number : ℕ) → slice_get before.passes number ≡ Some None
       → slice_get after.passes number ≡ Some None
 
--- who had a desk has one, with the same pass
+-- who had a desk has it still
 abbrev pub KeepsDesk : {In Out K : Type 0} → Caller In Out K → Caller In Out K → Type 0
 KeepsDesk before after =
     (given : Desk Macaroons Job Reply) → before.desk ≡ Some given
     → (back : Desk Macaroons Job Reply) × (after.desk ≡ Some back)
-    × IsSamePass given.putter back.putter
+    × IsSameDesk given back
 
 -- each of the first ones does
 pub record KeepDesks {In Out K : Type 0} (next : ℕ)

@@ -1,9 +1,12 @@
 -- The whole of running threads: the workers of a pool, and the connections that they answer.
-use Rattle.std.specs.Prelude.{◌≡◌, ℕ, List, [], length, map, Some, slice_get}
+use Rattle.std.specs.Prelude.{◌≡◌, ℕ, List, [], length, Some, slice_get}
 use Rattle.std.specs.List.{flat_map}
 use Rattle.atomic_table.specs.Seated.{TableId}
 use Rattle.mac_queue.specs.Lists.{IsSplitInto}
+use Rattle.mac_mail.specs.Mail.{Mail}
+use Rattle.mac_mail.specs.Taking.{fresh_taking}
 use Rattle.mac_queue.specs.Pass.{IsFresh, all_claimed}
+use Rattle.mac_queue.specs.Putting.{pass_of}
 use Rattle.mac_queue.specs.declared.queue.tally.Tally.{Tally}
 use Rattle.mac_worker.specs.declared.work.Worked.{Worked}
 use Rattle.mac_pool.specs.Pool.{HaveAnswered, passes_of}
@@ -13,18 +16,19 @@ use Rattle.mac_decide.specs.declared.macaroons.Macaroons.{Macaroons}
 use Rattle.mac_whole.specs.declared.caller.Caller.{Caller}
 use Rattle.mac_whole.specs.Caller.{Devices, Stay, IsAttended}
 
--- the desk of a stay was of this queue, and nothing had been put or taken there
+-- the desk of a stay was of this queue, with one mailbox for both of its ends, and nothing had been
+-- put or taken there
 pub record BeginsFresh (queue : TableId) (stay : Stay) : Type 0 where
-  pub pass_is : IsFresh queue stay.given.putter.number stay.given.putter
-  pub none_taken : stay.given.taker ≡ []
+  pub pass_is : IsFresh queue stay.given.putter.number (pass_of stay.given.putter)
+  pub none_taken : stay.given.taker ≡ fresh_taking stay.given.putter.mail
 
--- the jobs that were put in all stays, each with its place
-abbrev pub put_in : List Stay → List (ℕ × Job)
+-- the jobs that were put in all stays, each with its place and the mailbox for its answer
+abbrev pub put_in : List Stay → List (Mail × (ℕ × Job))
 put_in stays = flat_map (λ (stay : Stay). stay.back.putter.put) stays
 
--- the jobs that the workers claimed, each with its place
-abbrev pub claimed_by : List (Worked Macaroons Job Reply) → List (ℕ × Job)
-claimed_by workers = map (λ claim. claim.1) (all_claimed (passes_of workers))
+-- the jobs that the workers claimed, each with its place and the mailbox for its answer
+abbrev pub claimed_by : List (Worked Macaroons Job Reply) → List (Mail × (ℕ × Job))
+claimed_by workers = all_claimed (passes_of workers)
 
 -- One run of all threads. So many workers ended, and each of them answered every job that it
 -- claimed, once, in the order of its claims. Each connection had a stay of its own at a fresh desk
@@ -44,7 +48,7 @@ pub record IsWhole {In Out K : Type 0} (d : Devices In Out K) (count : ℕ)
   pub attended : (number : ℕ) (b a : Caller In Out K) (stay : Stay)
       → slice_get before number ≡ Some b → slice_get after number ≡ Some a
       → slice_get stays number ≡ Some stay → IsAttended d b a stay
-  pub left : List (ℕ × Job)
+  pub left : List (Mail × (ℕ × Job))
   pub books : IsSplitInto (put_in stays) (claimed_by workers) left
   pub put_is : tally.put ≡ length (put_in stays)
   pub claimed_is : tally.claimed ≡ length (claimed_by workers)

@@ -3,7 +3,7 @@ use Rattle.std.proofs.Common.{◌≡◌, ℕ, ◌+◌, ◌<◌, ◌^◌, List, [
 use Rattle.std.proofs.lemmas.List.{length-map}
 use Rattle.mac_mail.specs.Mail.{Mail}
 use Rattle.mac_mail.specs.declared.receipt.Delivery.{Delivery}
-use Rattle.mac_queue.specs.Balance.{claim_of}
+use Rattle.mac_queue.specs.Balance.{entry_of}
 use Rattle.mac_queue.specs.Pass.{Pass, with_claimed}
 use Rattle.mac_queue.specs.declared.ticket.Ticket.{Ticket}
 use Rattle.mac_worker.specs.Parcel.{Pairwise, IsAnswered}
@@ -24,25 +24,25 @@ pub tickets_none : {Job : Type 0} (S Reply : Type 0) (pass : Pass Job) → pass 
 tickets_none S Reply pass = ap (λ l. record pass { claimed = l }) (sym (append-nil pass.claimed))
 
 module _ {S Job Reply : Type 0} where
-  map_push : (tickets : List (Ticket S Job Reply)) (ticket : Ticket S Job Reply) → map claim_of (tickets ++ ticket ∷ []) ≡ map claim_of tickets ++ claim_of ticket ∷ []
+  map_push : (tickets : List (Ticket S Job Reply)) (ticket : Ticket S Job Reply) → map entry_of (tickets ++ ticket ∷ []) ≡ map entry_of tickets ++ entry_of ticket ∷ []
   map_push [] ticket = refl
-  map_push (t ∷ tickets) ticket = ap (λ (l : List (Mail × (ℕ × Job))). claim_of t ∷ l) (map_push tickets ticket)
+  map_push (t ∷ tickets) ticket = ap (λ (l : List (Mail × (ℕ × Job))). entry_of t ∷ l) (map_push tickets ticket)
 
   -- one ticket more was claimed
-  pub tickets_more : (first second third : Pass Job) (got : List (Ticket S Job Reply)) (ticket : Ticket S Job Reply) → second ≡ with_tickets first got → third ≡ with_claimed second (claim_of ticket) → third ≡ with_tickets first (got ++ ticket ∷ [])
+  pub tickets_more : (first second third : Pass Job) (got : List (Ticket S Job Reply)) (ticket : Ticket S Job Reply) → second ≡ with_tickets first got → third ≡ with_claimed second (entry_of ticket) → third ≡ with_tickets first (got ++ ticket ∷ [])
   tickets_more first second third got ticket was is =
-      is ∙ ap (λ (p : Pass Job). with_claimed p (claim_of ticket)) was
-      ∙ ap (λ (l : List (Mail × (ℕ × Job))). record first { claimed = l }) (append_assoc first.claimed (map claim_of got) (claim_of ticket ∷ []) ∙ ap (λ (l : List (Mail × (ℕ × Job))). first.claimed ++ l) (sym (map_push got ticket)))
+      is ∙ ap (λ (p : Pass Job). with_claimed p (entry_of ticket)) was
+      ∙ ap (λ (l : List (Mail × (ℕ × Job))). record first { claimed = l }) (append_assoc first.claimed (map entry_of got) (entry_of ticket ∷ []) ∙ ap (λ (l : List (Mail × (ℕ × Job))). first.claimed ++ l) (sym (map_push got ticket)))
 
   pub worked_none : (pass : Pass Job) → HasWorked {S = S} {Reply = Reply} pass 0 pass []
   worked_none pass = record { claims = record { same = (refl, refl, refl); put = refl; more = []; claimed = sym (append-nil pass.claimed); number = refl }; answered = tt }
 
   -- a ticket and others more were claimed and answered
   pub worked_turn : (first second third fourth : Pass Job) (n m : ℕ) (ticket : Ticket S Job Reply) (before after : List (Delivery S Job Reply))
-      → HasWorked first n second before → third ≡ with_claimed second (claim_of ticket) → HasTurned ticket third m fourth before after → HasWorked first (n + 1 + m) fourth after
+      → HasWorked first n second before → third ≡ with_claimed second (entry_of ticket) → HasTurned ticket third m fourth before after → HasWorked first (n + 1 + m) fourth after
   worked_turn first second third fourth n m ticket before after was is turned =
-      let claim = claim_of ticket in
-      let others = map claim_of turned.others in
+      let claim = entry_of ticket in
+      let others = map entry_of turned.others in
       let more : List (Mail × (ℕ × Job)) = was.claims.more ++ claim ∷ others in
       let last = turned.after_is in
       record {
@@ -59,7 +59,7 @@ module _ {S Job Reply : Type 0} where
               ∙ append_assoc second.claimed (claim ∷ []) others
               ∙ ap (λ (l : List (Mail × (ℕ × Job))). l ++ (claim ∷ others)) was.claims.claimed
               ∙ append_assoc first.claimed was.claims.more (claim ∷ others);
-          number = omega (arith, length-append was.claims.more (claim ∷ others), length-map turned.others (λ (t : Ticket S Job Reply). claim_of t), was.claims.number, turned.count_is);
+          number = omega (arith, length-append was.claims.more (claim ∷ others), length-map turned.others (λ (t : Ticket S Job Reply). entry_of t), was.claims.number, turned.count_is);
         };
         answered = subst (λ (l : List (Delivery S Job Reply)). Pairwise IsAnswered more l) (sym turned.book_is)
             (pairwise_append (λ (c : Mail × (ℕ × Job)) (d : Delivery S Job Reply). IsAnswered c d) was.claims.more (claim ∷ others) before turned.more was.answered turned.answered);
@@ -67,11 +67,11 @@ module _ {S Job Reply : Type 0} where
 
   -- a ticket that was answered by itself
   turned_alone : (ticket : Ticket S Job Reply) (pass : Pass Job) (delivery : Delivery S Job Reply) (before after : List (Delivery S Job Reply))
-      → IsAnswered (claim_of ticket) delivery → after ≡ before ++ delivery ∷ [] → HasTurned ticket pass 0 pass before after
+      → IsAnswered (entry_of ticket) delivery → after ≡ before ++ delivery ∷ [] → HasTurned ticket pass 0 pass before after
   turned_alone ticket pass delivery before after one is = record { others = []; count_is = refl; after_is = tickets_none S Reply pass; more = delivery ∷ []; book_is = is; answered = (one, tt) }
 
   pub worked_alone : (first second third : Pass Job) (n : ℕ) (ticket : Ticket S Job Reply) (delivery : Delivery S Job Reply) (before after : List (Delivery S Job Reply))
-      → HasWorked first n second before → third ≡ with_claimed second (claim_of ticket) → IsAnswered (claim_of ticket) delivery → after ≡ before ++ delivery ∷ [] → HasWorked first (n + 1) third after
+      → HasWorked first n second before → third ≡ with_claimed second (entry_of ticket) → IsAnswered (entry_of ticket) delivery → after ≡ before ++ delivery ∷ [] → HasWorked first (n + 1) third after
   worked_alone first second third n ticket delivery before after was is one book =
       let same : n + 1 + 0 ≡ n + 1 = omega arith in
       subst (λ (k : ℕ). HasWorked first k third after) same

@@ -5,7 +5,7 @@ use Rattle.mac_mail.specs.Mail.{Mail}
 use Rattle.mac_mail.specs.Post.{entry_of, IsDelivered}
 use Rattle.mac_mail.specs.declared.receipt.Delivery.{Delivery}
 use Rattle.mac_mail.specs.declared.receipt.Delivery.TheVariants.{Posted, Closed}
-use Rattle.mac_queue.specs.Balance.{claim_of}
+use Rattle.mac_queue.specs.Balance.{entry_of as claim_of}
 use Rattle.mac_queue.specs.declared.ticket.Ticket.{Ticket}
 use Rattle.mac_worker.specs.declared.work.Parcel.{Parcel}
 use Rattle.mac_worker.specs.Parcel.{Pairwise, IsAnswerTo, AnswerEach, IsAnswered, IsSent, HasPosted}

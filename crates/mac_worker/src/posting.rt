@@ -3,7 +3,7 @@
 ghost use Rattle.std.specs.Prelude.{◌≡◌, ◌+◌, ◌++◌, ◌≤◌, List, []};
 ghost use Rattle.std.specs.VecDeque.{deque_len, deque_capacity};
 ghost use Rattle.mac_mail.specs.Post.{IsDelivered};
-ghost use Rattle.mac_queue.specs.Balance.{claim_of};
+ghost use Rattle.mac_queue.specs.Balance.{entry_of};
 ghost use Rattle.mac_worker.specs.Parcel.{IsAnswered, IsSent, HasPosted};
 
 use crate::gate::Gate;
@@ -15,7 +15,7 @@ use std::sync::Wait;
 
 /// Posts that there was no memory for the ticket.
 pub fn give_up<S: Service, G: Gate, R: Wait>(rt: &R, gate: &G, ticket: Ticket<S>) -> Delivery<S>
-    ensures { IsAnswered (claim_of ticket) result }
+    ensures { IsAnswered (entry_of ticket) result }
 {
     let Ticket {
         place,

@@ -2,7 +2,7 @@
 
 ghost use Rattle.std.specs.Prelude.{◌≡◌, ◌+◌, ◌++◌, ◌≤◌, ◌<◌, ◌^◌, List, [], length, IfOk, IfSome, IfNone, OnOk, OnErr, OnSome};
 ghost use Rattle.std.specs.VecDeque.{deque_len, deque_capacity};
-ghost use Rattle.mac_queue.specs.Balance.{claim_of};
+ghost use Rattle.mac_queue.specs.Balance.{entry_of};
 ghost use Rattle.mac_queue.specs.Pass.{with_claimed};
 ghost use Rattle.mac_worker.specs.Parcel.{IsAnswerTo, AnswerEach, joined};
 ghost use Rattle.mac_worker.specs.Working.{with_tickets, HasTurned, HasWorked};
@@ -126,7 +126,7 @@ fn next_ticket<S: Service, R: Wait>(
 ) -> Option<Ticket<S>>
     requires { pass.old.queue ≡ queue.now.tickets }
     ensures claimed { IfSome result (λ ticket.
-        pass.new ≡ with_claimed pass.old (claim_of ticket)) }
+        pass.new ≡ with_claimed pass.old (entry_of ticket)) }
     ensures few { OnSome result (length pass.new.claimed < 2 ^ 62) }
     ensures same { IfNone result (pass.new ≡ pass.old) }
 {

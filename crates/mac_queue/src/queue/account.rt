@@ -2,7 +2,7 @@
 //! for the proofs alone.
 
 ghost use Rattle.std.specs.Prelude.{◌≡◌, ◌+◌, ◌-◌, ◌<◌, ◌^◌, [], ◌∷◌, ◌++◌, length};
-ghost use Rattle.mac_queue.specs.Balance.{account, claim_of, entry_of};
+ghost use Rattle.mac_queue.specs.Balance.{account, entry_of};
 
 use crate::ticket::Ticket;
 use crossbeam_queue::protocol::{Join, Lesson, Outcome, Protocol, Split};
@@ -10,11 +10,11 @@ use mac_mail::Mailbox;
 use mac_order::Service;
 use std::collections::LinkedList;
 
-/// What a pass has put and claimed, the latter with the mailbox for its answer, and its parts of
-/// the right to know the whole. No value is made.
+/// What a pass has put and claimed, each with the mailbox for its answer, and its parts of the right
+/// to know the whole. No value is made.
 pub struct Account<J, M> {
     pub parts: u64,
-    pub put: LinkedList<(u64, J)>,
+    pub put: LinkedList<(M, (u64, J))>,
     pub claimed: LinkedList<(M, (u64, J))>,
 }
 
@@ -68,7 +68,7 @@ pub struct Claims;
 
 impl<S: Service> Outcome<Ticket<S>, Books<S>> for Claims {
     ghost then = { λ a ticket b.
-        (b ≡ account a.parts a.put (a.claimed ++ claim_of ticket ∷ []))
+        (b ≡ account a.parts a.put (a.claimed ++ entry_of ticket ∷ []))
         × (length b.claimed < 2 ^ 62) };
 }
 

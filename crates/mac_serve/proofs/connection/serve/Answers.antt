@@ -14,6 +14,7 @@ use Rattle.mac_serve.specs.declared.fault.ServeFault.{ServeFault}
 use Rattle.mac_serve.specs.declared.fault.ServeFault.TheVariants as fault
 use Rattle.mac_serve.specs.Sending.{next, out_text, payloads}
 use Rattle.mac_serve.specs.Serving.{HasServed, CountsServed, GivesBack, GoesOnWith}
+use Rattle.mac_serve.proofs.SendingLemmas.{same-mail}
 use Rattle.mac_serve.proofs.ServingLemmas.{come-past, nothing-served, nothing-out, has-served, released-count, counts-back, counts-served, ended-told}
 use Rattle.mac_serve.proofs.connection.serve.Goals as goal
 
@@ -95,6 +96,16 @@ returns-clause-serves g c past come =
     c.run_both-sending.result.0 c.run_both-sending.result.1 (eqb totals.admitted totals.released) c.outcome-fault.result (Some c.in-Some.fault) c.given_back-fault.result.1
     (out.sends c.args.desk.taker stands) out.sent out.all read.ran read.left (λ is. eqb-true totals.admitted totals.released is ∙ due) c.outcome-fault.ensures
     (subst (λ (w : Option ServeFault). GivesBack (GoesOnWith c.run_both-sending.new.incoming.reader c.run_both-sending.new.unsent (c.args.session.answered + totals.admitted)) c.outcome-fault.result.0 w c.given_back-fault.result.1) c.in-Some.is c.given_back-fault.ensures)
+
+pub returns-in-None-clause-same_mail : goal.returns-in-None-clause-same_mail
+returns-in-None-clause-same_mail g c =
+    same-mail c.args.desk.taker c.run_both-sending.result.0 c.run_both-sending.new.outbound
+    (c.run_both-sending.ensures.sends.sends c.args.desk.taker c.new-outbound.ensures.stands)
+
+pub returns-clause-same_mail : goal.returns-clause-same_mail
+returns-clause-same_mail g c =
+    same-mail c.args.desk.taker c.run_both-sending.result.0 c.run_both-sending.new.outbound
+    (c.run_both-sending.ensures.sends.sends c.args.desk.taker c.new-outbound.ensures.stands)
 
 pub returns-clause-faults : goal.returns-clause-faults
 returns-clause-faults g c =

@@ -1,6 +1,8 @@
-use Rattle.std.proofs.Common.{◌≡◌, ◌^◌, ℕ, List, Option, None, Some, length, slice_set, ap, ◌∙◌, subst, sym, refl, length-set}
+use Rattle.std.proofs.Common.{◌≡◌, ◌^◌, ℕ, List, Option, None, Some, length, slice_set, ap, ◌∙◌, subst, sym, refl, length-set, arith}
 use Rattle.mac_decide.specs.declared.job.Job.{Job}
+use Rattle.mac_mail.specs.Taking.{fresh_taking}
 use Rattle.mac_queue.specs.Pass.{Pass}
+use Rattle.mac_queue.specs.Putting.{pass_of}
 use Rattle.mac_pool.specs.Pool.{Slots, IsGiven, IsHome, with_home}
 use Rattle.mac_daemon.specs.Crew.{IsManned}
 use Rattle.mac_daemon.specs.Parting.{Handle}
@@ -35,6 +37,13 @@ invariant_of-self-in-Ok-start_connection-clause-passes g c =
     ap (λ (p : Slots Job). length p.passes) given.after_is
     ∙ length-set c.args.self.now.pool.passes c.in-Ok-desk.desk.putter.number None ∙ c.args.self.now.passes
 
+pub invariant_of-self-in-Ok-start_connection-clause-few : goal.invariant_of-self-in-Ok-start_connection-clause-few
+invariant_of-self-in-Ok-start_connection-clause-few g c =
+    let given = c.in-Ok-desk.ensures.desk.0 in
+    let same = ap (λ (p : Slots Job). p.workers) given.after_is in
+    let few = c.args.self.now.few in
+    omega (arith, same, few)
+
 pub invariant_of-self-in-Ok-start_connection-clause-manned : goal.invariant_of-self-in-Ok-start_connection-clause-manned
 invariant_of-self-in-Ok-start_connection-clause-manned g c =
     let given = c.in-Ok-desk.ensures.desk.0 in
@@ -42,7 +51,7 @@ invariant_of-self-in-Ok-start_connection-clause-manned g c =
     let berths = c.args.self.now.berths.items in
     let who = c.in-Ok-start_connection.connection in
     subst (λ (p : Slots Job). IsManned p.workers p.passes number_of (slice_set berths c.args.berth (Some who))) (sym given.after_is)
-    (manned_taken pool.workers number_of pool.passes berths c.args.berth c.in-Ok-desk.desk.putter.number who c.in-Ok-desk.desk.putter
+    (manned_taken pool.workers number_of pool.passes berths c.args.berth c.in-Ok-desk.desk.putter.number who (pass_of c.in-Ok-desk.desk.putter)
     c.args.self.now.manned given.was_home c.requires (ap (λ d. d.putter.number) c.in-Ok-start_connection.ensures.desk))
 
 pub invariant_of-self-in-Err : goal.invariant_of-self-in-Err
@@ -51,17 +60,18 @@ invariant_of-self-in-Err g c =
     let pool = c.args.self.now.pool in
     let slots = pool.passes in
     let berths = c.args.self.now.berths.items in
-    let putter = c.in-Ok-desk.desk.putter in
-    let back = c.in-Err.desk.putter in
+    let putter = pass_of c.in-Ok-desk.desk.putter in
+    let back = pass_of c.in-Err.desk.putter in
     let n = putter.number in
     let whole : c.home.new.self ≡ record pool { passes = slice_set (slice_set slots n None) n (Some back) } =
     c.home.ensures ∙ ap (λ (p : Slots Job). with_home p back) given.after_is
-    ∙ ap (λ (k : ℕ). record pool { passes = slice_set (slice_set slots n None) k (Some back) }) c.in-Err.ensures.back.2 in
+    ∙ ap (λ (k : ℕ). record pool { passes = slice_set (slice_set slots n None) k (Some back) }) c.in-Err.ensures.back.0.2 in
     record {
       size = c.args.self.now.size;
       home = λ k x at. c.args.self.now.home k x at ∙ sym (ap (λ (p : Slots Job). p.queue) whole);
       marked = c.args.self.now.marked;
       passes = ap (λ (p : Slots Job). length p.passes) whole ∙ length-set (slice_set slots n None) n (Some back) ∙ length-set slots n None ∙ c.args.self.now.passes;
+      few = (let same = ap (λ (p : Slots Job). p.workers) whole in let few = c.args.self.now.few in omega (arith, same, few));
       manned = subst (λ (p : Slots Job). IsManned p.workers p.passes number_of berths) (sym whole)
           (manned_refused pool.workers number_of slots berths n putter back c.args.self.now.manned given.was_home);
     }
@@ -77,19 +87,20 @@ returns-in-Ok-start_connection-clause-taken g c =
       badge_is = started.badge;
       session_is = started.session;
       mark_is = started.mark ∙ c.mark_of.ensures;
-      given = subst (λ (pass : Pass Job). IsGiven c.args.self.now.pool pass c.desk.new.self) (sym (ap (λ d. d.putter) started.desk)) given;
+      given = subst (λ (pass : Pass Job). IsGiven c.args.self.now.pool pass c.desk.new.self) (sym (ap (λ d. pass_of d.putter) started.desk)) given;
+      fresh = ap (λ d. d.taker) started.desk ∙ c.in-Ok-desk.ensures.fresh ∙ sym (ap (λ d. fresh_taking d.putter.mail) started.desk);
     }
 
 pub returns-in-Err-clause-refused : goal.returns-in-Err-clause-refused
 returns-in-Err-clause-refused g c =
     let given = c.in-Ok-desk.ensures.desk.0 in
-    let putter = c.in-Ok-desk.desk.putter in
-    let back = c.in-Err.desk.putter in
+    let putter = pass_of c.in-Ok-desk.desk.putter in
+    let back = pass_of c.in-Err.desk.putter in
     let slots = c.args.self.now.pool.passes in
     let after : c.home.new.self.passes ≡ slice_set (slice_set slots putter.number None) putter.number (Some back) =
     ap (λ (p : Slots Job). p.passes) c.home.ensures
     ∙ ap (λ (p : Slots Job). slice_set p.passes back.number (Some back)) given.after_is
-    ∙ ap (λ (k : ℕ). slice_set (slice_set slots putter.number None) k (Some back)) c.in-Err.ensures.back.2 in
+    ∙ ap (λ (k : ℕ). slice_set (slice_set slots putter.number None) k (Some back)) c.in-Err.ensures.back.0.2 in
     λ _. (
       refl,
       λ number was.

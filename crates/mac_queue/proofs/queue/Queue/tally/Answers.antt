@@ -55,13 +55,13 @@ returns g c =
     sym (append-nil _) ∙ ap (λ (l : List (Pass g.row.S-Job.Denot)). (view c.loop-pass.whole).put ++ all_put l) (sym none) ∙ invariant.put in
     let claimed : (view c.loop-pass.whole).claimed ≡ all_claimed c.args.passes.items =
     sym (append-nil _) ∙ ap (λ (l : List (Pass g.row.S-Job.Denot)). (view c.loop-pass.whole).claimed ++ all_claimed l) (sym none) ∙ invariant.claimed in
-    let entry : Ticket g.row.S.Denot g.row.S-Job.Denot g.row.S-Reply.Denot → ℕ × g.row.S-Job.Denot = entry_of in
+    let entry : Ticket g.row.S.Denot g.row.S-Job.Denot g.row.S-Reply.Denot → Mail × (ℕ × g.row.S-Job.Denot) = entry_of in
     let one = held.2 (λ _. 1) in
     let count = invariant.count in
     let number = held.1 in
     record {
       left = map entry held.0;
-      each = λ weight. let f = held.2 weight in omega (arith, ap (sum_by weight) put, ap (sum_by (λ (e : Mail × (ℕ × g.row.S-Job.Denot)). weight e.1)) claimed, total_map weight (λ (e : Mail × (ℕ × g.row.S-Job.Denot)). e.1) (all_claimed c.args.passes.items), total_map weight entry held.0);
+      each = λ weight. let f = held.2 weight in omega (arith, ap (sum_by weight) put, ap (sum_by weight) claimed, total_map weight entry held.0);
       put_is = count ∙ ap length put;
       claimed_is = omega (arith, ap length claimed, ones (view c.loop-pass.whole).put, ones (view c.loop-pass.whole).claimed, ones held.0);
       left_is = omega (arith, length-map held.0 entry);

@@ -1,5 +1,5 @@
-use Rattle.std.proofs.Common.{◌∙◌, ap, List, ℕ}
-use Rattle.std.specs.Prelude.{Option}
+use Rattle.std.proofs.Common.{◌∙◌, ap}
+use Rattle.mac_mail.specs.Taking.{Taking}
 use Rattle.mac_decide.specs.declared.job.Job.{Job}
 use Rattle.mac_serve.specs.declared.outbound.Outbound.{Outbound}
 use Rattle.mac_serve.proofs.SendingLemmas.{closed-after}
@@ -10,6 +10,6 @@ pub returns : goal.returns
 returns g c =
     let o : Outbound = c.send_if_counted-ended.new.self in
     elim c.if-is_err.branch [
-      | then-is_err w ↦ closed-after c.send_if_counted-ended.ensures (w.self-is ∙ ap (λ (posts : List (ℕ × Option Job)). record o { taker = posts }) w.close.ensures)
+      | then-is_err w ↦ closed-after c.send_if_counted-ended.ensures (w.self-is ∙ ap (λ (taker : Taking Job). record o { taker = taker }) w.close.ensures)
       | else-is_err w ↦ closed-after c.send_if_counted-ended.ensures w.self-is
     ]
