@@ -261,7 +261,7 @@ func (c *Client) appendVerdicts(
 // send sends the frames of a batch, over a new connection where there is none.
 func (c *Client) send(ctx context.Context, frames []byte, sent *batch) error {
 	for {
-		connection, err := c.connected(ctx)
+		connection, err := c.connected(ctx, sent)
 		if err == nil {
 			err = connection.send(ctx, frames, sent)
 		}

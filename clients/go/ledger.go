@@ -22,6 +22,8 @@ type batch struct {
 	isWatched bool
 	// Whether it has ended; the lock of its connection's ledger guards this.
 	hasEnded bool
+	// The place of the line that it went over, or the batch before it of which this is made.
+	line int
 }
 
 func newBatch(count int, timeout time.Duration) *batch {

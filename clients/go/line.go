@@ -11,6 +11,8 @@ const (
 	defaultConnections = 4
 	// Another connection is opened where each that is there has so many requests out.
 	fewOut = 16
+	// A batch goes over the line of the one before it while fewer are out there.
+	steadyOut = 20
 )
 
 // What a connection is asked before calls depend on it: an attenuate that adds nothing
@@ -72,34 +74,41 @@ func (l *line) noteEnd() {
 	l.noted = ended
 }
 
-// connected gives the connection with the fewest requests out; it is made where there is
-// none, and another one is opened where all have much to do.
-func (c *Client) connected(ctx context.Context) (*connection, error) {
-	least, free := c.leastBusy()
+// connected gives the connection of the batch's line while few requests are out there: so
+// goroutines that run on different processors seldom write to the same memory. Else it gives
+// the one with the fewest out, which is made where there is none, and another one is opened
+// where all have much to do.
+func (c *Client) connected(ctx context.Context, asked *batch) (*connection, error) {
+	usual := c.lines[asked.line%len(c.lines)].live()
+	if usual != nil && usual.out.Load() < steadyOut {
+		return usual, nil
+	}
+	least, place, free := c.leastBusy()
 	if least == nil {
 		return c.reconnected(ctx)
 	}
 	if free != nil && least.out.Load() >= fewOut {
 		c.widen(free)
 	}
+	asked.line = place
 	return least, nil
 }
 
-// leastBusy gives the connection with the fewest requests out, and a line that has none,
-// each where there is one.
-func (c *Client) leastBusy() (least *connection, free *line) {
+// leastBusy gives the connection with the fewest requests out, with the place of its line, and
+// a line that has none, each where there is one.
+func (c *Client) leastBusy() (least *connection, place int, free *line) {
 	fewest := int64(math.MaxInt64)
-	for _, line := range c.lines {
+	for at, line := range c.lines {
 		current := line.live()
 		if current == nil {
 			if free == nil {
 				free = line
 			}
 		} else if out := current.out.Load(); out < fewest {
-			least, fewest = current, out
+			least, place, fewest = current, at, out
 		}
 	}
-	return least, free
+	return least, place, free
 }
 
 // reconnected gives a connection in the first line.
