@@ -29,6 +29,9 @@ NO_MEMORY_FOR_PEOPLE = Ended(4, b"", b"error: memory ran out\n")
 DEVICE = b"fault 3\n"
 # Calls of try_refused that take no memory.
 WITHOUT_MEMORY = {"bare:v1", "bare:v2", "bare:json"}
+# The uses that warn of a caveat: where there is no memory for the warning, the token stands alone.
+WARNING = {"mint_near_bound", "attenuate_near_bound"}
+UNWARNED = "its token without the warning"
 BARE = b"made", b"refused, and made once more", b"refused elsewhere"
 MINT = bytes.fromhex("01010462616e6b000e687474703a2f2f6d7962616e6b2f001677652075736564206f757220736563726574206b657900")
 REPLIES = [frame(b"\x01" + TOKEN), frame(b"\x10")]
@@ -65,7 +68,10 @@ def pipe(count, most=None, step=1):
 
 
 def lines_of(uses, most=None, step=1):
-    """Each command line: it ends as it does with ample memory, or with status 4 and a line that says so."""
+    """Each command line: it ends as with ample memory, or with status 4 and a line that says so.
+
+    A use that warns may also end without its warning, and does where that is what is refused.
+    """
     for name, case in uses:
         command = [runs.PROGRAM, *case.words]
         given = case.input.encode()
@@ -74,9 +80,14 @@ def lines_of(uses, most=None, step=1):
         def judge(ended):
             if ended == ample or (name == "keygen" and ended and ended.status == 0):
                 return "as with ample memory"
+            if name in WARNING and ended == ample._replace(error=b""):
+                return UNWARNED
             return "status 4" if ended in (NO_MEMORY, NO_MEMORY_FOR_PEOPLE) else None
 
-        yield in_turn(name, lambda n: watched(command, given, "memory", n), judge, most, step)
+        row, found = in_turn(name, lambda n: watched(command, given, "memory", n), judge, most, step)
+        if name in WARNING and most is None and not row.came[UNWARNED]:
+            found.append(f"{name}: no request of the warning itself was refused")
+        yield row, found
 
 
 def together(what, rows):
@@ -207,7 +218,7 @@ def many():
     yield from devices()
     yield from faulty_daemon.devices()
     yield faulty_daemon.starts()
-    yield faulty_daemon.talks(2_000)
+    yield faulty_daemon.talks()
     yield faulty_daemon.goes_on(2_000)
 
 

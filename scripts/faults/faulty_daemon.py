@@ -126,13 +126,13 @@ def starts(most=None, step=1):
     return in_turn("serve over sockets, from the start", lambda n: once("memory", n, 1), served(1), most, step)
 
 
-def talks(most):
-    """The first so many requests for memory of the process, all of them while two clients talk or before."""
-    times = 250
-    _, calls, _ = once("memory", 0, times)
-    row, found = in_turn("serve over sockets, two clients talk", lambda n: once("memory", n, times), served(times), most)
-    if calls < most:
-        found.append(f"the daemon asks for memory {calls} times alone")
+def talks(times=250):
+    """The same while two clients talk, for whom the daemon asks for memory once a round at least."""
+    what = "serve over sockets, two clients talk"
+    _, first, _ = once("memory", 0, 1)
+    row, found = in_turn(what, lambda n: once("memory", n, times), served(times))
+    if row.points < first + times - 1:
+        found.append(f"{what}: {row.points} requests in {times} rounds, and {first} in the first one")
     return row, found
 
 
