@@ -9,10 +9,9 @@ import (
 
 const (
 	defaultConnections = 4
-	// Another connection is opened where each that is there has so many requests out.
+	// Another connection is opened where each that is there has so many requests out. A batch
+	// goes over the line of the one before it while fewer are out there.
 	fewOut = 16
-	// A batch goes over the line of the one before it while fewer are out there.
-	steadyOut = 20
 )
 
 // What a connection is asked before calls depend on it: an attenuate that adds nothing
@@ -80,7 +79,7 @@ func (l *line) noteEnd() {
 // where all have much to do.
 func (c *Client) connected(ctx context.Context, asked *batch) (*connection, error) {
 	usual := c.lines[asked.line%len(c.lines)].live()
-	if usual != nil && usual.out.Load() < steadyOut {
+	if usual != nil && usual.out.Load() < fewOut {
 		return usual, nil
 	}
 	least, place, free := c.leastBusy()

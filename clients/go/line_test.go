@@ -152,6 +152,10 @@ func TestMoreConnections(t *testing.T) {
 			if live(crowd.client) != 1 {
 				t.Errorf("%d connections for %d requests", live(crowd.client), fewOut)
 			}
+			if one.most > 1 {
+				crowd.join(t, 1)
+				eventually(t, "a second connection", func() bool { return live(crowd.client) > 1 })
+			}
 			crowd.joinUntil(t, func() bool { return live(crowd.client) == one.most })
 			if few := one.most * fewOut; crowd.asked < few-fewOut {
 				t.Errorf("%d connections for %d requests", one.most, crowd.asked)
