@@ -57,7 +57,7 @@ struct SeenToken {
     keys: Keys,
     text: Vec<u8>,
     token: Token,
-    /// Whether it was asked for since others last had to give way to some token.
+    /// Whether it was found since it last would have given way.
     is_used: AtomicBool,
     ghost spelled: { read_of text.items ≡ Ok token },
     ghost minted: { is_minted (listed keys) token ≡ true },

@@ -10,8 +10,8 @@ use mac_mail::Mailbox;
 use mac_order::Service;
 use std::collections::LinkedList;
 
-/// What a pass has put and claimed, each with the mailbox for its answer, and its parts of the right
-/// to know the whole. No value is made.
+/// What a pass has put and claimed, each with the mailbox for its answer, and its parts of the
+/// right to know the whole. No value is made.
 pub struct Account<J, M> {
     pub parts: u64,
     pub put: LinkedList<(M, (u64, J))>,
