@@ -29,6 +29,16 @@ pub(crate) enum Sight {
     Asked(Option<u64>),
 }
 
+impl Sight {
+    /// How many replies it still asks for: one or none.
+    pub(crate) fn asks(&self) -> usize {
+        match self {
+            Sight::Told(_) => 0,
+            Sight::Asked(_) => 1,
+        }
+    }
+}
+
 /// What stands in a place of a run that has no job.
 impl Default for Sight {
     fn default() -> Self {
@@ -80,16 +90,18 @@ pub(crate) fn tell_front(
 pub(crate) fn count_asked(sights: &[Sight]) -> usize {
     let mut count: usize = 0;
     for sight in sights {
-        if let Sight::Asked(_) = sight {
-            count = count.saturating_add(1);
-        }
+        count = count.saturating_add(sight.asks());
     }
     count
 }
 
 /// What is known of the reply to a job.
 #[tactic(auto, unfolding(crate::specs::Answer::reply_of))]
-fn look_at_job(seen: &SeenTokens, alloc: Global, job: &JobView<'_>) -> Result<Sight, NoMemory>
+pub(crate) fn look_at_job(
+    seen: &SeenTokens,
+    alloc: Global,
+    job: &JobView<'_>,
+) -> Result<Sight, NoMemory>
     ensures { IfOk result (λ sight. IsRight sight (reply_to_job (viewed job.now))) }
 {
     match job.arrival {

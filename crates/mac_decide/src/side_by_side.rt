@@ -11,6 +11,7 @@ use crate::job::Job;
 use crate::job_view::{ArrivalView, JobView};
 use crate::keyed::keys_at;
 use crate::looking::{Sight, count_asked, look_at_all, tell_front};
+use crate::one_by_one::replies_one_by_one;
 use crate::prepared::Prepared;
 use crate::preparing::prepare;
 use crate::remembering::remember;
@@ -155,48 +156,6 @@ fn replies_to_others(
     }
 }
 
-/// The same where few are asked for: a run with all its places costs more than they do.
-fn replies_one_by_one(
-    rooms: &mut [Vec<u8>],
-    seen: &SeenTokens,
-    alloc: Global,
-    jobs: &[JobView<'_>],
-    sights: ArrayVec<Sight, RUN>,
-) -> Result<ArrayVec<Reply, RUN>, NoMemory>
-    requires count { length jobs.now ≤ RUN }
-    requires rooms { length jobs.now ≤ length rooms.old }
-    requires sights { AreRight sights.items (map reply_to_job (map viewed jobs.now)) }
-    ensures { IfOk result (λ replies.
-        replies.items ≡ map reply_to_job (map viewed jobs.now)) }
-{
-    let mut replies = ArrayVec::new();
-    for ((room, job), sight) in rooms.iter_mut().zip(jobs).zip(sights) {
-        replies.push(reply_by_sight(room, seen, alloc, job, sight)?);
-    }
-    Ok(replies)
-}
-
-/// The reply to a job.
-fn reply_by_sight(
-    room: &mut Vec<u8>,
-    seen: &SeenTokens,
-    alloc: Global,
-    job: &JobView<'_>,
-    sight: Sight,
-) -> Result<Reply, NoMemory>
-    requires { IsRight sight (reply_to_job (viewed job.now)) }
-    ensures { IfOk result (λ reply. reply ≡ reply_to_job (viewed job.now)) }
-{
-    match sight {
-        Sight::Told(reply) => Ok(reply),
-        Sight::Asked(mark) => {
-            let reply = prepare_job(room, alloc, mark, job)?.into_reply(alloc)?;
-            remember(seen, alloc, mark, job, &reply);
-            Ok(reply)
-        }
-    }
-}
-
 fn replies_side_by_side(
     rooms: &mut [Vec<u8>],
     seen: &SeenTokens,
@@ -288,7 +247,7 @@ fn prepare_by_sight<'a>(
 
 /// The same, whatever is known of it.
 #[tactic(auto, unfolding(crate::specs::Answer::reply_of))]
-fn prepare_job<'a>(
+pub(crate) fn prepare_job<'a>(
     room: &'a mut Vec<u8>,
     alloc: Global,
     mark: Option<u64>,

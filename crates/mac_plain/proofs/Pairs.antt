@@ -320,6 +320,12 @@ first_of_rest (suc i) (x ∷ xs) d there = first_of_rest i xs d (omega arith)
 pub run_one : (i : ℕ) (xs : List Request) (d : Request) → i < length xs → take ((i + 1) - i) (drop i xs) ≡ get_or xs i d ∷ []
 run_one i xs d there = ap (λ (n : ℕ). take n (drop i xs)) (let e : (i + 1) - i ≡ 1 = omega arith in e) ∙ first_of_rest i xs d there
 
+-- one request alone
+pub one_alone : (xs : List Request) (d : Request) → length xs ≡ 1 → xs ≡ get_or xs 0 d ∷ []
+one_alone [] d e = absurd cc
+one_alone (x ∷ []) d e = refl
+one_alone (x ∷ y ∷ xs) d e = absurd cc
+
 -- the reply at a place is that to the request there
 pub answered_at : {P : Type 0} (current : Current) (clients : List (Client P)) (arena : List ℕ) (run : List Request) (i : ℕ) (d : Request) (reply : Reply) → slice_get (map reply_to_job (jobs_at current clients arena run)) i ≡ Some reply
     → reply ≡ reply_to_job (job_at current arena (get_or run i d) (slice_get clients (get_or run i d).owner))

@@ -17,7 +17,9 @@ use crate::sharing::answer_shared;
 use crate::tally::Tally;
 use arrayvec::ArrayVec;
 use mac_board::Current;
-use mac_decide::{ArrivalView, JobView, RUN, Rooms, SeenTokens, Terms, answer_run, job_view_of};
+use mac_decide::{
+    ArrivalView, JobView, RUN, Rooms, SeenTokens, Terms, answer_one, answer_run, job_view_of,
+};
 use mac_wire::Reply;
 use std::alloc::Global;
 use std::thread::Threads;
@@ -127,7 +129,7 @@ fn replies_from<R: Threads + Sync, P: Port>(
 {
     let jobs = jobs_of_all(alloc, current, arena, requests, clients)?;
     let replies = answer_shared(rt, alloc, &bench.seen, jobs.as_slice(), threads)?;
-    bench.tally.count(jobs.as_slice(), replies.as_slice());
+    bench.tally.count_all(jobs.as_slice(), replies.as_slice());
     Ok(replies)
 }
 
@@ -171,7 +173,8 @@ fn answer_runs<P: Port>(
     }
 }
 
-/// Answers a run of requests together, or each by itself where memory is refused for all.
+/// Answers a run of requests together, or each by itself where memory is refused for all. One alone
+/// asks for no places of a run.
 fn answer_some<P: Port>(
     bench: &mut Bench,
     alloc: Global,
@@ -185,6 +188,9 @@ fn answer_some<P: Port>(
     ensures { AreAnswered P.tells P.taken P.written (lent_current current.entry)
         (λ k. asked_of k arena.now run.now) clients.old clients.new }
 {
+    if run.len() == 1 {
+        return answer_alone(bench, alloc, current, arena, run, clients);
+    }
     match replies_to(bench, alloc, current, arena, run, clients) {
         Ok(replies) => hand_out(run, replies.as_slice(), clients),
         Err(_) => answer_apart(bench, alloc, current, arena, run, clients),
@@ -208,7 +214,7 @@ fn replies_to<P: Port>(
 {
     let jobs = jobs_of_run(current, arena, run, clients);
     let replies = answer_run(&mut bench.rooms, alloc, jobs.as_slice())?;
-    bench.tally.count(jobs.as_slice(), replies.as_slice());
+    bench.tally.count_all(jobs.as_slice(), replies.as_slice());
     Ok(replies)
 }
 
@@ -290,15 +296,37 @@ fn answer_alone<P: Port>(
     one: &[Request],
     clients: &mut [Client<P>],
 )
-    requires count { length one.now ≤ RUN }
+    requires one { length one.now ≡ 1 }
     requires within { AreWithin (length arena.now) one.now }
     ensures { AreAnswered P.tells P.taken P.written (lent_current current.entry)
         (λ k. asked_of k arena.now one.now) clients.old clients.new }
 {
-    match replies_to(bench, alloc, current, arena, one, clients) {
-        Ok(replies) => hand_out(one, replies.as_slice(), clients),
-        Err(_) => hand_out(one, &[], clients),
+    match reply_to(bench, alloc, current, arena, &one[0], clients) {
+        Ok(reply) => give(one, Some(&reply), clients),
+        Err(_) => give(one, None, clients),
     }
+}
+
+/// The reply to a request, under the rights of its client.
+fn reply_to<P: Port>(
+    bench: &mut Bench,
+    alloc: Global,
+    current: Current<'_>,
+    arena: &[u8],
+    request: &Request,
+    clients: &[Client<P>],
+) -> Result<Reply, NoMemory>
+    requires within { (request.now.start ≤ request.now.end)
+        × (request.now.end ≤ length arena.now) }
+    ensures reply { IfOk result (λ reply. reply ≡ reply_to_job (job_at
+        (lent_current current.entry) arena.now request.now
+        (slice_get clients.now request.now.owner))) }
+    ensures sendable { IfOk result IsReply }
+{
+    let job = job_of_request(current, arena, request, clients);
+    let reply = answer_one(&mut bench.rooms, alloc, &job)?;
+    bench.tally.count(&job, &reply);
+    Ok(reply)
 }
 
 /// Gives each client the replies to its own requests, in order. Where one is missing the client has

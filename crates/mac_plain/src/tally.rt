@@ -23,15 +23,20 @@ impl Tally {
     }
 
     /// Counts these jobs, each with the reply at its place.
-    pub fn count(&mut self, jobs: &[JobView<'_>], replies: &[Reply]) {
+    pub fn count_all(&mut self, jobs: &[JobView<'_>], replies: &[Reply]) {
         for (job, reply) in jobs.iter().zip(replies) {
-            let request = Request {
-                asked: asked_by(&job.arrival),
-                told: told_by(reply),
-            };
-            let place = request.place();
-            self.counts[place] = self.counts[place].saturating_add(1);
+            self.count(job, reply);
         }
+    }
+
+    /// Counts a job with its reply.
+    pub fn count(&mut self, job: &JobView<'_>, reply: &Reply) {
+        let request = Request {
+            asked: asked_by(&job.arrival),
+            told: told_by(reply),
+        };
+        let place = request.place();
+        self.counts[place] = self.counts[place].saturating_add(1);
     }
 
     /// The counts since the last call.

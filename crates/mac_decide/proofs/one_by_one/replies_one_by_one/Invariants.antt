@@ -3,7 +3,7 @@ use Rattle.std.specs.Slice.Iter.{iter_mut_rest}
 use Rattle.mac_decide.specs.Prepared.{reply_to_job}
 use Rattle.mac_decide.specs.Seen.{AreRight}
 use Rattle.mac_decide.specs.Viewed.{viewed}
-use Rattle.mac_decide.proofs.side_by_side.replies_one_by_one.Given as goal
+use Rattle.mac_decide.proofs.one_by_one.replies_one_by_one.Given as goal
 
 -- the replies so far, and those to the jobs that are left, are all; each has a room, a place and a
 -- sight
