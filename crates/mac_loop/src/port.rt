@@ -52,8 +52,8 @@ pub struct SocketPort {
     // Whether the last read gave bytes.
     has_read: bool,
     traffic: Traffic,
-    // What comes and goes on it, where that is logged.
-    transcript: Option<RefCell<Transcript>>,
+    // What comes and goes on it, where that is logged: apart, since most have none.
+    transcript: Option<Box<RefCell<Transcript>>>,
 }
 
 impl SocketPort {
@@ -65,7 +65,7 @@ impl SocketPort {
             stream: UnixStream::from_std(stream),
             has_read: false,
             traffic: Traffic::NONE,
-            transcript: transcript.map(|transcript| RefCell::new(transcript)),
+            transcript: transcript.and_then(|transcript| transcript.apart()),
         })
     }
 
@@ -79,7 +79,8 @@ impl SocketPort {
         } = self;
         let stream = net::UnixStream::from(stream);
         stream.set_nonblocking(false)?;
-        Ok((stream, transcript.map(|transcript| transcript.into_inner())))
+        let transcript = transcript.map(|apart| Box::into_inner(apart).into_inner());
+        Ok((stream, transcript))
     }
 
     /// The next request whose reply has gone out whole, where that is logged.

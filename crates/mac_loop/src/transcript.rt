@@ -6,6 +6,7 @@ use mac_wire::{
     reply_kind, request_kind,
 };
 use std::alloc::{AllocError, Global};
+use std::cell::RefCell;
 use std::collections::VecDeque;
 use std::mem;
 
@@ -53,6 +54,11 @@ impl Transcript {
             exchanges: VecDeque::new(alloc),
             is_broken: false,
         }
+    }
+
+    /// The same in memory of its own, unless that is refused.
+    pub(crate) fn apart(self) -> Option<Box<RefCell<Transcript>>> {
+        Box::new(self.alloc, RefCell::new(self)).ok()
     }
 
     /// Takes note of bytes that came.
