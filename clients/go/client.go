@@ -50,8 +50,8 @@ func WithRetry() Option {
 	return func(c *Client) { c.retry = true }
 }
 
-// WithConnections says how many connections there are at most: 4 where it isn't said, and
-// never less than 1. Another one is opened where each that is there has 16 requests out, and
+// WithConnections says how many connections there are at most: 6 where it isn't said, and
+// never less than 1. Another one is opened where each that is there has 11 requests out, and
 // stays.
 func WithConnections(most int) Option {
 	return func(c *Client) {

@@ -7,7 +7,7 @@
 //
 // A connection is made by [Dial] and, once none is left, by the next call, with
 // pauses that grow while that fails. Another one is opened, up to [WithConnections],
-// where each that is there has 16 requests out. It takes calls once it was answered, so
+// where each that is there has 11 requests out. It takes calls once it was answered, so
 // one that the daemon refuses loses none.
 //
 // A request that was out when its connection ended returns [ErrDisconnected]: whether

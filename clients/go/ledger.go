@@ -105,6 +105,8 @@ type ledger struct {
 	whole []*batch
 	// The place of the next reply.
 	place uint64
+	// The rest of the last reply.
+	rest string
 }
 
 // take hands out the replies that are here whole, and tells how many bytes they have.
@@ -140,7 +142,7 @@ func (l *ledger) hand(payload []byte) bool {
 		}
 	}
 	first := l.batches[l.answered]
-	first.replies[first.come] = reply{payload[0], string(payload[1:])}
+	first.replies[first.come] = reply{payload[0], l.textOf(payload[1:])}
 	first.come++
 	l.place++
 	if first.come == len(first.replies) {
@@ -149,6 +151,14 @@ func (l *ledger) hand(payload []byte) bool {
 		l.whole = append(l.whole, first)
 	}
 	return true
+}
+
+// textOf gives the rest of a reply; one that is as the one before takes no memory.
+func (l *ledger) textOf(rest []byte) string {
+	if string(rest) != l.rest {
+		l.rest = string(rest)
+	}
+	return l.rest
 }
 
 // endWhole ends the batches whose last reply was handed out. Who is woken finds that they

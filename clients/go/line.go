@@ -8,10 +8,10 @@ import (
 )
 
 const (
-	defaultConnections = 4
+	defaultConnections = 6
 	// Another connection is opened where each that is there has so many requests out. A batch
 	// goes over the line of the one before it while fewer are out there.
-	fewOut = 16
+	fewOut = 11
 )
 
 // What a connection is asked before calls depend on it: an attenuate that adds nothing

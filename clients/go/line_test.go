@@ -139,7 +139,7 @@ func TestMoreConnections(t *testing.T) {
 		options []Option
 		most    int
 	}{
-		"left out": {nil, 4},
+		"left out": {nil, 6},
 		"one":      {[]Option{WithConnections(1)}, 1},
 		"none":     {[]Option{WithConnections(0)}, 1},
 		"seven":    {[]Option{WithConnections(7)}, 7},
@@ -173,14 +173,15 @@ func TestMoreConnections(t *testing.T) {
 
 // The calls that wait spread: no connection has many more out than another.
 func TestFewestOut(t *testing.T) {
-	house := newHouse(t, 4)
+	house := newHouse(t, defaultConnections)
 	crowd := newCrowd(t, house.path)
-	crowd.joinUntil(t, func() bool { return live(crowd.client) == 4 })
+	crowd.joinUntil(t, func() bool { return live(crowd.client) == defaultConnections })
 	crowd.join(t, 4*crowd.asked)
 	eventually(t, "all are out", func() bool { return allOut(crowd) })
+	due := crowd.asked / defaultConnections
 	for _, line := range crowd.client.lines {
 		// As many goroutines as run at a time may choose the same.
-		if out := int(line.current.Load().out.Load()); out < crowd.asked/4-20 || out > crowd.asked/4+20 {
+		if out := int(line.current.Load().out.Load()); out < due-20 || out > due+20 {
 			t.Errorf("%d of %d are out", out, crowd.asked)
 		}
 	}
@@ -279,7 +280,7 @@ func TestCloseEndsAll(t *testing.T) {
 
 // Runs of checks go over several connections, and the verdicts come in order.
 func TestVerifyManyOverSeveral(t *testing.T) {
-	var judged [4]atomic.Int32
+	var judged [defaultConnections]atomic.Int32
 	var next atomic.Int32
 	judges := func(s *stream) {
 		place := next.Add(1) - 1
@@ -292,12 +293,12 @@ func TestVerifyManyOverSeveral(t *testing.T) {
 			s.reply([]byte{codeUnsatisfied, payload[8], payload[9]})
 		}
 	}
-	client := dialled(t, server(t, judges, judges, judges, judges))
+	client := dialled(t, server(t, judges, judges, judges, judges, judges, judges))
 	checks := make([]Check, 20_000)
 	for number := range checks {
 		checks[number].Token = string([]byte{byte(number >> 8), byte(number)})
 	}
-	eventually(t, "four connections judge", func() bool {
+	eventually(t, "all connections judge", func() bool {
 		verdicts, err := client.VerifyMany(background, "bank", checks)
 		if err != nil || len(verdicts) != len(checks) {
 			t.Fatalf("%d verdicts, %v", len(verdicts), err)
