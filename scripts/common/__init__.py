@@ -10,5 +10,6 @@ import sys
 TOP = pathlib.Path(__file__).resolve().parents[2]
 KEYS = TOP / "examples" / "keys"
 # In a checkout others may read it, and a daemon warns of such a file.
-KEYS.chmod(0o600)
+if KEYS.stat().st_mode & 0o777 != 0o600:
+    KEYS.chmod(0o600)
 sys.path[:0] = [str(TOP / "examples"), str(TOP / "clients" / "python")]
