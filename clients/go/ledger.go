@@ -105,8 +105,8 @@ type ledger struct {
 	whole []*batch
 	// The place of the next reply.
 	place uint64
-	// The rest of the last reply.
-	rest string
+	// Whose token the last reply told that tells one.
+	owner string
 }
 
 // take hands out the replies that are here whole, and tells how many bytes they have.
@@ -142,7 +142,7 @@ func (l *ledger) hand(payload []byte) bool {
 		}
 	}
 	first := l.batches[l.answered]
-	first.replies[first.come] = reply{payload[0], l.textOf(payload[1:])}
+	first.replies[first.come] = reply{payload[0], l.textOf(payload[0], payload[1:])}
 	first.come++
 	l.place++
 	if first.come == len(first.replies) {
@@ -153,12 +153,16 @@ func (l *ledger) hand(payload []byte) bool {
 	return true
 }
 
-// textOf gives the rest of a reply; one that is as the one before takes no memory.
-func (l *ledger) textOf(rest []byte) string {
-	if string(rest) != l.rest {
-		l.rest = string(rest)
+// textOf gives the rest of a reply. Whose a token is takes no memory where the one before told
+// the same; no token is kept so.
+func (l *ledger) textOf(code byte, rest []byte) string {
+	if code != codeGrantedTo {
+		return string(rest)
 	}
-	return l.rest
+	if string(rest) != l.owner {
+		l.owner = string(rest)
+	}
+	return l.owner
 }
 
 // endWhole ends the batches whose last reply was handed out. Who is woken finds that they
