@@ -1,5 +1,14 @@
-.PHONY: test wrong-bodies wrong-runs demo build build-runs install uninstall deb tarball reproduce completions
+.PHONY: help test wrong-bodies wrong-runs demo build build-runs install uninstall deb tarball reproduce completions
 .PHONY: clients faults bench load soak soak-all pages taken
+
+# What there is to make, for whoever types `make` alone.
+help:
+	@echo "make demo          what README's sessions show, told step by step, before or after a build"
+	@echo "make test          the gate: every proof from nothing, and every test"
+	@echo "make build         proves and builds bin/macaroond"
+	@echo "sudo make install  puts what was built under /usr/local, or another PREFIX="
+	@echo "make deb tarball   the packages, of what was built"
+	@echo "docs/CONTRIBUTING.md and the Makefile tell of all others."
 
 # Every proof from nothing, the wrong bodies, every test and program; then the proved program beside its pages and the
 # work of others, over sockets, with memory refused and calls failed. It installs nothing: what isn't there is told as
@@ -24,25 +33,26 @@ demo:
 	scripts/demo.sh
 
 # Proves and builds macaroond, for x86-64-v2 and, where this machine runs it, for x86-64-v3, and leaves them in
-# libexec/macaroond/; bin/macaroond starts the one that fits the processor. And bin/time_blocks. What `make install`,
+# libexec/macaroond/; built/macaroond, which bin/macaroond calls, starts the one that fits. And bin/time_blocks. What `make install`,
 # `make deb` and `make tarball` take is what this has left.
 build:
-	rm -f bin/macaroond bin/time_blocks
+	rm -f built/macaroond bin/time_blocks
 	scripts/build/build.py
-	$(MAKE) --silent bin/macaroond
+	$(MAKE) --silent built/macaroond
 	$(call proved,time_blocks,0)
 
 # Proves a program, runs it with these words, and leaves it in bin/. A run of the toolchain that is killed leaves an
 # earlier program in out/: it writes the stamp beside a program of this text alone.
 define proved
+@command -v rt > /dev/null || { echo "the toolchain's command rt isn't on the path (README, What is trusted)"; exit 1; }
 cd crates/$(1) && rt run -- $(2) > /dev/null
 @test -e crates/$(1)/out/$(1).stamp || { echo "crates/$(1)/out/$(1) is not of this text: make build again"; exit 1; }
 cp crates/$(1)/out/$(1) bin/
 
 endef
 
-bin/macaroond: packaging/launcher.c
-	mkdir -p bin
+built/macaroond: packaging/launcher.c
+	mkdir -p built
 	$(CC) $(CPPFLAGS) $(CFLAGS) $(LDFLAGS) -o $@ $<
 
 CFLAGS ?= -O2 -Wall
@@ -55,11 +65,11 @@ export DESTDIR PREFIX SYSCONFDIR UNITDIR ZSHDIR
 install uninstall:
 	@packaging/install.sh $@
 
-# The Debian package and the .tar.gz, in dist/. The first asks for debhelper; neither for root or the toolchain.
+# The Debian packages, of the daemon and of both clients, and the .tar.gz, in dist/. The first asks for debhelper; neither for root or the toolchain.
 deb tarball:
 	scripts/build/packaging.py $@
 
-# Builds the programs, the package and the .tar.gz of this commit twice, in two folders, and compares their bytes.
+# Builds the programs, the packages and the .tar.gz of this commit twice, in two folders, and compares their bytes.
 reproduce:
 	scripts/build/reproduce.py
 
@@ -83,14 +93,15 @@ build-runs:
 # The programs that `rt ci` left where it built them, as make build and make build-runs would leave them.
 taken:
 	scripts/build/build.py --taken
-	rm -f bin/macaroond
-	$(MAKE) --silent bin/macaroond
+	rm -f built/macaroond
+	$(MAKE) --silent built/macaroond
 	for program in time_blocks $(TRIALS); do cp crates/$$program/out/$$program bin/ || exit 1; done
 
-# Each request for memory refused in turn, and each call of a device failed, of the programs and the daemon. After
-# make build build-runs, and with a C compiler.
+# Each request for memory refused in turn, and each call of a device failed, of the programs and the daemon; then
+# connections that are moved, for a minute. After make build build-runs, and with a C compiler.
 faults:
 	scripts/faults/faults.py
+	scripts/faults/moving.py 30
 
 # Requests a second, beside what their hashing costs; what serve, the ring and the pool cost. After make build build-runs.
 bench:

@@ -1,7 +1,7 @@
 #!/usr/bin/env python3
 """Writes the line of `macaroond pipe` for a request in readable fields.
 
-    request.py key NAME [SECRET]                                     a key line, for the key file
+    request.py key NAME [FILE]                                       a key line, for the key file
     request.py mint FORM NAME LOCATION IDENTIFIER [CAVEAT ..]        a new token
     request.py attenuate FORM TOKEN [CAVEAT ..]                      the token, narrowed
     request.py verify NAME TOKEN [MOMENT [FACT ..]]                  whether it is granted
@@ -10,8 +10,9 @@
 FORM is v1-text, v2-binary, v2-json or v2-text. NAME is 1 to 64 letters, digits, dots, underscores
 or dashes. MOMENT is in seconds since 1970-01-01T00:00:00Z, or `now` for that of the daemon's clock,
 which is also meant where there is none and which `owner` asks for. Each other field is its bytes as they are
-given, or `hex:` and its bytes in hexadecimal, as the pipe prints a binary token. Without SECRET the
-secret is all that standard input holds, a line feed at its end too: `request.py key NAME < FILE`.
+given, or `hex:` and its bytes in hexadecimal, as the pipe prints a binary token. A key's secret is all
+that FILE holds, a line feed at its end too, or without FILE standard input: no word of a command is
+secret, since every user of the machine can list them.
 """
 import os
 import re
@@ -62,8 +63,20 @@ def moment_of(word):
     return int(word).to_bytes(8, "big")
 
 
-def key(name, secret=None):
-    content = sys.stdin.buffer.read() if secret is None else field(secret)
+def secret_in(path):
+    """All bytes of a file, or of standard input."""
+    if path is None:
+        return sys.stdin.buffer.read()
+    try:
+        with open(path, "rb") as file:
+            return file.read()
+    except OSError as fault:
+        sys.exit(f"{path}: {fault.strerror}")
+
+
+def key(name, secret):
+    """The line of a key file for a secret: its bytes, or a text as a field has it."""
+    content = secret if isinstance(secret, bytes) else field(secret)
     if not content:
         sys.exit("the secret is empty")
     return f"key {name_of(name).decode()} {content.hex()}"
@@ -114,8 +127,10 @@ def main(words):
     match words:
         case ["--help" | "-h", *_]:
             print(__doc__, end="")
-        case ["key", _] | ["key", _, _]:
-            print(key(*words[1:]))
+        case ["key", name]:
+            print(key(name, secret_in(None)))
+        case ["key", name, path]:
+            print(key(name, secret_in(path)))
         case _:
             asked = payload(words)
             if asked is None:

@@ -3,7 +3,7 @@ import sys
 from wsgiref.simple_server import make_server
 
 from macaroond import Client
-from macaroond.wsgi import RequireMacaroon
+from macaroond.wsgi import RequireMacaroon, request_facts
 
 
 def account(environ, start_response):
@@ -18,9 +18,5 @@ def service(environ, start_response):
     return [b"anybody may read this\n"]
 
 
-def facts(environ):
-    return [f"method = {environ['REQUEST_METHOD']}", f"path = {environ['PATH_INFO']}"]
-
-
-guarded = RequireMacaroon(account, Client(sys.argv[1]), "bank", facts)
+guarded = RequireMacaroon(account, Client(sys.argv[1]), "bank", request_facts)
 make_server("127.0.0.1", int(sys.argv[2]), service).serve_forever()

@@ -12,17 +12,19 @@ docdir=$prefix/share/doc/macaroond
 version=$(cat VERSION)
 date=$(sed -n "s/^## $version (\(.*\))$/\1/p" CHANGELOG.md)
 
-# The mode of each file, the file here, and where it is put.
+# The mode of each file, the file here, and where it is put. Of a program that may be started and not read, no other
+# process of the same user may read the memory.
 list() {
-    echo 755 bin/macaroond "$prefix/bin/macaroond"
-    echo 755 libexec/macaroond/x86-64-v2 "$prefix/libexec/macaroond/x86-64-v2"
-    echo 755 libexec/macaroond/x86-64-v3 "$prefix/libexec/macaroond/x86-64-v3"
+    echo 755 built/macaroond "$prefix/bin/macaroond"
+    echo 711 libexec/macaroond/x86-64-v2 "$prefix/libexec/macaroond/x86-64-v2"
+    echo 711 libexec/macaroond/x86-64-v3 "$prefix/libexec/macaroond/x86-64-v3"
     for page in man/*.[1-9]; do
         echo 644 "$page" "$prefix/share/man/man${page##*.}/${page#man/}"
     done
     echo 644 packaging/macaroond.service "$unitdir/macaroond.service"
     echo 644 packaging/macaroond.socket "$unitdir/macaroond.socket"
     echo 644 packaging/macaroond.sysusers "$prefix/lib/sysusers.d/macaroond.conf"
+    echo 644 packaging/macaroond.tmpfiles "$prefix/lib/tmpfiles.d/macaroond.conf"
     echo 644 packaging/macaroond.bash "$prefix/share/bash-completion/completions/macaroond"
     echo 644 packaging/_macaroond "$zshdir/_macaroond"
     for page in README.md CHANGELOG.md SECURITY.md docs/*.md docs/*.svg docs/*.png; do
@@ -49,14 +51,15 @@ put() {
     install -D -m "$1" "$2" "$destdir$3"
     case $2 in
         man/* | packaging/macaroond.service)
-            sed -i "s,@VERSION@,$version,g; s,@DATE@,$date,g; s,/usr/bin/,$prefix/bin/,g; s,/etc/,$sysconfdir/,g" "$destdir$3"
+            sed -i "s,@VERSION@,$version,g; s,@DATE@,$date,g; s,/usr/bin/,$prefix/bin/,g; s,/etc/,$sysconfdir/,g
+                s,/usr/libexec/,$prefix/libexec/,g" "$destdir$3"
             ;;
     esac
 }
 
 install_all() {
-    if [ ! -x bin/macaroond ] || [ ! -x libexec/macaroond/x86-64-v2 ]; then
-        echo "install: bin/macaroond isn't there: run make build first, which proves and builds it" >&2
+    if [ ! -x built/macaroond ] || [ ! -x libexec/macaroond/x86-64-v2 ]; then
+        echo "install: macaroond isn't built: run make build first, which proves and builds it" >&2
         exit 1
     fi
     list | while read -r mode file where; do

@@ -5,7 +5,7 @@
    words, the surroundings and the number of this process, and answers in its place.
 
    `listen` reads signals from a descriptor, since it can't hold one back: SIGTERM, SIGINT and SIGHUP are held back for
-   it here. */
+   it here. What is started writes no core file, which would have its keys. */
 #include <errno.h>
 #include <fcntl.h>
 #include <limits.h>
@@ -14,6 +14,7 @@
 #include <stdlib.h>
 #include <string.h>
 #include <sys/auxv.h>
+#include <sys/resource.h>
 #include <sys/signalfd.h>
 #include <unistd.h>
 
@@ -55,6 +56,16 @@ static void give_memory_back(void)
     setenv("MALLOC_TRIM_THRESHOLD_", "65536", 0);
 }
 
+/* Has no core file written of this process, nor of what it starts: the limit stays over exec. That another process of
+   the same user may not read its memory can't be asked for here, since exec takes that back (PR_SET_DUMPABLE); for that
+   the programs are installed so that whoever isn't their owner may start them and not read them. */
+static void keep_no_core(void)
+{
+    const struct rlimit none = {0, 0};
+
+    setrlimit(RLIMIT_CORE, &none);
+}
+
 /* Holds signals back, and tells in the environment from which descriptor they are read: one above standard input,
    output and error, which may be closed. Where that fails they do what they do to any program. */
 static void hold_signals(void)
@@ -94,6 +105,7 @@ int main(int count, char **words)
     const char *folder = own_folder(path);
 
     give_memory_back();
+    keep_no_core();
     if (count > 1 && strcmp(words[1], "listen") == 0)
         hold_signals();
     if (folder != NULL) {

@@ -17,9 +17,9 @@ tell() {
 words() {
     case $1 in
         *" keygen "*) echo "A service makes a key, under the name \`bank\`:" ;;
-        token=*macaroond*)
+        *"macaroond mint"*)
             echo "It mints a token for alice. Whoever holds it may use all of the account:" ;;
-        narrow=*macaroond*)
+        *"macaroond attenuate"*)
             echo "Alice narrows it, which takes no key. It may read, and ends with the century:" ;;
         *"macaroond verify"*read*)
             echo "Somebody brings the narrow token to read, and the service says so:" ;;
@@ -30,10 +30,12 @@ words() {
         "service()"*) echo "A client, in Python:" ;;
         token=*) echo "The daemon mints a token for alice:" ;;
         narrow=*) echo "It narrows it for her:" ;;
+        *" owner "*) echo "Whose it is, is told in hexadecimal: alice, at http://mybank/:" ;;
         *" verify "*read*)
             echo "The narrow token is brought to read. A verify tells the moment too:" ;;
         *" verify "*) echo "It is brought to write:" ;;
         kill*) echo "The daemon is stopped:" ;;
+        *) echo "Then:" ;;
     esac
 }
 
@@ -61,6 +63,8 @@ do_step() {
     case $command in
         token=*) echo "    $token" ;;
         narrow=*) echo "    $narrow" ;;
+        *"> token") sed 's/^/    /' token ;;
+        *"> narrow") sed 's/^/    /' narrow ;;
     esac
     if ! cmp -s "$1.due" "$1.came"; then
         echo "README shows otherwise:"
@@ -70,20 +74,24 @@ do_step() {
     fi
 }
 
-# Without a build the daemon's steps alone are run, since each run of `rt try` compiles anew. Its
-# daemon answers the four connections of these steps, and ends.
+# Without a build the daemon's steps alone are run, by one compilation: it answers the pipe's input
+# first, and then listens until the session ends it.
 stand_in() {
-    tell "bin/macaroond isn't built (make build), so this is a run with no proof, by \`rt try\`." \
+    tell "macaroond isn't built (make build), so this is a run with no proof, by \`rt try\`." \
         "It is compiled first, in a minute or two."
     cp "$top/examples/keys" keys
-    mkdir bin
+    chmod 600 keys
+    mkdir bin cases
+    cp "$input" cases/1
+    echo pipe > cases/1.args
+    : > cases/2
+    printf '%s\n' listen --socket "$folder/socket" --keys "$folder/keys" > cases/2.args
     cat > bin/macaroond <<END
 #!/bin/sh
 # What the daemon prints comes once it has ended, so its socket says that clients can connect.
 cd "$top/crates/macaroond"
-rt try --seconds 100 -- serve --socket "$folder/socket" --keys "$folder/keys" --workers 2 \\
-    --accept 4 > "$folder/said" 2>&1 &
-trap 'kill \$!; exit' TERM
+rt try --steps 1 --seconds 600 --cases "$folder/cases" > "$folder/piped" 2> "$folder/said" &
+trap 'kill \$!; wait; exit' TERM
 while [ ! -S "$folder/socket" ]; do
     kill -0 \$! || exit 1
     sleep 0.1
@@ -94,23 +102,22 @@ END
     chmod +x bin/macaroond
     for step in step.??; do
         case $(cat "$step") in
-            *" listen "* | while* | *service*) ;;
+            *" listen "* | while* | *service* | kill*) ;;
             *) rm "$step" ;;
         esac
     done
-    (cd "$top/crates/macaroond" && rt try -- pipe < "$input" > "$folder/piped" 2> /dev/null) &
 }
 
 cd "$folder"
 cut_steps
 ln -s "$top/examples" examples
-if [ -x "$top/bin/macaroond" ]; then
+if [ -x "$top/built/macaroond" ]; then
     ln -s "$top/bin" bin
     bin/macaroond pipe < "$input" > piped
 elif command -v rt > /dev/null; then
     stand_in
 else
-    echo "There is no bin/macaroond, and the toolchain's command \`rt\` is not on the path: without"
+    echo "macaroond isn't built, and the toolchain's command \`rt\` is not on the path: without"
     echo "either there is nothing to run. README says which toolchain it is (What is trusted)."
     exit 1
 fi
@@ -119,7 +126,6 @@ for step in step.??; do
 done
 tell "\`macaroond pipe\` answers a file: key lines, an empty line, and requests in hexadecimal."
 sed 's/^/    /' "$input"
-wait
 answer=$(grep '^token ' piped)
 printf '\n    %s\n\n' "$answer"
 if [ "$answer" != "$(cat "$top/crates/macaroond/stdout")" ]; then

@@ -17,7 +17,8 @@ python3-pip                     scripts/check/clients.py installs clients/python
 groff-base                      scripts/check/man_page.py looks for its warnings
 valgrind                        scripts/measure/instructions.py counts with it
 dpkg-dev                        scripts/build/packaging.py makes the package with it
-debhelper                       debian/rules says by it how the package is made
+debhelper                       debian/rules says by it how the packages are made
+dh-python                       debian/rules says by it how the client for Python is packaged
 lintian                         scripts/check/package_runs.py asks it what is wrong with the package
 systemd                         scripts/check/package_runs.py asks it what the unit may do
 mmdebstrap                      scripts/check/life_cycle.py makes a plain Debian with it

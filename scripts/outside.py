@@ -25,6 +25,7 @@ from check import (
     draw,
     edges,
     ending,
+    forgetting,
     gateways,
     http_rows,
     http_sockets,
@@ -36,10 +37,12 @@ from check import (
     log_lines,
     man_page,
     messages,
+    newcomer,
     numbers,
     operators,
     package_runs,
     page,
+    page_asking,
     pages,
     peers,
     promises,
@@ -47,14 +50,16 @@ from check import (
     remembering,
     replacing,
     rights,
+    same_code,
     sessions,
     starting,
     statuses,
+    unused,
     versions,
     words,
 )
 from common import runs
-from faults import faults, hostile, refusing
+from faults import faults, hostile, moving, refusing
 from measure import allocations
 from wrong_bodies import wrong_bodies, wrong_runs
 
@@ -95,6 +100,7 @@ OF_PROGRAM = {
     "sockets": daemon_rows.faults,
     "rights": rights.faults,
     "clocks": clocks.faults,
+    "machine code": same_code.faults,
     "starting": starting.faults,
     "messages": messages.faults,
     "log lines": log_lines.faults,
@@ -104,12 +110,14 @@ OF_PROGRAM = {
     "remembering": remembering.faults,
     "replacing": replacing.faults,
     "changing keys": changing_keys.faults,
+    "forgetting": forgetting.faults,
     "linked keys": linked_keys.faults,
     "numbers": numbers.faults,
     "operators": operators.faults,
     "HTTP": http_sockets.faults,
     "gateways": gateways.faults,
     "page": page.faults,
+    "who asks the page": page_asking.faults,
     "hostile": lambda: hostile.faults(HOSTILE_SECONDS),
     "clients": clients.daemon_faults,
 }
@@ -118,6 +126,7 @@ OF_COMPILER = {
     "allocations": allocations.faults,
     "clockless": clocks.clockless_faults,
     "faults": faults.some_faults,
+    "moving": moving.faults,
     "installing": installing.faults,
     "package": package_runs.faults,
     "life cycle": life_cycle.faults,
@@ -131,6 +140,8 @@ OF_TEXTS = {
     "man": man_page.faults,
     "HTTP rows": http_rows.faults,
     "building": building.faults,
+    "unused": unused.faults,
+    "newcomer": newcomer.faults,
     "wrong bodies apply": wrong_bodies.faults,
     "wrong runs": wrong_runs.faults,
 }

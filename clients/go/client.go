@@ -62,18 +62,18 @@ func WithConnections(most int) Option {
 	}
 }
 
-// Dial connects to the daemon at the socket of this path.
+// Dial connects to the daemon at the socket of this path. It waits for the daemon as a call
+// does: where none has come up by the end of WithTimeout it is an ErrDisconnected.
 func Dial(ctx context.Context, path string, options ...Option) (*Client, error) {
 	client := &Client{path: path, timeout: defaultTimeout, lines: newLines(defaultConnections)}
 	for _, option := range options {
 		option(client)
 	}
-	made, err := connect(ctx, path)
-	if err != nil {
-		return nil, disconnected("%v", err)
-	}
 	client.lifetime, client.end = context.WithCancel(context.Background())
-	client.lines[0].current.Store(made)
+	if _, err := client.reconnected(ctx); err != nil {
+		client.end()
+		return nil, err
+	}
 	return client, nil
 }
 

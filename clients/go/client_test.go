@@ -325,15 +325,26 @@ func TestConnectsAgain(t *testing.T) {
 // A call waits for a daemon that comes, and not longer than its time.
 func TestNoDaemon(t *testing.T) {
 	path := filepath.Join(t.TempDir(), "socket")
-	if _, err := Dial(background, path); !errors.Is(err, ErrDisconnected) {
+	begin := time.Now()
+	_, err := Dial(background, path, WithTimeout(200*time.Millisecond))
+	if took := time.Since(begin); !errors.Is(err, ErrDisconnected) || took > 3*time.Second ||
+		!strings.Contains(err.Error(), "there is no connection to "+path) || !strings.Contains(err.Error(), "no such file") {
+		t.Error(err, took)
+	}
+	if _, err := Dial(background, path, WithTimeout(0)); !errors.Is(err, ErrDisconnected) {
+		t.Error(err)
+	}
+	ended, end := context.WithCancel(background)
+	end()
+	if _, err := Dial(ended, path); !errors.Is(err, context.Canceled) || !strings.Contains(err.Error(), path) {
 		t.Error(err)
 	}
 	served := server(t, leaves)
 	client := dialled(t, served, WithTimeout(300*time.Millisecond))
 	client.path = path
 	client.Verify(background, "bank", "!")
-	begin := time.Now()
-	_, err := client.Verify(background, "bank", "!")
+	begin = time.Now()
+	_, err = client.Verify(background, "bank", "!")
 	if took := time.Since(begin); !errors.Is(err, ErrDisconnected) || took > 3*time.Second {
 		t.Error(err, took)
 	}
@@ -346,6 +357,20 @@ func TestNoDaemon(t *testing.T) {
 	client.timeout = 3 * time.Second
 	if verdict, err := client.Verify(background, "bank", "!"); err != nil || !verdict.Granted() {
 		t.Error(verdict, err)
+	}
+}
+
+// Dial waits for a daemon that comes, and the calls behind it take that connection.
+func TestDialWaits(t *testing.T) {
+	path := filepath.Join(t.TempDir(), "socket")
+	go func() { time.Sleep(200 * time.Millisecond); serve(t, path, grants) }()
+	client := dialled(t, path)
+	made := client.lines[0].current.Load()
+	if verdict, err := client.Verify(background, "bank", "!"); err != nil || !verdict.Granted() {
+		t.Error(verdict, err)
+	}
+	if client.lines[0].current.Load() != made {
+		t.Error("another connection was made")
 	}
 }
 

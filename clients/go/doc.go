@@ -5,8 +5,8 @@
 // and none waits for another's reply. Tokens, keys' names, facts and caveats are
 // strings of bytes, which need not be UTF-8.
 //
-// A connection is made by [Dial] and, once none is left, by the next call, with
-// pauses that grow while that fails. Another one is opened, up to [WithConnections],
+// A connection is made by [Dial] and, once none is left, by the next call. Both wait for
+// a daemon that isn't up, with pauses that grow. Another one is opened, up to [WithConnections],
 // where each that is there has 11 requests out. It takes calls once it was answered, so
 // one that the daemon refuses loses none.
 //

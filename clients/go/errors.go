@@ -18,6 +18,8 @@ var (
 	ErrBadToken = errors.New("macaroond: bad token")
 	// ErrNotAllowed tells that the daemon's socket doesn't allow this request.
 	ErrNotAllowed = errors.New("macaroond: the socket does not allow this request")
+	// ErrNotPlain tells that servers may read a path as another one than it looks.
+	ErrNotPlain = errors.New("macaroond: the path is not plain")
 	// ErrNoClock tells that the daemon's clock tells no moment: a verify has to give one.
 	ErrNoClock = errors.New("macaroond: the clock tells no moment")
 )

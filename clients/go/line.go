@@ -2,6 +2,8 @@ package macaroond
 
 import (
 	"context"
+	"errors"
+	"fmt"
 	"math"
 	"sync/atomic"
 	"time"
@@ -64,7 +66,7 @@ func (l *line) release() { <-l.dialling }
 func (l *line) noteEnd() {
 	ended := l.current.Load()
 	switch {
-	case l.noted == ended:
+	case l.noted == ended: // As long as there was none, too.
 	case ended.wasAnswered.Load():
 		l.backoff.succeeded()
 	default:
@@ -116,7 +118,7 @@ func (c *Client) reconnected(ctx context.Context) (*connection, error) {
 	defer cancel()
 	made, err := c.dialled(inTime, c.lines[0])
 	if err != nil && ctx.Err() != nil {
-		return nil, ctx.Err()
+		return nil, fmt.Errorf("macaroond: there is no connection to %s: %w", c.path, ctx.Err())
 	}
 	return made, err
 }
@@ -132,7 +134,10 @@ func (c *Client) dialled(ctx context.Context, l *line) (*connection, error) {
 		return current, nil
 	}
 	l.noteEnd()
-	reason := l.current.Load().fault
+	reason := errors.New("no time was left for a try")
+	if ended := l.current.Load(); ended != nil {
+		reason = ended.fault
+	}
 	for !c.isClosed() {
 		if !paused(ctx, l.backoff.left()) {
 			return nil, disconnected("there is no connection to %s: %v", c.path, reason)

@@ -9,27 +9,38 @@ import (
 
 type identifierKey struct{}
 
-// RequireMacaroon gives a guard that lets those requests through to a handler whose
-// bearer token is granted, given what facts tells of the request; facts may be nil.
-// The handler finds the token's identifier by Identifier.
-//
-// A request without a token or with a bad one is answered 401, one that a caveat
-// forbids 403, one whose facts no request can tell 400, and each one 503 while the
-// daemon gives no verdict.
+// RequireMacaroon is Guard with facts that can be told of each request; facts may be nil.
 func RequireMacaroon(client *Client, key string, facts func(*http.Request) []string) func(http.Handler) http.Handler {
+	return Guard(client, key, func(r *http.Request) ([]string, error) {
+		if facts == nil {
+			return nil, nil
+		}
+		return facts(r), nil
+	})
+}
+
+// Guard gives a guard that lets those requests through to a handler whose token is
+// granted, given what facts tells of the request, as RequestFacts does. The token stands in
+// the one field Authorization, as `Macaroon TOKEN` or `Bearer TOKEN`. The handler finds the
+// token's identifier by Identifier.
+//
+// A request without a token, with two or with a bad one is answered 401, one that a caveat
+// forbids or whose facts are an ErrNotPlain 403, one whose facts no request can tell 400,
+// and each one 503 while there is no verdict.
+func Guard(
+	client *Client, key string, facts func(*http.Request) ([]string, error),
+) func(http.Handler) http.Handler {
 	return func(next http.Handler) http.Handler {
 		return http.HandlerFunc(func(w http.ResponseWriter, r *http.Request) {
-			token, isThere := bearer(r.Header.Get("Authorization"))
+			brought, isThere := credentialsIn(r.Header.Values("Authorization"))
 			if !isThere {
-				refuse(w, http.StatusUnauthorized, "Bearer")
+				refuse(w, http.StatusUnauthorized, "Macaroon")
 				return
 			}
-			var told []string
-			if facts != nil {
-				told = facts(r)
-			}
-			verdict, err := client.Verify(r.Context(), key, token, told...)
+			verdict, err := judged(client, key, brought.token, r, facts)
 			switch {
+			case errors.Is(err, ErrNotPlain):
+				refuse(w, http.StatusForbidden, "")
 			case errors.Is(err, ErrBadRequest):
 				refuse(w, http.StatusBadRequest, "")
 			case err != nil:
@@ -38,12 +49,23 @@ func RequireMacaroon(client *Client, key string, facts func(*http.Request) []str
 				known := context.WithValue(r.Context(), identifierKey{}, verdict.Identifier())
 				next.ServeHTTP(w, r.WithContext(known))
 			case verdict.Code == codeUnsatisfied:
-				refuse(w, http.StatusForbidden, `Bearer error="insufficient_scope"`)
+				refuse(w, http.StatusForbidden, brought.scheme+` error="insufficient_scope"`)
 			default:
-				refuse(w, http.StatusUnauthorized, `Bearer error="invalid_token"`)
+				refuse(w, http.StatusUnauthorized, brought.scheme+` error="invalid_token"`)
 			}
 		})
 	}
+}
+
+// judged gives the verdict on a request's token with the request's facts.
+func judged(
+	client *Client, key, token string, r *http.Request, facts func(*http.Request) ([]string, error),
+) (Verdict, error) {
+	told, err := facts(r)
+	if err != nil {
+		return Verdict{}, err
+	}
+	return client.Verify(r.Context(), key, token, told...)
 }
 
 // Identifier gives the identifier of the token by which a request was let through.
@@ -52,11 +74,25 @@ func Identifier(ctx context.Context) (string, bool) {
 	return identifier, isThere
 }
 
-// bearer gives the token of an Authorization header (RFC 6750, section 2.1).
-func bearer(header string) (string, bool) {
-	scheme, token, _ := strings.Cut(strings.TrimSpace(header), " ")
+// credentials is the token of a request, and the scheme by which it came.
+type credentials struct {
+	scheme, token string
+}
+
+// credentialsIn gives what the one Authorization field of a request brings; of two, others
+// may have looked at the other one.
+func credentialsIn(fields []string) (credentials, bool) {
+	if len(fields) != 1 {
+		return credentials{}, false
+	}
+	scheme, token, _ := strings.Cut(strings.TrimSpace(fields[0]), " ")
 	token = strings.TrimSpace(token)
-	return token, strings.EqualFold(scheme, "bearer") && token != ""
+	for _, known := range []string{"Macaroon", "Bearer"} {
+		if strings.EqualFold(scheme, known) && token != "" {
+			return credentials{known, token}, true
+		}
+	}
+	return credentials{}, false
 }
 
 // refuse answers with a status and, where there is one, a challenge (RFC 6750, section 3).

@@ -39,12 +39,17 @@ func TestRequireMacaroon(t *testing.T) {
 	}{
 		{"Bearer " + token, "/granted", 200, ""},
 		{"bearer  " + token, "/granted", 200, ""},
+		{"MACAROON " + token, "/granted", 200, ""},
 		{"Bearer " + token, "/owned", 200, ""},
-		{"", "/granted", 401, "Bearer"},
-		{"Bearer ", "/granted", 401, "Bearer"},
-		{"Basic " + token, "/granted", 401, "Bearer"},
+		{"", "/granted", 401, "Macaroon"},
+		{"Bearer", "/granted", 401, "Macaroon"},
+		{"Bearer ", "/granted", 401, "Macaroon"},
+		{"Basic " + token, "/granted", 401, "Macaroon"},
+		{"Bearers " + token, "/granted", 401, "Macaroon"},
 		{"Bearer " + token, "/forged", 401, `Bearer error="invalid_token"`},
+		{"Macaroon " + token, "/forged", 401, `Macaroon error="invalid_token"`},
 		{"Bearer " + token, "/narrow", 403, `Bearer error="insufficient_scope"`},
+		{"Macaroon " + token, "/narrow", 403, `Macaroon error="insufficient_scope"`},
 		{"Bearer " + token, "/unknown", 503, ""},
 		{"Bearer " + token, "/forbidden", 503, ""},
 		{"Bearer " + token, "/many", 400, ""},
@@ -57,6 +62,15 @@ func TestRequireMacaroon(t *testing.T) {
 		isLetThrough := seen == "alice" && one.path == "/granted" || seen == "carol" && one.path == "/owned"
 		if came.Code != one.status || came.Header().Get("WWW-Authenticate") != one.challenge || isLetThrough != (one.status == 200) {
 			t.Errorf("%q, %s: %d %q %q", one.header, one.path, came.Code, came.Header().Get("WWW-Authenticate"), came.Body)
+		}
+	}
+	for _, fields := range [][]string{nil, {"Bearer " + token, "Bearer " + token}, {"Bearer " + token, "Basic x"}, {"Basic x", "Macaroon " + token}} {
+		asked := httptest.NewRequest("GET", "/granted", nil)
+		asked.Header["Authorization"] = fields
+		came := httptest.NewRecorder()
+		guarded.ServeHTTP(came, asked)
+		if came.Code != 401 || came.Header().Get("WWW-Authenticate") != "Macaroon" {
+			t.Errorf("%q: %d %q", fields, came.Code, came.Header().Get("WWW-Authenticate"))
 		}
 	}
 	if _, isThere := Identifier(background); isThere {

@@ -23,7 +23,8 @@ var errNoToken = errors.New("no token")
 type Token struct {
 	// Form is the form in which Attenuate writes the token.
 	Form Form
-	// Location is a hint of where the token is used; it is empty where there is none.
+	// Location is a hint of where the token is from; it is empty where there is none. It is
+	// unsigned, even of a token that is granted: whoever holds the token can change it.
 	Location string
 	// Identifier is what the token's minter knows it by.
 	Identifier string

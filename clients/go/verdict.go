@@ -3,6 +3,7 @@ package macaroond
 import (
 	"encoding/binary"
 	"fmt"
+	"strings"
 )
 
 // Verdict is what a verify comes to.
@@ -14,9 +15,14 @@ type Verdict struct {
 	// So that a verdict that nobody gave grants nothing.
 	isGranted bool
 	token     string
-	// The identifier that the daemon told, where it told whose the token is.
-	identifier string
-	isTold     bool
+	// What the daemon told, where it told whose the token is.
+	owner  owner
+	isTold bool
+}
+
+// owner is whose a granted token is, and the location that it has, which nobody signed.
+type owner struct {
+	identifier, location string
 }
 
 // verdictOf gives the verdict that a verify's reply tells, or the error that it tells.
@@ -25,8 +31,8 @@ func verdictOf(came reply, token string) (Verdict, error) {
 	case codeGranted:
 		return Verdict{Code: codeGranted, Caveat: -1, isGranted: true, token: token}, nil
 	case codeGrantedTo:
-		if identifier, isThere := owner(came.rest); isThere {
-			return Verdict{codeGranted, -1, true, token, identifier, true}, nil
+		if told, isThere := ownerIn(came.rest); isThere {
+			return Verdict{codeGranted, -1, true, token, told, true}, nil
 		}
 	case codeTransport, codeMalformed, codeThirdParty, codeLimit, codeBadSignature, codeLocation:
 		return Verdict{Code: int(came.code), Caveat: -1, token: token}, nil
@@ -39,17 +45,26 @@ func verdictOf(came reply, token string) (Verdict, error) {
 	return Verdict{}, refused(int(came.code))
 }
 
-// owner gives the identifier of a reply that tells whose a token is; behind it stands
-// the location.
-func owner(fields string) (string, bool) {
+// ownerIn gives what the fields of a reply tell that says whose a token is.
+func ownerIn(fields string) (owner, bool) {
+	identifier, rest, isThere := cutLong(fields)
+	if !isThere {
+		return owner{}, false
+	}
+	location, _, isThere := cutLong(rest)
+	return owner{identifier, location}, isThere
+}
+
+// cutLong gives a field that begins with two bytes of length, and what stands behind it.
+func cutLong(fields string) (field, rest string, isThere bool) {
 	if len(fields) < 2 {
-		return "", false
+		return "", "", false
 	}
 	end := 2 + int(binary.BigEndian.Uint16([]byte(fields)))
 	if len(fields) < end {
-		return "", false
+		return "", "", false
 	}
-	return fields[2:end], true
+	return fields[2:end], fields[end:], true
 }
 
 // Granted tells whether the token is granted.
@@ -57,21 +72,30 @@ func (v Verdict) Granted() bool { return v.isGranted }
 
 // Identifier gives the identifier of a token that is granted. Of any other there is
 // none, since nobody vouches for it.
-func (v Verdict) Identifier() string {
-	if !v.Granted() {
-		return ""
-	}
-	if v.isTold {
-		return v.identifier
+func (v Verdict) Identifier() string { return v.whose().identifier }
+
+// UnsignedLocation gives the location of a token that is granted: a hint of where it is
+// from, which whoever holds the token can change, so that nothing may rest on it. Of any
+// other token there is none.
+func (v Verdict) UnsignedLocation() string { return v.whose().location }
+
+// whose gives what is known of whose a granted token is.
+func (v Verdict) whose() owner {
+	if !v.Granted() || v.isTold {
+		return v.owner
 	}
 	token, err := Inspect(v.token)
 	if err != nil {
-		return ""
+		return owner{}
 	}
-	return token.Identifier
+	return owner{token.Identifier, token.Location}
 }
 
-// Reason tells the verdict in words.
+// String tells the verdict as Reason does.
+func (v Verdict) String() string { return v.Reason() }
+
+// Reason tells the verdict in words, in one line of printable ASCII: in the text of a
+// caveat each other byte and the backslash stands as `\x` and two digits.
 func (v Verdict) Reason() string {
 	if v.isGranted {
 		return "granted"
@@ -81,7 +105,20 @@ func (v Verdict) Reason() string {
 	}
 	text := "(the token can't be read here)"
 	if token, err := Inspect(v.token); err == nil && v.Caveat < len(token.Caveats) {
-		text = token.Caveats[v.Caveat]
+		text = shown(token.Caveats[v.Caveat])
 	}
 	return fmt.Sprintf("caveat %d is not satisfied: %s", v.Caveat, text)
+}
+
+// shown gives bytes as a log or a terminal may be shown them, as the command line does.
+func shown(content string) string {
+	var text strings.Builder
+	for at := 0; at < len(content); at++ {
+		if one := content[at]; 32 <= one && one <= 126 && one != '\\' {
+			text.WriteByte(one)
+		} else {
+			fmt.Fprintf(&text, `\x%02x`, one)
+		}
+	}
+	return text.String()
 }

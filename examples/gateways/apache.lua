@@ -16,6 +16,24 @@ local function ask(stream, fields)
     return line and tonumber(status) or 503, found
 end
 
+-- Names of fields by which a service may believe another method, path or address than those that were
+-- judged, or a fact that the client named; `_` stands for `-` too, as CGI reads it.
+local UNTOLD = {
+    "^x%-forwarded", "^x%-original", "^x%-rewrite%-url$", "^x%-http%-method", "^x%-method%-override$",
+    "^x%-real%-ip$", "^forwarded$", "^macaroon%-",
+}
+
+local function drop_untold(r)
+    for name in pairs(r:headers_in_table()) do
+        local plain = name:lower():gsub("_", "-")
+        for _, pattern in ipairs(UNTOLD) do
+            if plain:match(pattern) then
+                r.headers_in[name] = nil
+            end
+        end
+    end
+end
+
 function check(r)
     local stream = unix.stream()
     -- Nothing of the client's own but its token, and the facts that Apache knows.
@@ -29,8 +47,8 @@ function check(r)
     })
     stream:close()
     if status == 200 then
-        -- This also takes the place of a field that the client sent. The client may name it in its
-        -- Connection, and Apache would take it out then.
+        drop_untold(r)
+        -- The client may name this field in its Connection, and Apache would take it out then.
         r.headers_in["Macaroon-Identifier"] = found["macaroon-identifier"]
         r.headers_in["Connection"] = (r.headers_in["Connection"] or ""):lower():match("close")
         return apache2.OK

@@ -15,8 +15,7 @@ func main() {
 	if err != nil {
 		log.Fatal(err)
 	}
-	facts := func(r *http.Request) []string { return []string{"method = " + r.Method, "path = " + r.URL.Path} }
-	guarded := macaroond.RequireMacaroon(client, "bank", facts)
+	guarded := macaroond.Guard(client, "bank", macaroond.RequestFacts)
 	http.Handle("/account", guarded(http.HandlerFunc(func(w http.ResponseWriter, r *http.Request) {
 		identifier, _ := macaroond.Identifier(r.Context())
 		fmt.Fprintln(w, "the account of", identifier)

@@ -115,7 +115,10 @@ def proved(level):
 
 def taken():
     """The program that `rt ci` left."""
-    return (CRATE / "out" / "macaroond").read_bytes()
+    left = CRATE / "out" / "macaroond"
+    if not left.exists():
+        raise SystemExit("build: rt ci has left no program to take: run make test first, which proves all")
+    return left.read_bytes()
 
 
 def place(level, program, was, now):
@@ -124,7 +127,8 @@ def place(level, program, was, now):
         raise SystemExit(f"build: the program for {level} doesn't tell its version as {marked(was).decode()}")
     path = PROGRAMS / level
     path.write_bytes(program.replace(marked(was), marked(now)))
-    path.chmod(0o755)
+    # As it is installed: whoever may not read it may not read its memory either.
+    path.chmod(0o711)
 
 
 def clear(*levels):

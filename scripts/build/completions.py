@@ -1,6 +1,7 @@
 #!/usr/bin/env python3
 """The completions for bash and zsh, made from what `macaroond --help` says; and whether those in
 packaging/ are these, and complete what they should."""
+import os
 import pathlib
 import re
 import shutil
@@ -10,7 +11,7 @@ import tempfile
 import typing
 
 sys.path.insert(0, str(pathlib.Path(__file__).resolve().parents[1]))
-from common import TOP, runs
+from common import TOP, programs, runs
 
 PACKAGING = TOP / "packaging"
 BASH, ZSH = PACKAGING / "macaroond.bash", PACKAGING / "_macaroond"
@@ -19,7 +20,8 @@ CHOICES = {"FORM": ["v1", "v2", "json", "v2-text"], "DIGITS": ["600", "660", "66
 FILES = {"FILE", "PATH"}
 # The option whose value is one of the names in the file of another one.
 KEY, KEYS = "--key", "--keys"
-NAMES = r"s/^key \([^ ]*\) .*/\1/p"
+# A name of the key file, by its letters alone: a file may come from elsewhere.
+NAMES = r"s/^key \([A-Za-z0-9._-]\{1,64\}\) .*/\1/p"
 
 
 class Option(typing.NamedTuple):
@@ -87,9 +89,9 @@ def bash(found):
     """The completion for bash."""
     options = [option for option in distinct(found) if option.value]
     files = " | ".join(option.name for option in options if option.value in FILES)
-    chosen = [f"        {option.name}) words='{' '.join(option.choices())}' ;;" for option in options if option.choices()]
+    chosen = [f"        {option.name}) words=({' '.join(option.choices())}) ;;" for option in options if option.choices()]
     free = [option.name for option in options if option.value not in FILES and not option.choices() and option.name != KEY]
-    each = [f"                    {it.name}) words='{' '.join(option.name for option in it.options)}' ;;" for it in found]
+    each = [f"                    {it.name}) words=({' '.join(option.name for option in it.options)}) ;;" for it in found]
     first = " ".join([*(it.name for it in found), *(option.name for option in options_of(help_of()))])
     return f"""# bash completion for macaroond, made by scripts/build/completions.py
 
@@ -99,11 +101,11 @@ _macaroond_key_names() {{
     for ((index = 1; index < COMP_CWORD; index++)); do
         [[ ${{COMP_WORDS[index]}} == {KEYS} ]] && file=${{COMP_WORDS[index + 1]}}
     done
-    [[ -r $file ]] && sed -n '{NAMES}' "$file" | sort -u
+    [[ -f $file && -r $file ]] && LC_ALL=C sed -n '{NAMES}' < "$file" | LC_ALL=C sort -u
 }}
 
 _macaroond() {{
-    local word=${{COMP_WORDS[COMP_CWORD]}} before=${{COMP_WORDS[COMP_CWORD - 1]}} words=
+    local word=${{COMP_WORDS[COMP_CWORD]}} before=${{COMP_WORDS[COMP_CWORD - 1]}} words=() offered
     COMPREPLY=()
     case $before in
         {files})
@@ -112,11 +114,11 @@ _macaroond() {{
             return
             ;;
 {chr(10).join(chosen)}
-        {KEY}) words=$(_macaroond_key_names) ;;
+        {KEY}) mapfile -t words < <(_macaroond_key_names) ;;
         {" | ".join(free)}) return ;;
         *)
             if ((COMP_CWORD == 1)); then
-                words='{first}'
+                words=({first})
             else
                 case ${{COMP_WORDS[1]}} in
 {chr(10).join(each)}
@@ -124,7 +126,10 @@ _macaroond() {{
             fi
             ;;
     esac
-    mapfile -t COMPREPLY < <(compgen -W "$words" -- "$word")
+    # What compgen -W is given is expanded: commands in it are run.
+    for offered in "${{words[@]}}"; do
+        [[ $offered == "$word"* ]] && COMPREPLY+=("$offered")
+    done
 }}
 complete -F _macaroond macaroond
 """
@@ -167,7 +172,7 @@ local -a options=(
 # The names in the key file that the line gives.
 _macaroond_key_names() {{
     local file=${{opt_args[{KEYS}]}}
-    [[ -r $file ]] && compadd -- ${{(f)"$(sed -n '{NAMES}' $file | sort -u)"}}
+    [[ -f $file && -r $file ]] && compadd -- ${{(f)"$(LC_ALL=C sed -n '{NAMES}' < $file | LC_ALL=C sort -u)"}}
 }}
 
 if (( CURRENT == 2 )); then
@@ -214,10 +219,54 @@ complete_it
 """
 
 
-def asked(shell, script, file, words):
+# The same for the names of a key file, which zsh itself finds among the words of the line.
+ASK_ZSH_NAMES = """
+_arguments() { typeset -gA opt_args=(KEYS $key_file); _macaroond_key_names }
+compadd() { print -rl -- "${@[2,-1]}" }
+file=$1 key_file=$5
+shift
+words=("$@")
+CURRENT=$#
+complete_it() { source $file }
+complete_it
+""".replace("KEYS", KEYS)
+
+
+def asked(shell, script, file, words, folder=None):
     """What the shell prints for a line of these words, the last of which is completed."""
-    run = subprocess.run([*shell, "-c", script, "ask", file, *words], capture_output=True, text=True)
+    command = [*shell, "-c", script, "ask", file, *words]
+    run = subprocess.run(command, capture_output=True, text=True, errors="replace", cwd=folder)
     return sorted(line for line in (run.stdout + run.stderr).splitlines() if line)
+
+
+# Key files that come from elsewhere, and the names that are completed of each. `MARK` is a file
+# that only a command in a name makes.
+HOSTILE = {
+    "a command": ("key $(touch${IFS}MARK) 00\n", []),
+    "backquotes": ("key `touch${IFS}MARK` 00\n", []),
+    "a command behind a name": ("key bank;touch${IFS}MARK 00\nkey bank&&touch${IFS}MARK 00\n", []),
+    "a command in a value": ("key bank 00ff\nkey ${x:=$(touch${IFS}MARK)} 00\n", ["bank"]),
+    "arithmetic": ("key $((a[$(touch${IFS}MARK)])) 00\nkey a[$(touch${IFS}MARK)] 00\n", []),
+    "processes": ("key <(touch${IFS}MARK) 00\nkey =(touch${IFS}MARK) 00\n", []),
+    "flags of zsh": ("key ${(e):-$(touch${IFS}MARK)} 00\nkey *(e:touch${IFS}MARK:) 00\n", []),
+    "globs": ("key * 00\nkey ? 00\nkey [k]eys 00\nkey ~root 00\nkey {a,b} 00\n", []),
+    "quotes": ("key 'a 00\nkey \"a 00\nkey $'a' 00\nkey \\a 00\n", []),
+    "lines": ("key a\nb 00\nkey bank\r 00\n key shop 00\nkey\tshop 00\n", []),
+    "controls": ("key a\x1b[2J 00\nkey \x07 00\nkey a\0b 00\n", []),
+    "letters": ("key é 00\nkey \udcff 00\nkey bank 00\n", ["bank"]),
+    "options": ("key -n 00\nkey -- 00\nkey -J 00\nkey shop.b_2-x 00\n", ["--", "-J", "-n", "shop.b_2-x"]),
+    "lengths": (f"key {'a' * 65} 00\nkey {'b' * 64} 00\nkey  00\nkey c\n", ["b" * 64]),
+}
+
+
+def hostile_rows(shell, ask):
+    """What is completed of key files that come from elsewhere, and what commands in them left."""
+    for name, (text, due) in HOSTILE.items():
+        with tempfile.TemporaryDirectory() as folder:
+            keys, mark = pathlib.Path(folder) / "keys", pathlib.Path(folder) / "mark"
+            keys.write_bytes(text.replace("MARK", str(mark)).encode("utf-8", "surrogateescape"))
+            yield f"{shell}: {name} in a key file", ask(keys, folder), due
+            yield f"{shell}: {name} in a key file leaves", sorted(set(os.listdir(folder)) - {"keys"}), []
 
 
 def bash_rows(found):
@@ -236,7 +285,12 @@ def bash_rows(found):
         keys.write_text("key bank 00\nkey bank 01\n# key note 02\nkey shop 03\n")
         yield "bash: a file", complete("mint", KEYS, f"{folder}/k"), [str(keys)]
         yield "bash: a key", complete("mint", KEYS, str(keys), KEY, ""), ["bank", "shop"]
+        yield "bash: a key's first letter", complete("mint", KEYS, str(keys), KEY, "s"), ["shop"]
+        yield "bash: a pattern", complete("mint", KEYS, str(keys), KEY, "*"), []
         yield "bash: a text", complete("mint", "--location", ""), []
+        yield "bash: a folder for a key file", complete("mint", KEYS, folder, KEY, ""), []
+    yield from hostile_rows("bash", lambda keys, folder: asked(
+        ["bash", "--norc"], ASK_BASH, BASH, ["macaroond", "mint", KEYS, keys, KEY, ""], folder))
 
 
 def zsh_rows(found):
@@ -247,6 +301,8 @@ def zsh_rows(found):
         names = sorted(option.name for option in command.options)
         told = [re.match(r"\*?(--[\w-]+)\[", line) for line in complete(command.name, "--")]
         yield f"zsh: {command.name}", sorted(match[1] for match in told if match), names
+    yield from hostile_rows("zsh", lambda keys, folder: asked(
+        ["zsh", "-f"], ASK_ZSH_NAMES, ZSH, ["macaroond", "mint", KEYS, keys, KEY, ""], folder))
 
 
 def faults():
@@ -261,6 +317,7 @@ def faults():
 
 
 def main():
+    programs.stop_unless_built("macaroond")
     for file, text in made().items():
         file.write_text(text)
 

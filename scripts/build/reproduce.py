@@ -1,6 +1,6 @@
 #!/usr/bin/env python3
 """Builds a commit twice, in two folders that share nothing, and compares the bytes of the programs,
-the launcher, the package and the .tar.gz.
+the launcher, the packages and the .tar.gz.
 
     reproduce.py [COMMIT]
 
@@ -18,7 +18,7 @@ sys.path.insert(0, str(pathlib.Path(__file__).resolve().parents[1]))
 from common import TOP
 
 # What is compared, of each folder.
-MADE = ["bin/macaroond", "libexec/macaroond/x86-64-*", "dist/*"]
+MADE = ["built/macaroond", "libexec/macaroond/x86-64-*", "dist/*"]
 
 
 def built(folder, commit):

@@ -43,7 +43,7 @@ FAULTY, DAEMONS = 40, 8
 SWAPS, SWAPS_AT_ONCE = 1000, 250
 # What a name has.
 NAME_BYTES = "letters, digits, dots, underscores or dashes"
-SECRETS = {name: f"the secret {name}".encode() for name in ("old", "new", "other")}
+SECRETS = {name: f"the long secret {name}".encode() for name in ("old", "new", "other")}
 
 
 def lines(**keys):
@@ -98,6 +98,7 @@ class Listener:
         """Puts a new key file in the place of the old one."""
         beside = self.folder / "keys.new"
         beside.write_text(text) if isinstance(text, str) else beside.write_bytes(text)
+        beside.chmod(0o600)
         beside.rename(self.keys)
 
     def told(self):

@@ -66,9 +66,10 @@ class Tab:
         self.ask("Page.addScriptToEvaluateOnNewDocument", source=watch)
         self.ask("Emulation.setTimezoneOverride", timezoneId=ZONE)
 
-    def go(self, address):
+    def go(self, address, shown=None):
+        """Opens an address, and waits until the page is there under it, or under the one that it then shows."""
         self.ask("Page.navigate", url=address)
-        self.until(f"document.readyState === 'complete' && location.href === {json.dumps(address)}", True)
+        self.until(f"document.readyState === 'complete' && location.href === {json.dumps(shown or address)}", True)
 
     def value(self, expression):
         told = self.ask("Runtime.evaluate", expression=expression, returnByValue=True, awaitPromise=True)

@@ -16,7 +16,7 @@ from macaroond import AsyncClient, BadToken, Client, Form, UnknownKey
 ASKERS = 64
 LOCATION = "http://mybank/"
 # The secrets of examples/keys.
-SECRETS = {"bank": "this is our super secret key; only we should know it", "shop": "another secret"}
+SECRETS = {"bank": "this is our super secret key; only we should know it", "shop": "another long secret"}
 
 
 class Asked(typing.NamedTuple):

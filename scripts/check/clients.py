@@ -4,8 +4,8 @@
     clients.py [REQUESTS]
 
 With the daemon the examples of clients/README.md are run, both example services are asked, what the
-Python package says of a token by itself is compared with the daemon's answer, and so many mixed
-requests (100,000) from 64 threads, tasks and goroutines are compared with what libmacaroons,
+Python package says of a token by itself and the table of paths are compared with the daemon's answers,
+what the clients say of hostile caveats with the command line, and so many mixed requests (100,000) from 64 threads, tasks and goroutines are compared with what libmacaroons,
 pymacaroons and go-macaroon say. Asks for bin/macaroond, or the program that MACAROOND names.
 """
 import importlib.util
@@ -22,8 +22,8 @@ import urllib.error
 import urllib.request
 
 sys.path.insert(0, str(pathlib.Path(__file__).resolve().parents[1]))
-from check import client_cases, client_tokens, peers
-from common import TOP
+from check import client_cases, client_paths, client_tokens, client_words, peers
+from common import TOP, programs
 from common.daemon import listening
 
 PYTHON, GO = TOP / "clients" / "python", TOP / "clients" / "go"
@@ -116,7 +116,9 @@ SERVICE_ROWS = [
     ("/", None, 200, "anybody may read this\n"),
     ("/account", None, 401, ""),
     ("/account", "alice", 200, "the account of alice\n"),
+    ("/account", "for all below", 200, "the account of alice\n"),
     ("/account", "for another path", 403, ""),
+    ("/account?path=/other", "alice", 200, "the account of alice\n"),
     ("/account", "of another key", 401, ""),
     ("/account", "!", 401, ""),
 ]
@@ -130,6 +132,7 @@ def service_faults(command, env, folder):
             None: None,
             "!": "!",
             "alice": client.mint("bank", "alice", caveats=["path = /account", "method = GET"]),
+            "for all below": client.mint("bank", "alice", caveats=["path under /"]),
             "for another path": client.mint("bank", "alice", caveats=["path = /other"]),
             "of another key": client.mint("shop", "alice"),
         }
@@ -176,7 +179,8 @@ def go_mixed_faults(folder, count):
     told = run([program, "inspect"], input="".join(f"{token.hex()}\n" for token in tokens)).stdout.splitlines()
     pairs = zip(tokens, told, map(client_tokens.said, tokens))
     differing = [f"of {token} Go says {go}, and Python {python}" for token, go, python in pairs if go != python][:10]
-    return found + differing + ([] if len(told) == count else ["go_client broke off"]), 2 * count
+    words, more = client_words.go_faults(os.path.join(folder, "socket"), program)
+    return found + differing + ([] if len(told) == count else ["go_client broke off"]) + words, 2 * count + more
 
 
 def mixed_faults(folder, count):
@@ -199,7 +203,7 @@ def daemon_faults(count=FEW):
     """What fails with the real daemon, how many checks there were, and what was left out."""
     with listening("--workers", "2", stderr=subprocess.DEVNULL) as (path, _):
         folder = os.path.dirname(path)
-        parts = [services_faults(folder), client_tokens.faults(path, count)]
+        parts = [services_faults(folder), client_tokens.faults(path, count), client_paths.faults(), client_words.faults(path)]
         parts += [go_example_faults(folder)] if has_go() else []
         faults, checks, skipped = mixed_faults(folder, count)
     found = [fault for some, _ in parts for fault in some] + faults
@@ -207,6 +211,7 @@ def daemon_faults(count=FEW):
 
 
 def main(words):
+    programs.stop_unless_built("macaroond")
     peers.run_by_debian_python()
     count = int(words[0]) if words else MANY
     parts = {"Python client": python_faults, "Go client": go_faults, "with the daemon": lambda: daemon_faults(count)}

@@ -157,6 +157,31 @@ FORGED = {
     "X-Forwarded-For: 192.0.2.7": "ip = 192.0.2.7",
     "Forwarded: for=192.0.2.7;host=admin.example": "host = admin.example",
 }
+# What a client tells the service past its gateway: another method, path or address than those that were judged.
+PAST = [
+    *(line for line in FORGED if not line.startswith("Macaroon-Fact")),
+    "X-HTTP-Method-Override: PUT",
+    "X-HTTP-Method: PUT",
+    "X-Method-Override: PUT",
+    "X-Original-URL: /admin",
+    "X-Original-Host: admin.example",
+    "X-Rewrite-URL: /admin",
+    "X-Forwarded-Path: /admin",
+    "X-Forwarded-Prefix: /admin",
+    "X-Forwarded-Port: 65432",
+    "X-Forwarded-Scheme: https",
+    "X-Forwarded-Server: admin.example",
+    "X-Forwarded-Ssl: on",
+    "X-Forwarded-User: root",
+]
+
+
+def as_cgi(line):
+    """A field whose name has `_` for `-`."""
+    name, _, value = line.partition(":")
+    return f"{name.replace('-', '_')}:{value}"
+
+
 TRUE = ["method = GET", "path under /guarded", HOST, "service = demo"]
 # Fields that a client may tell a gateway to take out on the way.
 NAMED = "Macaroon-Identifier, Macaroon-Fact, X-Forwarded-Method, X-Forwarded-Uri, X-Forwarded-Host"
@@ -164,6 +189,9 @@ ELSEWHERE = narrowed("path under /guarded/a")
 FORGERIES = [
     *(Row(f"forged: {line}", 403, narrowed(caveat), [line]) for line, caveat in FORGED.items()),
     Row("all of them, and true facts", 200, narrowed(*TRUE), [*FORGED], own={"envoy": 403}),
+    Row("what is told past the gateway", 200, ALICE, PAST),
+    Row("the same in other letters", 200, ALICE, [line.lower() for line in PAST]),
+    Row("the same as CGI reads it", 200, ALICE, [as_cgi(line) for line in PAST]),
     Row("two facts of a kind", 403, ADMIN, ["Macaroon-Fact: a", "macaroon-fact: role = admin"]),
     Row("a fact in the query", 403, ADMIN, target=f"{HELLO}?fact=role+=+admin"),
     Row("an identifier", 200, ALICE, ["Macaroon-Identifier: root"]),
@@ -171,7 +199,7 @@ FORGERIES = [
     Row("an identifier as CGI reads it", 200, ALICE, ["Macaroon_Identifier: root"]),
     Row("an identifier without a token", 401, fields=["Macaroon-Identifier: root"]),
     Row("fields to take out", 200, narrowed(*TRUE), [f"Connection: close, {NAMED}"]),
-    Row("a token to take out", 200, ALICE, ["Connection: close, Authorization"], own={"caddy": 401}),
+    Row("a token to take out", 200, ALICE, ["Connection: close, Authorization"]),
     Row("a path to take out", 403, ELSEWHERE, ["Connection: close, X-Forwarded-Uri"]),
 ]
 # These look for their rule by the path as it is once dots are resolved, and then it isn't guarded.
@@ -222,7 +250,7 @@ SIZES = [
     long_row("a token that is too long", 7, 401),
     Row("a long token that isn't granted", 403, narrowed(*["role = admin".ljust(4_000)] * 6)),
     Row("a field of 200 KiB", 400, "A" * 200_000, own={"caddy": 431}),
-    Row("70 fields", 200, ALICE, [f"X-{number}: a" for number in range(70)], own={"caddy": 431}),
+    Row("70 fields", 200, ALICE, [f"X-{number}: a" for number in range(70)]),
     Row("cookies of 58 KiB", 200, ALICE, ["Cookie: " + "a" * 20_000] * 3),
 ]
 ROWS = [*TOKENS, *CAVEATS, *FORGERIES, *PATHS, *SIZES]

@@ -18,6 +18,7 @@ import time
 import typing
 
 sys.path.insert(0, str(pathlib.Path(__file__).resolve().parents[1]))
+from check import sessions
 from check.http_rows import SECRET, v2
 from common import TOP
 from common.daemon import PATIENCE, PROGRAM
@@ -136,6 +137,12 @@ class Seen(typing.NamedTuple):
         return [value for key, value in self.fields if key.lower().replace("_", "-") == name]
 
 
+    def told_past(self, lines):
+        """Which of a client's fields came here as he sent them, alone or beside the gateway's own words."""
+        pairs = [line.partition(": ")[::2] for line in lines]
+        return [f"{name}: {text}" for name, text in pairs for value in self.values(name.lower()) if text in value]
+
+
 class Handler(http.server.BaseHTTPRequestHandler):
     """Notes each request, and answers `hello`."""
 
@@ -205,12 +212,19 @@ def running(folder, *command):
                 run.terminate()
 
 
+def give_to_workers(folder):
+    """Has sockets in the folder be of the group of gateways' workers, as nginx.conf says, where root starts those."""
+    if os.geteuid() == 0:
+        shutil.chown(folder, group="www-data")
+        folder.chmod(0o2750)
+
+
 @contextlib.contextmanager
 def in_folder(*words):
     """A daemon that is started with these words, in a folder that has the configurations."""
     with tempfile.TemporaryDirectory() as where:
         folder = pathlib.Path(where)
-        folder.chmod(0o755)
+        give_to_workers(folder)
         for file in FOLDER.iterdir():
             shutil.copy(file, folder)
         daemon = Daemon(folder, *words)
@@ -244,13 +258,37 @@ def change(path, old, new):
     path.write_text(text.replace(old, new))
 
 
+# What stands around README's lines for nginx, which name the package's socket and a service of their own.
+AROUND_README = """user www-data;
+pid nginx.pid;
+events {{ }}
+http {{
+    access_log off;
+    client_body_temp_path tmp; proxy_temp_path tmp; fastcgi_temp_path tmp; uwsgi_temp_path tmp; scgi_temp_path tmp;
+    server {{
+        listen 127.0.0.1:18080;
+        {}
+    }}
+}}
+"""
+
+
+def write_readme(folder):
+    """Has nginx be set up by the lines that README shows."""
+    [lines] = sessions.blocks("README.md", "nginx")
+    lines = lines.replace("/run/macaroond-verify/http", str(folder / "macaroond.http")).replace(":8000", f":{SERVICE_PORT}")
+    (folder / "nginx.conf").write_text(AROUND_README.format(lines))
+
+
 @contextlib.contextmanager
-def guarded(name, patient=True):
+def guarded(name, patient=True, by_readme=False):
     """A gateway that asks a daemon, and waits for it as its configuration says, or long enough."""
-    gateway, facts = GATEWAYS[name], ["--http-facts", "header,forwarded"]
-    words = ["--http", "unix:macaroond.http", "--http-mode", "666", *facts]
+    gateway, facts = GATEWAYS[name], "forwarded" if by_readme else "header,forwarded"
+    words = ["--http", "unix:macaroond.http", "--http-mode", "660", "--http-facts", facts]
     with in_folder(*words) as daemon, serving() as service:
         port, config = free_port(), daemon.folder / gateway.config
+        if by_readme:
+            write_readme(daemon.folder)
         change(config, str(gateway.port), str(port))
         change(config, str(SERVICE_PORT), str(service.server_address[1]))
         if patient:

@@ -15,7 +15,7 @@ import time
 
 sys.path.insert(0, str(pathlib.Path(__file__).resolve().parents[1]))
 from check import gateway_scripted
-from check.gateway_rows import ALICE, HELLO, HOST, ROWS, UNASKED, Row, narrowed
+from check.gateway_rows import ALICE, HELLO, HOST, PAST, ROWS, UNASKED, Row, narrowed
 from check.gateway_servers import GATEWAYS, asked, connected, guarded, head, program_of
 from common.daemon import PATIENCE
 
@@ -51,7 +51,7 @@ def asked_row(scene, row):
 def told_of(seen):
     """What counts of a request that the service saw: whose it is, and what a client told."""
     identifiers = [value for value in seen.values("macaroon-identifier") if value]
-    left = seen.values("authorization") + seen.values("macaroon-fact")
+    left = seen.values("authorization") + seen.values("macaroon-fact") + seen.told_past(PAST)
     target = seen.target.removeprefix("http://example.org")
     return seen.method, target, identifiers, left, len(seen.body)
 
@@ -165,6 +165,25 @@ def as_keys_change(name, scene):
     yield "no key of the name", asked_row(scene, NEW), (LOST_BY[name][2], "", [])
 
 
+# What a client of README's gateway sends, and whether that is granted.
+OF_README = [
+    GRANTED,
+    NO_TOKEN,
+    Row("an identifier of its own", 200, ALICE, ["Macaroon-Identifier: root"]),
+    Row("a path", 200, narrowed("path under /guarded", "method = GET")),
+    Row("another path", 403, narrowed("path under /guarded/a")),
+    Row("another method", 403, narrowed("method = GET"), method="DELETE"),
+    Row("a path of its own word", 403, narrowed("path under /admin"), ["X-Forwarded-Uri: /admin"]),
+]
+
+
+def as_readme_says(name):
+    """The few lines that README shows for nginx."""
+    with guarded(name, patient=False, by_readme=True) as scene:
+        for row in OF_README:
+            yield f"README: {row.what}", asked_row(scene, row), due_of(row, name)
+
+
 def of_gateway(name):
     with guarded(name) as scene:
         yield from rows(name, scene)
@@ -175,6 +194,8 @@ def of_gateway(name):
         yield from as_keys_change(name, scene)
     with guarded(name, patient=False) as scene:
         yield from while_it_hangs(name, scene)
+    if name == "nginx":
+        yield from as_readme_says(name)
 
 
 def listed(name):

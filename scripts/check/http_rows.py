@@ -21,7 +21,7 @@ WHOSE = [("macaroon-identifier", "we%20used%20our%20secret%20key"),
 
 REASONS = {200: "OK", 204: "No Content", 400: "Bad Request", 401: "Unauthorized",
            403: "Forbidden", 404: "Not Found", 405: "Method Not Allowed",
-           413: "Payload Too Large",
+           413: "Payload Too Large", 415: "Unsupported Media Type",
            431: "Request Header Fields Too Large", 501: "Not Implemented",
            503: "Service Unavailable"}
 
@@ -175,6 +175,12 @@ def paths(path, want, caveat=b"path under /a"):
     return "forwarded", [(get("/verify/bank", *fields), want)]
 
 
+def strictly(path, want):
+    """The same, where paths are read strictly."""
+    words, rows = paths(path, want)
+    return f"{words} strict", rows
+
+
 ALICE = granted("alice")
 
 ROWS = [
@@ -204,15 +210,27 @@ ROWS = [
     ("", [(get("/verify/shop", token(plain)), INVALID)]),
     ("", [(get("/verify/bank", token(plain[:10] + "A" + plain[11:], "bearer")), INVALID_BEARER)]),
     # ---- paths of the request's own
-    ("", [(get("/verify/none", token(plain)), UNKNOWN)]),
-    ("", [(get("/verify/none"), UNKNOWN)]),
-    ("", [(get("/verify/", token(plain)), UNKNOWN)]),
+    ("", [(get("/verify/none", token(plain)), INVALID)]),
+    ("", [(get("/verify/none", token(plain, "Bearer")), INVALID_BEARER)]),
+    ("", [(get("/verify/none"), NO_TOKEN)]),
+    ("", [(get("/verify/", token(plain)), INVALID)]),
     ("", [(get("/verify", token(plain)), UNKNOWN)]),
     ("", [(get("/", token(plain)), UNKNOWN)]),
     ("", [(get("/mint/bank", token(plain), method="POST"), UNKNOWN)]),
     ("", [(get("/verify/bank/", token(plain)), ALICE)]),
     ("", [(get("/verify/bank/a//b/../c", token(plain)), ALICE)]),
     ("", [(get("/verify/bank?fact=a", token(plain), method="DELETE"), ALICE)]),
+    # ---- names that may not be used are as those without keys, whatever else the request brings
+    *(("names=shop,mill forwarded query", [
+        (get(f"/verify/{name}", token(plain)), INVALID),
+        (get(f"/verify/{name}", token("?", "Bearer")), INVALID_BEARER),
+        (get(f"/verify/{name}"), NO_TOKEN),
+        (get(f"/verify/{name}", token(plain), "X-Forwarded-Uri: /a//b"), UNSAFE),
+        (get(f"/verify/{name}", token(plain), "X-Forwarded-Uri: /a#b"), response(400)),
+        (get(f"/verify/{name}?" + "fact=a&" * 129, token(plain)), response(400)),
+    ]) for name in ("bank", "none", "mill")),
+    ("names=shop,mill", [(get("/verify/shop", token(v2(b"alice", secret=b"shop"))), ALICE)]),
+    ("names=", [(get("/verify/bank", token(plain)), INVALID)]),
     # ---- time, by the request's moment
     ("", [(get("/verify/bank", token(running)), ALICE)]),
     ("", [(get("/verify/bank", token(ended)), unsatisfied(0))]),
@@ -249,6 +267,13 @@ ROWS = [
     paths("/a/%41", ALICE), paths("http://x/a", UNSAFE), paths("a", UNSAFE), paths("*", UNSAFE),
     paths("/a" + "/b" * 63, ALICE), paths("/a" + "/b" * 64, UNSAFE),
     paths("/a/" + "b" * 4093, ALICE), paths("/a/" + "b" * 4094, UNSAFE),
+    paths("/a#b", response(400)), paths("/a?b#c", response(400)), paths("/a//b#c", response(400)),
+    *(row for odd in ("..;", "%3B", "..%00", ".%09.", "%u002e", "%c0%ae", "%C1%9c", "%e0%80%ae",
+                      "%E0%9F%BF", "%f0%80%80%ae")
+      for row in (paths(f"/a/{odd}/x", ALICE), strictly(f"/a/{odd}/x", UNSAFE))),
+    *(strictly(f"/a/{usual}", ALICE) for usual in ("b", "%20", "%c3%a9", "%e0%a0%80", "%f0%90%80%80",
+                                                  "é", "ࠀ", "𐀀")),
+    strictly("/a//b", UNSAFE), strictly("/ab", unsatisfied(0)), strictly("/a/b?x=;", ALICE),
     ("header", [(get("/verify/bank", token(under), "X-Forwarded-Uri: /a"), unsatisfied(0))]),
     ("header", [(get("/verify/bank", token(plain), "X-Forwarded-Uri: /a/../b"), ALICE)]),
     ("forwarded", [(get("/verify/bank", token(under), "X-Original-URI: /a/b"), ALICE)]),
@@ -278,7 +303,13 @@ ROWS = [
     ("", [(get("/healthz"), page(200, "ok\n")), (get("/healthz?x"), page(200, "ok\n"))]),
     ("unwell", [(get("/healthz"), page(503, "why\n")),
                 (get("/verify/bank", token(plain)), ALICE)]),
-    ("", [(get("/metrics"), UNKNOWN), (get("/healthz/"), UNKNOWN)]),
+    ("", [(get("/metrics"), page(200, "told\n")), (get("/healthz/"), UNKNOWN)]),
+    ("", [(get("/status"), UNKNOWN), (get("/connections"), UNKNOWN)]),
+    ("operators", [(get("/healthz"), page(200, "ok\n")), (get("/metrics"), page(200, "told\n")),
+                   (get("/status"), page(200, "told\n")),
+                   (get("/connections"), page(200, "told\n"))]),
+    ("pageless", [(get("/healthz"), UNKNOWN), (get("/metrics"), UNKNOWN),
+                  (get("/status"), UNKNOWN), (get("/connections"), UNKNOWN)]),
     ("ending", [(get("/verify/bank", token(plain)),
                  closing(200, [("macaroon-identifier", "alice"), ("macaroon-location", "")])),
                 (get("/verify/bank", token(plain)), "")]),
@@ -309,6 +340,31 @@ TWO = [b"a = 1", b"b = 2"]
 # 1,700,000,000 is 2023-11-14T22:13:20Z.
 BOUNDS = [b"time < 2023-11-14T22:13:20", b"time < 2023-11-14T22:13:21", b"time >= 2023-11-14T22:13:20Z",
           b"time >= 2023-11-14T22:13:21Z", b"time < soon"]
+
+
+def sent(target, body, host, *fields):
+    """A call to a host, with fields of its own."""
+    length = f"Content-Length: {len(body.encode()) + 2}"
+    return [f"POST {target} HTTP/1.1", f"Host: {host}", *fields, length, "", body]
+
+
+MINT_BODY = '{"identifier":"alice"}'
+SENDS_JSON = "Content-Type: application/json"
+# Hosts and fields of a mint at a port, and what it is to get.
+BROWSERS = [
+    *((host, [SENDS_JSON], made(plain)) for host in (
+        "127.0.0.1:8080", "127.0.0.1", "localhost", "LocalHost:80", "[::1]:80", "[::1]", "192.0.2.1:1")),
+    *((host, [SENDS_JSON], response(403)) for host in (
+        "evil.example:8080", "evil.example", "localhost.evil.example", "127.0.0.1.evil.example:80", "macaroond", "a127.0.0.1")),
+    *(("127.0.0.1", [f"Content-Type: {kind}"], made(plain)) for kind in (
+        "Application/JSON", "application/json; charset=utf-8", "application/json;x")),
+    *(("127.0.0.1", [f"Content-Type: {kind}"], response(415)) for kind in (
+        "text/plain", "application/jsonp", "application/x-www-form-urlencoded", "text/plain; application/json")),
+    ("127.0.0.1", [], response(415)),
+    ("127.0.0.1", [SENDS_JSON, SENDS_JSON], response(415)),
+    *(("127.0.0.1", [SENDS_JSON, f"Origin: {origin}"], response(403)) for origin in (
+        "http://evil.example", "null", "http://127.0.0.1", "")),
+]
 
 
 def minted(body, want):
@@ -445,6 +501,19 @@ ROWS += [
                            (post("/inspect/", '{"token":"%s"}' % plain), UNKNOWN),
                            (get("/attenuate"), response(405, [("allow", "POST")])),
                            (get("/inspect", method="PUT"), response(405, [("allow", "POST")]))]),
+    # ---- who may mint, and under which names
+    ("mint no-mint", [(post("/mint/bank", '{"identifier":"alice"}'), UNKNOWN), (get("/mint/bank"), UNKNOWN)]),
+    ("mint names=shop", [(post("/mint/bank", '{"identifier":"alice"}'), UNKNOWN),
+                         (post("/mint/bank", "{}"), UNKNOWN), (post("/mint/none", "{}"), UNKNOWN),
+                         (post("/mint/shop", '{"identifier":"alice"}'), made(v2(b"alice", secret=b"shop")))]),
+    # ---- what a page in a browser may have had sent
+    *(("port mint", [(sent("/mint/bank", MINT_BODY, host, *fields), want)]) for host, fields, want in BROWSERS),
+    ("port inspect", [(sent("/inspect", "{}", "127.0.0.1", "Origin: null"), response(403)),
+                      (sent("/inspect", "{}", "127.0.0.1"), response(415)),
+                      (sent("/inspect", "{}", "127.0.0.1", SENDS_JSON), NO_TEXT),
+                      (get("/verify/bank", token(plain), "Origin: http://x"), ALICE)]),
+    ("port mint", [(["GET /mint/bank HTTP/1.1", "Host: [::1]:80", SENDS_JSON, ""], response(405, [("allow", "POST")]))]),
+    ("mint", [(sent("/mint/bank", MINT_BODY, "evil.example", "Origin: http://evil.example"), made(plain))]),
     ("", [(post("/mint/bank", '{"identifier":"alice"}'), UNKNOWN),
           (post("/attenuate", '{"token":"%s","caveats":["a"]}' % plain), UNKNOWN),
           (post("/inspect", '{"token":"%s"}' % plain), UNKNOWN),

@@ -30,10 +30,10 @@ END = b"\r\n\r\n"
 class Daemon:
     """A daemon that listens over HTTP at a Unix socket and at a port of this machine."""
 
-    def __init__(self, folder, *words):
+    def __init__(self, folder, *words, names=("bank",)):
         self.folder, self.keys = pathlib.Path(folder), pathlib.Path(folder) / "keys"
         self.path, self.port = f"{folder}/http", free_port()
-        self.write_keys("bank")
+        self.write_keys(*names)
         command = [PROGRAM, "listen", "--socket", f"{folder}/socket", "--keys", str(self.keys)]
         command += ["--http", f"unix:{self.path},127.0.0.1:{self.port}", *words]
         pipes = {"stdout": subprocess.PIPE, "stderr": subprocess.PIPE, "text": True}
@@ -69,9 +69,9 @@ def free_port():
 
 
 @contextlib.contextmanager
-def listening(*words):
+def listening(*words, **how):
     with tempfile.TemporaryDirectory() as folder:
-        daemon = Daemon(folder, *words)
+        daemon = Daemon(folder, *words, **how)
         try:
             yield daemon
         finally:
@@ -134,7 +134,8 @@ def statuses():
         ("another scheme", asking("/verify/bank", "Authorization: Basic eDp5"), 401),
         ("a caveat without its fact", bearing(narrowed), 403),
         ("a caveat with its fact", bearing(narrowed, "Macaroon-Fact: account = 17"), 200),
-        ("another name", bearing(good, target="/verify/none"), 404),
+        ("another name", bearing(good, target="/verify/none"), 401),
+        ("another name and no token", asking("/verify/none"), 401),
         ("another path", asking("/"), 404),
         ("too many facts", bearing(good, *["Macaroon-Fact: a"] * 50), 200),
         ("health", asking("/healthz"), 200),
@@ -178,6 +179,89 @@ def rules():
         yield "a mode", stat.S_IMODE(pathlib.Path(daemon.path).stat().st_mode), 0o666
 
 
+def calling(target, body, host="127.0.0.1", *fields):
+    lines = [f"POST {target} HTTP/1.1", f"Host: {host}", f"Content-Length: {len(body)}", *fields]
+    return "\r\n".join(lines).encode() + END + body
+
+
+MINT = b'{"identifier":"alice"}'
+SENDS_JSON = "Content-Type: application/json"
+
+
+def names():
+    """A name that isn't allowed is told as one that has no key, whoever asks and with whatever token."""
+    shop = v2(b"alice")
+    words = ("--names", "bank", "--http-names", "shop")
+    with listening(*words, names=("bank", "shop")) as daemon:
+        for where, connect in (("Unix", daemon.unix), ("TCP", daemon.tcp)):
+            with connect() as stream:
+                for text in ("", f"Authorization: Macaroon {shop}", "Authorization: Bearer ?"):
+                    told = []
+                    for name in ("bank", "none"):
+                        stream.sendall(asking(f"/verify/{name}", *([text] if text else [])))
+                        told.append(response(stream))
+                    yield f"{text[:24]!r} over {where}", told[0], told[1]
+                    yield f"{text[:24]!r} over {where}: its status", told[0][0], 401
+                yield f"a name that is allowed over {where}", asked(stream, bearing(shop, target="/verify/shop")), 200
+
+
+def gateways_never_mint():
+    """Calls are answered at their own addresses alone, under the names of these, and a gateway's mints never."""
+    with tempfile.TemporaryDirectory() as place:
+        calls, port = f"{place}/calls", free_port()
+        words = ["--http-calls", f"unix:{calls},127.0.0.1:{port}", "--http-calls-allow", "mint,inspect"]
+        words += ["--http-calls-names", "shop", "--http-calls-mode", "660"]
+        with listening(*words, names=("bank", "shop")) as daemon:
+            for where, connect in (("Unix", daemon.unix), ("TCP", daemon.tcp)):
+                with connect() as stream:
+                    for target in ("/mint/bank", "/mint/shop", "/mint/none", "/attenuate", "/inspect", "/check"):
+                        yield f"{target} of a gateway over {where}", asked(stream, calling(target, MINT)), 404
+                    yield f"a verify over {where}", asked(stream, bearing(README)), 200
+            yield "the mode of the calls' socket", stat.S_IMODE(pathlib.Path(calls).stat().st_mode), 0o660
+            with socket.socket(socket.AF_UNIX) as stream:
+                stream.connect(calls)
+                for target, due in (("/mint/shop", 200), ("/mint/bank", 404), ("/mint/none", 404), ("/check", 404)):
+                    yield f"{target} at the calls' socket", asked(stream, calling(target, MINT)), due
+                yield "a verify under a name of gateways", asked(stream, bearing(README)), 401
+            yield from browsers(port)
+            daemon.run.send_signal(signal.SIGTERM)
+            error = daemon.run.communicate(timeout=PATIENCE)[1]
+            warned = f"warning: 127.0.0.1:{port}: every user of this machine may have tokens minted here"
+            yield f"a port that mints is warned of: {error[:200]}", warned in error, True
+
+
+def browsers(port):
+    """A page of another origin, by a name that was pointed here too, has nothing minted at a port."""
+    cases = [
+        ("a program", "127.0.0.1", [SENDS_JSON], 200),
+        ("a program that names the port", f"localhost:{port}", [SENDS_JSON], 200),
+        ("no type", "127.0.0.1", [], 415),
+        ("a form", "127.0.0.1", ["Content-Type: text/plain"], 415),
+        ("a form of another page", "127.0.0.1", ["Content-Type: text/plain", "Origin: http://evil.example"], 403),
+        ("a page in a sandbox", f"localhost:{port}", [SENDS_JSON, "Origin: null"], 403),
+        ("a page on this machine", f"127.0.0.1:{port}", [SENDS_JSON, f"Origin: http://127.0.0.1:{port}"], 403),
+        ("a name that was pointed here", f"evil.example:{port}", [SENDS_JSON], 403),
+        ("the same, as a browser asks", f"evil.example:{port}", [SENDS_JSON, f"Origin: http://evil.example:{port}"], 403),
+    ]
+    with socket.create_connection(("127.0.0.1", port), PATIENCE) as stream:
+        for name, host, fields, due in cases:
+            stream.sendall(calling("/mint/shop", MINT, host, *fields))
+            status, told, body, _ = response(stream)
+            yield f"{name} at a port", (status, b"token" in body), (due, due == 200)
+            yield f"{name} at a port: no leave for other origins", "access-control-allow-origin" in told, False
+
+
+def strict_paths():
+    """What is refused of paths where they are read strictly, and a fragment in any case."""
+    under = v2(b"alice", [b"path under /a"])
+    for words, due in (([], 200), (["--http-strict-paths"], 403)):
+        with listening("--http-facts", "forwarded", *words) as daemon, daemon.unix() as stream:
+            for path in ("/a/..;/x", "/a/..%00/x", "/a/.%09./x", "/a/%u002e/x", "/a/%c0%ae/x", "/a/%e0%80%ae/x"):
+                yield f"{path} {words}", asked(stream, bearing(under, f"X-Forwarded-Uri: {path}")), due
+            yield f"a usual path {words}", asked(stream, bearing(under, "X-Forwarded-Uri: /a/%c3%a9")), 200
+            yield f"a fragment {words}", asked(stream, bearing(under, "X-Forwarded-Uri: /a/b#c")), 400
+
+
 def changing_keys():
     """A connection that lasts is answered under the keys of the moment."""
     with listening() as daemon, daemon.unix() as stream:
@@ -188,7 +272,7 @@ def changing_keys():
         while status == 200 and time.monotonic() < until:
             time.sleep(0.1)
             status = asked(stream, bearing(README))
-        yield "the name is gone", status, 404
+        yield "the name is gone", status, 401
         yield "another is there", asked(stream, bearing(README, target="/verify/shop")), 200
 
 
@@ -297,6 +381,11 @@ def refusals():
     """Command lines that name no address, or one that others may reach."""
     foreign = "other machines may reach this address; name it by --http-anywhere if they may"
     unread = "this is no address; give unix:PATH, 127.0.0.1:PORT or [::1]:PORT"
+    here = "other machines may reach this address; calls are answered to this machine alone"
+    moved = (
+        "--http-allow is no longer taken; name addresses for calls by --http-calls, "
+        "and which calls are answered there by --http-calls-allow"
+    )
     cases = [
         (["--http", "0.0.0.0:1234"], f"error: 0.0.0.0:1234: {foreign}\n", 2),
         (["--http", "127.0.0.1:1,192.0.2.1:2"], f"error: 192.0.2.1:2: {foreign}\n", 2),
@@ -307,7 +396,12 @@ def refusals():
         (["--http-anywhere", "127.0.0.1"], f"error: 127.0.0.1: {unread}\n", 2),
         (["--http", "127.0.0.1:1", "--http-granted", "201"], "error: the status that grants is 200 or 204\n", 2),
         (["--http-facts", "header,body"], "error: a source of facts is header, query or forwarded\n", 2),
-        (["--http-allow", "mint,verify"], "error: a call is mint, attenuate, inspect or check\n", 2),
+        (["--http-calls-allow", "mint,verify"], "error: a call is mint, attenuate, inspect or check\n", 2),
+        (["--http-allow", "mint"], f"error: {moved}\n", 2),
+        (["--http-calls", "127.0.0.1:1,0.0.0.0:2", "--http-calls-allow", "mint"], f"error: 0.0.0.0:2: {here}\n", 2),
+        (["--http-calls", "192.0.2.1:1"], f"error: 192.0.2.1:1: {here}\n", 2),
+        (["--http-calls", "localhost:1"], f"error: localhost:1: {unread}\n", 2),
+        (["--http-calls-mode", "777"], "error: the mode of a socket is 600, 660 or 666\n", 2),
         (["--http-mode", "777"], "error: the mode of a socket is 600, 660 or 666\n", 2),
     ]
     with listening() as daemon:
@@ -327,7 +421,7 @@ def refusals():
         yield "how it ends", daemon.told_to_end()[1][0], 0
 
 
-PARTS = (statuses, rules, changing_keys, slow_peers, full_house, ends, waiting, refusals)
+PARTS = (statuses, rules, names, gateways_never_mint, strict_paths, changing_keys, slow_peers, full_house, ends, waiting, refusals)
 
 
 def faults():

@@ -2,7 +2,9 @@
 import hashlib
 import os
 import pathlib
+import resource
 import shutil
+import signal
 import subprocess
 import tarfile
 import tempfile
@@ -10,10 +12,14 @@ import tempfile
 from build import build, packaging
 from common import TOP
 
+import request
+
 LAUNCHER = TOP / "packaging" / "launcher.c"
 STRICT = ["cc", "-O2", "-Wall", "-Wextra", "-Wpedantic", "-Werror"]
-# A program that tells what it was started with.
+# A program that tells what it was started with; and one that tells how long a core file of it may be.
 STAND_IN = '#!/bin/sh\necho "${0##*/} $$ $WORD $*"\n'
+CORE_TELLING = '#!/bin/sh\necho "$(ulimit -S -c) $(ulimit -H -c)"\n'
+NOBODY = 65534
 VERSION = f"macaroond {packaging.version()} ("
 
 
@@ -61,6 +67,20 @@ def launches(folder):
     yield "none", told(here), (3, f"macaroond: {looked_for}: No such file or directory\n")
 
 
+def without_limits():
+    """Has core files be as long as they may be here."""
+    hard = resource.RLIM_INFINITY if os.geteuid() == 0 else resource.getrlimit(resource.RLIMIT_CORE)[1]
+    resource.setrlimit(resource.RLIMIT_CORE, (hard, hard))
+
+
+def cores(folder):
+    """What the launcher starts leaves no core file, whatever limit it was started with."""
+    here = launcher(folder / "bin" / "macaroond")
+    stand_ins(folder, build.OLDER)
+    (folder / "libexec/macaroond" / build.OLDER).write_text(CORE_TELLING)
+    yield "the limit of a core file", told(here, preexec_fn=without_limits), (0, "0 0\n")
+
+
 def made(target, folder, *words):
     """Runs a target of the Makefile over the folder."""
     command = ["make", "--silent", target, f"DESTDIR={folder}", *words]
@@ -83,6 +103,9 @@ def installations(folder):
     unit = (folder / "opt/it/lib/systemd/system/macaroond.service").read_text()
     paths = "/opt/it/bin/macaroond listen" in unit, "/opt/etc/macaroond/keys" in unit, "/usr/bin" in unit
     yield "the unit's paths", paths, (True, True, False)
+    yield "what the unit may start", "ExecPaths=/opt/it/bin/macaroond /opt/it/libexec/macaroond " in unit, True
+    modes = {oct(path.stat().st_mode)[-3:] for path in (folder / "opt/it/libexec/macaroond").iterdir()}
+    yield "who may read the programs", modes, {"711"}
     page = page_text(folder, "opt/it")
     yield "the page's version", (f'"macaroond {packaging.version()}"' in page, "@" in page), (True, False)
     settings = folder / "opt/etc/default/macaroond"
@@ -91,6 +114,32 @@ def installations(folder):
     yield "settings that were changed", settings.read_text(), "MODE=600\n"
     made("uninstall", folder, "PREFIX=/opt/it", "SYSCONFDIR=/opt/etc")
     yield "what is left", files_in(folder), ["opt/etc/default/macaroond"]
+
+
+def neighbours(folder):
+    """What another process of a daemon's user gets of its memory, where that user isn't the owner of the programs; and
+    what a fault that ends the daemon leaves."""
+    if os.geteuid() != 0:
+        return
+    folder.chmod(0o755)
+    made("install", folder, "PREFIX=/opt/it", "SYSCONFDIR=/opt/etc")
+    mine = folder / "mine"
+    mine.mkdir()
+    (mine / "keys").write_text(request.key("bank", "a secret") + "\n")
+    for path in (mine / "keys", mine):
+        path.chmod(0o600 if path != mine else 0o700)
+        os.chown(path, NOBODY, NOBODY)
+    who = {"user": NOBODY, "group": NOBODY, "extra_groups": []}
+    command = [folder / "opt/it/bin/macaroond", "listen", "--socket", "socket", "--keys", "keys"]
+    pipes = {"stdout": subprocess.PIPE, "stderr": subprocess.DEVNULL}
+    with subprocess.Popen(command, cwd=mine, preexec_fn=without_limits, **pipes, **who) as daemon:
+        yield "a daemon of another user", daemon.stdout.readline()[:9], b"listening"
+        for name in ("mem", "environ", "maps"):
+            found = subprocess.run(["dd", f"if=/proc/{daemon.pid}/{name}", "count=0"], capture_output=True, **who)
+            yield f"its neighbour opens {name}", found.returncode, 1
+        daemon.send_signal(signal.SIGSEGV)
+        daemon.wait()
+    yield "what a fault leaves", [name for name in files_in(mine) if "core" in name], []
 
 
 def sum_of(path):
@@ -108,7 +157,9 @@ def tarballs(folder):
     yield "the sum beside it", (checked.returncode, checked.stdout), (0, b"")
     with tarfile.open(paths[0]) as archive:
         archive.extractall(folder)
-    unpacked = folder / f"macaroond-{packaging.version()}"
+    unpacked = folder / f"macaroond-{packaging.packed_version()}"
+    modes = {oct(path.stat().st_mode)[-3:] for path in (unpacked / "libexec/macaroond").iterdir()}
+    yield "who may read the programs of a .tar.gz", modes, {"711"}
     checked = subprocess.run(["sha256sum", "-c", "--quiet", "SHA256SUMS"], cwd=unpacked, capture_output=True)
     yield "the sums in it", (checked.returncode, checked.stdout), (0, b"")
     status, text = told(unpacked / "bin/macaroond", "--version")
@@ -118,7 +169,8 @@ def tarballs(folder):
 def faults():
     """What went otherwise than it must, and how many things were looked at."""
     seen = []
-    for rows in (launches, installations, tarballs):
+    for rows in (launches, cores, installations, neighbours, tarballs):
         with tempfile.TemporaryDirectory() as folder:
             seen += rows(pathlib.Path(folder))
-    return [f"installing: {what}: {got!r} where {due!r} is due" for what, got, due in seen if got != due], len(seen)
+    wrong = [f"installing: {what}: {got!r} where {due!r} is due" for what, got, due in seen if got != due]
+    return wrong, len(seen), ["a daemon's neighbours: only root can"] * (os.geteuid() != 0)

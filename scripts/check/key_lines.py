@@ -2,7 +2,9 @@
 
 A row gives the file as it is before, the words, and how the run ends; and what the file is then. A
 refused run leaves each byte of it. A file that is written has mode 600, and no other file is left.
+Other rows look at whose the new file is, at links, and at what a run that was cut leaves.
 """
+import fcntl
 import os
 import pathlib
 import re
@@ -50,7 +52,13 @@ def kept(text, words, ending):
 
 
 WRITTEN = Ending(0, "", "")
-UNREAD = "the key file can't be read, or is longer than 16777216 bytes"
+DROPPED = Ending(0, "bank: the second line is dropped\n", "")
+DROPPED_FIRST = Ending(0, "bank: the first line is dropped\n", "")
+ONE_OPTION = "of `--into`, `--above`, `--below`, `--raise`, `--drop` and `--drop-first` one alone may be given\n"
+# Who has a key file that others may use, and what mends that.
+WIDE = "the key file has mode 644, by which others than its owner may use it; `chmod 600` mends that"
+WEAK = "the secret has fewer than 16 bytes, which may be guessed; `macaroond keygen NAME` prints a line with 32"
+MISSING = "there is no key file; `macaroond keygen NAME --into keys` makes one"
 NO_KEY = "warning: keys: the key file has no key; `macaroond keygen NAME` prints a line for it\n"
 CHECK = ["check", "--keys", "keys"]
 BAD_HEX = "line 3: the secret is not in hexadecimal, two digits a byte"
@@ -64,22 +72,37 @@ ROWS = {
     "above_none": kept(ONE, keygen("--above", "ban"), refused("the name has no line")),
     "above_bad_name": kept(ONE, keygen("--above", "my bank"), bad("the name of a key is 1 to 64 letters, ")),
     "above_faulty": kept(FAULTY, keygen("--above"), failed(BAD_HEX)),
-    "above_missing": kept(None, keygen("--above"), failed(UNREAD)),
-    "drop": Row(TWO, keygen("--drop"), WRITTEN, re.escape(f"{FRONT}{UPPER}{REST}\n# last")),
-    "drop_last": Row("key bank aa\nkey bank bb", keygen("--drop"), WRITTEN, "key bank aa\n"),
+    "above_missing": kept(None, keygen("--above"), failed(MISSING)),
+    "below": Row(ONE, keygen("--below"), WRITTEN, re.escape(FRONT + UPPER) + LINE + re.escape(REST)),
+    "below_last": Row(ONE, keygen("--below", "pier"), WRITTEN, r"(?s).*\n# end\nkey pier 22\nkey pier [0-9a-f]{64}\n"),
+    "below_two": kept(TWO, keygen("--below"), refused("the name has two lines already")),
+    "below_none": kept(ONE, keygen("--below", "ban"), refused("the name has no line")),
+    "below_missing": kept(None, keygen("--below"), failed(MISSING)),
+    "raise": Row(TWO, keygen("--raise"), WRITTEN, re.escape(f"{FRONT}key bank bb\n{UPPER}{REST}\n# last")),
+    "raise_last": Row("key bank aa\nkey bank bb", keygen("--raise"), WRITTEN, "key bank bb\nkey bank aa\n"),
+    "raise_one": kept(ONE, keygen("--raise"), refused("the name has one line alone")),
+    "raise_none": kept(ONE, keygen("--raise", "banks"), refused("the name has no line")),
+    "drop_first": Row(TWO, keygen("--drop-first"), DROPPED_FIRST, re.escape(f"{FRONT}key bank bb\n{REST}\n# last")),
+    "drop_first_one": kept(ONE, keygen("--drop-first"), refused("the name has one line alone")),
+    "drop_first_none": kept(ONE, keygen("--drop-first", "banks"), refused("the name has no line")),
+    "drop": Row(TWO, keygen("--drop"), DROPPED, re.escape(f"{FRONT}{UPPER}{REST}\n# last")),
+    "drop_last": Row("key bank aa\nkey bank bb", keygen("--drop"), DROPPED, "key bank aa\n"),
     "drop_one": kept(ONE, keygen("--drop"), refused("the name has one line alone")),
     "drop_none": kept(ONE, keygen("--drop", "banks"), refused("the name has no line")),
     "drop_faulty": kept(FAULTY, keygen("--drop"), failed(BAD_HEX)),
-    "drop_missing": kept(None, keygen("--drop"), failed(UNREAD)),
+    "drop_missing": kept(None, keygen("--drop"), failed(MISSING)),
     "two_options": kept(
         ONE,
         ["keygen", "bank", "--above", "keys", "--drop", "keys"],
-        bad("of `--into`, `--above` and `--drop` one alone may be given\n"),
+        bad(ONE_OPTION),
     ),
-    "check": kept(TWO, CHECK, Ending(0, "bank: two keys\npier: one key\nshop: one key\n", "")),
+    "two_of_each": kept(ONE, ["keygen", "bank", "--below", "keys", "--raise", "keys"], bad(ONE_OPTION)),
+    "check": kept(TWO, CHECK, Ending(0, "bank: two keys\npier: one key\nshop: one key\n", f"warning: keys: line 3: {WEAK}\n")),
+    "check_sound": kept("key bank " + "0" * 32 + "\n", CHECK, Ending(0, "bank: one key\n", "")),
+    "check_weak": kept("key bank " + "0" * 30 + "\n", CHECK, Ending(0, "bank: one key\n", f"warning: keys: line 1: {WEAK}\n")),
     "check_empty": kept("", CHECK, Ending(0, "", NO_KEY)),
     "check_faulty": kept(FAULTY, CHECK, refused(BAD_HEX)),
-    "check_missing": kept(None, CHECK, failed(UNREAD)),
+    "check_missing": kept(None, CHECK, failed(MISSING)),
     "check_nothing": kept(ONE, ["check"], bad("the following required arguments were not provided:\n")),
 }
 
@@ -123,37 +146,101 @@ def wide_faults():
     """A file that others may read is warned of, and the one that takes its place is the owner's."""
     with tempfile.TemporaryDirectory() as folder:
         path = pathlib.Path(folder) / "keys"
-        put(path, ONE, 0o644)
+        put(path, "key bank " + "a" * 64 + "\n", 0o644)
         checked = run_in(folder, CHECK)
+        minted = run_in(folder, ["mint", "--keys", "keys", "--key", "bank", "--identifier", "alice"])
         changed = run_in(folder, keygen("--above"))
-        warning = "warning: keys: others than its owner may use the key file\n"
-        found = [] if checked.error == warning and checked.status == 0 else [f"wide: {checked}"]
+        warning = f"warning: keys: {WIDE}\n"
+        found = [f"wide: {run}" for run in (checked, minted) if run.error != warning or run.status]
         return found + ([] if changed.status == 0 and mode(path) == 0o600 else [f"wide: {changed}"])
 
 
 def owner_faults():
-    """The new file has the old one's owner, where the run may give it away."""
+    """The new file has the old one's owner, group and mode, where the run may give it away."""
     if os.geteuid():
         return []
-    with tempfile.TemporaryDirectory() as folder:
-        path = pathlib.Path(folder) / "keys"
-        put(path, ONE)
-        os.chown(path, 1234, 1235)
-        run = run_in(folder, keygen("--above"))
-        owner = (path.stat().st_uid, path.stat().st_gid)
-        return [] if run.status == 0 and owner == (1234, 1235) else [f"owner: {owner}, {run}"]
+    found = []
+    for owner, permissions in (((1234, 1235), 0o600), ((0, 1235), 0o640), ((0, 1235), 0o440)):
+        with tempfile.TemporaryDirectory() as folder:
+            path = pathlib.Path(folder) / "keys"
+            put(path, ONE, permissions)
+            os.chown(path, *owner)
+            run = run_in(folder, keygen("--above"))
+            now = ((path.stat().st_uid, path.stat().st_gid), mode(path))
+            found += [] if run.status == 0 and now == (owner, permissions) else [f"owner: {now}, {run}"]
+    return found
 
 
 def beside_faults():
-    """Where FILE.new is there, nothing is changed, and it stays."""
+    """Where FILE.new is there, or what keygen didn't leave at FILE.keygen, nothing is changed."""
+    found = []
+    for name, why in (
+        ("keys.new", "keys.new: the file is there already"),
+        ("keys.keygen", "keys.keygen: what is there is no file that keygen left; remove it"),
+    ):
+        with tempfile.TemporaryDirectory() as folder:
+            path, new, victim = (pathlib.Path(folder) / one for one in ("keys", name, "victim"))
+            put(path, ONE)
+            put(victim, "mine")
+            new.symlink_to(victim)
+            run = run_in(folder, keygen("--above"))
+            is_so = statuses.is_so(run, Ending(1, "", f"error: {why}\n"))
+            stays = path.read_text() == ONE and victim.read_text() == "mine" and new.is_symlink()
+            found += [] if is_so and stays else [f"beside: {name}: {run}"]
+    return found
+
+
+def left_faults():
+    """What a run that was cut left is removed by the next one, and one that another run has isn't."""
     with tempfile.TemporaryDirectory() as folder:
-        path, new = pathlib.Path(folder) / "keys", pathlib.Path(folder) / "keys.new"
+        path, new = pathlib.Path(folder) / "keys", pathlib.Path(folder) / "keys.keygen"
         put(path, ONE)
-        put(new, "mine")
+        put(new, "key bank half")
+        with open(new) as held:
+            fcntl.flock(held, fcntl.LOCK_EX)
+            run = run_in(folder, keygen("--above"))
+            busy = statuses.is_so(run, refused("another run of keygen changes the key file; try again"))
+            stays = path.read_text() == ONE and new.read_text() == "key bank half"
+        found = [] if busy and stays else [f"held: {run}"]
         run = run_in(folder, keygen("--above"))
-        is_so = statuses.is_so(run, Ending(1, "", "error: keys.new: the file is there already\n"))
-        stays = path.read_text() == ONE and new.read_text() == "mine"
-        return [] if is_so and stays else [f"beside: {run}"]
+        found += [] if run.status == 0 and not new.exists() else [f"left: {run}"]
+    with tempfile.TemporaryDirectory() as folder:
+        path, new = pathlib.Path(folder) / "keys", pathlib.Path(folder) / "keys.keygen"
+        put(new, "key bank half")
+        run = run_in(folder, keygen("--into"))
+        return found + [f"left: {it}" for it in left(path, LINE)] + ([] if run.status == 0 else [f"left: {run}"])
+
+
+def link_faults():
+    """A key file that is a link isn't changed, and neither is what it leads to."""
+    found = []
+    for option in ("--above", "--below"):
+        with tempfile.TemporaryDirectory() as folder:
+            path, far = pathlib.Path(folder) / "keys", pathlib.Path(folder) / "far"
+            put(far, ONE)
+            path.symlink_to(far)
+            run = run_in(folder, keygen(option))
+            is_so = statuses.is_so(run, refused("the key file is a link; give the path of the file that it leads to"))
+            stays = path.is_symlink() and far.read_text() == ONE
+            found += [] if is_so and stays else [f"link: {option}: {run}"]
+    return found
+
+
+def change_faults():
+    """The whole change of a key that several daemons make one after the other."""
+    with tempfile.TemporaryDirectory() as folder:
+        path = pathlib.Path(folder) / "keys"
+        runs_made = [run_in(folder, keygen("--into"))]
+        old = path.read_text()
+        steps = []
+        for option in ("--below", "--raise", "--drop"):
+            runs_made.append(run_in(folder, keygen(option)))
+            steps.append(path.read_text())
+        new = steps[0].removeprefix(old)
+        due = [old + new, new + old, new]
+        is_so = steps == due and re.fullmatch(LINE, new) and new != old
+        statuses_made = [run.status for run in runs_made]
+        return [] if is_so and statuses_made == [0] * 4 else [f"change: {steps} where {due} are due, {runs_made}"]
 
 
 def unwritten_faults():
@@ -165,7 +252,7 @@ def unwritten_faults():
         limited = ["sh", "-c", f'ulimit -f 4; trap "" XFSZ; exec {runs.PROGRAM} keygen bank --above keys']
         ended = subprocess.run(limited, capture_output=True, text=True, cwd=folder)
         run = Run(ended.returncode, ended.stdout, ended.stderr)
-        wanted = failed("the key file can't be written, or not for its owner")
+        wanted = failed("the key file can't be written, or not for its owner and group")
         told = [] if statuses.is_so(run, wanted) else [statuses.told("unwritten", run, wanted)]
         return told + [f"unwritten: {it}" for it in left(path, re.escape(before))]
 
@@ -173,7 +260,7 @@ def unwritten_faults():
 def faults():
     """What is wrong, and how many checks there were."""
     found = [fault for name, row in ROWS.items() for fault in row_faults(name, row)]
-    others = [wide_faults, owner_faults, beside_faults, unwritten_faults]
+    others = [wide_faults, owner_faults, beside_faults, left_faults, link_faults, change_faults, unwritten_faults]
     return found + [fault for it in others for fault in it()], len(ROWS) + len(others)
 
 

@@ -165,12 +165,21 @@ def journal(folder):
     yield "priorities", (fronts["start"], fronts["connection_fault"]), ("<6>", "<4>")
 
 
+def naming(name):
+    """A verify of a token under what may be no name, which the builder of requests refuses."""
+    told = request.verify("x", TOKEN.decode(), 0)
+    return told[:1] + bytes([len(name)]) + name + told[3:]
+
+
 # Requests, the reply to each, and what its line says: what it asks for, which name, and what it was told.
 REQUESTS = (
     (MINT, b"\x01" + TOKEN, ("mint", "bank", "token", None)),
     (request.verify("bank", TOKEN.decode(), 0), b"\x00", ("verify", "bank", "granted", None)),
     (request.verify("shop", TOKEN.decode()), bytes([23]), ("verify", "shop", "refused", "23")),
     (request.verify("nobody", TOKEN.decode(), 0), bytes([18]), ("verify", "nobody", "refused", "18")),
+    # Tokens that stand where a name is to stand: that of README, and one of few letters, in V2 binary.
+    (naming(TOKEN), bytes([18]), ("verify", None, "refused", "18")),
+    (naming(b"AgIBYQAABiAA" + b"A" * 42), bytes([18]), ("verify", None, "refused", "18")),
     (b"", bytes([16]), ("nothing", None, "refused", "16")),
     # A dear one, for which the connection goes on in threads of its own.
     (request.verify("bank", SLOW_TOKEN, 0), bytes([20]), ("verify", "bank", "refused", "20")),
@@ -267,7 +276,7 @@ def counted_requests(lines):
 def requests_over_http(folder):
     """The same of requests over HTTP, which have no number."""
     log, web = Log(folder), f"{folder}/web"
-    words = ["--log", "requests", "--http", f"unix:{web}", "--http-allow", "mint,inspect", "--http-facts", "forwarded"]
+    words = ["--log", "requests", "--http-calls", f"unix:{web}", "--http-calls-allow", "mint,inspect", "--http-facts", "forwarded"]
     bearing = b"Authorization: Macaroon " + TOKEN + b"\r\n"
     posts = lambda path, body: b"POST %b HTTP/1.1\r\nHost: x\r\nContent-Length: %d\r\n\r\n%b" % (path, len(body), body)
     asked = (
@@ -317,6 +326,17 @@ def replaced(folder):
             other.kill()
 
 
+def refused_step(folder):
+    """A service manager that can't be told is logged, and the daemon serves."""
+    log = Log(folder)
+    with listening(log, env={**os.environ, "NOTIFY_SOCKET": f"{folder}/nobody"}) as (path, _):
+        due = ("error", "the service manager isn't told: No such file or directory (os error 2)")
+        yield "a manager that isn't there", told(log.first("system_fault"), "fault"), due
+        with connected(path) as stream:
+            stream.sendall(frame(b""))
+            yield "a reply", received(stream, len(NO_REQUEST)), NO_REQUEST
+
+
 def page():
     """The lines that the page lists are those that were seen, and those that are named as not provoked."""
     listed = set(re.findall(r"^\| `(?:info|warning|error) ([a-z_]+)", PAGE.read_text(), re.M))
@@ -326,7 +346,7 @@ def page():
 def faults():
     seen = []
     of_requests = (requests, unread, requests_over_http, no_requests)
-    for part in (connections, many_torn, few_descriptors, replaced, key_files, journal, *of_requests):
+    for part in (connections, many_torn, few_descriptors, replaced, refused_step, key_files, journal, *of_requests):
         with tempfile.TemporaryDirectory() as folder:
             seen += part(folder)
     seen += page()

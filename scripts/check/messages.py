@@ -102,6 +102,9 @@ def paths(folder):
     yield "serve: a file", refused(serve(file)), (3, f"error: {file}: {EXISTS}\n")
     keys = pathlib.Path(folder, "keys")
     keys.write_bytes(KEYS.read_bytes())
+    keys.chmod(0o600)
+    if not os.geteuid():
+        os.chown(keys, NOBODY, NOBODY)
     for name, words in (("listen", listen), ("serve", serve)):
         yield f"{name}: no folder", refused(words(gone)), (3, f"error: {gone}: {NO_FOLDER}\n")
         yield f"{name}: a long path", refused(words(long)), (3, f"error: {long}: {TOO_LONG}\n")

@@ -1,16 +1,18 @@
 #!/usr/bin/env python3
 """The numbers of `macaroond listen`, at `/metrics` of its HTTP face: each is made to change here, and compared with what
-was done. Those that docs/OPERATING.md lists are those that are told."""
+was done. Those that docs/OPERATING.md lists are those that are told. And what `macaroond status` prints of a stranger."""
 import pathlib
 import re
 import socket
+import subprocess
 import sys
+import tempfile
 import time
 
 sys.path.insert(0, str(pathlib.Path(__file__).resolve().parents[1]))
 from check.http_sockets import asking, listening, response
 from common import TOP
-from common.daemon import PATIENCE, frame, received
+from common.daemon import PATIENCE, PROGRAM, frame, received
 
 import request
 
@@ -148,8 +150,29 @@ def page(daemon):
     yield f"started_seconds: {age:.0f} s ago", -2 < age < 600, True
 
 
+# What a socket may say that isn't the daemon's, and how it is shown.
+SAID = b"connections 1\n\x1b[2J\x1b]0;root\x07 \xc3\xa4\\ \r\t\0\nend"
+SHOWN = b"connections 1\n\\x1b[2J\\x1b]0;root\\x07 \\xc3\\xa4\\x5c \\x0d\\x09\\x00\nend"
+
+
+def another():
+    """What `status` prints of a socket where another program listens."""
+    with tempfile.TemporaryDirectory() as folder, socket.socket(socket.AF_UNIX) as server:
+        server.bind(f"{folder}/socket.status")
+        server.listen()
+        for words in ([], ["--prometheus"], ["--connections"]):
+            command = [PROGRAM, "status", "--socket", f"{folder}/socket", *words]
+            with subprocess.Popen(command, stdout=subprocess.PIPE) as run:
+                stream, _ = server.accept()
+                with stream:
+                    stream.recv(65_536)
+                    stream.sendall(b"HTTP/1.0 200 OK\r\n\r\n" + SAID)
+                printed = run.communicate()[0]
+            yield f"what status {' '.join(words)} prints of another", (run.returncode, printed), (0, SHOWN)
+
+
 def faults():
-    seen = []
+    seen = list(another())
     with listening() as daemon:
         for part in (requests_and_bytes, wide, keys, page):
             seen += part(daemon)

@@ -113,7 +113,7 @@ def places(served):
     yield "its mode", oct(stat.S_IMODE(os.stat(path).st_mode)), "0o600"
     with daemon.connected(path) as stream:
         stream.sendall(bearing(README))
-        yield "no key there", response(stream)[0], 404
+        yield "no key there", response(stream)[0], 401
     with served.unix() as gateway:
         for page, due in (("/status", 404), ("/connections", 404), ("/metrics", 200), ("/healthz", 200)):
             gateway.sendall(asking(page))

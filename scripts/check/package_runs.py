@@ -1,5 +1,7 @@
-"""The Debian package: made twice, as a user that isn't root, with the same bytes; what lintian says of
-it, and how much of the system its unit leaves to the daemon."""
+"""The Debian packages: made twice, as a user that isn't root, with the same bytes; what lintian says of
+them, how much of the system the unit leaves to the daemon, what a purge leaves of keys, what an upgrade
+keeps, and that both clients are used from where their packages put them."""
+import contextlib
 import hashlib
 import os
 import pathlib
@@ -9,8 +11,11 @@ import subprocess
 import tempfile
 
 from build import packaging
+from common import TOP
 
 UNITS = "lib/systemd/system"
+PYTHON, GO = "usr/lib/python3/dist-packages", "usr/share/gocode/src/macaroond"
+NAMES = ["macaroond", "golang-macaroond-dev", "python3-macaroond"]
 # The most that `systemd-analyze security` may find, in tenths.
 EXPOSURE = 10
 NOBODY = 65534
@@ -39,11 +44,22 @@ def give_away(folder):
         subprocess.run(["chown", "-R", f"{NOBODY}:{NOBODY}", folder], check=True)
 
 
-def package_in(folder):
-    """A package that is made in the folder, as somebody who isn't root."""
+def packages_in(folder):
+    """The packages that are made in the folder, as somebody who isn't root; the daemon's first."""
     laid = packaging.lay_out(folder)
     give_away(folder)
-    return packaging.package(laid, as_nobody())
+    return packaging.packages(laid, as_nobody())
+
+
+def field(path, name):
+    """A field of a package."""
+    run = subprocess.run(["dpkg-deb", "-f", path, name], capture_output=True, text=True, check=True)
+    return run.stdout.strip()
+
+
+def sorts(one, how, another):
+    """Whether Debian sorts two versions so."""
+    return subprocess.run(["dpkg", "--compare-versions", one, how, another]).returncode == 0
 
 
 def lint(path):
@@ -67,25 +83,113 @@ def exposure(unit):
     return int(found[1] + found[2]) if found else run.stderr
 
 
+def verified(unit):
+    """What `systemd-analyze verify` says of the words in a unit, but for what isn't installed here."""
+    run = subprocess.run(["systemd-analyze", "verify", "--man=no", unit], capture_output=True, text=True)
+    aside = ("is not executable", "Unit macaroond.service not found", "RequiresMountsFor")
+    return [line for line in run.stderr.splitlines() if unit.name in line and not any(it in line for it in aside)]
+
+
 def scripts_of(path):
     """The names of the package's maintainer scripts that no POSIX shell reads."""
     with tempfile.TemporaryDirectory() as folder:
         subprocess.run(["dpkg-deb", "-e", path, folder], check=True)
-        names = [name for name in ("postinst", "prerm", "postrm") if (pathlib.Path(folder) / name).exists()]
+        names = [name for name in ("preinst", "postinst", "prerm", "postrm") if (pathlib.Path(folder) / name).exists()]
         return [name for name in names if subprocess.run(["sh", "-n", pathlib.Path(folder) / name]).returncode]
 
 
+def ran(script, root, *words):
+    """What is left in a folder once a maintainer script has run over it, in place of the system's own root."""
+    text = (TOP / "debian" / f"macaroond.{script}").read_text().replace("#DEBHELPER#", "")
+    for name in ("/etc/", "/run/"):
+        text = text.replace(f" {name}", f" {root}{name}").replace(f"={name}", f"={root}{name}")
+    run = subprocess.run(["sh", "-c", text, script, *words], capture_output=True, text=True)
+    files = {str(path.relative_to(root)): path.read_text() for path in root.rglob("*") if path.is_file()}
+    return run.returncode, files, run.stderr
+
+
+def purges(folder):
+    """A purge leaves no key file of ours, however a run was cut short; what an administrator keeps is his."""
+    keys = folder / "etc/macaroond"
+    keys.mkdir(parents=True)
+    for name in ("keys", "keys.new", "keys.keygen", "keys.Ab12Cd", "keys.of-mine"):
+        (keys / name).write_text("key bank 00\n")
+    status, files, _ = ran("postrm", folder, "purge")
+    yield "what a purge leaves", (status, list(files)), (0, ["etc/macaroond/keys.of-mine"])
+
+
+# Of an installed version its settings, or none, and the mode that an upgrade keeps, or none.
+KEPT = {
+    "as 0.1.0 has it": ("0.1.0-1", "MODE=660\nIDLE=300\n", "660"),
+    "settings that are gone": ("0.1.0-1", None, "660"),
+    "settings without a mode": ("0.1.0-1", "IDLE=60\n", "660"),
+    "a narrower mode": ("0.1.0-1", "MODE=660\nMODE=600\n", None),
+    "a wider mode": ("0.1.0-1", "MODE=666\n", "666"),
+    "a later version": ("0.1.0+git20261127091541.14b2606-1", "MODE=660\n", None),
+    "no version": ("", None, None),
+}
+
+
+def upgrades(folder):
+    """Which mode an upgrade keeps, and that a key file may lead elsewhere still."""
+    kept = "etc/systemd/system/macaroond.service.d/from-0.1.0.conf"
+    for number, (what, (version, settings, due)) in enumerate(KEPT.items()):
+        root = folder / str(number)
+        (root / "etc/default").mkdir(parents=True)
+        if settings is not None:
+            (root / "etc/default/macaroond").write_text(settings)
+        status, files, told = ran("preinst", root, "upgrade" if version else "install", *[version] * bool(version))
+        mode = re.findall(r"^Environment=MODE=(.*)$", files.get(kept, ""), re.MULTILINE)
+        yield f"an upgrade: {what}", (status, mode, bool(told)), (0, [due] * (due is not None), due is not None)
+    (folder / "0/etc/macaroond").mkdir()
+    (folder / "0/etc/macaroond/keys").symlink_to("/srv/keys")
+    (folder / "0" / kept).unlink()
+    _, files, _ = ran("preinst", folder / "0", "upgrade", "0.1.0-1")
+    yield "a key file that is a link", "\nInaccessiblePaths=\n" in files[kept], True
+
+
+def clients(python, go, folder):
+    """Both clients, from their packages alone."""
+    path = unpacked(python, folder / "python") / PYTHON
+    script = "import macaroond, importlib.metadata as told; print(macaroond.__file__, told.version('macaroond'))"
+    run = subprocess.run(["python3", "-c", script], env={**os.environ, "PYTHONPATH": path}, capture_output=True, text=True)
+    yield "the client for Python", run.stdout, f"{path}/macaroond/__init__.py {packaging.version()}\n"
+    if shutil.which("go") is None:
+        return
+    module = unpacked(go, folder / "go") / GO
+    shutil.copytree(TOP / "examples" / "service_go", folder / "service")
+    environment = {**os.environ, "GOPROXY": "off", "GOFLAGS": "-mod=mod", "GOTOOLCHAIN": "local"}
+    for words in (["mod", "edit", "-replace", f"macaroond={module}"], ["build", "-o", "service", "."]):
+        run = subprocess.run(["go", *words], cwd=folder / "service", env=environment, capture_output=True, text=True)
+    yield "the client for Go", (run.returncode, run.stderr), (0, "")
+
+
 def rows(one, another):
-    first, second = package_in(one), package_in(another)
-    sums = [hashlib.sha256(path.read_bytes()).hexdigest() for path in (first, second)]
-    yield "the same package again", sums[1], sums[0]
-    yield "what lintian says", lint(first), []
-    yield "scripts that can't be read", scripts_of(first), []
-    tree = unpacked(first, f"{another}/tree")
+    first, second = packages_in(one), packages_in(another)
+    sums = [[hashlib.sha256(path.read_bytes()).hexdigest() for path in paths] for paths in (first, second)]
+    yield "the same packages again", sums[1], sums[0]
+    yield "their names", [field(path, "Package") for path in first], NAMES
+    versions = {field(path, "Version") for path in first}
+    yield "their version", versions, {f"{packaging.packed_version()}-1"}
+    yield "what lintian says", lint(first[0]), []
+    yield "scripts that can't be read", [name for path in first for name in scripts_of(path)], []
+    tree = unpacked(first[0], f"{another}/tree")
     found = exposure(tree / UNITS / "macaroond.service")
     yield f"an exposure of {found} tenths, at most {EXPOSURE}", isinstance(found, int) and found <= EXPOSURE, True
+    for name in ("macaroond.service", "macaroond.socket"):
+        yield f"what systemd says of {name}", verified(tree / UNITS / name), []
     run = subprocess.run([tree / "usr/bin/macaroond", "--version"], capture_output=True, text=True)
     yield "its program runs", (run.returncode, run.stdout[:10]), (0, "macaroond ")
+    yield from clients(first[2], first[1], pathlib.Path(another))
+
+
+def snapshots():
+    """A snapshot sorts behind the last release and one made before it, and before the next release."""
+    last, next_one = f"{packaging.version()}-1", f"{packaging.version()}.1-1"
+    yield "a snapshot behind its release", sorts(f"{packaging.snapshot()}-1", "gt", last), True
+    yield "and before the next one", sorts(f"{packaging.snapshot()}-1", "lt", next_one), True
+    earlier = f"{packaging.version()}+git20261124000000.fffffff-1"
+    yield "and behind an earlier one", sorts(f"{packaging.snapshot()}-1", "gt", earlier), True
 
 
 def faults():
@@ -93,6 +197,9 @@ def faults():
     lacking = missing()
     if lacking:
         return [], 0, lacking
-    with tempfile.TemporaryDirectory() as one, tempfile.TemporaryDirectory() as another:
-        seen = list(rows(one, another))
+    with contextlib.ExitStack() as kept:
+        one, another, *folders = (kept.enter_context(tempfile.TemporaryDirectory()) for _ in range(4))
+        seen = [*rows(one, another), *snapshots()]
+        for made, folder in zip((purges, upgrades), folders):
+            seen += made(pathlib.Path(folder))
     return [f"package: {what}: {got!r} where {due!r} is due" for what, got, due in seen if got != due], len(seen)

@@ -9,10 +9,14 @@ can be used by keyboard, on a phone, in the dark and by a screen reader.
 
 Tokens are made by Python's `hmac` and the writers of the Python client.
 """
+import contextlib
+import http.server
 import json
 import pathlib
 import re
 import sys
+import threading
+import time
 
 sys.path.insert(0, str(pathlib.Path(__file__).resolve().parents[1]))
 from check import chromium
@@ -40,7 +44,7 @@ NO_CHECKS = (
     {"moment": 1, "facts": "a"}, {"moment": 1, "facts": [1]}, {"moment": 1, "facts": None}, {"moment": 1, "facts": ["a"] * 129},
     {"moment": 1, "other": 1},
 )
-FILES_MAX = 48 * 1_024
+FILES_MAX = 50 * 1_024
 PATHS = {"/": "text/html", "/page.css": "text/css", "/page.js": "text/javascript"}
 
 
@@ -141,12 +145,13 @@ def kept(page):
     yield "the address", tab.value("location.href"), page.address
     yield "its history", tab.value("history.state"), None
     yield "cookies", tab.value("document.cookie"), ""
-    yield "storage", tab.value("localStorage.length + sessionStorage.length"), 0
+    kept = tab.value("[localStorage.length, ...Object.values(sessionStorage)]")
+    yield "storage: the secrets of the page alone", kept, [0, "#" + page.url.split("#")[1]]
     yield "databases", tab.value("indexedDB.databases().then((it) => it.length)"), 0
     yield "the title", token in tab.value("document.title"), False
     sent = [event["request"]["url"] for event in tab.told_of("Network.requestWillBeSent")]
     asked = sorted({url.removeprefix(page.address) for url in sent if url != "about:blank" and not url.startswith("data:")})
-    known = r"|page\.css|page\.js|names|inspect|check|attenuate|verify/(bank|shop)|mint/bank"
+    known = r"|page\.css|page\.js|here|names|inspect|check|attenuate|verify/(bank|shop)|mint/bank"
     yield "what was asked", [url for url in asked if not re.fullmatch(known, url)], []
     yield "no policy is broken", tab.value("broken"), []
     faults = [event["exceptionDetails"]["text"] for event in tab.told_of("Runtime.exceptionThrown")]
@@ -157,20 +162,74 @@ def kept(page):
     tab.value("location.reload()")
     tab.until("document.readyState === 'complete' && document.getElementById('token').value === ''", True)
     yield "gone after a reload", tab.value("document.getElementById('token').value"), ""
+    page.paste(token)
+    yield "it asks still", page.states("fails"), "fails"
+
+
+def unopened(page):
+    """A page that was opened without what stands behind the address."""
+    tab = page.tab
+    tab.value("sessionStorage.clear()")
+    tab.go("about:blank")
+    tab.go(page.address)
+    due = "This page is to be opened at the whole address that `macaroond page` printed."
+    yield "it is told", headline(page, due), due
+    tab.told_of("Network.requestWillBeSent").clear()
+    tab.events.clear()
+    page.click("#example")
+    yield "it is told of a token", headline(page, due), due
+    yield "nothing is asked", tab.told_of("Network.requestWillBeSent"), []
+    tab.go(page.url, page.address)
+    yield "it works once it is opened there", headline(page, "No token yet"), "No token yet"
 
 
 def gone(page, run):
-    """A server that ended."""
+    """A server that ended, and another that took its port: it is asked whether it is the one, and no more."""
+    tab = page.tab
     page.paste(v2("a"))
     run.kill()
     run.wait()
-    page.enter("fact", "b")
-    due = "macaroond doesn't answer. Does it still run?"
-    yield "it is told", headline(page, due), due
+    with taken_over(int(page.address.rsplit(":", 1)[1].rstrip("/"))) as asked:
+        due = "macaroond has ended, and this page asks nothing more. Start it again, and open the address that it prints."
+        page.enter("fact", "b")
+        yield "it is told", headline(page, due), due
+        page.enter("fact", "c")
+        page.paste(v2("b"))
+        time.sleep(4)
+        yield "it is told still", headline(page, due), due
+        # A check that was under way may have asked beside the call.
+        yield "what the other was asked", sorted(set(asked)), ["/here"]
+        yield "how often", len(asked) <= 4, True
+    yield "the secrets are forgotten", tab.value("sessionStorage.length"), 0
+
+
+@contextlib.contextmanager
+def taken_over(port):
+    """Another program at a port, which answers 200 to all; what it was asked for."""
+    asked = []
+
+    class Other(http.server.BaseHTTPRequestHandler):
+        def do_GET(self):
+            asked.append(self.path)
+            self.send_response(200)
+            self.end_headers()
+            self.wfile.write(b"{}")
+
+        do_POST = do_GET
+
+        def log_message(self, *_):
+            pass
+
+    with http.server.ThreadingHTTPServer(("127.0.0.1", port), Other) as server:
+        threading.Thread(target=server.serve_forever, daemon=True).start()
+        try:
+            yield asked
+        finally:
+            server.shutdown()
 
 
 PARTS = {
-    False: (served, calls, no_names, forms, caveats, times, refusals, narrowed, without_keys, hostile, kept),
+    False: (served, calls, no_names, forms, caveats, times, refusals, narrowed, without_keys, hostile, kept, unopened),
     True: (served, calls_of_names, with_keys, keyboard, named, looks, kept),
 }
 
@@ -178,8 +237,8 @@ PARTS = {
 def rows(command, makes_pictures, only):
     """Each check with its part, what was found and what is due."""
     for has_keys, parts_of in PARTS.items():
-        with serving(command, has_keys) as (port, run), chromium.tab() as tab:
-            page = Page(tab, port)
+        with serving(command, has_keys) as (url, run), chromium.tab() as tab:
+            page = Page(tab, url)
             for part in (*parts_of, *([pictures] if makes_pictures and has_keys else [])):
                 if only and part.__name__ not in only:
                     continue

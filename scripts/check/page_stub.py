@@ -1,7 +1,7 @@
 #!/usr/bin/env python3
 """Answers as `macaroond page` does, in Python: the three files of the page, and its calls.
 
-    page_stub.py --address 127.0.0.1:PORT [--keys FILE]
+    page_stub.py [--address 127.0.0.1:PORT] [--keys FILE]
 
 With it the page can be tried without the proved program. Tokens are read by the Python client.
 """
@@ -13,6 +13,7 @@ import http.server
 import json
 import pathlib
 import re
+import secrets
 import sys
 
 sys.path.insert(0, str(pathlib.Path(__file__).resolve().parents[1]))
@@ -214,6 +215,8 @@ class Answering(http.server.BaseHTTPRequestHandler):
     disable_nagle_algorithm = True
     wbufsize = -1
     keys: dict = {}
+    # What the page shows, and what it is shown.
+    secrets = secrets.token_hex(16), secrets.token_hex(16)
 
     def log_message(self, *_):
         pass
@@ -227,6 +230,8 @@ class Answering(http.server.BaseHTTPRequestHandler):
             "X-Content-Type-Options": "nosniff",
             "Referrer-Policy": "no-referrer",
             "Cache-Control": "no-store",
+            "Cross-Origin-Resource-Policy": "same-origin",
+            "Cross-Origin-Opener-Policy": "same-origin",
         }
         if status == 405:
             fields["Allow"] = "POST"
@@ -235,18 +240,25 @@ class Answering(http.server.BaseHTTPRequestHandler):
         self.end_headers()
         self.wfile.write(content)
 
-    def is_own(self):
-        """Whether the request names this address, and comes from no other origin."""
+    def is_shown(self, *sites):
+        """Whether the request names this address, and no other page."""
         host, port = self.server.server_address
         origin = self.headers.get("Origin")
-        return self.headers.get("Host") == f"{host}:{port}" and origin in (None, f"http://{host}:{port}")
+        is_own = self.headers.get("Host") == f"{host}:{port}" and origin in (None, f"http://{host}:{port}")
+        return is_own and self.headers.get("Sec-Fetch-Site", "same-origin") in ("same-origin", *sites)
+
+    def is_own(self):
+        """Whether it comes from the page besides."""
+        return self.is_shown() and self.headers.get("Macaroond-Page") == self.secrets[0]
 
     def do_GET(self):
-        if not self.is_own():
-            return self.answer(403)
-        if self.path in FILES:
+        if self.path in FILES and self.is_shown("none"):
             name, kind = FILES[self.path]
             return self.answer(200, (FOLDER / name).read_bytes(), kind)
+        if not self.is_own():
+            return self.answer(403)
+        if self.path == "/here":
+            return self.answer(200, self.secrets[1].encode(), "text/plain")
         if self.path == "/names" and self.keys:
             return self.told({"names": sorted(self.keys)})
         self.answer(405 if self.path.strip("/").split("/")[0] in MEMBERS else 404)
@@ -291,14 +303,14 @@ class Answering(http.server.BaseHTTPRequestHandler):
 
 def main():
     words = argparse.ArgumentParser()
-    words.add_argument("--address", default="127.0.0.1:8081")
+    words.add_argument("--address", default="127.0.0.1:0")
     words.add_argument("--keys")
     given = words.parse_args()
     host, _, port = given.address.rpartition(":")
     Answering.keys = keys_of(given.keys) if given.keys else {}
     with http.server.ThreadingHTTPServer((host, int(port)), Answering) as server:
         server.daemon_threads = True
-        print(f"page at http://{host}:{server.server_port}/", flush=True)
+        print(f"http://{host}:{server.server_port}/#{''.join(Answering.secrets)}", flush=True)
         server.serve_forever()
 
 

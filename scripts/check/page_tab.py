@@ -4,33 +4,31 @@ import datetime
 import http.client
 import json
 import pathlib
-import socket
+import re
 import subprocess
 import tempfile
-import time
 import zoneinfo
 
 from check import chromium
-from check.http_sockets import free_port
 from check.page_stub import GENERATOR, chained
 
 from macaroond import binary
 from macaroond.base64text import encoded
 from macaroond.parts import Caveat, Parts
 
-SECRETS = {"bank": b"this is our super secret key; only we should know it", "shop": b"another secret"}
+SECRETS = {"bank": b"this is our super secret key; only we should know it", "shop": b"another long secret"}
 ZONE = zoneinfo.ZoneInfo(chromium.ZONE)
 
 
 class Page:
     """A server of the page, and a tab that shows it."""
 
-    def __init__(self, tab, port):
-        self.tab, self.port, self.address = tab, port, f"http://127.0.0.1:{port}/"
+    def __init__(self, tab, url):
+        self.tab, self.url, self.address = tab, url, url.split("#")[0]
 
     def open(self):
         self.tab.go("about:blank")
-        self.tab.go(self.address)
+        self.tab.go(self.url, self.address)
         self.tab.until("document.getElementById('verdict-words').innerText.trim() !== ''", True)
 
     def paste(self, token):
@@ -72,36 +70,48 @@ class Page:
         return self.tab.value(f"document.querySelector({json.dumps(selector)}).offsetParent === null")
 
     def asked(self, method, path, body=None, **fields):
-        """What the server answers to a request by hand."""
-        stream = http.client.HTTPConnection("127.0.0.1", self.port, timeout=chromium.PATIENCE)
-        with contextlib.closing(stream):
-            stream.request(method, path, body, fields)
-            reply = stream.getresponse()
-            return reply.status, reply.headers, reply.read()
+        """What the server answers to a request by hand, with the secret of the page."""
+        return asked_at(self.url, method, path, body, {SECRET: secrets_in(self.url)[0], **fields})
+
+
+# The field by which the page shows its secret.
+SECRET = "Macaroond-Page"
+URL = re.compile(r"http://127\.0\.0\.1:\d+/#([0-9a-f]{32})([0-9a-f]{32})")
+
+
+def secrets_in(url):
+    """The secret of the page, and that of who serves it."""
+    return URL.fullmatch(url).groups()
+
+
+def asked_at(url, method, path, body, fields):
+    """What the server of a page answers to a request with these fields: status, fields and body."""
+    address = url.removeprefix("http://").split("/")[0]
+    stream = http.client.HTTPConnection(address, timeout=chromium.PATIENCE)
+    with contextlib.closing(stream):
+        stream.request(method, path, body, fields)
+        reply = stream.getresponse()
+        return reply.status, reply.headers, reply.read()
 
 
 @contextlib.contextmanager
 def serving(command, has_keys):
-    """The port at which the page is served."""
-    port = free_port()
+    """The URL of a page that is served, as it was printed, and the process."""
     with tempfile.TemporaryDirectory() as folder:
         keys = pathlib.Path(folder) / "keys"
         keys.touch(0o600)
         keys.write_text("".join(f"key {name} {secret.hex()}\n" for name, secret in SECRETS.items()))
-        words = ["--address", f"127.0.0.1:{port}", *(["--keys", str(keys)] if has_keys else [])]
-        run = subprocess.Popen([*command, *words], stdout=subprocess.DEVNULL, stderr=subprocess.PIPE, text=True)
+        words = ["--keys", str(keys)] if has_keys else []
+        run = subprocess.Popen([*command, *words], stdout=subprocess.PIPE, stderr=subprocess.PIPE, text=True)
         try:
-            until = time.monotonic() + chromium.PATIENCE
-            while run.poll() is None and time.monotonic() < until:
-                with contextlib.suppress(OSError), socket.create_connection(("127.0.0.1", port), 1):
-                    break
-                time.sleep(0.05)
-            else:
-                raise SystemExit(f"{' '.join([*command, *words])} doesn't listen: {run.stderr.read()}")
-            yield port, run
+            url = run.stdout.readline().strip()
+            if not URL.fullmatch(url):
+                raise SystemExit(f"{' '.join([*command, *words])} printed {url!r}: {run.stderr.read()}")
+            yield url, run
         finally:
             run.kill()
             run.wait()
+            run.stdout.close()
             run.stderr.close()
 
 

@@ -234,7 +234,8 @@ def narrowed(page):
     due = "refused 22: the token passes a limit"
     yield "a limit", page.shows("#copies code", due), due
     page.paste(v2(*["c%d" % at for at in range(20)]))
-    yield "how many are left out", "13 more steps" in page.text("#chain"), True
+    left_out = "document.getElementById('chain').innerText.includes('13 more steps')"
+    yield "how many are left out", page.tab.until(left_out, True), True
 
 
 def words_of(command):

@@ -5,7 +5,8 @@ The page of a crate is crates/NAME/PROMISES.md. Its words are written by hand, a
 of the functions in the last column of a table that is headed WRONG: behind each such name this
 script puts the wrong bodies of that function, those that the gate tries in bold. Between the lines
 <!-- PART --> and <!-- end --> stands what it writes by itself: the counts, the laws, and the wrong
-bodies of functions that no table names. docs/PROMISES.md has such a part with the counts of all.
+bodies of functions that no table names. docs/PROMISES.md has such a part with the counts of all, and one with what
+came of wrong bodies that were tried (docs/wrong-bodies.txt).
 """
 import pathlib
 import re
@@ -14,11 +15,12 @@ import sys
 sys.path.insert(0, str(pathlib.Path(__file__).resolve().parents[1]))
 from common import TOP
 from wrong_bodies.bodies import BadEdit, Source, read_body
+from wrong_bodies.kept import recorded
 
 WRONG = "Wrong bodies refused"
 # What stands behind a function's name in that column, and what parts one function from the next.
 ENTRY = re.compile(r"`([\w:./]+)`: [^;|]*")
-PART = re.compile(r"<!-- (counts|laws|bodies) -->\n.*?<!-- end -->", re.S)
+PART = re.compile(r"<!-- (counts|laws|bodies|tried) -->\n.*?<!-- end -->", re.S)
 EMPTY = "<!-- {} -->\n<!-- end -->\n"
 
 
@@ -145,9 +147,28 @@ def whole_page(crates):
     counts["all"] = [sum(them) for them in zip(*counts.values())]
     rows = ["| Crate | Laws | Wrong bodies | Tried by the gate |", "|---|---|---|---|"]
     rows += [f"| {name} | {' | '.join(map(str, them))} |" for name, them in counts.items()]
-    put = "<!-- counts -->\n" + "\n".join(rows) + "\n<!-- end -->"
+    parts = {"counts": rows, "tried": tried_part(crates)}
+    put = lambda it: f"<!-- {it[1]} -->\n" + "\n".join(parts[it[1]]) + "\n<!-- end -->"
     page = TOP / "docs" / "PROMISES.md"
-    return page, PART.sub(lambda _: put, page.read_text())
+    return page, PART.sub(put, page.read_text())
+
+
+def tried_part(crates):
+    """What came of wrong bodies where `make wrong-bodies` was run and recorded."""
+    tried = recorded(TOP)
+    left = [f"`{it.name}`" for it in crates if it.all and it.name not in tried]
+    rows = [
+        "| Crate | Tree | Tried | At a clause | By name alone | Not covered | Let through | Not compiling |",
+        "|---|---|---|---|---|---|---|---|",
+    ]
+    sums = [0] * 6
+    for crate in (it.name for it in crates if it.name in tried):
+        commit, *counts = tried[crate]
+        counts = [sum(map(int, counts)), *map(int, counts)]
+        sums = [a + b for a, b in zip(sums, counts)]
+        rows.append(f"| `{crate}` | {commit} | {' | '.join(map(str, counts))} |")
+    rows.append(f"| all of these | | {' | '.join(map(str, sums))} |")
+    return rows + ["", f"Not tried to the end yet: {', '.join(left)}."] if left else rows
 
 
 def sizes(crate):

@@ -24,13 +24,17 @@ ALL, CLIENTS, REPLACED = 50_000, 4, 6
 PATIENCE = 60
 # How many clients wait at a socket that is replaced.
 WAITING = 50
+# What the name of the file ends in whose lock is the turn to have a path's lock next.
+TURN = ".next.lock"
+# How many daemons start at once to take one place, and how often.
+CROWD, ROUNDS = 6, 3
 MINTING, MINTED = frame(MINT), frame(b"\x01" + TOKEN)
 
 
 def lines(run):
-    """How a run ended, and what it said but for its start: `replaced` first, which another thread says."""
+    """How a run ended, and what it said but for its start."""
     status, _, said = ended(run)
-    return status, sorted(said, key=lambda line: line[0] != "replaced")
+    return status, said
 
 
 def replaced(path, left, cut=0):
@@ -40,8 +44,17 @@ def replaced(path, left, cut=0):
 
 
 def left_behind(folder):
-    """What lies in a folder but sockets and their locks."""
-    return sorted(it.name for it in pathlib.Path(folder).iterdir() if not it.is_socket() and it.suffix != ".lock")
+    """What lies in a folder but sockets and their locks, once a daemon had time to remove what it doesn't need."""
+    until = time.monotonic() + PATIENCE
+    while (found := lying(folder)) and time.monotonic() < until:
+        time.sleep(0.05)
+    return found
+
+
+def lying(folder):
+    """What lies in a folder but sockets and their locks. The turn to have a lock is none."""
+    names = sorted(it.name for it in pathlib.Path(folder).iterdir() if not it.is_socket())
+    return [name for name in names if not name.endswith(".lock") or name.endswith(TURN)]
 
 
 def under_load(folder):
@@ -73,6 +86,7 @@ def alone(folder):
     path = f"{folder}/alone"
     run = started(path, "--replace")
     yield "its first line", run.first.startswith(f"listening at {path}: "), True
+    yield "its turn is given back", lying(folder), []
     command = [PROGRAM, "listen", "--socket", path, "--keys", KEYS]
     second = subprocess.run(command, capture_output=True, text=True)
     due = f"error: {path}: process {child_of(run)} has it; end that process first, or give another path\n"
@@ -132,12 +146,55 @@ def twice(folder):
         )
         due = f"error: {path}: another daemon is taking it over; wait until that is done\n"
         yield "a third one", (third.returncode, third.stderr), (3, due)
+        yield "the turn is taken", lying(folder), ["twice" + TURN, "twice.status" + TURN]
         yield "the first one", lines(run)[0], 0
-    time.sleep(1.2)
+    yield "its turn is given back", left_behind(folder), []
     last = started(path, "--replace")
     yield "the second one", lines(second), replaced(path, 0)
     last.send_signal(signal.SIGTERM)
     yield "the last one", ended(last)[0], 0
+
+
+def ended_early(folder):
+    """One that ends before the daemon that it replaces gives its turn back; of one that is killed the next one does."""
+    path = f"{folder}/early"
+    run = started(path, "--drain", "60")
+    with connected(path) as stream:
+        fill(stream)
+        second = started(path, "--replace")
+        second.send_signal(signal.SIGTERM)
+        yield "one that is told to end", (ended(second)[0], lying(folder)), (0, [])
+        second = started(path, "--replace")
+        second.kill()
+        second.communicate()
+        yield "one that is killed", lying(folder), ["early" + TURN, "early.status" + TURN]
+        run.kill()
+        run.communicate()
+    last = started(path, "--replace")
+    yield "the next one", lying(folder), []
+    last.send_signal(signal.SIGTERM)
+    yield "how it ends", ended(last)[0], 0
+
+
+def crowded(folder):
+    """Of many that start at once one is left in the end, and each other one was replaced or refused."""
+    path = f"{folder}/crowded"
+    command = [PROGRAM, "listen", "--socket", path, "--keys", KEYS, "--workers", "1", "--replace"]
+    for number in range(ROUNDS):
+        runs = [subprocess.Popen(command, stdout=subprocess.DEVNULL, stderr=subprocess.PIPE) for _ in range(CROWD)]
+        until = time.monotonic() + PATIENCE
+        while sum(run.poll() is None for run in runs) > 1 and time.monotonic() < until:
+            time.sleep(0.05)
+        statuses = [run.poll() for run in runs]
+        yield f"round {number}: one is left", statuses.count(None), 1
+        yield f"round {number}: the others", set(statuses) <= {None, 0, 3}, True
+        with connected(path) as stream:
+            stream.sendall(frame(b""))
+            yield f"round {number}: its reply", received(stream, len(NO_REQUEST)), NO_REQUEST
+        yield f"round {number}: nothing is left behind", left_behind(folder), []
+        for run in runs:
+            run.kill()
+            run.communicate()
 
 
 def told_besides(folder):
@@ -243,7 +300,8 @@ def moved(folder):
 
 def faults():
     seen = []
-    for part in (under_load, alone, twice_spelled, faulty, twice, told_besides, all_sockets, waiting, one_of_two, moved):
+    for part in (under_load, alone, twice_spelled, faulty, twice, ended_early, crowded, told_besides, all_sockets,
+                 waiting, one_of_two, moved):
         with tempfile.TemporaryDirectory() as folder:
             seen += [(f"{part.__name__}: {what}", got, due) for what, got, due in part(folder)]
     found = [f"replacing: {what}: {got!r} where {due!r} is due" for what, got, due in seen if got != due]

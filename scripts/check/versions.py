@@ -8,7 +8,6 @@ from common import TOP, runs
 PLACES = {
     "crates/macaroond/src/commands.rt": r'^pub\(crate\) const VERSION: &str = "(.*) \(uncommitted\)";$',
     "debian/changelog": r"\Amacaroond \((.*)-\d+\) ",
-    "README.md": r"apt install \./macaroond_(.*)-\d+_amd64\.deb$",
     "CHANGELOG.md": r"^## (\S+) \(\d{4}-\d{2}-\d{2}\)$",
 }
 # What the program says of itself.

@@ -51,6 +51,7 @@ def file_of(name, text):
     """The path of a file that is there while the tests run."""
     path = pathlib.Path(FOLDER.name) / name
     path.write_bytes(text)
+    path.chmod(0o600)
     return str(path)
 
 
@@ -131,7 +132,7 @@ RIGHT = {
 }
 
 WRONG = {
-    "missing_file": (Case("", verify(keys=NOWHERE)), failed(f"{NOWHERE}: the key file can't be read")),
+    "missing_file": (Case("", verify(keys=NOWHERE)), failed(f"{NOWHERE}: there is no key file; `macaroond keygen NAME --into {NOWHERE}` makes one")),
     "folder": (Case("", verify(keys="/")), failed("/: the key file can't be read")),
     "faulty_key_file": (
         Case("", verify(keys=BAD_KEYS)),

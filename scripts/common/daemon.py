@@ -16,6 +16,8 @@ PATIENCE = 120
 @contextlib.contextmanager
 def listening(*words, keys=KEYS, **how):
     """The path of a daemon that listens, started with these words, and its process."""
+    if "MACAROOND" not in os.environ:
+        programs.stop_unless_built("macaroond")
     with tempfile.TemporaryDirectory() as folder:
         path = folder + "/socket"
         command = [PROGRAM, "listen", "--socket", path, "--keys", keys, *words]

@@ -38,5 +38,5 @@ def fields_of(text):
 
 
 def read_all(text):
-    """What each line of a log says."""
-    return [read(line) for line in text.splitlines()]
+    """What each line of a log says, but for the warnings of a start, which stand before it."""
+    return [read(line) for line in text.splitlines() if not line.startswith("warning: ")]

@@ -10,8 +10,7 @@ import typing
 from common import TOP, programs
 
 PROGRAM = programs.path_of("macaroond")
-# What PROGRAM starts, at least.
-PROVED = TOP / "libexec" / "macaroond" / "x86-64-v2"
+PROVED = programs.PROVED
 
 
 class Case(typing.NamedTuple):

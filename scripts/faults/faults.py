@@ -1,5 +1,6 @@
 #!/usr/bin/env python3
-"""Refuses programs each request for memory in turn, and fails each call of a device in turn.
+"""Refuses programs each request for memory in turn, and fails each call of a device in turn; and asks, last of
+all, whether the time of a refusal tells how much of a signature is right.
 
     faults.py          all of it, some minutes
     faults.py --few    what `make test` runs of it
@@ -18,7 +19,7 @@ from check import statuses, words
 from check.daemon_rows import TOKEN
 from common import TOP, programs, runs
 from common.daemon import frame
-from faults import faulty_daemon, refusing
+from faults import faulty_daemon, flaky, refusing, timing
 from faults.refusing import Ended, Row, in_turn, watched
 
 import request
@@ -202,6 +203,8 @@ def few():
     yield faulty_daemon.stopped()
     yield faulty_daemon.starts(60, 9)
     yield faulty_daemon.goes_on(60)
+    yield from faulty_daemon.unremembered()
+    yield from flaky.rows(flaky.SEEDS[:1], 2)
 
 
 def many():
@@ -220,6 +223,9 @@ def many():
     yield faulty_daemon.starts()
     yield faulty_daemon.talks()
     yield faulty_daemon.goes_on(2_000)
+    yield from timing.rows()
+    yield from faulty_daemon.unremembered()
+    yield from flaky.rows()
 
 
 def faults(rows):

@@ -49,6 +49,7 @@ SOCKETS = [
     ("read", errno.EIO, "EIO", "status 3 before it listens"),
     ("read", errno.EINTR, "EINTR", "both served"),
 ]
+UNREMEMBERED = b"warning: no memory or no random bytes to remember tokens by; none is remembered\n"
 # How many desks a pool has.
 DESKS = 64
 # How many daemons stay up at a time: one whose client's thread is refused waits ten seconds for it.
@@ -148,6 +149,26 @@ def devices():
     yield accepts_again()
 
 
+def unremembered():
+    """Without random bytes to remember tokens by both kinds of daemon warn, and serve all the same."""
+    (ended, replies), _, _ = once("getentropy", 1, 1, every=1)
+    yield warned("serve", (ended.error, list(replies)))
+    with tempfile.TemporaryDirectory() as folder:
+        daemon = Listening("getentropy", folder, refused=1, error=subprocess.PIPE)
+        replies = daemon.two()
+        daemon.run.send_signal(signal.SIGTERM)
+        first = daemon.run.stderr.readline()
+        daemon.close()
+    yield warned("listen", (first, replies))
+
+
+def warned(word, came):
+    """The row of a daemon without random bytes, by what it printed and the replies of its clients."""
+    what = f"{word}, without random bytes"
+    is_right = came == (UNREMEMBERED, [2, 2])
+    return Row(what, 1, collections.Counter(["it warns and serves" if is_right else None])), [] if is_right else [f"{what}: {came}"]
+
+
 def stopped():
     """A daemon whose sockets have timeouts is stopped while a client waits, and goes on: so does the client."""
     with tempfile.TemporaryDirectory() as folder:
@@ -187,11 +208,11 @@ def accepts_again():
 class Listening:
     """A daemon that stays up, whose calls are watched."""
 
-    def __init__(self, call, folder, *words, **variables):
+    def __init__(self, call, folder, *words, refused=0, every=0, error=subprocess.DEVNULL, **variables):
         self.path = folder + "/s"
-        self.watch = Watch(call, **variables)
+        self.watch = Watch(call, refused, every, **variables)
         words = ["listen", "--socket", self.path, "--keys", KEYS, "--workers", "2", *words]
-        pipes = {"stdout": subprocess.PIPE, "stderr": subprocess.DEVNULL, "env": self.watch.environment}
+        pipes = {"stdout": subprocess.PIPE, "stderr": error, "env": self.watch.environment}
         self.run = subprocess.Popen([runs.PROGRAM, *words], **pipes)
         self.run.stdout.readline()
 

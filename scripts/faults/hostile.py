@@ -32,7 +32,7 @@ import sys
 import time
 
 sys.path.insert(0, str(pathlib.Path(__file__).resolve().parents[1]))
-from common import daemon
+from common import daemon, programs
 from common.daemon import frame
 
 import client
@@ -306,6 +306,7 @@ def faults(seconds):
 
 
 def main():
+    programs.stop_unless_built("macaroond")
     found = faults(60 * float(sys.argv[1]) if len(sys.argv) > 1 else 8)
     if found:
         raise SystemExit("\n".join(found))

@@ -14,7 +14,8 @@ import struct
 import subprocess
 import tempfile
 
-WATCHER = pathlib.Path(__file__).resolve().parent / "watch.c"
+HERE = pathlib.Path(__file__).resolve().parent
+WATCHER, FLAKY = HERE / "watch.c", HERE / "flaky.c"
 # How long a run may take, in seconds: a connection whose second thread is refused waits ten for it.
 PATIENCE = 60
 LANES = os.cpu_count() or 1
@@ -36,14 +37,14 @@ class Watch:
     `call` is `memory`, or what watch.c else can watch; `FILE` and `ERROR` tell which device is meant, and the fault.
     """
 
-    # The library, while `watching` has it built.
-    library = None
+    # The library, while `watching` has it built, and the one that breaks calls off (flaky.c).
+    library = flaky = None
 
     def __init__(self, call, first=0, every=0, **variables):
         with tempfile.NamedTemporaryFile(delete=False) as file:
-            file.write(bytes(32))
+            file.write(bytes(40))
             file.flush()
-            self.numbers = mmap.mmap(file.fileno(), 32)
+            self.numbers = mmap.mmap(file.fileno(), 40)
         self.path = file.name
         self.set(1, first)
         self.set(2, every)
@@ -58,6 +59,8 @@ class Watch:
 
     calls = property(lambda self: self.get(0))
     refused = property(lambda self: self.get(3))
+    # How often a descriptor was taken out of a poll.
+    left = property(lambda self: self.get(4))
 
     def __enter__(self):
         return self
@@ -69,12 +72,17 @@ class Watch:
 
 @contextlib.contextmanager
 def watching():
-    """The library is there as long as the block runs."""
+    """The libraries are there as long as the block runs."""
     with tempfile.TemporaryDirectory() as folder:
-        Watch.library = pathlib.Path(folder) / "watch.so"
-        command = ["cc", "-O2", "-shared", "-fPIC", "-o", Watch.library, WATCHER, "-ldl"]
-        subprocess.run(command, check=True)
+        Watch.library, Watch.flaky = (built(source, folder) for source in (WATCHER, FLAKY))
         yield
+
+
+def built(source, folder):
+    """The library that a compiler makes of a source, in a folder."""
+    library = pathlib.Path(folder) / f"{source.stem}.so"
+    subprocess.run(["cc", "-O2", "-shared", "-fPIC", "-o", library, source, "-ldl"], check=True)
+    return library
 
 
 def run(command, given, watch):

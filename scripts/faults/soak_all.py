@@ -22,7 +22,7 @@ import time
 
 sys.path.insert(0, str(pathlib.Path(__file__).resolve().parents[1]))
 from check.http_sockets import free_port
-from common import TOP
+from common import TOP, programs
 from faults import scaling, scaling_asking, scaling_cluster
 from faults.hostile import mebibytes, settled, state
 from faults.scaling_cluster import Daemon, balanced, program_of, running, started
@@ -201,6 +201,7 @@ def faults(seconds):
 
 
 def main():
+    programs.stop_unless_built("macaroond")
     minutes = float(sys.argv[1]) if len(sys.argv) > 1 else 30
     wrong, count, skipped = faults(60 * minutes)
     print(*wrong, *skipped, sep="\n")

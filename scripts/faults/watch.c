@@ -1,15 +1,17 @@
 /* Watches a program, by LD_PRELOAD: its requests for memory, or its calls of one of its devices; and refuses or fails
-   those that it is asked to. CALL names what is watched: memory, read, write, recv, send or accept4. Of a device FILE is
-   the descriptor that is meant, or -1 for all, and ERROR the error's number, or 0: the call then moves one byte instead.
-   The file that WATCH names is shared with who watches the program: four numbers of eight bytes, how many such calls
-   there were, which one fails (0: none), after how many more each further one does (0: no further one), and how many
-   failed. */
+   those that it is asked to. CALL names what is watched: memory, getentropy, read, write, recv, send or accept4. Of a
+   device FILE is the descriptor that is meant, or -1 for all, and ERROR the error's number, or 0: the call then moves
+   one byte instead. Of requests for memory those are meant that ask for SIZE bytes at least.
+   The file that WATCH names is shared with who watches the program: five numbers of eight bytes, how many such calls
+   there were, which one fails (0: none), after how many more each further one does (0: no further one), how many
+   failed, and how often a descriptor was taken out of a poll, as where a connection goes from loop to loop. */
 #define _GNU_SOURCE
 #include <dlfcn.h>
 #include <errno.h>
 #include <fcntl.h>
 #include <stdlib.h>
 #include <string.h>
+#include <sys/epoll.h>
 #include <sys/mman.h>
 #include <sys/socket.h>
 #include <unistd.h>
@@ -21,13 +23,14 @@ void *__libc_realloc(void *, size_t);
 void *__libc_memalign(size_t, size_t);
 
 struct watch {
-    long calls, first, every, failed;
+    long calls, first, every, failed, left;
 };
 
 static struct watch unwatched;
 static struct watch *watch = &unwatched;
 static const char *call = "";
 static int meant, error, watches_memory;
+static size_t least;
 
 static int number(const char *name) { return getenv(name) ? atoi(getenv(name)) : 0; }
 
@@ -39,6 +42,7 @@ __attribute__((constructor)) static void begin(void) {
     watch = shared;
     meant = number("FILE");
     error = number("ERROR");
+    least = number("SIZE");
     call = getenv("CALL") ? getenv("CALL") : "";
     watches_memory = !strcmp(call, "memory");
 }
@@ -51,24 +55,39 @@ static int fails(void) {
     return 1;
 }
 
-static int is_refused(void) {
-    if (!watches_memory || !fails()) return 0;
+static int is_refused(size_t size) {
+    if (!watches_memory || size < least || !fails()) return 0;
     errno = ENOMEM;
     return 1;
 }
 
-void *malloc(size_t size) { return is_refused() ? 0 : __libc_malloc(size); }
+void *malloc(size_t size) { return is_refused(size) ? 0 : __libc_malloc(size); }
 
-void *calloc(size_t count, size_t size) { return is_refused() ? 0 : __libc_calloc(count, size); }
+void *calloc(size_t count, size_t size) { return is_refused(count * size) ? 0 : __libc_calloc(count, size); }
 
-void *realloc(void *block, size_t size) { return is_refused() ? 0 : __libc_realloc(block, size); }
+void *realloc(void *block, size_t size) { return is_refused(size) ? 0 : __libc_realloc(block, size); }
 
-void *aligned_alloc(size_t alignment, size_t size) { return is_refused() ? 0 : __libc_memalign(alignment, size); }
+void *aligned_alloc(size_t alignment, size_t size) { return is_refused(size) ? 0 : __libc_memalign(alignment, size); }
 
 int posix_memalign(void **block, size_t alignment, size_t size) {
-    if (is_refused()) return ENOMEM;
+    if (is_refused(size)) return ENOMEM;
     *block = __libc_memalign(alignment, size);
     return *block ? 0 : ENOMEM;
+}
+
+int getentropy(void *bytes, size_t size) {
+    static int (*next)(void *, size_t);
+    if (!next) next = (int (*)(void *, size_t))dlsym(RTLD_NEXT, "getentropy");
+    if (strcmp(call, "getentropy") || !fails()) return next(bytes, size);
+    errno = EIO;
+    return -1;
+}
+
+int epoll_ctl(int poll, int change, int file, struct epoll_event *event) {
+    static int (*next)(int, int, int, struct epoll_event *);
+    if (!next) next = (int (*)(int, int, int, struct epoll_event *))dlsym(RTLD_NEXT, "epoll_ctl");
+    if (change == EPOLL_CTL_DEL) __atomic_add_fetch(&watch->left, 1, __ATOMIC_SEQ_CST);
+    return next(poll, change, file, event);
 }
 
 static int is_failed(const char *name, int file) {

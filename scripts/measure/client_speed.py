@@ -23,7 +23,7 @@ import time
 sys.path.insert(0, str(pathlib.Path(__file__).resolve().parents[1]))
 from check import clients
 from check.client_cases import ASKERS
-from common import TOP
+from common import TOP, programs
 from common.daemon import listening
 
 from macaroond import AsyncClient, Client, Form, wire
@@ -158,6 +158,7 @@ def told(runs, name):
 
 
 def main(words):
+    programs.stop_unless_built("macaroond")
     seconds, rounds = float(words[0]) if words else 1.0, int(words[1]) if len(words) > 1 else 5
     with contextlib.ExitStack() as held:
         folder = held.enter_context(tempfile.TemporaryDirectory())

@@ -21,7 +21,7 @@ class Function:
         """Whether this is the path of the function, or of a closure in it."""
         module = "::".join(self.path.split("::")[: 1 + len(module_of(self.file))])
         closures = f"{module}::fn{self.path.removeprefix(module)}::"
-        # what an impl gives its type stands behind it: Pool+S+NoGate::by_hand
+        # what an impl gives its type stands behind it: Type+A+B::name
         if re.sub(r"\+[^:]*(?=::)", "", path) in self.names():
             return True
         return path.startswith((f"{self.path}+", closures))

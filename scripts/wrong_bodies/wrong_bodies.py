@@ -12,7 +12,13 @@ each alone. The tree itself is checked only as it stands, so that its out/ is fr
 
 Two kinds of refusal say nothing of a contract and are counted apart, as skipped: *by name alone*,
 where all that is wrong is that a proof names what the body took away, and *not covered*, where the
-borrow checker doesn't cover the body, so that there is no proof of anything.
+borrow checker doesn't cover the body, so that there is no proof of anything. A body that doesn't
+compile says nothing either, and is an error of its own.
+
+What came of each body is kept in the crate's out/ as it comes, so that a run may be broken off and
+a later one goes on: a body is tried again once it, its crate or one below has changed, or with
+--anew. With --record the counts of these crates go into docs/wrong-bodies.txt, from which
+`make pages` writes them into docs/PROMISES.md.
 
 With --dry no check is made: it tells which edits don't apply to the sources as they are.
 """
@@ -31,9 +37,9 @@ from dataclasses import dataclass
 from pathlib import Path
 
 sys.path.insert(0, str(Path(__file__).resolve().parents[1]))
-from common import TOP
+from common import TOP, programs
 from wrong_bodies.bodies import BadEdit, Source, batches_of, read_body
-
+from wrong_bodies.kept import Kept, record
 
 
 # A copy of the crate, and what a check says of it.
@@ -128,6 +134,10 @@ class Report:
     def first_error(self):
         return next((it for it in self.lines if "error" in it), "\n".join(self.lines[-1:]))
 
+    def has_error(self):
+        """Whether it tells an error: a check that was broken off tells none."""
+        return any("error" in it for it in self.lines)
+
     def names(self, function):
         return any(is_at(it, function) for it in self.lines)
 
@@ -172,16 +182,19 @@ def tells_names_alone(errors):
 class Kind(enum.Enum):
     """What came of a wrong body."""
 
-    REFUSED = "refused"
+    REFUSED = "refused at a clause"
     BY_NAME = "refused by name alone"
     UNCOVERED = "not covered"
     LET_THROUGH = "LET THROUGH"
+    NOT_COMPILING = "DOES NOT COMPILE"
     BAD_EDIT = "BAD EDIT"
     NOT_PROVED = "NOT PROVED"
 
 
 SAYS_NOTHING = [Kind.BY_NAME, Kind.UNCOVERED]
-FAILED = [Kind.LET_THROUGH, Kind.BAD_EDIT, Kind.NOT_PROVED]
+# What the pages tell of each crate, in this order.
+COUNTED = [Kind.REFUSED, *SAYS_NOTHING, Kind.LET_THROUGH, Kind.NOT_COMPILING]
+FAILED = [Kind.LET_THROUGH, Kind.NOT_COMPILING, Kind.BAD_EDIT, Kind.NOT_PROVED]
 
 
 @dataclass
@@ -204,7 +217,8 @@ def kind_of(errors):
 def judged(body, report, source):
     """What the report says of the body; of several functions one that refuses it is enough."""
     if not report.has_ended:
-        return Verdict(body.name, Kind.BAD_EDIT, f"the check stopped early: {report.first_error()}")
+        kind = Kind.NOT_COMPILING if report.has_error() else Kind.NOT_PROVED
+        return Verdict(body.name, kind, report.first_error())
     own = [(it, report.own_errors(it)) for it in body.functions or source.functions]
     found = [(kind_of(errors), f"at {it.path}: {errors[0]}") for it, errors in own if errors]
     if found:
@@ -254,17 +268,25 @@ def bodies_of(crate, source):
     return bodies, bad
 
 
-def try_crate(crate):
-    """A verdict on each of the crate's wrong bodies."""
+def try_crate(crate, anew=False):
+    """A verdict on each of the crate's wrong bodies: those that are kept, and those of new checks."""
+    kept = Kept(TOP, crate, stands_on(crate), edits_of(crate))
+    bodies, found = bodies_of(crate, Source(TOP / "crates" / crate))
+    if not anew:
+        found += [Verdict(it, Kind[kind], said) for it, (kind, said) in kept.valid().items()]
+    if len(found) == len(edits_of(crate)):
+        return found
     said = rt_check(TOP / "crates" / crate)
     if "\nlogic=proved" not in said:
-        return [Verdict("as it stands", Kind.NOT_PROVED, "its own check fails")]
+        return [*found, Verdict("as it stands", Kind.NOT_PROVED, "its own check fails")]
     proved = re.findall(rf"^fn (\S+): {PROVED}$", said, re.M)
+    settled = {it.body for it in found}
     with tempfile.TemporaryDirectory(prefix="wrong-bodies-") as room:
         copy = Copy(crate, Path(room), proved)
-        bodies, found = bodies_of(crate, copy.source)
-        for batch in batches_of(bodies):
-            found += tried(batch, copy)
+        for batch in batches_of([it for it in bodies if it.name not in settled]):
+            came = tried(batch, copy)
+            kept.keep({it.body: (it.kind.name, it.said) for it in came})
+            found += came
     return found
 
 
@@ -304,11 +326,14 @@ def crates_with_edits():
     return sorted(it.name for it in (TOP / "crates").iterdir() if edits_of(it.name))
 
 
-def try_all(crates, tells_all):
+def try_all(crates, given):
     """Tries the wrong bodies of these crates. Whether none failed."""
-    with ThreadPoolExecutor(os.cpu_count()) as pool:
-        found = zip(crates, pool.map(try_crate, crates))
-        counts = sum((tell(*it, tells_all) for it in found), collections.Counter())
+    counts = collections.Counter()
+    with ThreadPoolExecutor(given.jobs) as pool:
+        for crate, found in zip(crates, pool.map(lambda it: try_crate(it, given.anew), crates)):
+            counts += (own := tell(crate, found, given.all))
+            if given.record and not own[Kind.NOT_PROVED]:
+                record(TOP, crate, [own[it] for it in COUNTED])
     used = resource.getrusage(resource.RUSAGE_CHILDREN)
     print(f"{(used.ru_utime + used.ru_stime) / 60:.0f} processor minutes; {listed(counts)}")
     failed, skipped = (sum(counts[it] for it in kinds) for kinds in (FAILED, SAYS_NOTHING))
@@ -322,9 +347,14 @@ def main():
     parser.add_argument("crates", nargs="*", metavar="CRATE", help="all, if none is named")
     parser.add_argument("--all", action="store_true", help="tells where each body is refused")
     parser.add_argument("--dry", action="store_true", help="tells which edits don't apply")
+    parser.add_argument("--anew", action="store_true", help="tries also what was tried as it is")
+    parser.add_argument("--record", action="store_true", help="writes the counts for the pages")
+    parser.add_argument("--jobs", type=int, default=os.cpu_count(), help="crates at a time")
     given = parser.parse_args()
     crates = given.crates or crates_with_edits()
-    sys.exit(0 if (dry_run(crates) if given.dry else try_all(crates, given.all)) else 1)
+    if not given.dry:
+        programs.stop_without_toolchain()
+    sys.exit(0 if (dry_run(crates) if given.dry else try_all(crates, given)) else 1)
 
 
 if __name__ == "__main__":

@@ -18,7 +18,7 @@ from dataclasses import dataclass
 from pathlib import Path
 
 sys.path.insert(0, str(Path(__file__).resolve().parents[1]))
-from common import TOP
+from common import TOP, programs
 from wrong_bodies.bodies import BadEdit, pairs_of, read_body, Source
 from wrong_bodies.wrong_bodies import TEXTS, stands_on, take_over
 
@@ -140,6 +140,7 @@ def main():
     parser.add_argument("names", nargs="*", metavar="NAME", help="all, if none is named")
     parser.add_argument("--lanes", type=int, default=1, help="how many are tried at a time")
     given = parser.parse_args()
+    programs.stop_without_toolchain()
     found, count = try_all(wrong_runs(given.names), TIMES, given.lanes)
     print(f"{count - len(found)} passed, {len(found)} failed")
     sys.exit(1 if found else 0)

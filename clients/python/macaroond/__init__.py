@@ -5,7 +5,8 @@
 """
 from .aio import AsyncClient
 from .client import Client
-from .errors import BadRequest, BadToken, Disconnected, MacaroondError, NoClock, NotAllowed, Refused, TimedOut, UnknownKey
+from .errors import BadRequest, BadToken, Disconnected, MacaroondError, NoClock, NotAllowed, NotPlain, Refused, TimedOut, UnknownKey
+from .facts import path_facts
 from .forms import Form
 from .tokens import Token, attenuate, inspect
 from .verdict import Verdict
@@ -20,6 +21,7 @@ __all__ = [
     "MacaroondError",
     "NoClock",
     "NotAllowed",
+    "NotPlain",
     "Refused",
     "TimedOut",
     "Token",
@@ -27,4 +29,5 @@ __all__ = [
     "Verdict",
     "attenuate",
     "inspect",
+    "path_facts",
 ]

@@ -101,6 +101,10 @@ class AsyncClient:
     async def __aexit__(self, *_: object) -> None:
         await self.close()
 
+    async def connect(self) -> None:
+        """Connects now, where a call would do so: it waits for the daemon as a call does."""
+        await self._connected(Deadline(self.timeout))
+
     async def close(self) -> None:
         """Ends the connection, and with it all calls that wait."""
         self._is_closed = True

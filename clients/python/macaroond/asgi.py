@@ -1,11 +1,12 @@
 """A guard for an ASGI application (its specification's version 3)."""
 from __future__ import annotations
 
-from typing import Any, Awaitable, Callable, Dict, Iterable, Union
+from typing import Any, Awaitable, Callable, Dict, Iterable, List, Union
 
 from .aio import AsyncClient
 from .errors import MacaroondError
-from .guard import IDENTIFIER, NO_TOKEN, Refusal, bearer, failed, refused
+from .facts import path_facts
+from .guard import IDENTIFIER, NO_TOKEN, Refusal, credentials, failed, refused, sent
 from .text import Text
 
 Scope = Dict[str, Any]
@@ -16,8 +17,17 @@ def no_facts(scope: Scope) -> Iterable[Text]:
     return ()
 
 
+def request_facts(scope: Scope) -> List[Text]:
+    """The method and the path of a request, for `facts`; `NotPlain` where the path isn't plain.
+
+    A WebSocket's method is GET.
+    """
+    target = scope.get("raw_path") or sent(scope["path"].encode("utf-8", "surrogateescape"))
+    return [f"method = {scope.get('method', 'GET')}", *path_facts(target)]
+
+
 class RequireMacaroon:
-    """Lets those requests and WebSockets through to an application whose bearer token is granted.
+    """Lets those requests and WebSockets through to an application whose token is granted.
 
     It answers as `macaroond.wsgi.RequireMacaroon` does. The application finds the token's identifier
     in `scope["macaroond.identifier"]`. A WebSocket that isn't let through is closed before it opens.
@@ -47,11 +57,11 @@ class RequireMacaroon:
     async def judge(self, scope: Scope) -> Union[str, Refusal]:
         """The identifier of the request's token, or why it isn't let through."""
         given = [value for name, value in scope["headers"] if name.lower() == b"authorization"]
-        token = bearer(given[0]) if given else None
-        if token is None:
+        brought = credentials(given)
+        if brought is None:
             return NO_TOKEN
         try:
-            verdict = await self.client.verify(self.key, token, self.facts(scope))
+            verdict = await self.client.verify(self.key, brought.token, self.facts(scope))
         except MacaroondError as error:
             return failed(error)
-        return verdict.identifier or "" if verdict else refused(verdict)
+        return verdict.identifier or "" if verdict else refused(verdict, brought.scheme)

@@ -65,6 +65,10 @@ class Client:
     def __del__(self) -> None:
         self.close()
 
+    def connect(self) -> None:
+        """Connects now, where a call would do so: it waits for the daemon as a call does."""
+        self._connected(Deadline(self.timeout))
+
     def close(self) -> None:
         """Ends the connection, and with it all calls that wait."""
         self._is_closed = True

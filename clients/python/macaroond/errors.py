@@ -55,6 +55,10 @@ class NotAllowed(Refused):
     """The daemon's socket doesn't allow this request."""
 
 
+class NotPlain(MacaroondError):
+    """No facts are told of a path that servers may read as another one than it looks; a guard answers 403."""
+
+
 class NoClock(Refused):
     """The daemon's clock tells no moment: a verify has to give one."""
 

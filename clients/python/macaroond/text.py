@@ -21,3 +21,9 @@ def bytes_of(text: Text) -> bytes:
 def text_of(content: bytes) -> str:
     """The text of these bytes; one that isn't UTF-8 stands as a lone surrogate (PEP 383)."""
     return content.decode("utf-8", "surrogateescape")
+
+
+def shown(content: bytes) -> str:
+    """The bytes as a log or a terminal may be shown them, as the command line writes them: printable ASCII
+    as it is, and any other byte and the backslash as `\\x` and two digits."""
+    return "".join(chr(byte) if 32 <= byte <= 126 and byte != 92 else f"\\x{byte:02x}" for byte in content)

@@ -24,7 +24,10 @@ READERS = {
 
 
 class Token(NamedTuple):
-    """What a token says. Nobody has vouched for it: its signature is only looked at where the key is."""
+    """What a token says. Nobody has vouched for it: its signature is only looked at where the key is.
+
+    The location is unsigned, even of a token that is granted: whoever holds the token can change it.
+    """
 
     form: Form
     location: str

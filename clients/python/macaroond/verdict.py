@@ -4,9 +4,9 @@ from __future__ import annotations
 from typing import Optional
 
 from .errors import REASONS, BadToken, refusal
-from .text import Text, text_of
+from .text import Text, bytes_of, shown, text_of
 from .tokens import inspect
-from .wire import owner
+from .wire import Owner, owner
 
 GRANTED, GRANTED_TO, UNSATISFIED = 0, 3, 24
 # The refusals of a verify that speak of the token; the others are raised.
@@ -22,7 +22,7 @@ class Verdict:
 
     __slots__ = ("code", "caveat", "_token", "_owner")
 
-    def __init__(self, code: int, caveat: Optional[int], token: Text, owner: Optional[bytes] = None) -> None:
+    def __init__(self, code: int, caveat: Optional[int], token: Text, owner: Optional[Owner] = None) -> None:
         self.code = code
         self.caveat = caveat
         self._token = token
@@ -38,12 +38,21 @@ class Verdict:
     def identifier(self) -> Optional[str]:
         """The identifier of a token that is granted; of any other None, since nobody vouches for it."""
         if self._owner is not None:
-            return text_of(self._owner)
+            return text_of(self._owner.identifier)
         return inspect(self._token).identifier if self else None
 
     @property
+    def unsigned_location(self) -> Optional[str]:
+        """The location of a token that is granted: a hint of where it is from, which whoever holds the
+        token can change, so that nothing may rest on it; of any other token None."""
+        if self._owner is not None:
+            return text_of(self._owner.location)
+        return inspect(self._token).location if self else None
+
+    @property
     def reason(self) -> str:
-        """The verdict in words."""
+        """The verdict in words, in one line of printable ASCII: in the text of a caveat each other byte
+        and the backslash stands as `\\x` and two digits."""
         if self:
             return "granted"
         if self.caveat is None:
@@ -52,7 +61,7 @@ class Verdict:
 
     def _unsatisfied(self) -> str:
         try:
-            return inspect(self._token).caveats[self.caveat or 0]
+            return shown(bytes_of(inspect(self._token).caveats[self.caveat or 0]))
         except (BadToken, IndexError):
             return "(the token can't be read here)"
 

@@ -3,7 +3,7 @@ from __future__ import annotations
 
 import collections
 import struct
-from typing import Callable, Deque, Iterable, List, Optional
+from typing import Callable, Deque, Iterable, List, NamedTuple, Optional
 
 from .errors import BadRequest, Disconnected
 from .text import Text, bytes_of
@@ -67,9 +67,17 @@ def told_token(token: Text) -> bytes:
     return sized(bytes_of(token)[: TOKEN_MAX + 1], 2, "token")
 
 
-def owner(fields: bytes) -> bytes:
-    """The identifier of a reply that tells whose a token is: behind it stands the location."""
-    return fields[2 : 2 + int.from_bytes(fields[:2], "big")]
+class Owner(NamedTuple):
+    """Whose a granted token is, and the location that it has, which nobody signed."""
+
+    identifier: bytes
+    location: bytes
+
+
+def owner(fields: bytes) -> Owner:
+    """What the fields of a reply tell that says whose a token is."""
+    end = 2 + int.from_bytes(fields[:2], "big")
+    return Owner(fields[2:end], fields[end + 2 :])
 
 
 def moment(at: float) -> bytes:

@@ -282,12 +282,37 @@ class Ended(OverScripts):
 
     def test_no_daemon(self):
         for kind in BOTH:
+            for call in (VERIFY, ("connect",)):
+                with self.subTest(kind.name, call=call), folder() as path:
+                    client = kind(path, timeout=0.2)
+                    begin = time.monotonic()
+                    with self.assertRaisesRegex(Disconnected, f"there is no connection to {path}: .*No such file"):
+                        client.call(*call)
+                    self.assertLess(time.monotonic() - begin, 3)
+                    client.close()
+
+    def test_connects_before_a_call(self):
+        """Who connects waits for a daemon that comes, and the call behind it takes that connection."""
+        for kind in BOTH:
             with self.subTest(kind.name), folder() as path:
-                client = kind(path, timeout=0.2)
-                begin = time.monotonic()
-                with self.assertRaisesRegex(Disconnected, "there is no connection"):
-                    client.call(*VERIFY)
-                self.assertLess(time.monotonic() - begin, 3)
+                client = kind(path)
+                stop = threading.Event()
+
+                def comes():
+                    time.sleep(0.2)
+                    with running(path, grants):
+                        stop.wait()
+
+                thread = threading.Thread(target=comes)
+                thread.start()
+                client.call("connect")
+                made = client.client._connection
+                self.assertIsNotNone(made)
+                client.call("connect")
+                self.assertTrue(client.call(*VERIFY))
+                self.assertIs(client.client._connection, made)
+                stop.set()
+                thread.join()
                 client.close()
 
     def test_pauses_grow_while_connections_are_closed_at_once(self):

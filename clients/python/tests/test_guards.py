@@ -1,10 +1,12 @@
 """The middlewares, over a server that answers by the request's token."""
 import asyncio
+import json
+import pathlib
 import unittest
 import wsgiref.util
 import wsgiref.validate
 
-from macaroond import AsyncClient, Client, asgi, wsgi
+from macaroond import AsyncClient, Client, Form, NotPlain, asgi, attenuate, path_facts, wsgi
 
 from .script import GRANTED, folder, server
 
@@ -19,16 +21,26 @@ CASES = [
     ("Bearer " + TEXT, "granted", 200, None, "alice"),
     ("bearer  " + TEXT, "granted", 200, None, "alice"),
     ("Bearer " + TEXT, "owned", 200, None, "carol"),
-    (None, "granted", 401, "Bearer", None),
-    ("", "granted", 401, "Bearer", None),
-    ("Bearer ", "granted", 401, "Bearer", None),
-    ("Basic " + TEXT, "granted", 401, "Bearer", None),
+    ("MACAROON " + TEXT, "granted", 200, None, "alice"),
+    (None, "granted", 401, "Macaroon", None),
+    ("", "granted", 401, "Macaroon", None),
+    ("Bearer", "granted", 401, "Macaroon", None),
+    ("Bearer ", "granted", 401, "Macaroon", None),
+    ("Basic " + TEXT, "granted", 401, "Macaroon", None),
+    ("Bearers " + TEXT, "granted", 401, "Macaroon", None),
     ("Bearer " + TEXT, "forged", 401, 'Bearer error="invalid_token"', None),
+    ("Macaroon " + TEXT, "forged", 401, 'Macaroon error="invalid_token"', None),
     ("Bearer " + TEXT, "narrow", 403, 'Bearer error="insufficient_scope"', None),
+    ("Macaroon " + TEXT, "narrow", 403, 'Macaroon error="insufficient_scope"', None),
     ("Bearer " + TEXT, "unknown", 503, None, None),
     ("Bearer " + TEXT, "forbidden", 503, None, None),
     ("Bearer " + TEXT, "\ud800", 400, None, None),
 ]
+
+# The fields of a request that brings two, of which each alone or none would be granted.
+TWICE = [("Bearer " + TEXT, "Bearer " + TEXT), ("Bearer " + TEXT, "Basic x"), ("Basic x", "Macaroon " + TEXT), ("Bearer " + TEXT, "")]
+# The paths that facts are told of, and those that are refused, for each client and the daemon.
+PATHS = json.loads((pathlib.Path(__file__).resolve().parents[2] / "cases" / "paths.json").read_text())
 
 
 def judges(stream):
@@ -62,6 +74,28 @@ class Wsgi(unittest.TestCase):
                     self.assertEqual(came[:2], (status, challenge))
                     self.assertEqual(came[2] == identifier, status == 200)
 
+    def test_two_fields(self):
+        """As servers put them together (RFC 9110, section 5.3)."""
+        with server(judges) as path, Client(path) as client:
+            for fields in TWICE:
+                for between in (",", ", "):
+                    with self.subTest(fields=fields, between=between):
+                        self.assertEqual(self.asked(client, between.join(fields), "granted")[:2], (401, "Macaroon"))
+
+    def test_json_has_commas(self):
+        bare = attenuate(TEXT, form=Form.V2_JSON)
+        with server(judges) as path, Client(path) as client:
+            self.assertIn(",", bare)
+            self.assertEqual(self.asked(client, "Bearer " + bare, "granted"), (200, None, "alice"))
+
+    def test_a_path_that_is_not_plain(self):
+        def facts(environ):
+            return path_facts("/a/../b")
+
+        guard = wsgi.RequireMacaroon(None, Client("nowhere"), "bank", facts)
+        self.assertEqual(guard.judge({"HTTP_AUTHORIZATION": "Bearer " + TEXT}), (403, None))
+        self.assertEqual(guard.judge({}), (401, "Macaroon"))
+
     def test_no_daemon(self):
         with folder() as path, Client(path, timeout=0.1) as client:
             self.assertEqual(self.asked(client, "Bearer " + TEXT, "granted")[0], 503)
@@ -80,7 +114,8 @@ class Asgi(unittest.TestCase):
             sent.append(message)
 
         guard = asgi.RequireMacaroon(application, client, "bank", lambda scope: [fact])
-        headers = [] if header is None else [(b"Authorization", header.encode())]
+        fields = [] if header is None else [header] if isinstance(header, str) else header
+        headers = [(b"Authorization", field.encode()) for field in fields]
         await guard({"type": kind, "headers": headers}, None, send)
         return sent, seen
 
@@ -96,12 +131,55 @@ class Asgi(unittest.TestCase):
                     self.assertEqual((seen, sent[0]["status"], told), ([], status, challenge))
             sent, seen = await self.asked(client, "Bearer " + TEXT, "forged", "websocket")
             self.assertEqual((sent, seen), ([{"type": "websocket.close", "code": 1008}], []))
+            for fields in TWICE:
+                sent, seen = await self.asked(client, fields, "granted")
+                self.assertEqual((seen, sent[0]["status"]), ([], 401))
+                self.assertEqual(dict(sent[0]["headers"])[b"www-authenticate"], b"Macaroon")
             sent, seen = await self.asked(client, None, "", "lifespan")
             self.assertEqual((sent, len(seen)), ([], 1))
 
     def test_cases(self):
         with server(judges) as path:
             asyncio.run(self.all_cases(path))
+
+
+class Paths(unittest.TestCase):
+    """The facts of a path, by the table that the daemon's answers are compared with too."""
+
+    def each(self, facts_of):
+        for row in PATHS:
+            with self.subTest(target=row["target"]):
+                if row["facts"] is None:
+                    self.assertRaises(NotPlain, facts_of, row["target"])
+                else:
+                    self.assertEqual(facts_of(row["target"]), row["facts"])
+
+    def test_targets(self):
+        self.each(path_facts)
+        self.each(lambda target: path_facts(target.encode()))
+
+    def test_requests(self):
+        def told(name):
+            return lambda target: wsgi.request_facts({"REQUEST_METHOD": "GET", "PATH_INFO": "/x", name: target or "x"})[1:]
+
+        self.each(told("REQUEST_URI"))
+        self.each(told("RAW_URI"))
+        self.each(lambda target: asgi.request_facts({"path": "/x", "raw_path": target.encode() or b"x"})[1:])
+        self.assertEqual(asgi.request_facts({"path": "/a", "method": "PUT"})[:2], ["method = PUT", "path = /a"])
+        self.assertEqual(asgi.request_facts({"path": "/a"})[0], "method = GET")
+        self.assertRaises(NotPlain, wsgi.request_facts, {"REQUEST_METHOD": "GET", "REQUEST_URI": "/\u20ac"})
+
+    def test_decoded_paths(self):
+        """Where a server tells a path decoded alone, it stands in facts as clients send it."""
+        for path, due in {"/ä": "/%C3%A4", "/a b": "/a%20b", "/50%": "/50%25", "/a?b": "/a%3Fb", "/a:@!$&'()*+,;=-._~": None, "": "/"}.items():
+            with self.subTest(path=path):
+                decoded = path.encode().decode("latin-1")
+                environ = {"REQUEST_METHOD": "GET", "SCRIPT_NAME": decoded[:2], "PATH_INFO": decoded[2:]}
+                self.assertEqual(wsgi.request_facts(environ)[1], f"path = {due or path}")
+                self.assertEqual(asgi.request_facts({"path": path or "/"})[1], f"path = {due or path}")
+        for path in ("/a/../b", "/a//b", "/a\\b"):
+            self.assertRaises(NotPlain, asgi.request_facts, {"path": path})
+            self.assertRaises(NotPlain, wsgi.request_facts, {"REQUEST_METHOD": "GET", "PATH_INFO": path})
 
 
 if __name__ == "__main__":

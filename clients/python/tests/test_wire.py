@@ -18,7 +18,7 @@ class Requests(unittest.TestCase):
     def test_now(self):
         """Without a moment the daemon's clock is asked, and whose the token is."""
         self.assertEqual(wire.verify_request("a", "!", ["f"], None).hex(), "050161000121" + "01000166")
-        self.assertEqual(wire.owner(bytes.fromhex("000169" + "00026c6c")), b"i")
+        self.assertEqual(wire.owner(bytes.fromhex("000169" + "00026c6c")), (b"i", b"ll"))
 
     def test_too_long(self):
         """What a request can't tell is an error; what changes no verdict is cut or left out."""

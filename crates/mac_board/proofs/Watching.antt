@@ -36,6 +36,7 @@ worth-table was names (Glance state.Unknown) table due is = absurd cc
 worth-table was names (Glance (state.Marked mark)) table due is = absurd cc
 worth-table was names (Read before (Err read.Unreadable) after) table due is = absurd cc
 worth-table was names (Read before (Err read.TooLong) after) table due is = absurd cc
+worth-table was names (Read before (Err (read.Exposed why)) after) table due is = absurd cc
 worth-table was names (Read before (Ok text) after) table due is = record {
   state = before;
   text = text;

@@ -5,7 +5,7 @@ use mathlib.Core.Option.{some}
 use lib.ListN.{get_elem?}
 use Rattle.mac_keys.specs.Keys.{Table}
 use Rattle.mac_board.specs.declared.issue.Issue.{Issue}
-use Rattle.mac_board.specs.Follows.{Begins}
+use Rattle.mac_board.specs.Follows.{Begins, Known}
 
 -- the list ends in the table of this issue, which has its last place as its number
 pub record Ends (log : List Table) (issue : Issue) : Type 0 where
@@ -41,3 +41,7 @@ Stays view before after seen = seen ≡ view
 abbrev pub seen_by : Option (List Table) → List Table
 seen_by None = []
 seen_by (Some seen) = seen
+
+-- what is known to who has such a reader, and the table of this number
+abbrev pub known_by : Option (List Table) → ℕ → Known
+known_by seen number = record { published = seen_by seen; place = number; looks = [] }

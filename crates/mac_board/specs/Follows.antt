@@ -24,6 +24,13 @@ pub record Looks (tells : Bool) (before after : Known) : Type 0 where
   pub ahead : before.place ≤ after.place
   pub told : IsTrue tells → after.looks ≡ before.looks ++ after.place ∷ []
 
+-- What is known went on without a look that is told: what was published stays so, and the place never
+-- goes down.
+pub record Advances (before after : Known) : Type 0 where
+  pub begins : Begins before.published after.published
+  pub ahead : before.place ≤ after.place
+  pub looks : after.looks ≡ before.looks
+
 -- for each of these tables there was one look, in their order, which came to it, and no other
 abbrev pub Takes : Bool → Known → Known → List Table → Type 0
 Takes tells before after [] = after ≡ before
@@ -39,6 +46,10 @@ Follows published from (place ∷ places) [] to = ⊥
 Follows published from (place ∷ places) (table ∷ tables) to =
     (from ≤ place) × (slice_get published place ≡ Some table)
     × Follows published place places tables to
+
+-- these tables stand in a list in their order, from one place to another
+abbrev pub StandIn : List Table → ℕ → List Table → ℕ → Type 0
+StandIn published from tables to = (places : List ℕ) × Follows published from places tables to
 
 -- the tables were taken in the order of their publishing, each by a look of its own
 pub record AreInOrder (tells : Bool) (before after : Known) (tables : List Table) : Type 0 where

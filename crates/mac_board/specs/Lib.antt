@@ -1,4 +1,5 @@
 -- what the contracts mean
+pub mod Access
 pub mod Board
 pub mod Follows
 pub mod Editor

@@ -1,7 +1,7 @@
 -- What is known of tables that are published, and of a clock beside them.
 use Rattle.std.specs.Prelude.{◌≡◌, ℕ, Bool, List, [], ◌∷◌, ◌++◌, Option}
 use Rattle.mac_keys.specs.Keys.{Table}
-use Rattle.mac_board.specs.Follows.{Known, IsUp, Looks}
+use Rattle.mac_board.specs.Follows.{Advances, Known, IsUp, Looks}
 use Rattle.mac_board.specs.declared.outlook.Current.{Current as LentCurrent}
 
 -- a key table with a moment, in seconds since 1970, if the clock told one
@@ -24,6 +24,12 @@ pub record Noticed : Type 0 where
 pub record Notices (tells : Bool) (before after : Noticed) : Type 0 where
   pub looks : Looks tells before.tables after.tables
   pub told : after.told ≡ before.told ++ after.moment ∷ []
+
+-- the tables went on without a look, and the clock was not asked
+pub record Reaches (before after : Noticed) : Type 0 where
+  pub tables : Advances before.tables after.tables
+  pub told : after.told ≡ before.told
+  pub moment : after.moment ≡ before.moment
 
 -- the table that is had, and the moment that the last look came to
 abbrev pub IsCurrent : Noticed → Current → Type 0

@@ -43,6 +43,7 @@ worth names (Glance state.Unknown) = finding.Refused refusal.Unreadable
 worth names (Glance (state.Marked mark)) = finding.Nothing
 worth names (Read before (Err read.Unreadable) after) = finding.Refused refusal.Unreadable
 worth names (Read before (Err read.TooLong) after) = finding.Refused refusal.TooLong
+worth names (Read before (Err (read.Exposed why)) after) = finding.Refused (refusal.Exposed why)
 worth names (Read before (Ok text) after) = judged names (table_of text.items)
 
 -- there is something to be done

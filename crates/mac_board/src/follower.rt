@@ -1,9 +1,10 @@
 //! Who takes the table that is up.
 
-ghost use Rattle.std.specs.Prelude.{◌≡◌, slice_get, Some, option_map, [], false};
+ghost use Rattle.std.specs.Prelude.{◌≡◌, slice_get, Some, option_map, false};
 ghost use Rattle.std.specs.Arc.{arc_value};
 ghost use Rattle.left_right.specs.Sides.{view};
-ghost use Rattle.mac_board.specs.Board.{seen_by};
+ghost use Rattle.mac_board.specs.Board.{known_by, seen_by};
+ghost use Rattle.mac_board.specs.Follows.{Advances};
 
 use crate::issue::{Issue, Posted, See, Seen};
 use crate::tables::Tables;
@@ -44,7 +45,7 @@ impl Followers {
 pub struct Follower {
     // It is lent out while it reads.
     reader: Option<Reader<Issue, Seen, Posted>>,
-    // The number of the table that was put up last.
+    // The number of the table that is put up last: of one that is up, or of the next.
     last: Arc<AtomicU64, Global>,
     table: Arc<KeyTable, Global>,
     number: u64,
@@ -72,22 +73,13 @@ impl Follower {
             number,
         })
     }
-}
 
-impl Tables for Follower {
-    ghost tells = { false };
-
-    ghost known = { λ f. record {
-      published = seen_by (option_map (λ r. view r.place) f.reader);
-      place = f.number;
-      looks = [];
-    } };
-
-    /// One load where no newer table is up.
-    fn look(&mut self) {
-        if self.last.load(SeqCst) == self.number {
-            return;
-        }
+    /// Takes the table that is up, unless it is older than the one that it has.
+    fn take_up(&mut self)
+        ensures { Advances
+            (known_by (option_map (λ r. view r.place) self.old.reader) self.old.number)
+            (known_by (option_map (λ r. view r.place) self.new.reader) self.new.number) }
+    {
         let Some(reader) = self.reader.take() else {
             return;
         };
@@ -106,6 +98,31 @@ impl Tables for Follower {
                 }
             }
         }
+    }
+}
+
+impl Tables for Follower {
+    ghost tells = { false };
+
+    ghost known = { λ f. known_by (option_map (λ r. view r.place) f.reader) f.number };
+
+    /// One load where no newer table is up.
+    fn look(&mut self) {
+        if self.last.load(SeqCst) != self.number {
+            self.take_up();
+        }
+    }
+
+    /// No load where it has come as far.
+    fn reach(&mut self, place: u64) -> bool {
+        if self.number < place {
+            self.take_up();
+        }
+        place <= self.number
+    }
+
+    fn place(&self) -> u64 {
+        self.number
     }
 
     fn table(&self) -> &KeyTable {

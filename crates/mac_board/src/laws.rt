@@ -1,9 +1,9 @@
 //! What follows from the definitions alone. Each law is the contract of a function that does
 //! nothing.
 
-ghost use Rattle.std.specs.Prelude.{◌≡◌, ℕ, [], ◌∷◌, Bool, List, All};
+ghost use Rattle.std.specs.Prelude.{◌≡◌, ◌≤◌, ℕ, [], ◌∷◌, ◌++◌, Bool, List, All};
 ghost use Rattle.mac_keys.specs.Keys.{Table};
-ghost use Rattle.mac_board.specs.Follows.{Known, Takes, AreInOrder};
+ghost use Rattle.mac_board.specs.Follows.{AreInOrder, Begins, Known, StandIn, Takes};
 ghost use Rattle.mac_board.specs.Watcher.{AreIdle, AreOf, Goes, HasRested, IsNews, NeverRests, Sees};
 ghost use Rattle.mac_board.specs.declared.sight.FileState.{FileState};
 ghost use Rattle.mac_board.specs.declared.sight.Sight.{Sight};
@@ -15,6 +15,16 @@ ghost use Rattle.mac_board.specs.declared.watcher.Watcher.{Watcher};
 pub fn taken_tables_are_in_order()
     ensures { (tells : Bool) (before after : Known) (tables : List Table)
         → Takes tells before after tables → AreInOrder tells before after tables }
+{}
+
+/// Tables that one follower took, and then another that had come as far as the first, stand in
+/// their order in the list of which both know a beginning.
+pub fn order_goes_on_elsewhere()
+    ensures { (tells : Bool) (published : List Table) (first last next end : Known)
+        (tables more : List Table)
+        → Takes tells first last tables → Takes tells next end more
+        → Begins last.published published → Begins end.published published
+        → last.place ≤ next.place → StandIn published first.place (tables ++ more) end.place }
 {}
 
 /// Where one table alone was published, each that is taken is that one.

@@ -8,8 +8,10 @@
 //!
 //! An [`Editor`] puts up the tables of a key file that changes. Its [`Watcher`] says when the file
 //! is read, when it is taken, and when it is told why not; the looks at the file are its caller's.
+//! [`find_exposure`] says of a file that others may use why it isn't taken.
 #![tactic(auto)]
 
+mod access;
 mod editor;
 mod follower;
 mod issue;
@@ -21,6 +23,7 @@ mod sight;
 mod tables;
 mod watcher;
 
+pub use access::{Access, Exposure, Reader, find_exposure, reader_of};
 pub use editor::{Editor, News};
 pub use follower::{Follower, Followers};
 pub use moments::Moments;

@@ -1,7 +1,7 @@
 //! Where the key table and the moment come from for who answers requests.
 
-ghost use Rattle.std.specs.Prelude.{Bool};
-ghost use Rattle.mac_board.specs.Noticed.{IsCurrent, Noticed, Notices, lent_current};
+ghost use Rattle.std.specs.Prelude.{◌≡◌, Bool, nat_le};
+ghost use Rattle.mac_board.specs.Noticed.{IsCurrent, Noticed, Notices, Reaches, lent_current};
 
 use crate::moments::Moments;
 use crate::tables::Tables;
@@ -29,6 +29,16 @@ pub trait Outlook: Send {
     fn look(&mut self)
         ensures { Notices tells (known self.old) (known self.new) };
 
+    /// Takes the table that is up now, where the one that it has stands before this place, and asks
+    /// no clock. Whether the one that it has then stands there or behind it.
+    fn reach(&mut self, place: u64) -> bool
+        ensures reaches { Reaches (known self.old) (known self.new) }
+        ensures reached { result ≡ nat_le place (known self.new).tables.place };
+
+    /// The place of the table that it has among those that were published.
+    fn place(&self) -> u64
+        ensures { result ≡ (known self.now).tables.place };
+
     /// What the last look came to.
     fn current(&self) -> Current<'_>
         ensures { IsCurrent (known self.now) (lent_current result) };
@@ -44,7 +54,10 @@ pub struct TimedTables<K, M> {
 
 impl<K, M> TimedTables<K, M> {
     /// These tables beside this clock, which is asked at the first look.
-    pub fn new(tables: K, clock: M) -> TimedTables<K, M> {
+    pub fn new(tables: K, clock: M) -> TimedTables<K, M>
+        ensures tables { result.tables ≡ tables }
+        ensures clock { result.clock ≡ clock }
+    {
         TimedTables {
             tables,
             clock,
@@ -65,6 +78,14 @@ impl<K: Tables, M: Moments + Send> Outlook for TimedTables<K, M> {
     fn look(&mut self) {
         self.tables.look();
         self.moment = self.clock.tell();
+    }
+
+    fn reach(&mut self, place: u64) -> bool {
+        self.tables.reach(place)
+    }
+
+    fn place(&self) -> u64 {
+        self.tables.place()
     }
 
     fn current(&self) -> Current<'_> {

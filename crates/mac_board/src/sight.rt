@@ -3,6 +3,7 @@
 ghost use Rattle.std.specs.Prelude.{◌≡◌, ◌↔◌, IsTrue};
 ghost use Rattle.mac_board.specs.Sight.{state_after, state_before};
 
+use crate::access::Exposure;
 use std::alloc::Global;
 
 /// A time of a file: seconds since 1970, and the nanoseconds behind them.
@@ -47,6 +48,8 @@ pub enum ReadFault {
     Unreadable,
     /// It is longer than what is read.
     TooLong,
+    /// Others than its reader may use it.
+    Exposed(Exposure),
 }
 
 /// What one look at a file found.

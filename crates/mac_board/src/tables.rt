@@ -1,7 +1,7 @@
 //! Where key tables come from for who answers requests.
 
-ghost use Rattle.std.specs.Prelude.{◌∷◌, [], Bool, false};
-ghost use Rattle.mac_board.specs.Follows.{Known, IsUp, Looks};
+ghost use Rattle.std.specs.Prelude.{◌≡◌, ◌∷◌, [], Bool, false, nat_le};
+ghost use Rattle.mac_board.specs.Follows.{Advances, Known, IsUp, Looks};
 
 use mac_keys::KeyTable;
 
@@ -18,6 +18,16 @@ pub trait Tables: Send {
     fn look(&mut self)
         ensures { Looks tells (known self.old) (known self.new) };
 
+    /// Takes the table that is up now, where the one that it has stands before this place. Whether
+    /// the one that it has then stands there or behind it.
+    fn reach(&mut self, place: u64) -> bool
+        ensures advances { Advances (known self.old) (known self.new) }
+        ensures reached { result ≡ nat_le place (known self.new).place };
+
+    /// The place of the table that it has among those that were published.
+    fn place(&self) -> u64
+        ensures { result ≡ (known self.now).place };
+
     /// The table that it has.
     fn table(&self) -> &KeyTable
         ensures { IsUp (known self.now) result.now };
@@ -33,6 +43,14 @@ impl<'a> Tables for FixedTables<'a> {
     ghost known = { λ t. record { published = t.0.now ∷ []; place = 0; looks = [] } };
 
     fn look(&mut self) {}
+
+    fn reach(&mut self, place: u64) -> bool {
+        place == 0
+    }
+
+    fn place(&self) -> u64 {
+        0
+    }
 
     fn table(&self) -> &KeyTable {
         self.0

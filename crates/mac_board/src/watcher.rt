@@ -4,8 +4,9 @@ ghost use Rattle.std.specs.Prelude.{◌≡◌, ◌≢◌, ◌↔◌, IsTrue, IfO
 ghost use Rattle.mac_board.specs.Watcher.{IsDueIn, IsNews, Sees, judged, worth};
 ghost use Rattle.mac_keys.specs.Table.{table_of};
 
+use crate::access::Exposure;
 use crate::sight::{FileState, ReadFault, Sight, is_same};
-use mac_keys::{KeyFault, KeyTable, LineFault};
+use mac_keys::{KeyFault, KeyTable, LineFault, wipe};
 use std::alloc::{AllocError, Global};
 use thiserror::Error;
 
@@ -21,6 +22,9 @@ pub enum Refusal {
     /// It is longer than what is read.
     #[error("the key file is longer than a key file may be")]
     TooLong,
+    /// Others than its reader may use it.
+    #[error("{0}")]
+    Exposed(Exposure),
     /// A line has a fault, and no earlier line has any.
     #[error("line {line}: {kind}")]
     Faulty {
@@ -143,7 +147,18 @@ fn value(alloc: Global, names: usize, sight: Sight) -> Result<Finding, AllocErro
             text: Err(ReadFault::TooLong),
             ..
         } => Ok(Finding::Refused(Refusal::TooLong)),
-        Sight::Read { text: Ok(text), .. } => judge(alloc, names, text.as_slice()),
+        Sight::Read {
+            text: Err(ReadFault::Exposed(why)),
+            ..
+        } => Ok(Finding::Refused(Refusal::Exposed(why))),
+        Sight::Read {
+            text: Ok(mut text),
+            ..
+        } => {
+            let found = judge(alloc, names, text.as_slice());
+            wipe(text.as_mut_slice());
+            found
+        }
     }
 }
 

@@ -52,17 +52,6 @@ impl Counters {
         }
     }
 
-    /// Adds what the counters show to a snapshot.
-    pub fn add_to(&self, snapshot: &mut Snapshot) {
-        let own = self.snapshot();
-        for place in 0..NUMBERS {
-            snapshot.numbers[place] = snapshot.numbers[place].saturating_add(own.numbers[place]);
-        }
-        for place in 0..REQUESTS {
-            snapshot.requests[place] = snapshot.requests[place].saturating_add(own.requests[place]);
-        }
-    }
-
     /// What the counters show.
     pub fn snapshot(&self) -> Snapshot {
         Snapshot {

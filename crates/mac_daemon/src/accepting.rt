@@ -190,6 +190,7 @@ fn welcome<R: Wait + Clock>(
         port,
         session: Session::new(alloc),
         rights,
+        place: 0,
         since: badge.accepted,
         badge,
     };

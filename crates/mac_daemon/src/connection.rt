@@ -1,11 +1,11 @@
 //! One wide connection, in threads of its own.
-ghost use Rattle.std.specs.Prelude.{◌≡◌, IfErr, IfOk, MatchOption};
+ghost use Rattle.std.specs.Prelude.{◌≡◌, ◌≤◌, IfErr, IfOk, MatchOption};
 ghost use Rattle.mac_queue.specs.Desk.{IsSameDesk};
 ghost use Rattle.mac_daemon.specs.Parting.{GoesBack, HasParted, IsOver, WasServed};
 
 use crate::quay::Mooring;
 use crate::stay::{Stay, StayReader};
-use mac_board::{Follower, TimedTables};
+use mac_board::{Follower, Outlook, Tables, TimedTables};
 use mac_decide::{Macaroons, Rights};
 use mac_loop::{Badge, Handover, Life, microseconds};
 use mac_pool::Desk;
@@ -70,10 +70,8 @@ pub struct Left {
 pub struct AsServed {
     /// The desk, whose pass comes back.
     pub desk: Snapshot<Desk<Macaroons>>,
-    /// How the connection stood.
-    pub session: Snapshot<Session>,
-    /// What it is known by.
-    pub badge: Badge,
+    /// The connection, as it came.
+    pub client: Snapshot<Handover>,
     /// The bit of its berth.
     pub mark: u64,
 }
@@ -81,7 +79,7 @@ pub struct AsServed {
 impl Promise<Left> for AsServed {
     ghost use Rattle.mac_daemon.specs.Parting.{HasParted};
 
-    ghost kept_by = { λ p left. HasParted p.badge p.session.value p.desk.value left };
+    ghost kept_by = { λ p left. HasParted p.client.value p.desk.value left };
 }
 
 /// A connection that is served in a thread.
@@ -102,9 +100,7 @@ pub fn start_connection<R>(
 where
     R: Threads + Wait + Clock + Sync + Copy + Send + 'static,
     ensures desk { IfOk result (λ connection. connection.promise.desk.value ≡ desk) }
-    ensures session { IfOk result (λ connection.
-        connection.promise.session.value ≡ client.session) }
-    ensures badge { IfOk result (λ connection. connection.promise.badge ≡ client.badge) }
+    ensures client { IfOk result (λ connection. connection.promise.client.value ≡ client) }
     ensures mark { IfOk result (λ connection. connection.promise.mark ≡ mooring.mark) }
     ensures back { IfErr result (λ back. IsSameDesk desk back) }
 {
@@ -113,12 +109,11 @@ where
     };
     let promise = AsServed {
         desk: Snapshot::of(&desk),
-        session: Snapshot::of(&client.session),
-        badge: client.badge,
+        client: Snapshot::of(&client),
         mark: mooring.mark,
     };
     let work = move || -> Left
-        ensures { HasParted client.badge client.session desk result }
+        ensures { HasParted client desk result }
     {
         let (own, client, mooring, keys) = (desk, client, mooring, keys);
         if heard.load(SeqCst) {
@@ -144,7 +139,7 @@ where
 
 /// What a connection leaves that was not served, since the system failed.
 fn stuck(client: Handover, desk: Desk<Macaroons>) -> Left
-    ensures { HasParted client.badge client.session desk result }
+    ensures { HasParted client desk result }
 {
     let badge = client.badge;
     let answered = client.session.answered;
@@ -161,7 +156,35 @@ fn refusal(alloc: Global) -> Result<(Flag, Flag), NoMemory> {
     Ok((flag, other))
 }
 
-/// Serves a connection for a stay, or to its end.
+/// What of a connection waits while it is served, and what it goes on with.
+#[derive(Drop)]
+struct Rest {
+    rights: Arc<Rights, Global>,
+    /// The place of the key table that its last requests may have been answered under.
+    place: u64,
+    since: u64,
+    badge: Badge,
+}
+
+/// What is told of a connection that is over.
+#[derive(Drop)]
+struct Told {
+    life: Life,
+    fault: Option<ServeFault>,
+    ending: Ending,
+}
+
+/// What came of serving a stream.
+#[derive(Drop)]
+struct Outcome {
+    fault: Option<ServeFault>,
+    served: Served,
+    /// The place of the key table that was taken last.
+    place: u64,
+}
+
+/// Serves a connection for a stay, or to its end, where the table is as new as that of whoever
+/// answered it last. It always is, as the follower was made after that.
 fn serve_client<R: Threads + Wait + Clock + Sync>(
     rt: &R,
     alloc: Global,
@@ -170,12 +193,32 @@ fn serve_client<R: Threads + Wait + Clock + Sync>(
     desk: Desk<Macaroons>,
     mooring: &Mooring,
 ) -> Left
-    ensures { HasParted client.badge client.session desk result }
+    ensures { HasParted client desk result }
+{
+    if client.place <= keys.place() {
+        serve_stay(rt, alloc, client, keys, desk, mooring)
+    } else {
+        stuck(client, desk)
+    }
+}
+
+/// The same under these tables, which are as new.
+fn serve_stay<R: Threads + Wait + Clock + Sync>(
+    rt: &R,
+    alloc: Global,
+    client: Handover,
+    keys: Follower,
+    desk: Desk<Macaroons>,
+    mooring: &Mooring,
+) -> Left
+    requires { client.place ≤ keys.number }
+    ensures { HasParted client desk result }
 {
     let Handover {
         port,
         session,
         rights,
+        place: _,
         since,
         badge,
     } = client;
@@ -186,7 +229,11 @@ fn serve_client<R: Threads + Wait + Clock + Sync>(
             desk,
         };
     };
-    let (fault, served) = serve_stream(rt, alloc, &stay, keys, &rights, desk, session, mooring);
+    let Outcome {
+        fault,
+        served,
+        place,
+    } = serve_stream(rt, alloc, &stay, keys, &rights, desk, session, mooring);
     let Served {
         arrived,
         sent,
@@ -199,52 +246,54 @@ fn serve_client<R: Threads + Wait + Clock + Sync>(
     let since = if arrived > 0 { microseconds(rt) } else { since };
     let answered = answered.saturating_add(sent);
     let life = Life { badge, answered };
-    let parting = part(rt, stay, session, rights, since, life, fault, ending);
+    let rest = Rest {
+        rights,
+        place,
+        since,
+        badge,
+    };
+    let told = Told {
+        life,
+        fault,
+        ending,
+    };
+    let parting = part(rt, stay, session, rest, told);
     Left { parting, desk }
 }
 
 /// How a connection parts: it goes on where a session was given back, and else is over.
-fn part<R: Wait>(
-    rt: &R,
-    stay: Stay,
-    session: Option<Session>,
-    rights: Arc<Rights, Global>,
-    since: u64,
-    life: Life,
-    fault: Option<ServeFault>,
-    ending: Ending,
-) -> Parting
-    ensures { MatchOption session (IsOver life.badge fault result)
-        (λ next. GoesBack life.badge next result) }
+fn part<R: Wait>(rt: &R, stay: Stay, session: Option<Session>, rest: Rest, told: Told) -> Parting
+    ensures { MatchOption session (IsOver told.life.badge told.fault result)
+        (λ next. GoesBack rest.badge rest.rights rest.place next result) }
 {
     match session {
-        Some(session) => go_back(rt, stay, session, rights, since, life.badge),
+        Some(session) => go_back(rt, stay, session, rest),
         None => {
-            if ending == Ending::Oversize {
+            if told.ending == Ending::Oversize {
                 drop_rest(&stay.stream);
             }
-            Parting::Over(life, fault)
+            Parting::Over(told.life, told.fault)
         }
     }
 }
 
 /// A connection that goes on in a loop, if the system lets it.
-fn go_back<R: Wait>(
-    rt: &R,
-    stay: Stay,
-    session: Session,
-    rights: Arc<Rights, Global>,
-    since: u64,
-    badge: Badge,
-) -> Parting
-    ensures { GoesBack badge session result }
+fn go_back<R: Wait>(rt: &R, stay: Stay, session: Session, rest: Rest) -> Parting
+    ensures { GoesBack rest.badge rest.rights rest.place session result }
 {
+    let Rest {
+        rights,
+        place,
+        since,
+        badge,
+    } = rest;
     let answered = session.answered;
     match stay.end(rt) {
         Ok(port) => Parting::Back(Handover {
             port,
             session,
             rights,
+            place,
             since,
             badge,
         }),
@@ -262,9 +311,10 @@ fn serve_stream<R: Threads + Wait + Clock + Sync>(
     desk: Desk<Macaroons>,
     session: Session,
     mooring: &Mooring,
-) -> (Option<ServeFault>, Served)
-    ensures served { WasServed session desk.putter desk.taker result.0 result.1 }
-    ensures same_desk { IsSameDesk desk result.1.desk }
+) -> Outcome
+    ensures served { WasServed rights.now keys.number result.place session
+        desk.putter desk.taker result.fault result.served }
+    ensures same_desk { IsSameDesk desk result.served.desk }
 {
     let mut outlook = TimedTables::new(keys, SystemMoments::new(rt));
     let mut source = ReaderSource::new(StayReader::begin(rt, stay, mooring));
@@ -279,8 +329,16 @@ fn serve_stream<R: Threads + Wait + Clock + Sync>(
         desk,
         session,
     ) {
-        Ok(served) => (None, served),
-        Err((fault, served)) => (Some(fault), served),
+        Ok(served) => Outcome {
+            fault: None,
+            served,
+            place: outlook.place(),
+        },
+        Err((fault, served)) => Outcome {
+            fault: Some(fault),
+            served,
+            place: outlook.place(),
+        },
     }
 }
 

@@ -11,7 +11,7 @@ use crate::quay::{Mooring, Quay};
 use mac_board::Followers;
 use mac_decide::Macaroons;
 use mac_loop::Handover;
-use mac_pool::{NoGate, Pool, PoolFault, Tally};
+use mac_pool::{Pool, PoolFault, Tally};
 use std::alloc::{AllocError, Global};
 use std::sync::{Arc, Wait};
 use std::thread::Threads;
@@ -23,7 +23,7 @@ pub const WIDE_MAX: usize = 64;
 /// A pool with the connections that it serves, each in a berth.
 #[derive(Drop)]
 pub struct Crew {
-    pool: Pool<Macaroons, NoGate>,
+    pool: Pool<Macaroons>,
     berths: Vec<Option<Connection>>,
     ghost size: { length berths.items ≡ WIDE_MAX },
     ghost home: { EachBerth berths.items (λ _ connection.
@@ -45,10 +45,7 @@ impl Crew {
         let Ok(berths) = empty_berths(alloc) else {
             return Err(PoolFault::NoMemory);
         };
-        let Ok(gate) = Arc::new(alloc, NoGate) else {
-            return Err(PoolFault::NoMemory);
-        };
-        let pool = Pool::start(rt, alloc, workers, gate)?;
+        let pool = Pool::start(rt, alloc, workers)?;
         Ok(Crew { pool, berths })
     }
 
@@ -95,7 +92,7 @@ impl Crew {
     where
         R: Threads + Wait + Clock + Sync + Copy + Send + 'static,
         requires { IsFree berth self.old.berths.items }
-        ensures taken { IsTrue result → HasTaken berth client.badge client.session
+        ensures taken { IsTrue result → HasTaken berth client
             self.old.berths.items self.new.berths.items self.old.pool self.new.pool }
         ensures refused { IsFalse result → (self.new.berths.items ≡ self.old.berths.items)
             × KeepsHome self.old.pool.passes self.new.pool.passes }

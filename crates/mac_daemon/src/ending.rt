@@ -2,6 +2,7 @@
 
 use crate::entrance::Shutter;
 use crate::fault::DaemonFault;
+use crate::notices::Notices;
 use crate::numbers::Numbers;
 use crate::quay::Quay;
 use mac_count::{Counters, Request};
@@ -94,20 +95,19 @@ impl Ending {
         self.change.notify_all();
     }
 
-    /// Tells a daemon to end whose place another one has, where it wasn't told before. Whether it
-    /// was this call that told it. It is none of those that cut off what isn't done.
-    pub fn tell_replaced<R: Wait>(&self, rt: &R) -> bool {
+    /// Tells a daemon to end that has another one's socket at a path, where it wasn't told before,
+    /// and logs that. It is none of the calls that cut off what isn't done.
+    pub fn tell_replaced<R: Wait + Clock>(&self, rt: &R, notices: &Notices, path: &str) {
         let mut standing = self.standing.lock(rt);
-        let is_first = !standing.is_ending();
-        if is_first {
-            standing.is_replaced = true;
+        if standing.is_ending() {
+            return;
         }
+        standing.is_replaced = true;
+        // Nobody shuts the entrance before the standing is free again: so its drain is logged later.
+        notices.tell_replaced(rt, path);
         drop(standing);
-        if is_first {
-            self.shutter.shut();
-            self.change.notify_all();
-        }
-        is_first
+        self.shutter.shut();
+        self.change.notify_all();
     }
 
     /// Tells the daemon to look.
@@ -256,6 +256,11 @@ impl Guests {
     /// Logs a request that one of them asked, and what it was answered.
     pub fn tell_exchange<R: Wait + Clock>(&self, rt: &R, exchange: Exchange) {
         self.quay.say_exchange(rt, None, exchange);
+    }
+
+    /// Logs that the system gave no connection.
+    pub fn tell_refused<R: Wait + Clock>(&self, rt: &R, fault: &str) {
+        self.quay.say_refused(rt, fault);
     }
 
     /// What the daemon counts.

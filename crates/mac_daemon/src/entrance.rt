@@ -119,7 +119,9 @@ impl Entrance {
             if let Some(welcome) = self.try_doors(rt, false) {
                 return Some(welcome);
             }
-            self.wait();
+            if let Err(fault) = self.poll.poll(&mut self.events, None) {
+                return Some(Err(fault));
+            }
         }
         unreachable!()
     }
@@ -161,10 +163,6 @@ impl Entrance {
             }
         }
         None
-    }
-
-    fn wait(&mut self) {
-        let _ = self.poll.poll(&mut self.events, None);
     }
 
     /// Closes the sockets. Whoever waits there is refused, unless another process listens there

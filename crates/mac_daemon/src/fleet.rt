@@ -72,12 +72,26 @@ impl Idlers {
 
 /// The memory of tokens of a daemon of this shape, if the system gives random bytes and memory for
 /// it.
-pub fn make_memory<R: RandomSource>(rt: &R, alloc: Global, shape: Shape) -> Option<SeenTokens> {
+fn make_memory<R: RandomSource>(rt: &R, alloc: Global, shape: Shape) -> Option<SeenTokens> {
     if shape.remembered == 0 {
         return Some(SeenTokens::none());
     }
     let hashes = RandomState::new(rt).ok()?;
     SeenTokens::new(alloc, hashes, shape.remembered as usize).ok()
+}
+
+/// The memory of tokens of a daemon. Where there is none for it that is told, and it computes each
+/// signature.
+pub fn make_seen<R: RandomSource + Eprint>(rt: &R, alloc: Global, shape: Shape) -> SeenTokens {
+    match make_memory(rt, alloc, shape) {
+        Some(seen) => seen,
+        None => {
+            let _ = eprintln!(rt;
+                "warning: no memory or no random bytes to remember tokens by; none is remembered"
+            );
+            SeenTokens::none()
+        }
+    }
 }
 
 /// What the threads of a daemon are started with.

@@ -1,12 +1,12 @@
 //! What a process has of the paths of its sockets. Each socket is made out of reach, and all are
 //! put in their places once the daemon serves them.
-use crate::lock::{Claim, PathLock, lock_path, name_lock};
+use crate::lock::{Claim, FileId, PathLock, lock_path, name_lock};
 use crate::place::{PATH_MAX, PlaceFault, check_length};
 use std::alloc::{AllocError, Global};
-use std::fs::{DirBuilder, File, Files, Metadata, Permissions};
+use std::fs::{DirBuilder, File, Files, Permissions};
 use std::io::ErrorKind;
 use std::net::Net;
-use std::os::unix::fs::{DirBuilderExt, FileTypeExt, MetadataExt, PermissionsExt};
+use std::os::unix::fs::{DirBuilderExt, FileTypeExt, PermissionsExt};
 use std::os::unix::net::{UnixListener, UnixStream};
 use std::process::Process;
 use std::sync::Wait;
@@ -16,34 +16,24 @@ use std::{fs, io, process};
 /// How many bytes stand behind the path while the socket is made: `.new/s` or `.nxt/s`.
 const INSIDE: usize = 6;
 
-/// Which file something is.
-#[derive(Clone, Copy, PartialEq, Eq)]
-struct FileId {
-    device: u64,
-    inode: u64,
-}
-
-impl FileId {
-    fn of(found: &Metadata) -> FileId {
-        FileId {
-            device: found.dev(),
-            inode: found.ino(),
-        }
-    }
-}
-
 /// A path, and the socket of this process that has it or is to have it.
 #[derive(Drop)]
 struct Holding {
+    made: Made,
+    lock: PathLock,
+    is_placed: bool,
+}
+
+/// A socket that was made for a path.
+#[derive(Drop)]
+struct Made {
     path: String,
     // The folder in which the socket is made, and its path there.
     folder: String,
     inside: String,
-    lock: PathLock,
     // Which file the path's lock is, whatever spelling of the path names it.
     lock_file: Option<FileId>,
     socket: FileId,
-    is_placed: bool,
 }
 
 /// The paths of the sockets that a process makes.
@@ -85,19 +75,14 @@ impl Holdings {
         }
         self.held.reserve(1)?;
         let lock = PathLock::take(rt, alloc, path, self.claim, self.process)?;
-        let lock_file = find_lock(rt, alloc, path)?;
-        check_place(rt, path, &lock)?;
-        let folder = format!(in alloc; "{path}.{}", ending_of(&lock))?;
-        let inside = format!(in alloc; "{folder}/s")?;
-        let path = String::from_str(alloc, path)?;
-        let (listener, socket) = make_inside(rt, folder.as_str(), inside.as_str(), permissions)?;
+        let made = Made::make(rt, alloc, path, permissions, &lock);
+        if made.is_err() {
+            lock.give_back(rt);
+        }
+        let (made, listener) = made?;
         let holding = Holding {
-            path,
-            folder,
-            inside,
+            made,
             lock,
-            lock_file,
-            socket,
             is_placed: false,
         };
         match self.held.push(holding) {
@@ -111,7 +96,7 @@ impl Holdings {
         let Some(lock_file) = find_lock(rt, self.alloc, path)? else {
             return Ok(false);
         };
-        let is_held = |holding: &Holding| holding.lock_file == Some(lock_file);
+        let is_held = |holding: &Holding| holding.made.lock_file == Some(lock_file);
         Ok(self.held.iter().any(is_held))
     }
 
@@ -123,12 +108,14 @@ impl Holdings {
         Ok(())
     }
 
-    /// Removes the sockets that were not put in their places.
+    /// Removes the sockets that were not put in their places, and gives back each turn to have a
+    /// lock.
     pub fn clear<R: Files>(&self, rt: &R) {
         for holding in &self.held {
             if !holding.is_placed {
-                remove_made(rt, holding.folder.as_str(), holding.inside.as_str());
+                holding.made.remove(rt);
             }
+            holding.lock.give_back(rt);
         }
     }
 
@@ -141,7 +128,7 @@ impl Holdings {
         let mut taken = None;
         for holding in &self.held {
             if holding.is_replaced(rt) {
-                let path = holding.path.as_str();
+                let path = holding.made.path.as_str();
                 if path == main {
                     return Some(path);
                 }
@@ -154,18 +141,19 @@ impl Holdings {
 
 impl Holding {
     fn place<R: Files>(&mut self, rt: &R) -> Result<(), PlaceFault> {
-        fs::rename(rt, self.inside.as_str(), self.path.as_str())?;
+        fs::rename(rt, self.made.inside.as_str(), self.made.path.as_str())?;
         self.is_placed = true;
-        let _ = fs::remove_dir(rt, self.folder.as_str());
+        let _ = fs::remove_dir(rt, self.made.folder.as_str());
         Ok(())
     }
 
-    /// Takes the lock of the path, where only the turn to have it was had.
+    /// Takes the lock of the path, where only the turn to have it was had, and gives that back.
     fn take_lock<R: Files<File = File>>(&mut self, rt: &R, alloc: Global, process: Process) {
         if self.lock.is_own() {
             return;
         }
-        if let Ok(own) = lock_path(rt, alloc, self.path.as_str(), process) {
+        if let Ok(own) = lock_path(rt, alloc, self.made.path.as_str(), process) {
+            self.lock.give_back(rt);
             self.lock = PathLock::Own(own);
         }
     }
@@ -173,9 +161,40 @@ impl Holding {
     /// Whether another socket is in its place.
     fn is_replaced<R: Files>(&self, rt: &R) -> bool {
         self.is_placed
-            && fs::symlink_metadata(rt, self.path.as_str()).is_ok_and(|found| {
-                found.file_type().is_socket() && FileId::of(&found) != self.socket
+            && fs::symlink_metadata(rt, self.made.path.as_str()).is_ok_and(|found| {
+                found.file_type().is_socket() && FileId::of(&found) != self.made.socket
             })
+    }
+}
+
+impl Made {
+    /// Makes a socket with these permissions for a path of which the process has this lock.
+    fn make<R: Files + Net>(
+        rt: &R,
+        alloc: Global,
+        path: &str,
+        permissions: u32,
+        lock: &PathLock,
+    ) -> Result<(Made, UnixListener), PlaceFault> {
+        let lock_file = find_lock(rt, alloc, path)?;
+        check_place(rt, path, lock)?;
+        let folder = format!(in alloc; "{path}.{}", ending_of(lock))?;
+        let inside = format!(in alloc; "{folder}/s")?;
+        let path = String::from_str(alloc, path)?;
+        let (listener, socket) = make_inside(rt, folder.as_str(), inside.as_str(), permissions)?;
+        let made = Made {
+            path,
+            folder,
+            inside,
+            lock_file,
+            socket,
+        };
+        Ok((made, listener))
+    }
+
+    /// Removes it where it was made.
+    fn remove<R: Files>(&self, rt: &R) {
+        remove_made(rt, self.folder.as_str(), self.inside.as_str());
     }
 }
 

@@ -6,7 +6,7 @@ use crate::door::{Door, SideSocket};
 use crate::ending::{Call, Ending, Guests};
 use crate::entrance::Entrance;
 use crate::fault::DaemonFault;
-use crate::fleet::{Fleet, Idlers, Service, Shape, make_memory};
+use crate::fleet::{Fleet, Idlers, Service, Shape, make_seen};
 use crate::holding::Holdings;
 use crate::notices::{Beginning, Notices};
 use crate::numbers::Numbers;
@@ -91,10 +91,10 @@ where
     open_side(rt, alloc, side, &mut doors, holdings)?;
     let entrance = Entrance::open(rt, alloc, doors)?;
     let ending = Ending::new(alloc, entrance.shutter())?;
-    if let Some(signals) = signals {
-        heed_signals(*rt, signals, &ending)?;
-    }
     let notices = Notices::start(*rt, alloc, is_journal, terms.has_requests)?;
+    if let Some(signals) = signals {
+        heed_signals(*rt, signals, &ending, notices.share()?)?;
+    }
     let numbers = Numbers::begin(rt, alloc)?;
     numbers.set_keys(rt, terms.names);
     let limits = Limits {
@@ -140,15 +140,13 @@ impl Daemon {
         holdings.place_all(rt)?;
         say_listening(rt, terms, side);
         self.notices.tell_begin(rt, beginning_of(terms, side));
-        tell_manager(self.manager, State::Ready);
+        self.tell_manager(rt, State::Ready);
         Ok(())
     }
 
     /// Tells a daemon to end, at one of whose paths there is another one's socket.
     pub fn end_replaced<R: Wait + Clock>(&self, rt: &R, path: &str) {
-        if self.ending.tell_replaced(rt) {
-            self.notices.tell_replaced(rt, path);
-        }
+        self.ending.tell_replaced(rt, &self.notices, path);
     }
 
     /// Waits until the daemon is told something, for so long at most.
@@ -172,11 +170,22 @@ impl Daemon {
     /// after the seconds of its terms, or once it is told to end again, is cut off. Guests have as
     /// long to leave.
     pub fn see_off<R: Wait + Clock>(self, rt: &R) {
-        tell_manager(self.manager, State::Stopping);
+        self.tell_manager(rt, State::Stopping);
         let has_ended = self.ending.await_end(rt, self.drain);
         let left = self.quay.live().saturating_add(self.ending.guests(rt));
         let cut = if has_ended { 0 } else { left };
         self.notices.tell_end(rt, cut);
+    }
+
+    /// Tells the service manager, if one waits for it, how the daemon stands.
+    fn tell_manager<R: Wait + Clock>(&self, rt: &R, state: State) {
+        let Some(manager) = self.manager else {
+            return;
+        };
+        if let Err(fault) = manager.tell(state) {
+            self.notices
+                .tell_system(rt, "the service manager isn't told", fault);
+        }
     }
 }
 
@@ -279,13 +288,6 @@ where
     Ok(())
 }
 
-/// Tells the service manager, if one waits for it, how the daemon stands.
-fn tell_manager(manager: Option<NotifySocket>, state: State) {
-    if let Some(manager) = manager {
-        let _was_sent = manager.tell(state);
-    }
-}
-
 /// How many connections there may be at a time: as many as were asked for, or as the system's limit
 /// of descriptors allows beside those that are reserved, which is told then.
 fn allow_connections<R: Wait + Clock>(rt: &R, terms: Terms<'_>, notices: &Notices) -> u64 {
@@ -300,20 +302,6 @@ fn allow_connections<R: Wait + Clock>(rt: &R, terms: Terms<'_>, notices: &Notice
     }
     notices.tell_low(rt, most);
     most
-}
-
-/// The memory of tokens of a daemon. Where there is none for it that is told, and it computes each
-/// signature.
-fn make_seen<R: RandomSource + Eprint>(rt: &R, alloc: Global, shape: Shape) -> SeenTokens {
-    match make_memory(rt, alloc, shape) {
-        Some(seen) => seen,
-        None => {
-            let _ = eprintln!(rt;
-                "warning: no memory or no random bytes to remember tokens by; none is remembered"
-            );
-            SeenTokens::none()
-        }
-    }
 }
 
 /// What is told of a daemon at its start.

@@ -1,16 +1,19 @@
 //! The lock of a socket's path: a file beside it, which one process has for as long as it runs.
 use crate::place::PlaceFault;
 use std::alloc::{AllocError, Global};
-use std::fs::{File, Files, TryLockError};
+use std::fs::{File, Files, Metadata, OpenOptions, TryLockError};
 use std::io::{ErrorKind, Read, Seek, SeekFrom, Write};
-use std::os::unix::fs::OpenOptionsExt;
+use std::os::unix::fs::{MetadataExt, OpenOptionsExt};
 use std::process::Process;
 use std::sync::Wait;
 use std::time::{Clock, Duration};
 use std::{fs, process, thread};
 
 /// A lock file has the number of a process, a line feed, and no more.
-const NUMBER_MAX: usize = 16;
+const NUMBER_MAX: u64 = 16;
+
+/// How often a lock file is opened anew that was removed before it was locked.
+const OPENS: u64 = 8;
 
 /// How often the turn to have a lock next is asked for. Who has the turn gives it back at its first
 /// look after the end of the daemon that had the path, half a second later at most: the tries wait
@@ -29,13 +32,37 @@ pub enum Claim {
     Replacing,
 }
 
+/// Which file something is.
+#[derive(Clone, Copy, PartialEq, Eq)]
+pub struct FileId {
+    device: u64,
+    inode: u64,
+}
+
+impl FileId {
+    /// The file that the system told this of.
+    pub fn of(found: &Metadata) -> FileId {
+        FileId {
+            device: found.dev(),
+            inode: found.ino(),
+        }
+    }
+}
+
 /// What a process has of a path. No other process has the same as long as it is kept.
 #[derive(Drop)]
 pub enum PathLock {
     /// The lock of the path.
     Own(File),
     /// The turn to have that lock next, while another process has it.
-    Next(File),
+    Next(Turn),
+}
+
+/// The turn to have a path's lock next: the lock of a further file.
+#[derive(Drop)]
+pub struct Turn {
+    file: File,
+    name: String,
 }
 
 impl PathLock {
@@ -60,6 +87,42 @@ impl PathLock {
     pub fn is_own(&self) -> bool {
         matches!(self, PathLock::Own(_))
     }
+
+    /// Gives a turn back that isn't needed any more. The lock of the path is given back as its
+    /// process ends, and its file stays.
+    pub fn give_back<R: Files>(&self, rt: &R) {
+        if let PathLock::Next(turn) = self {
+            turn.give_back(rt);
+        }
+    }
+}
+
+impl Turn {
+    /// Takes the turn, which another process may be about to give back.
+    fn take<R>(rt: &R, alloc: Global, path: &str, process: Process) -> Result<Turn, PlaceFault>
+    where
+        R: Files<File = File> + Clock + Wait,
+    {
+        let name = format!(in alloc; "{path}.next.lock")?;
+        for _ in 0..TURN_TRIES {
+            match lock_file(rt, alloc, name.as_str(), process) {
+                Ok(file) => return Ok(Turn { file, name }),
+                Err(fault) if fault.is_locked() => {
+                    thread::sleep(rt, Duration::from_millis(TURN_MILLIS));
+                }
+                Err(fault) => return Err(fault),
+            }
+        }
+        Err(PlaceFault::Promised)
+    }
+
+    /// Removes the file of the turn, whose lock this process has still. Whoever has opened it
+    /// before, and gets its lock then, finds that it is at no path any more, and makes another one.
+    fn give_back<R: Files>(&self, rt: &R) {
+        if is_there(rt, self.name.as_str(), &self.file).unwrap_or(false) {
+            let _ = fs::remove_file(rt, self.name.as_str());
+        }
+    }
 }
 
 /// Takes the lock of a path, or the turn to have it next where another process has it.
@@ -67,29 +130,18 @@ fn take_turn<R>(rt: &R, alloc: Global, path: &str, process: Process) -> Result<P
 where
     R: Files<File = File> + Clock + Wait,
 {
-    let name = format!(in alloc; "{path}.next.lock")?;
-    let turn = await_turn(rt, alloc, name.as_str(), process)?;
+    let turn = Turn::take(rt, alloc, path, process)?;
     match lock_path(rt, alloc, path, process) {
-        Ok(own) => Ok(PathLock::Own(own)),
+        Ok(own) => {
+            turn.give_back(rt);
+            Ok(PathLock::Own(own))
+        }
         Err(fault) if fault.is_locked() => Ok(PathLock::Next(turn)),
-        Err(fault) => Err(fault),
-    }
-}
-
-/// Takes the turn, which another process may be about to give back.
-fn await_turn<R>(rt: &R, alloc: Global, name: &str, process: Process) -> Result<File, PlaceFault>
-where
-    R: Files<File = File> + Clock + Wait,
-{
-    for _ in 0..TURN_TRIES {
-        match lock_file(rt, alloc, name, process) {
-            Err(fault) if fault.is_locked() => {
-                thread::sleep(rt, Duration::from_millis(TURN_MILLIS));
-            }
-            settled => return settled,
+        Err(fault) => {
+            turn.give_back(rt);
+            Err(fault)
         }
     }
-    Err(PlaceFault::Promised)
 }
 
 /// Takes the lock of a path.
@@ -107,20 +159,31 @@ pub fn name_lock(alloc: Global, path: &str) -> Result<String, AllocError> {
 }
 
 /// Locks a file, and writes into it which process has it. The system gives a lock back as its
-/// process ends, however it ends; the file stays, and the next one takes it.
+/// process ends, however it ends.
 fn lock_file<R>(rt: &R, alloc: Global, name: &str, process: Process) -> Result<File, PlaceFault>
 where
     R: Files<File = File>,
 {
-    check_plain(rt, name)?;
-    let mut file = File::options()
-        .read(true)
-        .write(true)
-        .create(true)
-        .mode(0o600)
-        .open(rt, name)?;
-    let locked = file.try_lock();
-    let holder = read_holder(&mut file)?;
+    for _ in 0..OPENS {
+        if let Some(file) = open_lock(rt, name)? {
+            let locked = file.try_lock();
+            if is_there(rt, name, &file)? {
+                return keep_locked(alloc, file, locked, process);
+            }
+        }
+    }
+    Err(PlaceFault::LockedUnnamed)
+}
+
+/// Keeps a file whose lock was got, with the number of this process in it.
+fn keep_locked(
+    alloc: Global,
+    file: File,
+    locked: Result<(), TryLockError>,
+    process: Process,
+) -> Result<File, PlaceFault> {
+    let mut file = file;
+    let holder = read_holder(alloc, &mut file)?;
     match locked {
         Ok(()) => {}
         Err(TryLockError::WouldBlock) => return Err(PlaceFault::of_holder(holder)),
@@ -133,25 +196,74 @@ where
     Ok(file)
 }
 
-/// Whether a lock may stand here: there is nothing, or a plain file.
-fn check_plain<R: Files>(rt: &R, name: &str) -> Result<(), PlaceFault> {
+/// Opens a lock's file, or makes it where nothing is there, if neither changed meanwhile. None is
+/// made where a link leads. One that is there is looked at first, and again once it is open.
+fn open_lock<R: Files<File = File>>(rt: &R, name: &str) -> Result<Option<File>, PlaceFault> {
+    let mut options = File::options();
+    options.read(true).write(true);
     match fs::symlink_metadata(rt, name) {
-        Err(refused) if refused.kind() == ErrorKind::NotFound => Ok(()),
+        Ok(found) => {
+            check_lock(&found)?;
+            open_unless(rt, &options, name, ErrorKind::NotFound)
+        }
+        Err(refused) if refused.kind() == ErrorKind::NotFound => {
+            options.create_new(true).mode(0o600);
+            open_unless(rt, &options, name, ErrorKind::AlreadyExists)
+        }
         Err(refused) => Err(PlaceFault::from(refused)),
-        Ok(found) if found.file_type().is_file() => Ok(()),
-        Ok(_) => Err(PlaceFault::NoLock),
     }
+}
+
+/// Opens a file, but for a fault of this kind.
+fn open_unless<R: Files<File = File>>(
+    rt: &R,
+    options: &OpenOptions,
+    name: &str,
+    but: ErrorKind,
+) -> Result<Option<File>, PlaceFault> {
+    match options.open(rt, name) {
+        Ok(file) => Ok(Some(file)),
+        Err(refused) if refused.kind() == but => Ok(None),
+        Err(refused) => Err(PlaceFault::from(refused)),
+    }
+}
+
+/// Whether a path leads to a file that is open, and which may be a lock.
+fn is_there<R: Files>(rt: &R, name: &str, file: &File) -> Result<bool, PlaceFault> {
+    let opened = file.metadata()?;
+    match fs::symlink_metadata(rt, name) {
+        Ok(found) => {
+            check_lock(&found)?;
+            Ok(FileId::of(&found) == FileId::of(&opened))
+        }
+        Err(refused) if refused.kind() == ErrorKind::NotFound => Ok(false),
+        Err(refused) => Err(PlaceFault::from(refused)),
+    }
+}
+
+/// Whether a file may be a lock: it is plain, has one name, and is this process's user's.
+fn check_lock(found: &Metadata) -> Result<(), PlaceFault> {
+    if !found.file_type().is_file() || found.nlink() > 1 {
+        return Err(PlaceFault::NoLock);
+    }
+    if found.uid() != libc::geteuid() {
+        return Err(PlaceFault::ForeignLock);
+    }
+    Ok(())
 }
 
 /// The process whose number a lock file has, if it has one. Any other text is no lock's, and is
 /// left alone.
-fn read_holder(file: &mut File) -> Result<Option<u32>, PlaceFault> {
-    let mut text = [0u8; NUMBER_MAX];
-    let count = file.read(&mut text)?;
-    if count == 0 {
+fn read_holder(alloc: Global, file: &mut File) -> Result<Option<u32>, PlaceFault> {
+    if file.metadata()?.size() > NUMBER_MAX {
+        return Err(PlaceFault::NoLock);
+    }
+    let mut text = Vec::new(alloc);
+    file.read_to_end(&mut text)?;
+    if text.is_empty() {
         return Ok(None);
     }
-    let Ok(line) = str::from_utf8(&text[..count]) else {
+    let Ok(line) = str::from_utf8(text.as_slice()) else {
         return Err(PlaceFault::NoLock);
     };
     let Some(number) = line.strip_suffix("\n") else {

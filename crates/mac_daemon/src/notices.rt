@@ -2,10 +2,11 @@
 
 use crate::fault::DaemonFault;
 use mac_board::{News, Refusal};
-use mac_log::{Fields, Key, Kind, Log, NoMemory, start_log};
+use mac_log::{Fields, Key, Kind, Log, NoMemory, is_told_name, start_log};
 use mac_loop::{Badge, Exchange, Life, PlainFault, microseconds};
 use mac_serve::ServeFault;
 use std::alloc::Global;
+use std::io;
 use std::sync::{Arc, Wait};
 use std::thread::Threads;
 use std::time::Clock;
@@ -146,6 +147,12 @@ impl Notices {
         self.log.post(rt, Kind::AcceptFault, fields);
     }
 
+    /// Tells a step that the system refused, and that is made again or left out.
+    pub fn tell_system<R: Wait + Clock>(&self, rt: &R, step: &str, fault: io::Error) {
+        let fields = system_fields(self.alloc, step, fault);
+        self.log.post(rt, Kind::SystemFault, fields);
+    }
+
     /// Tells what came of a look at the key file, if there is anything to be told.
     pub fn tell_keys<R: Wait + Clock>(&self, rt: &R, file: &str, news: News) {
         let (kind, fields) = match news {
@@ -220,7 +227,7 @@ fn exchange_fields(
         fields = fields.with_number(alloc, Key::Connection, badge.number)?;
     }
     fields = fields.with_text(Key::Asks, exchange.asks.as_bytes())?;
-    if !exchange.name.is_empty() {
+    if is_told_name(exchange.name.as_slice()) {
         fields = fields.with_text(Key::Name, exchange.name.as_slice())?;
     }
     fields = fields.with_text(Key::Verdict, exchange.verdict.as_bytes())?;
@@ -234,6 +241,11 @@ fn limit_fields(alloc: Global, limit: &str, most: u64) -> Result<Fields, NoMemor
     Fields::new(alloc)
         .with_text(Key::Limit, limit.as_bytes())?
         .with_number(alloc, Key::Connections, most)
+}
+
+fn system_fields(alloc: Global, step: &str, fault: io::Error) -> Result<Fields, NoMemory> {
+    let why = format!(in alloc; "{step}: {fault}")?;
+    Fields::new(alloc).with_text(Key::Fault, why.as_bytes())
 }
 
 fn taken_fields(alloc: Global, file: &str, names: usize) -> Result<Fields, NoMemory> {

@@ -28,6 +28,9 @@ pub enum PlaceFault {
     /// What stands in the place of the path's lock is none.
     #[error("beside it there is a .lock that is no lock; remove that, or give another path")]
     NoLock,
+    /// The file in the place of the path's lock is another user's.
+    #[error("beside it there is a .lock of another user; remove that, or give another path")]
+    ForeignLock,
     /// Something else than a socket is at the path.
     #[error("there is something that is no socket; remove that, or give another path")]
     NoSocket,

@@ -5,13 +5,13 @@ use crate::accepting::Limits;
 use crate::door::Door;
 use crate::entrance::Entrance;
 use crate::fault::DaemonFault;
-use crate::fleet::{Day, Fleet, Idlers, Service, Shape, make_memory};
+use crate::fleet::{Day, Fleet, Idlers, Service, Shape, make_seen};
 use crate::numbers::Numbers;
 use crate::place::bind_new;
 use crate::quay::Quay;
 use crate::roster::Roster;
 use mac_board::Followers;
-use mac_decide::{Rights, SeenTokens};
+use mac_decide::Rights;
 use mac_wire::{Sink, send_all};
 use std::alloc::Global;
 use std::fs::Files;
@@ -33,7 +33,8 @@ pub fn accept_all<R, W>(
     out: &mut W,
 ) -> Result<Day, DaemonFault>
 where
-    R: Files + Net + Threads + Wait + Clock + RandomSource + Sync + Copy + Send + 'static,
+    R: Files + Net + Threads + Wait + Clock + RandomSource + Eprint,
+    R: Sync + Copy + Send + 'static,
     W: Sink,
     requires writable { W.faults out.old < u64.MAX }
     ensures served { IfOk result (λ day. day.served ≡ accept) }
@@ -42,7 +43,7 @@ where
     let mut doors = Vec::with_capacity(alloc, 1)?;
     Door::add(&mut doors, alloc, listener, Rights::all(), false)?;
     let roster = Roster::new(rt, alloc, shape.connections, Vec::new(alloc))?;
-    let seen = make_memory(rt, alloc, shape).unwrap_or(SeenTokens::none());
+    let seen = make_seen(rt, alloc, shape);
     let service = Service {
         workers: shape.workers,
         idlers: Idlers::make(rt, alloc, shape, &seen)?,

@@ -2,6 +2,7 @@
 
 use crate::ending::Ending;
 use crate::fault::DaemonFault;
+use crate::notices::Notices;
 use mac_system::{NotifySocket, Signal, Signals, handed_listener};
 use std::alloc::{Alloc, Global};
 use std::env::Env;
@@ -9,7 +10,11 @@ use std::os::unix::net::UnixListener;
 use std::process::Process;
 use std::sync::{Arc, Wait};
 use std::thread::Threads;
+use std::time::{Clock, Duration};
 use std::{env, thread};
+
+/// How many milliseconds to wait where the system gives no signals, before they are read again.
+const PAUSE_MILLIS: u64 = 1_000;
 
 /// What a daemon is given by who starts it.
 #[derive(Drop)]
@@ -40,28 +45,33 @@ impl Surroundings {
     }
 }
 
-/// Starts the thread that tells a daemon to end at SIGTERM and SIGINT, and to look at SIGHUP.
+/// Starts the thread that tells a daemon to end at SIGTERM and SIGINT, and to look at SIGHUP. Where
+/// signals can't be read that is logged, and they are read again after a pause.
 pub fn heed_signals<R>(
     rt: R,
     signals: Signals,
     ending: &Arc<Ending, Global>,
+    notices: Notices,
 ) -> Result<(), DaemonFault>
 where
-    R: Threads + Wait + Copy + Send + 'static,
+    R: Threads + Wait + Clock + Copy + Send + 'static,
 {
     let ending = Arc::try_clone(ending)?;
-    match thread::spawn(&rt, move || heed_each(&rt, signals, &ending)) {
+    match thread::spawn(&rt, move || heed_each(&rt, signals, &ending, &notices)) {
         Ok(_) => Ok(()),
         Err(_) => Err(DaemonFault::NoThread),
     }
 }
 
-fn heed_each<R: Wait>(rt: &R, signals: Signals, ending: &Ending) {
+fn heed_each<R: Wait + Clock>(rt: &R, signals: Signals, ending: &Ending, notices: &Notices) {
     for _ in rt.forever() {
         match signals.wait() {
-            None => return,
-            Some(Signal::HangUp) => ending.prompt(rt),
-            Some(Signal::Interrupt | Signal::Terminate) => ending.tell(rt),
+            Ok(Signal::HangUp) => ending.prompt(rt),
+            Ok(Signal::Interrupt | Signal::Terminate) => ending.tell(rt),
+            Err(fault) => {
+                notices.tell_system(rt, "signals can't be read", fault);
+                thread::sleep(rt, Duration::from_millis(PAUSE_MILLIS));
+            }
         }
     }
 }

@@ -1,6 +1,6 @@
 -- A token that is written before its signature is known, one caveat after the other.
 use Rattle.std.proofs.Common.{◌≡◌, ℕ, List, [], ◌∷◌, append_assoc, length, ◌≤◌, length-append, arith, Ok, Err, sym, ap, subst, ◌∙◌}
-use Rattle.std.proofs.lemmas.List.{append-nil, get_or_append_left}
+use Rattle.std.proofs.lemmas.List.{get_or_append_left}
 use Rattle.mac_token.specs.Answers.{IsFault}
 use Rattle.mac_token.specs.Draft.{DraftParts, IsDraftOf}
 use Rattle.mac_token.specs.Limits.{IsWithinLimits, is_within, token_or_limit}
@@ -78,10 +78,3 @@ pub refused-reaches : (form : Form) (d : DraftParts) (fault : TokenFault) (text 
 refused-reaches form d fault text rest left whole next refused r =
     let more = with_caveats r.so_far (text ∷ []) r.so_far.sig in
     subst (λ (t : TokenParts). IsFault fault (token_or_limit t)) (one_more r.so_far text rest left whole next r.rest) (limit-more more rest more.sig fault (weaker-fault more fault (refused form r.so_far r.is)))
-
--- no text is left
-pub all-reached : (form : Form) (d : DraftParts) (left : List (List ℕ)) (whole : TokenParts) → left ≡ [] → Reaches form d left whole → IsDraftOf form whole d
-all-reached form d left whole none r =
-    let t = r.so_far in
-    let nothing : t ≡ with_caveats t [] t.sig = ap (λ (caveats : List (List ℕ)). token_parts t.location t.identifier caveats t.sig) (sym (append-nil t.caveats)) in
-    subst (λ (t : TokenParts). IsDraftOf form t d) (nothing ∙ ap (λ (texts : List (List ℕ)). with_caveats t texts t.sig) (sym none) ∙ r.rest) r.is

@@ -14,7 +14,6 @@ pub mod RightsLemmas
 pub mod NowLemmas
 pub mod WorldLemmas
 pub mod VerifiedLemmas
-pub mod FoldingLemmas
 pub mod SigningLemmas
 pub mod PreparedLemmas
 pub mod DraftingLemmas

@@ -1,11 +1,10 @@
 -- A run of prepared replies.
-use Rattle.std.proofs.Common.{◌≡◌, ℕ, arith, ◌+◌, ◌<◌, ◌≤◌, List, [], ◌∷◌, ◌++◌, append_assoc, length, map, slice_get, slice_index, slice_set, get_or, sym, ap, ◌∙◌}
+use Rattle.std.proofs.Common.{◌≡◌, ℕ, arith, ◌+◌, ◌<◌, ◌≤◌, List, [], ◌∷◌, ◌++◌, length, slice_get, slice_index, slice_set, get_or, sym, ◌∙◌}
 use Rattle.std.proofs.lemmas.List.{get_or_default}
 use Rattle.std.proofs.lemmas.Option.{slice_get-get_or}
-use Rattle.mac_order.proofs.Staffed.{slice_get-set_other}
+use Rattle.mac_order.proofs.Put.{slice_get-set_other}
 use Rattle.mac_hmac.specs.Chain.{extended}
-use Rattle.mac_wire.specs.declared.reply.Reply.{Reply}
-use Rattle.mac_decide.specs.Prepared.{AreNext, comes_to, left_of, signature_of}
+use Rattle.mac_decide.specs.Prepared.{AreNext, left_of, signature_of}
 use Rattle.mac_decide.specs.declared.prepared.Prepared.{Prepared}
 
 -- the signature at a place that wasn't passed
@@ -24,11 +23,3 @@ pub still-ahead : (run initial : List Prepared) (next place : ℕ) (new : Prepar
     → (later : ℕ) → place + 1 ≤ later → slice_get (slice_set run place new) later ≡ slice_get initial later
 still-ahead run initial next place new behind ahead later le =
     slice_get-set_other run place new later (λ e. absurd (omega (arith, e, le))) ∙ ahead later (omega (arith, behind, le))
-
--- the reply to the first part of what is left goes behind the others
-pub one-more-told : (replies grown wanted : List Reply) (run rest : List Prepared) (first : Prepared) (reply : Reply) → run ≡ first ∷ rest
-    → reply ≡ comes_to first → grown ≡ replies ++ reply ∷ [] → replies ++ map comes_to run ≡ wanted → grown ++ map comes_to rest ≡ wanted
-one-more-told replies grown wanted run rest first reply is told more before =
-    ap (λ (list : List Reply). list ++ map comes_to rest) more ∙ append_assoc replies (reply ∷ []) (map comes_to rest)
-    ∙ ap (λ (r : Reply). replies ++ r ∷ map comes_to rest) told
-    ∙ ap (λ (parts : List Prepared). replies ++ map comes_to parts) (sym is) ∙ before

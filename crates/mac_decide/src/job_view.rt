@@ -64,14 +64,6 @@ impl<'a> JobView<'a> {
             moment: self.moment,
         }
     }
-
-    /// Whether a request may stand in it: it isn't empty.
-    pub(crate) fn has_payload(&self) -> bool {
-        match self.arrival {
-            ArrivalView::Payload(payload) => !payload.is_empty(),
-            ArrivalView::Oversize => false,
-        }
-    }
 }
 
 /// A frame of too great a length, without keys, leave to mint or moment: what stands in a place

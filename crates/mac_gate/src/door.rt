@@ -3,6 +3,7 @@
 use crate::address::Address;
 use crate::stream::Stream;
 use mac_daemon::{Holdings, PlaceFault};
+use mac_decide::Rights;
 use std::alloc::Global;
 use std::fs::{File, Files};
 use std::io;
@@ -23,10 +24,11 @@ pub enum Door {
     Tcp(TcpListener),
 }
 
-/// Doors that were opened one after another.
+/// Doors that were opened one after another, and what is allowed at each of them.
 #[derive(Drop)]
 pub struct Doors {
     pub(crate) doors: Vec<Door>,
+    pub(crate) rights: Rights,
 }
 
 /// Why there is no door at an address.
@@ -109,10 +111,15 @@ impl Door {
 }
 
 impl Doors {
-    /// No door yet.
-    pub fn new(alloc: Global) -> Doors {
+    ghost use Rattle.std.specs.Prelude.{◌≡◌};
+
+    /// No door yet. What is allowed at those that are opened is told here.
+    pub fn new(alloc: Global, rights: Rights) -> Doors
+        ensures { result.rights ≡ rights }
+    {
         Doors {
             doors: Vec::new(alloc),
+            rights,
         }
     }
 

@@ -70,7 +70,9 @@ impl Entrance {
             if let Some(welcome) = self.try_doors(rt) {
                 return Some(welcome);
             }
-            let _ = self.poll.poll(&mut self.events, None);
+            if let Err(fault) = self.poll.poll(&mut self.events, None) {
+                return Some(Err(fault));
+            }
         }
         unreachable!()
     }

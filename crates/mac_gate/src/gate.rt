@@ -63,7 +63,7 @@ pub fn open_gate<R>(
 where
     R: Net + Threads + Wait + Clock + RandomSource + Sync + Copy + Send + 'static,
 {
-    let Doors { doors } = doors;
+    let Doors { doors, rights } = doors;
     let (entrance, waker) = Entrance::open(rt, alloc, doors)?;
     let (mut made, mut wakers) = (Vec::new(alloc), Vec::new(alloc));
     for number in 0..loops {
@@ -72,7 +72,7 @@ where
             return Err(GateFault::NoMemory);
         }
     }
-    let house = House::new(alloc, terms, guests, waker, wakers)?;
+    let house = House::new(alloc, terms, rights, guests, waker, wakers)?;
     house.open(rt);
     if !start_all(rt, alloc, made, entrance, &house, followers, terms) {
         house.close(rt);

@@ -9,10 +9,11 @@ use http::StatusCode;
 use mac_board::Follower;
 use mac_count::{Number, Request, append_metrics, append_status, append_version};
 use mac_daemon::Guests;
-use mac_decide::SeenTokens;
+use mac_decide::{Rights, SeenTokens};
 use mac_http::Noted;
 use mio::Waker;
 use std::alloc::{AllocError, Global};
+use std::io;
 use std::sync::atomic::Ordering::SeqCst;
 use std::sync::atomic::{AtomicBool, AtomicUsize};
 use std::sync::{Arc, Mutex, Wait};
@@ -40,6 +41,8 @@ struct Inbox {
 /// What the threads of a gate share.
 #[derive(Drop)]
 pub struct House {
+    // What is allowed at its doors.
+    rights: Rights,
     places: Mutex<Places<()>>,
     inboxes: Vec<Inbox>,
     is_ending: AtomicBool,
@@ -59,6 +62,7 @@ impl House {
     pub fn new(
         alloc: Global,
         terms: Terms,
+        rights: Rights,
         guests: Guests,
         waker: Waker,
         wakers: Vec<Waker>,
@@ -72,6 +76,7 @@ impl House {
             })?;
         }
         let house = House {
+            rights,
             places: Mutex::new(Places::new(alloc, terms.connections)?),
             inboxes,
             is_ending: AtomicBool::new(false),
@@ -82,6 +87,11 @@ impl House {
             alloc,
         };
         Ok(Arc::new(alloc, house)?)
+    }
+
+    /// What is allowed at its doors.
+    pub fn rights(&self) -> &Rights {
+        &self.rights
     }
 
     /// Whether its connections are to end.
@@ -131,6 +141,13 @@ impl House {
         };
         self.guests
             .tell_exchange(rt, exchange_of(noted.asks, name, status));
+    }
+
+    /// Logs that the system gave no connection.
+    pub fn tell_refused<R: Wait + Clock>(&self, rt: &R, fault: io::Error) {
+        if let Ok(text) = fault.to_string(self.alloc) {
+            self.guests.tell_refused(rt, text.as_str());
+        }
     }
 
     /// Whether the last key file that its daemon read was refused.

@@ -25,4 +25,4 @@ mod welcoming;
 pub use address::{Address, AddressFault, ListFault, Reach, read_address, read_addresses};
 pub use door::{Door, DoorFault, Doors};
 pub use gate::{Gate, GateFault, open_gate};
-pub use terms::{Pages, Terms};
+pub use terms::Terms;

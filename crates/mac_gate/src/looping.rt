@@ -29,7 +29,7 @@ const EVENTS: usize = 256;
 const STACK: usize = 1_048_576;
 
 /// What answers a connection of a loop.
-type OwnFace<'x, R> = Face<Follower, SystemMoments<'x, R>, Speaker<'x, R>>;
+type OwnFace<'x, R> = Face<'x, Follower, SystemMoments<'x, R>, Speaker<'x, R>>;
 
 /// What a loop waits by.
 #[derive(Drop)]
@@ -173,13 +173,10 @@ fn line_of<'x, R: Wait + Clock + RandomSource>(
     now: Duration,
 ) -> io::Result<Line<OwnFace<'x, R>>> {
     let secrets = RandomState::new(rt)?;
-    let speaker = Speaker {
-        rt,
-        house,
-        pages: terms.pages,
-    };
+    let speaker = Speaker { rt, house };
     let moments = SystemMoments::new(rt);
-    let face = Face::new(alloc, arrival.keys, terms.rules, moments, speaker);
+    let rules = terms.rules(house.rights(), arrival.stream.way());
+    let face = Face::new(alloc, arrival.keys, rules, moments, speaker);
     let connection = Connection::new(alloc, secrets, CONFIG);
     Ok(Line::new(arrival.stream, connection, face, now))
 }

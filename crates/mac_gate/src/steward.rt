@@ -2,7 +2,6 @@
 
 use crate::house::House;
 use crate::noting::request_of;
-use crate::terms::Pages;
 use http::StatusCode;
 use mac_decide::SeenTokens;
 use mac_http::{Noted, Page, Steward, Told};
@@ -10,22 +9,11 @@ use std::alloc::AllocError;
 use std::sync::Wait;
 use std::time::Clock;
 
-/// Speaks for the daemon of a gate that has these pages.
+/// Speaks for the daemon of a gate.
 #[derive(Drop)]
 pub struct Speaker<'a, R> {
     pub rt: &'a R,
     pub house: &'a House,
-    pub pages: Pages,
-}
-
-impl Pages {
-    /// Whether a page is among them.
-    fn has(self, page: Page) -> bool {
-        match page {
-            Page::Health | Page::Numbers => self != Pages::Nothing,
-            Page::Status | Page::Connections => self == Pages::All,
-        }
-    }
 }
 
 impl<'a, R: Wait + Clock> Steward for Speaker<'a, R> {
@@ -38,9 +26,6 @@ impl<'a, R: Wait + Clock> Steward for Speaker<'a, R> {
     }
 
     fn tell(&self, page: Page, text: &mut Vec<u8>) -> Result<Told, AllocError> {
-        if !self.pages.has(page) {
-            return Ok(Told::Nothing);
-        }
         match page {
             Page::Health => return tell_health(self.house, text),
             Page::Numbers => self.house.append_metrics(text)?,

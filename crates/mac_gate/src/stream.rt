@@ -2,6 +2,7 @@
 
 ghost use Rattle.std.specs.Io.{ReadsAtMost, WritesAtMost};
 
+use mac_http::Way;
 use std::io;
 use std::io::{Read, Write};
 use std::net::{Shutdown, TcpStream};
@@ -26,6 +27,14 @@ impl Stream {
                 stream.set_nonblocking(true)?;
                 stream.set_nodelay(true)
             }
+        }
+    }
+
+    /// The way by which its peer comes.
+    pub fn way(&self) -> Way {
+        match self {
+            Stream::Unix(_) => Way::Socket,
+            Stream::Tcp(_) => Way::Port,
         }
     }
 

@@ -1,30 +1,48 @@
 //! How a gate serves its connections.
 
-use mac_http::Rules;
-use std::time::Duration;
+ghost use Rattle.std.specs.Prelude.{◌≡◌};
 
-/// Which pages that tell of the daemon a gate has.
-#[derive(Clone, Copy, Debug, PartialEq, Eq)]
-pub enum Pages {
-    /// None.
-    Nothing,
-    /// Those that a gateway, a balancer and Prometheus ask for: its health and its metrics.
-    Public,
-    /// All of them.
-    All,
-}
+use mac_decide::Rights;
+use mac_http::{Calls, Granted, Pages, Rules, Sources, Way};
+use std::time::Duration;
 
 /// How connections are served.
 #[derive(Clone, Copy)]
 pub struct Terms {
-    /// What the face does with a request.
-    pub rules: Rules,
+    /// Where facts are taken from.
+    pub sources: Sources,
+    /// The status that grants.
+    pub granted: Granted,
+    /// The calls that are answered.
+    pub calls: Calls,
+    /// The pages that tell of the daemon.
+    pub pages: Pages,
     /// How many connections there are at a time.
     pub connections: usize,
     /// How long a peer may bring no whole request, and a write may wait.
     pub patience: Duration,
-    /// Which pages there are.
-    pub pages: Pages,
     /// The version of the program, which a page tells.
     pub version: &'static str,
+}
+
+impl Terms {
+    /// What the face of a connection does with a request, where its address allows this and its peer
+    /// comes by this way.
+    pub(crate) fn rules<'a>(&self, rights: &'a Rights, way: Way) -> Rules<'a>
+        ensures sources { result.sources ≡ self.now.sources }
+        ensures granted { result.granted ≡ self.now.granted }
+        ensures calls { result.calls ≡ self.now.calls }
+        ensures pages { result.pages ≡ self.now.pages }
+        ensures rights { result.rights.now ≡ rights.now }
+        ensures way { result.way ≡ way }
+    {
+        Rules {
+            sources: self.sources,
+            granted: self.granted,
+            calls: self.calls,
+            pages: self.pages,
+            rights,
+            way,
+        }
+    }
 }

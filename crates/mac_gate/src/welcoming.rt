@@ -35,7 +35,8 @@ where
 }
 
 /// Accepts connections until the house ends, and hands each to a loop. One for which there is no
-/// memory is closed. Without one the system is asked again after a pause.
+/// memory is closed. Where the system gives none that is logged, and it is asked again after a
+/// pause.
 fn welcome_each<R: Wait + Clock>(
     rt: &R,
     entrance: &mut Entrance,
@@ -49,7 +50,10 @@ fn welcome_each<R: Wait + Clock>(
                     house.enter(rt, stream, keys);
                 }
             }
-            Some(Err(_)) => thread::sleep(rt, Duration::from_millis(PAUSE_MILLIS)),
+            Some(Err(fault)) => {
+                house.tell_refused(rt, fault);
+                thread::sleep(rt, Duration::from_millis(PAUSE_MILLIS));
+            }
             None => return,
         }
     }

@@ -12,4 +12,4 @@ mod signature;
 pub use hmac_state::{HmacState, hmac};
 pub use key::{RootKey, root_key};
 pub use side_by_side::{extend_each, hmac_each, start_each};
-pub use signature::{Chain, Sig, extend, same, start};
+pub use signature::{Sig, extend, same, start};

@@ -56,50 +56,9 @@ pub fn extend(signature: Sig, caveat: &[u8]) -> Sig
     }
 }
 
-/// A chain that grows by one caveat at a time. Contracts see the bytes of its signature so far.
-#[derive(Clone, Copy)]
-pub struct Chain {
-    signature: Sig,
-}
-
-impl Model for Chain {
-    ghost use Rattle.std.specs.Prelude.{List, ℕ};
-
-    ghost Value = { List ℕ };
-
-    ghost view = { λ chain. chain.signature };
-
-    ghost inverse = { λ bytes. record { signature = bytes } };
-}
-
-impl Chain {
-    /// The chain of a macaroon with this identifier and no caveat.
-    pub fn start(key: &RootKey, identifier: &[u8]) -> Chain
-        ensures { result ≡ chain key.now identifier.now [] }
-    {
-        Chain {
-            signature: start(key, identifier),
-        }
-    }
-
-    /// Folds one more first-party caveat on.
-    pub fn push(&mut self, caveat: &[u8])
-        ensures { self.new ≡ extended self.old (caveat.now ∷ []) }
-    {
-        *self = Chain {
-            signature: extend(self.signature, caveat),
-        };
-    }
-
-    /// The signature after the caveats that were pushed.
-    pub fn sig(&self) -> Sig
-        ensures { result ≡ self.now }
-    {
-        self.signature
-    }
-}
-
-/// Whether all 32 bytes agree. It compares every byte before it answers; no claim is made on time.
+/// Whether all 32 bytes agree. It is a function of its own in the program, so that its machine code
+/// can be read: it has no branch, and so one course for all bytes. No proof speaks of time.
+#[inline(never)]
 pub fn same(a: &Sig, b: &Sig) -> bool
     ensures { IsTrue result ↔ (a.now ≡ b.now) }
 {

@@ -3,5 +3,7 @@ pub mod FieldLemmas
 pub mod FoundLemmas
 pub mod LawLemmas
 pub mod ListLemmas
+pub mod MintLemmas
+pub mod NameLemmas
 pub mod PathLemmas
 pub mod TurnLemmas

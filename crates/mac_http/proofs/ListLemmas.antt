@@ -1,18 +1,5 @@
 -- Lists that are put together element by element.
-use Rattle.std.proofs.Common.{◌≡◌, List, [], ◌∷◌, ◌++◌, map, ap, sym, ◌∙◌, append_assoc}
-use Rattle.std.specs.List.{flat_map}
-
--- one more element stands for one more
-pub one_mapped : {X Y : Type 0} (f : X → Y) (left rest : List X) (x : X) (old new whole : List Y) → left ≡ x ∷ rest
-    → old ++ map f left ≡ whole → new ≡ old ++ f x ∷ [] → new ++ map f rest ≡ whole
-one_mapped f left rest x old new whole e inv more =
-    ap (λ t. t ++ map f rest) more ∙ append_assoc old (f x ∷ []) (map f rest) ∙ ap (λ l. old ++ map f l) (sym e) ∙ inv
-
--- one more element stands for a list more
-pub one_flat : {X Y : Type 0} (f : X → List Y) (left rest : List X) (x : X) (old new whole : List Y) → left ≡ x ∷ rest
-    → old ++ flat_map f left ≡ whole → new ≡ old ++ f x → new ++ flat_map f rest ≡ whole
-one_flat f left rest x old new whole e inv more =
-    ap (λ t. t ++ flat_map f rest) more ∙ append_assoc old (f x) (flat_map f rest) ∙ ap (λ l. old ++ flat_map f l) (sym e) ∙ inv
+use Rattle.std.proofs.Common.{◌≡◌, List, [], ◌∷◌, ◌++◌, ap, ◌∙◌, append_assoc}
 
 -- two elements put one after the other
 pub two_put : {X : Type 0} (old mid new : List X) (x y x' y' : X) → x ≡ x' → y ≡ y' → mid ≡ old ++ x ∷ [] → new ≡ mid ++ y ∷ [] → new ≡ old ++ x' ∷ y' ∷ []

@@ -1,20 +1,20 @@
 -- Paths from a place on, and their steps up to one.
-use Rattle.std.proofs.Common.{◌≡◌, ℕ, suc, ◌+◌, ◌-◌, ◌<◌, ◌≤◌, true, false, List, ◌++◌, length, take, drop, map, refl, ap, sym, ◌∙◌, append_assoc, append-nil, add-one, length-drop, arith}
+use Rattle.std.proofs.Common.{◌≡◌, ℕ, suc, ◌+◌, ◌-◌, ◌<◌, ◌≤◌, Bool, true, false, List, ◌++◌, length, take, drop, map, refl, ap, sym, ◌∙◌, append_assoc, append-nil, add-one, length-drop, arith}
 use Rattle.std.proofs.Math.Seq.{drop-cons}
 use Rattle.std.proofs.lemmas.List.{map-append, drop_all, take_all}
 use Rattle.mac_http.specs.Path.{begins_unsafe, has_unsafe, step_of, steps_within}
 
 -- what begins at a place isn't unsafe: then what is from there on is from the next on
-pub unsafe_later : (path : List ℕ) (i : ℕ) → i < length path → begins_unsafe (drop i path) ≡ false → has_unsafe (drop (i + 1) path) ≡ has_unsafe (drop i path)
+pub unsafe_later : (strict : Bool) (path : List ℕ) (i : ℕ) → i < length path → begins_unsafe strict (drop i path) ≡ false → has_unsafe strict (drop (i + 1) path) ≡ has_unsafe strict (drop i path)
 unfolding has_unsafe
-unsafe_later path i below none =
+unsafe_later strict path i below none =
     let e = drop-cons path i 0 below in
     rw (add-one i, e, simp e at none) refl
 
 -- what begins at a place is unsafe
-pub unsafe_here : (path : List ℕ) (i : ℕ) → i < length path → begins_unsafe (drop i path) ≡ true → has_unsafe (drop i path) ≡ true
+pub unsafe_here : (strict : Bool) (path : List ℕ) (i : ℕ) → i < length path → begins_unsafe strict (drop i path) ≡ true → has_unsafe strict (drop i path) ≡ true
 unfolding has_unsafe
-unsafe_here path i below some =
+unsafe_here strict path i below some =
     let e = drop-cons path i 0 below in
     rw (e, simp e at some) refl
 
@@ -23,9 +23,9 @@ pub tail_is : (path : List ℕ) (i : ℕ) → take (length path - i) (drop i pat
 tail_is path i = take_all (length path - i) (drop i path) (omega (arith, length-drop i path))
 
 -- behind the end nothing is
-pub unsafe_none : (path : List ℕ) (i : ℕ) → length path ≤ i → has_unsafe (drop i path) ≡ false
+pub unsafe_none : (strict : Bool) (path : List ℕ) (i : ℕ) → length path ≤ i → has_unsafe strict (drop i path) ≡ false
 unfolding has_unsafe
-unsafe_none path i past = rw (drop_all i path past) refl
+unsafe_none strict path i past = rw (drop_all i path past) refl
 
 -- before the first place there is no step
 pub steps_none : (f : List ℕ → List ℕ) (path : List ℕ) (base : List (List ℕ)) → base ≡ base ++ map f (steps_within path 0)

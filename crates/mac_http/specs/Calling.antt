@@ -1,5 +1,5 @@
 -- Calls that bring JSON, and the responses to them (this project's own).
-use Rattle.std.specs.Prelude.{ℕ, ◌⊎◌, Bool, true, false, ◌&&◌, if◌then◌else◌, List, [], ◌∷◌, codes, bytes_eq, Option, Some, None, option_map}
+use Rattle.std.specs.Prelude.{ℕ, ◌⊎◌, Bool, true, false, not, ◌&&◌, if◌then◌else◌, List, [], ◌∷◌, codes, bytes_eq, Option, Some, None, option_map}
 use Rattle.http.specs.Request.{head_of, body_of}
 use Rattle.http.specs.declared.request.Request.{Request}
 use Rattle.http1.specs.Fields.{Header}
@@ -10,14 +10,32 @@ use Rattle.mac_calls.specs.declared.answering.Outcome.{Outcome}
 use Rattle.mac_calls.specs.declared.answering.Outcome.TheVariants.{NoKey, Reply, Refused}
 use Rattle.mac_calls.specs.declared.call.Call.{Call}
 use Rattle.mac_calls.specs.declared.call.Call.TheVariants.{Mint, Attenuate, Inspect, Check}
+use Rattle.mac_decide.specs.Terms.{is_allowed}
 use Rattle.mac_keys.specs.Table.{Table}
 use Rattle.mac_http.specs.declared.rules.Calls.{Calls}
+use Rattle.mac_http.specs.declared.rules.Rules.{Rules}
+use Rattle.mac_http.specs.Browsing.{refusal_of}
 use Rattle.mac_http.specs.Saying.{IsOverloaded}
 use Rattle.mac_http.specs.Target.{behind_front}
 
 -- no call is allowed
 abbrev pub no_calls : Calls
 no_calls = record { mint = false; attenuate = false; inspect = false; check = false }
+
+-- the calls that are answered: a mint only where the address allows it too
+abbrev pub allowed_calls : Rules → Calls
+allowed_calls rules = record rules.calls { mint = rules.calls.mint && rules.rights.now.may_mint }
+
+-- a mint may use the name's keys; other calls use none
+abbrev pub may_use : Option (List (List ℕ)) → Call → List ℕ → Bool
+may_use names Mint name = is_allowed names name
+may_use names call name = true
+
+-- what comes of a call: a mint under a name that may not be used is one of a name without keys
+abbrev pub allowed_outcome : Rules → Table → Call × List ℕ → List ℕ → Outcome
+allowed_outcome rules table asked body =
+    if may_use rules.rights.now.names asked.0 asked.1 then outcome_of table asked.1 asked.0 body
+    else NoKey
 
 -- the name of a key in a path that asks for a mint
 abbrev pub mint_in : List ℕ → Option (Call × List ℕ)
@@ -50,8 +68,14 @@ abbrev pub TellsCall : Bool → Outcome → Response → Type 0
 TellsCall true o = TellsOutcome o
 TellsCall false o = IsResponse 405 takes_post []
 
+-- the same, unless the call is refused before by a status
+abbrev pub TellsUnlessRefused : Option ℕ → Bool → Outcome → Response → Type 0
+TellsUnlessRefused (Some status) is_post o = IsResponse status [] []
+TellsUnlessRefused None is_post o = TellsCall is_post o
+
 -- the response to a request for this call, want of memory aside
-abbrev pub RespondsToCall : Table → Call × List ℕ → Request (List ℕ) → Response → Type 0
-RespondsToCall table asked request response =
-    TellsCall (bytes_eq (head_of request).method (codes "POST"))
-    (outcome_of table asked.1 asked.0 (body_of request)) response ⊎ IsOverloaded response
+abbrev pub RespondsToCall : Table → Rules → Call × List ℕ → Request (List ℕ) → Response → Type 0
+RespondsToCall table rules asked request response =
+    TellsUnlessRefused (refusal_of rules.way (head_of request))
+    (bytes_eq (head_of request).method (codes "POST"))
+    (allowed_outcome rules table asked (body_of request)) response ⊎ IsOverloaded response

@@ -15,7 +15,7 @@ use Rattle.mac_keys.specs.Table.{Table}
 use Rattle.mac_http.specs.declared.attending.TheConstants.{CONFIG}
 use Rattle.mac_http.specs.declared.page.Page.{Page}
 use Rattle.mac_http.specs.declared.rules.Rules.{Rules}
-use Rattle.mac_http.specs.Calling.{RespondsToCall, call_in}
+use Rattle.mac_http.specs.Calling.{RespondsToCall, allowed_calls, call_in}
 use Rattle.mac_http.specs.Found.{found_of}
 use Rattle.mac_http.specs.Page.{TellsPage, page_in}
 use Rattle.mac_http.specs.Saying.{Responds}
@@ -24,20 +24,20 @@ use Rattle.mac_http.specs.Saying.{Responds}
 abbrev pub IsAnswerToCall : Option (Call × List ℕ) → Table → Rules → Option ℕ
     → Request (List ℕ) → Response → Type 0
 IsAnswerToCall (Some asked) table rules moment request response =
-    RespondsToCall table asked request response
+    RespondsToCall table rules asked request response
 IsAnswerToCall None table rules moment request response =
-    Responds rules.granted (found_of table rules.sources moment (head_of request)) response
+    Responds rules.granted (found_of table rules moment (head_of request)) response
 
 -- the same, to the call that the path asks for, if the rules allow it
 abbrev pub IsPlainAnswer : Table → Rules → Option ℕ → Request (List ℕ) → Response → Type 0
 IsPlainAnswer table rules moment request =
-    IsAnswerToCall (call_in rules.calls (uri_path (head_of request).uri))
+    IsAnswerToCall (call_in (allowed_calls rules) (uri_path (head_of request).uri))
     table rules moment request
 
 -- the response to a request whose path names this page, or none
 abbrev pub IsAnswerTo : Option Page → Table → Rules → Option ℕ → Request (List ℕ) → Response
     → Type 0
-IsAnswerTo (Some page) table rules moment request response = TellsPage response
+IsAnswerTo (Some page) table rules moment request response = TellsPage rules.pages page response
 IsAnswerTo None table rules moment request response =
     IsPlainAnswer table rules moment request response
 

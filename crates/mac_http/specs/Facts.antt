@@ -1,6 +1,6 @@
 -- The facts that a request brings, by the sources that are named (this project's own).
 use Rattle.std.specs.Prelude.{ℕ, Bool, ◌==◌, nat_lt, nat_le, not, ◌&&◌, false, position, unwrap_or, List, [], ◌∷◌, ◌++◌, length, take, map, codes, bytes_eq, Option, Some, None, option_map, if◌then◌else◌}
-use Rattle.std.specs.List.{flat_map}
+use Rattle.std.specs.List.{flat_map, list_any}
 use Rattle.std.specs.Str.Lossy.{utf8_lossy}
 use Rattle.form_urlencoded.specs.Form.{raw_pairs, decode}
 use Rattle.http.specs.declared.request.Parts.{Parts}
@@ -107,10 +107,18 @@ facts_forwarded head behind =
 
 -- ---- all of them
 
--- a path is told that isn't plain
-abbrev pub is_unsafe : Option (List ℕ) → Bool
-is_unsafe None = false
-is_unsafe (Some path) = not (is_plain path)
+abbrev pub is_hash : ℕ → Bool
+is_hash b = b == 35
+
+-- the target that is told has a fragment, which no request may have (RFC 9112, section 3.2)
+abbrev pub has_fragment : Option (List ℕ) → Bool
+has_fragment None = false
+has_fragment (Some target) = list_any is_hash target
+
+-- a path is told that isn't plain, or not strictly so where that is asked for
+abbrev pub is_unsafe : Bool → Option (List ℕ) → Bool
+is_unsafe strict None = false
+is_unsafe strict (Some path) = not (is_plain strict path)
 
 -- the facts that a request brings
 abbrev pub facts_of : Sources → Parts → List ℕ → List (List ℕ)
@@ -119,7 +127,12 @@ facts_of sources head behind =
     ++ (where_named sources.query (query_facts head)
     ++ where_named sources.forwarded (facts_forwarded head behind))
 
+-- the sources are named that tell of a target, and it has a fragment
+abbrev pub tells_fragment : Sources → Parts → List ℕ → Bool
+tells_fragment sources head behind =
+    sources.forwarded && has_fragment (target_told head behind)
+
 -- the sources are named that tell of a path, and it isn't plain
 abbrev pub tells_unsafe : Sources → Parts → List ℕ → Bool
-tells_unsafe sources head behind =
-    sources.forwarded && is_unsafe (option_map path_of (target_told head behind))
+tells_unsafe sources head behind = sources.forwarded
+    && is_unsafe sources.strict (option_map path_of (target_told head behind))

@@ -1,4 +1,5 @@
 pub mod Authorization
+pub mod Browsing
 pub mod Calling
 pub mod Escaped
 pub mod Faced

@@ -1,10 +1,12 @@
 -- The pages that tell of the daemon itself (this project's own).
-use Rattle.std.specs.Prelude.{ℕ, ◌⊎◌, List, [], ◌∷◌, codes, bytes_eq, Option, Some, None, if◌then◌else◌}
+use Rattle.std.specs.Prelude.{◌≡◌, ℕ, ◌⊎◌, Bool, false, true, List, [], ◌∷◌, codes, bytes_eq, Option, Some, None, if◌then◌else◌}
 use Rattle.http1.specs.Fields.{Header}
 use Rattle.http_server.specs.declared.response.Response.{Response}
 use Rattle.http_server.specs.Response.{IsResponse}
 use Rattle.mac_http.specs.declared.page.Page.{Page}
 use Rattle.mac_http.specs.declared.page.Page.TheVariants.{Connections, Health, Numbers, Status}
+use Rattle.mac_http.specs.declared.rules.Pages.{Pages}
+use Rattle.mac_http.specs.declared.rules.Pages.TheVariants as pages
 use Rattle.mac_http.specs.Saying.{IsOverloaded}
 
 -- the page that a path names
@@ -18,8 +20,27 @@ page_in path = if bytes_eq path (codes "/healthz") then Some Health
 abbrev pub is_text : List Header
 is_text = (codes "content-type", codes "text/plain; charset=utf-8") ∷ []
 
--- the response is a text, of a daemon that is well or not, or tells that there is none
-abbrev pub TellsPage : Response → Type 0
-TellsPage response = IsResponse 404 [] [] response
-    ⊎ (((text : List ℕ) × (IsResponse 200 is_text text response
-    ⊎ IsResponse 503 is_text text response)) ⊎ IsOverloaded response)
+-- whether a face that has these pages has this one: its status and its connections are not public
+abbrev pub has_page : Pages → Page → Bool
+has_page pages.Nothing page = false
+has_page pages.Public Health = true
+has_page pages.Public Numbers = true
+has_page pages.Public Status = false
+has_page pages.Public Connections = false
+has_page pages.All page = true
+
+-- the response is the text of a page, of a daemon that is well or, of its health alone, of one that
+-- is not
+abbrev pub IsText : Page → Response → Type 0
+IsText page response = (text : List ℕ) × (IsResponse 200 is_text text response
+    ⊎ ((page ≡ Health) × IsResponse 503 is_text text response))
+
+-- the response tells the page that is there, or that there is no memory for it; of one that isn't
+-- there it is a bare 404
+abbrev pub TellsIf : Bool → Page → Response → Type 0
+TellsIf false page response = IsResponse 404 [] [] response
+TellsIf true page response = IsText page response ⊎ IsOverloaded response
+
+-- the same, of a face that has these pages
+abbrev pub TellsPage : Pages → Page → Response → Type 0
+TellsPage pages page response = TellsIf (has_page pages page) page response

@@ -31,21 +31,52 @@ begins_escape text =
     begins_in_any_case (codes "%2e") text || (begins_in_any_case (codes "%2f") text
     || begins_in_any_case (codes "%5c") text)
 
+-- what some servers end a segment at or drop: a semicolon, or an escape of one, of a tab or of NUL;
+-- or read in a way of their own: an escape that begins `%u`
+abbrev pub begins_ending : List ℕ → Bool
+begins_ending text =
+    begins (codes ";") text || (begins_in_any_case (codes "%3b") text
+    || (begins (codes "%00") text || (begins (codes "%09") text
+    || begins_in_any_case (codes "%u") text)))
+
+-- bytes that begin a character in more bytes than it needs (RFC 3629, section 3), escaped or as
+-- they are: C0 and C1, E0 before 80 to 9F, F0 before 80 to 8F
+abbrev pub begins_overlong_escape : List ℕ → Bool
+begins_overlong_escape text =
+    begins_in_any_case (codes "%c0") text || (begins_in_any_case (codes "%c1") text
+    || (begins_in_any_case (codes "%e0%8") text || (begins_in_any_case (codes "%e0%9") text
+    || begins_in_any_case (codes "%f0%8") text)))
+
+abbrev pub begins_overlong : List ℕ → Bool
+begins_overlong [] = false
+begins_overlong (b ∷ []) = b == 192 || b == 193
+begins_overlong (b ∷ c ∷ rest) = b == 192 || (b == 193
+    || ((b == 224 && (nat_le 128 c && nat_le c 159)) || (b == 240 && (nat_le 128 c && nat_le c 143))))
+
+-- what a strict reader of paths refuses besides
+abbrev pub begins_odd : List ℕ → Bool
+begins_odd text =
+    begins_ending text || (begins_overlong_escape text || begins_overlong text)
+
 -- what servers may read as another path: an empty segment, a backslash, an escape, a dot segment
-abbrev pub begins_unsafe : List ℕ → Bool
-begins_unsafe text =
+abbrev pub begins_misread : List ℕ → Bool
+begins_misread text =
     begins (codes "//") text || (begins (codes "\\") text
     || (begins_escape text || begins_dot_segment text))
 
+-- the same, and what is odd where it is strict
+abbrev pub begins_unsafe : Bool → List ℕ → Bool
+begins_unsafe strict text = begins_misread text || (strict && begins_odd text)
+
 -- such a thing stands somewhere in the text
-unfoldable pub has_unsafe : List ℕ → Bool
-has_unsafe [] = false
-has_unsafe (b ∷ rest) = begins_unsafe (b ∷ rest) || has_unsafe rest
+unfoldable pub has_unsafe : Bool → List ℕ → Bool
+has_unsafe strict [] = false
+has_unsafe strict (b ∷ rest) = begins_unsafe strict (b ∷ rest) || has_unsafe strict rest
 
 -- facts are told of the path: it begins with a slash, is within its limits, and has nothing unsafe
-abbrev pub is_plain : List ℕ → Bool
-is_plain path = begins (codes "/") path && (nat_le (length path) PATH_MAX
-    && (nat_le (count_by is_slash path) SEGMENTS_MAX && not (has_unsafe path)))
+abbrev pub is_plain : Bool → List ℕ → Bool
+is_plain strict path = begins (codes "/") path && (nat_le (length path) PATH_MAX
+    && (nat_le (count_by is_slash path) SEGMENTS_MAX && not (has_unsafe strict path)))
 
 -- that many bytes of the path are a step: they end in no slash, and a slash or nothing follows;
 -- the first slash alone is one too

@@ -21,6 +21,7 @@ granted_status NoContent = 204
 abbrev pub status_of : Granted → Finding → ℕ
 status_of granted found.Unknown = 404
 status_of granted found.NoToken = 401
+status_of granted found.Fragment = 400
 status_of granted found.UnsafePath = 403
 status_of granted found.ManyFacts = 400
 status_of granted found.NoMoment = 500
@@ -51,6 +52,7 @@ unsatisfied_reason index = codes "24 " ++ decimal index
 abbrev pub fields_for : Finding → List Header
 fields_for found.Unknown = []
 fields_for found.NoToken = asks (codes "Macaroon")
+fields_for found.Fragment = []
 fields_for found.UnsafePath = tells_why (codes "path")
 fields_for found.ManyFacts = []
 fields_for found.NoMoment = []
@@ -68,6 +70,7 @@ unsatisfied_body index =
 abbrev pub body_for : Finding → List ℕ
 body_for found.Unknown = []
 body_for found.NoToken = []
+body_for found.Fragment = []
 body_for found.UnsafePath = codes "{\"reason\":\"the path is not plain\"}"
 body_for found.ManyFacts = []
 body_for found.NoMoment = []

@@ -42,7 +42,7 @@ pub trait Watch {
 pub fn attend<K: Tables, M: Moments, S: Steward, V: Watch, R: Read, W: Write>(
     alloc: Global,
     secrets: RandomState,
-    face: &mut Face<K, M, S>,
+    face: &mut Face<'_, K, M, S>,
     watch: &mut V,
     reader: &mut R,
     writer: &mut W,

@@ -1,18 +1,21 @@
 //! Calls that bring JSON.
 
-ghost use Rattle.std.specs.Prelude.{◌≡◌, ◌∷◌, [], OnOk, bytes_eq, codes, option_map};
+ghost use Rattle.std.specs.Prelude.{◌≡◌, ◌∷◌, [], IfOk, OnOk, bytes_eq, codes, option_map};
 ghost use Rattle.http.specs.Request.{body_of, head_of};
 ghost use Rattle.http_server.specs.Response.{IsBlank, IsResponse, fields_of};
-ghost use Rattle.mac_calls.specs.Outcome.{outcome_of};
+ghost use Rattle.mac_http.specs.Browsing.{refusal_of};
 ghost use Rattle.mac_http.specs.Calling.{RespondsToCall, TellsCall, TellsOutcome};
-ghost use Rattle.mac_http.specs.Calling.{call_in, is_json, takes_post};
+ghost use Rattle.mac_http.specs.Calling.{TellsUnlessRefused, allowed_outcome, call_in, is_json};
+ghost use Rattle.mac_http.specs.Calling.{may_use, takes_post};
 
-use crate::rules::Calls;
+use crate::browsing::refusal_of;
+use crate::rules::{Calls, Rules};
 use bytes::{BufMut, Bytes};
 use http::header::{ALLOW, CONTENT_TYPE, HeaderValue};
 use http::{Method, Request, StatusCode};
 use http_server::Response;
 use mac_calls::{Call, Outcome, answer};
+use mac_decide::Rights;
 use mac_keys::KeyTable;
 use std::alloc::{AllocError, Global};
 
@@ -70,15 +73,16 @@ pub fn call_in(calls: Calls, path: &[u8]) -> Option<Asked<'_>>
 pub(crate) fn respond_to_call(
     alloc: Global,
     keys: &KeyTable,
+    rules: Rules<'_>,
     asked: Asked<'_>,
     request: &Request<Bytes>,
     response: &mut Response,
 )
     requires { IsBlank response.old }
-    ensures { RespondsToCall keys.now (asked.entry.call, asked.entry.name.now) request.now
-        response.new }
+    ensures { RespondsToCall keys.now rules.entry (asked.entry.call, asked.entry.name.now)
+        request.now response.new }
 {
-    if fill(alloc, keys, asked, request, response).is_err() {
+    if fill(alloc, keys, rules, asked, request, response).is_err() {
         response.clear();
         response.status = StatusCode::SERVICE_UNAVAILABLE;
     }
@@ -87,20 +91,73 @@ pub(crate) fn respond_to_call(
 fn fill(
     alloc: Global,
     keys: &KeyTable,
+    rules: Rules<'_>,
+    asked: Asked<'_>,
+    request: &Request<Bytes>,
+    response: &mut Response,
+) -> Result<(), AllocError>
+    requires { IsBlank response.old }
+    ensures { OnOk result (TellsUnlessRefused (refusal_of rules.entry.way (head_of request.now))
+        (bytes_eq (head_of request.now).method (codes "POST"))
+        (allowed_outcome rules.entry keys.now (asked.entry.call, asked.entry.name.now)
+        (body_of request.now)) response.new) }
+{
+    match refusal_of(rules.way, request) {
+        Some(status) => {
+            response.status = status;
+            Ok(())
+        }
+        None => fill_unrefused(alloc, keys, rules, asked, request, response),
+    }
+}
+
+/// The same of a call that isn't refused before it is looked at.
+fn fill_unrefused(
+    alloc: Global,
+    keys: &KeyTable,
+    rules: Rules<'_>,
     asked: Asked<'_>,
     request: &Request<Bytes>,
     response: &mut Response,
 ) -> Result<(), AllocError>
     requires { IsBlank response.old }
     ensures { OnOk result (TellsCall (bytes_eq (head_of request.now).method (codes "POST"))
-        (outcome_of keys.now asked.entry.name.now asked.entry.call (body_of request.now))
-        response.new) }
+        (allowed_outcome rules.entry keys.now (asked.entry.call, asked.entry.name.now)
+        (body_of request.now)) response.new) }
 {
     if *request.method() != Method::POST {
         return refuse_method(response);
     }
-    let outcome = answer(alloc, keys, asked.name, asked.call, request.body())?;
+    let outcome = answer_allowed(alloc, keys, rules, asked, request.body())?;
     tell(&outcome, response)
+}
+
+/// What comes of a call. A mint under a name that may not be used is as one of a name without keys.
+fn answer_allowed(
+    alloc: Global,
+    keys: &KeyTable,
+    rules: Rules<'_>,
+    asked: Asked<'_>,
+    body: &[u8],
+) -> Result<Outcome, AllocError>
+    ensures { IfOk result (λ o. o ≡ allowed_outcome rules.entry keys.now
+        (asked.entry.call, asked.entry.name.now) body.now) }
+{
+    if may_use(rules.rights, asked) {
+        answer(alloc, keys, asked.name, asked.call, body)
+    } else {
+        Ok(Outcome::NoKey)
+    }
+}
+
+/// Whether a call may use the keys of its name, where it uses any.
+fn may_use(rights: &Rights, asked: Asked<'_>) -> bool
+    ensures { result ≡ may_use rights.now.names asked.entry.call asked.entry.name.now }
+{
+    match asked.call {
+        Call::Mint => rights.allows(asked.name),
+        Call::Attenuate | Call::Inspect | Call::Check | Call::Verify => true,
+    }
 }
 
 /// Fills a blank response with the method that is taken.

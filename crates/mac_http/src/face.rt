@@ -20,18 +20,24 @@ use std::alloc::{AllocError, Global};
 /// Answers the requests of one connection, each under the table that is up and at a moment that its
 /// clock tells once the request is there.
 #[derive(Drop)]
-pub struct Face<K, M, S> {
+pub struct Face<'a, K, M, S> {
     alloc: Global,
     keys: K,
-    rules: Rules,
+    rules: Rules<'a>,
     moments: M,
     steward: S,
 }
 
-impl<K, M, S> Face<K, M, S> {
-    pub fn new(alloc: Global, keys: K, rules: Rules, moments: M, steward: S) -> Face<K, M, S>
+impl<'a, K, M, S> Face<'a, K, M, S> {
+    pub fn new(
+        alloc: Global,
+        keys: K,
+        rules: Rules<'a>,
+        moments: M,
+        steward: S,
+    ) -> Face<'a, K, M, S>
         ensures keys { result.keys ≡ keys }
-        ensures rules { result.rules ≡ rules }
+        ensures rules { result.rules ≡ rules.entry }
         ensures moments { result.moments ≡ moments }
     {
         Face {
@@ -44,7 +50,7 @@ impl<K, M, S> Face<K, M, S> {
     }
 }
 
-impl<K: Tables, M: Moments, S: Steward> Service for Face<K, M, S> {
+impl<'a, K: Tables, M: Moments, S: Steward> Service for Face<'a, K, M, S> {
     ghost answers = { AnswersOnce K.tells (λ face. K.known face.keys) (λ face. face.rules)
         (λ face. M.told face.moments) };
 
@@ -76,17 +82,17 @@ impl<K: Tables, M: Moments, S: Steward> Service for Face<K, M, S> {
 fn answer<S: Steward>(
     alloc: Global,
     keys: &KeyTable,
-    rules: Rules,
+    rules: Rules<'_>,
     moment: Option<u64>,
     steward: &S,
     request: &Request<Bytes>,
     response: &mut Response,
 )
     requires { IsBlank response.old }
-    ensures { IsAnswer keys.now rules moment request.now response.new }
+    ensures { IsAnswer keys.now rules.entry moment request.now response.new }
 {
     match page_in(request.uri().path().as_bytes()) {
-        Some(page) => tell_page(alloc, steward, page, response),
+        Some(page) => tell_page(alloc, steward, rules.pages, page, response),
         None => answer_plain(alloc, keys, rules, moment, steward, request, response),
     }
 }
@@ -96,18 +102,18 @@ fn answer<S: Steward>(
 fn answer_plain<S: Steward>(
     alloc: Global,
     keys: &KeyTable,
-    rules: Rules,
+    rules: Rules<'_>,
     moment: Option<u64>,
     steward: &S,
     request: &Request<Bytes>,
     response: &mut Response,
 )
     requires { IsBlank response.old }
-    ensures { IsPlainAnswer keys.now rules moment request.now response.new }
+    ensures { IsPlainAnswer keys.now rules.entry moment request.now response.new }
 {
-    match call_in(rules.calls, request.uri().path().as_bytes()) {
+    match call_in(rules.allowed_calls(), request.uri().path().as_bytes()) {
         Some(asked) => {
-            respond_to_call(alloc, keys, asked, request, response);
+            respond_to_call(alloc, keys, rules, asked, request, response);
             steward.note(note_of_call(asked), response.status);
         }
         None => {

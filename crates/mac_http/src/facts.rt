@@ -3,7 +3,7 @@
 ghost use Rattle.std.specs.Prelude.{◌≡◌, ◌++◌, ◌∷◌, [], IfOk, OnOk};
 ghost use Rattle.http.specs.Request.{head_of};
 ghost use Rattle.mac_token.specs.RawToken.{byte_lists};
-ghost use Rattle.mac_http.specs.Facts.{facts_of, tells_unsafe, where_named, header_facts, query_facts, facts_forwarded};
+ghost use Rattle.mac_http.specs.Facts.{facts_of, tells_fragment, tells_unsafe, where_named, header_facts, query_facts, facts_forwarded};
 
 mod forwarded;
 mod guarded;
@@ -15,11 +15,18 @@ use crate::path::is_plain;
 use crate::rules::Sources;
 use bytes::Bytes;
 use forwarded::put_forwarded;
-use guarded::{Guarded, guarded_of, path_told};
+use guarded::{Guarded, guarded_of, has_fragment, path_told};
 use header::put_header;
 use http::Request;
 use query::put_query;
 use std::alloc::{AllocError, Global};
+
+/// Whether the sources tell a target with a fragment, which no request may have.
+pub(crate) fn tells_fragment(sources: Sources, request: &Request<Bytes>, behind: &[u8]) -> bool
+    ensures { result ≡ tells_fragment sources (head_of request.now) behind.now }
+{
+    sources.forwarded && has_fragment(guarded_of(request, behind))
+}
 
 /// Whether the sources tell a path that servers may read as another.
 pub(crate) fn tells_unsafe(sources: Sources, request: &Request<Bytes>, behind: &[u8]) -> bool
@@ -29,7 +36,7 @@ pub(crate) fn tells_unsafe(sources: Sources, request: &Request<Bytes>, behind: &
         return false;
     }
     match path_told(guarded_of(request, behind)) {
-        Some(path) => !is_plain(path),
+        Some(path) => !is_plain(sources.strict, path),
         None => false,
     }
 }

@@ -1,6 +1,8 @@
 //! Laws of the definitions, as functions whose contracts state them.
 
-ghost use Rattle.std.specs.Prelude.{◌≡◌, ◌↔◌, ◌<◌, ◌++◌, ◌⊎◌, [], ℕ, List, Option, Some, codes};
+ghost use Rattle.std.specs.Prelude.{◌≡◌, ◌↔◌, ◌<◌, ◌++◌, ◌⊎◌, [], ℕ, List, Option, None, Some};
+ghost use Rattle.std.specs.Prelude.{codes};
+ghost use Rattle.std.specs.FinMap as map;
 ghost use Rattle.std.specs.Prelude.{All, Bool, Contains, true, false};
 ghost use Rattle.http.specs.Request.{head_of};
 ghost use Rattle.http.specs.declared.request.Parts.{Parts};
@@ -14,6 +16,7 @@ ghost use Rattle.http_uri.specs.Uri.{uri_path};
 ghost use Rattle.mac_board.specs.Follows.{Known};
 ghost use Rattle.mac_calls.specs.Counted.{are_few};
 ghost use Rattle.mac_decide.specs.Reading.{verdict_of};
+ghost use Rattle.mac_decide.specs.Terms.{is_allowed};
 ghost use Rattle.mac_keys.specs.Table.{Table, listed};
 ghost use Rattle.mac_keys.specs.declared.keys.Keys.{Keys};
 ghost use Rattle.mac_token.specs.RawToken.{TokenParts};
@@ -24,24 +27,47 @@ ghost use Rattle.mac_http.specs.declared.finding.Finding.{Finding as PlainFindin
 ghost use Rattle.mac_http.specs.declared.rules.Granted.{Granted as PlainGranted};
 ghost use Rattle.mac_http.specs.declared.rules.Rules.{Rules as PlainRules};
 ghost use Rattle.mac_http.specs.declared.rules.Sources.{Sources as PlainSources};
+ghost use Rattle.mac_calls.specs.declared.call.Call.{Call};
+ghost use Rattle.mac_http.specs.Browsing.{is_of_page};
+ghost use Rattle.mac_http.specs.Calling.{RespondsToCall};
 ghost use Rattle.mac_http.specs.Escaped.{escaped};
 ghost use Rattle.mac_http.specs.Faced.{IsAnswer, IsFaced};
-ghost use Rattle.mac_http.specs.Facts.{facts_of, tells_unsafe};
-ghost use Rattle.mac_http.specs.Found.{found_of, found_with, context_of, IsGrantedBy};
+ghost use Rattle.mac_http.specs.Facts.{facts_of, tells_fragment, tells_unsafe};
+ghost use Rattle.mac_http.specs.Found.{found_of, found_with, context_of, IsGrantedBy, IsHeld};
+ghost use Rattle.mac_http.specs.Target.{target_in};
 ghost use Rattle.mac_http.specs.Path.{steps, IsStep};
 ghost use Rattle.mac_http.specs.Saying.{IsOverloaded, Tells};
 ghost use Rattle.mac_http.specs.Turn.{AnswersOnce, IsTurn};
 
 use crate::finding::Finding;
+use crate::rules::Way;
 use http_server::Service;
 
-/// A request is granted exactly where its path names keys, it brings one token, no unsafe path is
-/// told, the facts are few, the clock tells a moment, and the keys grant the token at that moment
-/// with those facts.
+/// A request is granted exactly where its path names keys that may be used, it brings one token, no
+/// fragment and no unsafe path is told, the facts are few, the clock tells a moment, and the keys
+/// grant the token at that moment with those facts.
 pub fn granted_exactly()
-    ensures { (table : Table) (sources : PlainSources) (moment : Option ℕ) (head : Parts)
-        → ((t : TokenParts) × (found_of table sources moment head ≡ Finding.Granted t))
-        ↔ IsGrantedBy table sources moment head }
+    ensures { (table : Table) (rules : PlainRules) (moment : Option ℕ) (head : Parts)
+        → ((t : TokenParts) × (found_of table rules moment head ≡ Finding.Granted t))
+        ↔ IsGrantedBy table rules moment head }
+{}
+
+/// Who brings no token, or one that the name's keys didn't make, finds what he finds where no name
+/// has keys. So he can't tell a name that exists from one that doesn't.
+pub fn names_are_told_to_holders_alone()
+    ensures { (table bare : Table) (rules : PlainRules) (moment : Option ℕ) (head : Parts)
+        → ((name : List ℕ) → map.get bare name ≡ None)
+        → IsHeld (found_of table rules moment head)
+        ⊎ (found_of table rules moment head ≡ found_of bare rules moment head) }
+{}
+
+/// A name that may not be used at an address is there as one without keys, whatever token comes.
+pub fn other_names_have_no_keys()
+    ensures { (table bare : Table) (rules : PlainRules) (moment : Option ℕ) (head : Parts)
+        (name behind : List ℕ) → ((other : List ℕ) → map.get bare other ≡ None)
+        → target_in (uri_path head.uri) ≡ Some (name, behind)
+        → is_allowed rules.rights.now.names name ≡ false
+        → found_of table rules moment head ≡ found_of bare rules moment head }
 {}
 
 /// A response tells nothing but what was found.
@@ -51,30 +77,51 @@ pub fn response_tells_the_finding()
         → (r.status ≡ s.status) × (fields_of r ≡ fields_of s) × (r.body.items ≡ s.body.items) }
 {}
 
-/// Where a mint isn't allowed, a path below `/mint/` is answered with a bare 404, or a response
-/// that tells that there was no memory.
-pub fn no_mint_unless_allowed()
+/// At an address that isn't allowed to mint, or where that call isn't answered, a path below
+/// `/mint/` is answered with a bare 404, or a response that tells that there was no memory.
+pub fn who_may_not_mint_has_no_token_minted()
     ensures { (table : Table) (rules : PlainRules) (moment : Option ℕ)
         (request : PlainRequest (List ℕ)) (below : List ℕ) (response : Response)
-        → rules.calls.mint ≡ false
+        → (rules.rights.now.may_mint ≡ false) ⊎ (rules.calls.mint ≡ false)
         → uri_path (head_of request).uri ≡ codes "/mint/" ++ below
         → IsAnswer table rules moment request response
         → IsResponse 404 [] [] response ⊎ IsOverloaded response }
 {}
 
+/// Under a name that may not be used at an address no token is minted there: no response to such a
+/// request says that its work was done.
+pub fn no_token_is_minted_under_another_name()
+    ensures { (table : Table) (rules : PlainRules) (moment : Option ℕ)
+        (request : PlainRequest (List ℕ)) (name : List ℕ) (response : Response)
+        → is_allowed rules.rights.now.names name ≡ false
+        → uri_path (head_of request).uri ≡ codes "/mint/" ++ name
+        → IsAnswer table rules moment request response → ¬ (response.status ≡ 200) }
+{}
+
+/// A call that comes by a port and that a page in a browser may have had sent is refused with 403,
+/// whatever it asks for; or the response tells that there was no memory.
+pub fn pages_have_nothing_done()
+    ensures { (table : Table) (rules : PlainRules) (request : PlainRequest (List ℕ))
+        (asked : Call × List ℕ) (response : Response) → rules.way ≡ Way.Port
+        → is_of_page (head_of request).headers ≡ true
+        → RespondsToCall table rules asked request response
+        → IsResponse 403 [] [] response ⊎ IsOverloaded response }
+{}
+
 /// Facts are told by the verdict alone: where two requests with one token under one name's keys
-/// tell no unsafe path and few facts, and the verdict on what the token reads as is the same with
+/// tell no fragment, no unsafe path and few facts, and the verdict on what the token reads as is the same with
 /// the facts of either, the same is found of both.
 pub fn facts_tell_by_the_verdict()
     ensures { (sources : PlainSources) (moment : ℕ) (one other : Parts) (here there : List ℕ)
         (keys : Keys) (scheme : PlainScheme) (token : List ℕ)
+        → tells_fragment sources one here ≡ false → tells_fragment sources other there ≡ false
         → tells_unsafe sources one here ≡ false → tells_unsafe sources other there ≡ false
         → are_few (facts_of sources one here) ≡ true
         → are_few (facts_of sources other there) ≡ true
         → ((t : TokenParts) → verdict_of (listed keys) t (context_of sources moment one here)
         ≡ verdict_of (listed keys) t (context_of sources moment other there))
-        → found_with sources (Some moment) one here keys (scheme, token)
-        ≡ found_with sources (Some moment) other there keys (scheme, token) }
+        → found_with sources (Some moment) one here (Some keys) (scheme, token)
+        ≡ found_with sources (Some moment) other there (Some keys) (scheme, token) }
 {}
 
 /// The steps of a path are its fronts that are one byte, or that end in no slash and have a slash

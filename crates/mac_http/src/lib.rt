@@ -4,12 +4,14 @@
 //! [`Face`] is a [`Service`](http_server::Service): the path names a key, `Authorization` brings
 //! the token, the [`Sources`] that are named bring facts, and [`Moments`](mac_board::Moments) the
 //! moment. A [`Steward`] fills the pages that tell of the daemon. The [`Calls`] that are allowed
-//! bring JSON, which `mac_calls` answers. [`attend`] serves it all over a reader and a writer. No
-//! sockets are opened here.
+//! bring JSON, which `mac_calls` answers. Which names may be used, and whether a mint is answered,
+//! `mac_decide`'s [`Rights`](mac_decide::Rights) say. [`attend`] serves it all over a reader and a
+//! writer. No sockets are opened here.
 #![tactic(auto)]
 
 mod attending;
 mod authorization;
+mod browsing;
 mod calling;
 mod escaped;
 mod face;
@@ -31,5 +33,5 @@ pub use finding::{Finding, find};
 pub use noted::{Asks, Noted};
 pub use page::{Page, Steward, Told};
 pub use path::{PATH_MAX, SEGMENTS_MAX};
-pub use rules::{Calls, Granted, Rules, Sources};
+pub use rules::{Calls, Granted, Pages, Rules, Sources, Way};
 pub use saying::respond;

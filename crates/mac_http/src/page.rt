@@ -1,11 +1,12 @@
 //! The pages that tell of the daemon itself.
 
-ghost use Rattle.std.specs.Prelude.{◌≡◌, OnOk};
+ghost use Rattle.std.specs.Prelude.{◌≡◌, Ok, OnOk};
 ghost use Rattle.http_server.specs.Response.{IsBlank, IsResponse};
 ghost use Rattle.mac_http.specs.Faced.{MayClose};
-ghost use Rattle.mac_http.specs.Page.{TellsPage, is_text, page_in};
+ghost use Rattle.mac_http.specs.Page.{IsText, TellsPage, is_text, page_in};
 
 use crate::noted::Noted;
+use crate::rules::Pages;
 use bytes::BufMut;
 use http::StatusCode;
 use http::header::{CONNECTION, CONTENT_TYPE, HeaderValue};
@@ -35,14 +36,12 @@ pub enum Page {
     Connections,
 }
 
-/// What there is on a page.
+/// What a page tells.
 #[derive(Clone, Copy, Debug, PartialEq, Eq)]
 pub enum Told {
-    /// There is no such page.
-    Nothing,
     /// The text of a daemon that is well.
     Well,
-    /// The text of one that is not.
+    /// The text of one that is not, which its health alone tells.
     Unwell,
 }
 
@@ -54,8 +53,9 @@ pub trait Steward {
     /// The memory of tokens of the daemon.
     fn seen(&self) -> &SeenTokens;
 
-    /// Appends the text of a page, where there is one.
-    fn tell(&self, page: Page, text: &mut Vec<u8>) -> Result<Told, AllocError>;
+    /// Appends the text of a page.
+    fn tell(&self, page: Page, text: &mut Vec<u8>) -> Result<Told, AllocError>
+        ensures { result ≡ Ok Told.Unwell → page ≡ Page.Health };
 
     /// A request for anything but a page was answered with this status.
     fn note(&self, noted: Noted<'_>, status: StatusCode);
@@ -78,11 +78,21 @@ pub(crate) fn page_in(path: &[u8]) -> Option<Page>
     }
 }
 
-/// Fills a blank response with a page.
-pub(crate) fn tell_page<S: Steward>(alloc: Global, steward: &S, page: Page, response: &mut Response)
+/// Fills a blank response with a page, if it is one of these.
+pub(crate) fn tell_page<S: Steward>(
+    alloc: Global,
+    steward: &S,
+    pages: Pages,
+    page: Page,
+    response: &mut Response,
+)
     requires { IsBlank response.old }
-    ensures { TellsPage response.new }
+    ensures { TellsPage pages page response.new }
 {
+    if !pages.has(page) {
+        response.status = StatusCode::NOT_FOUND;
+        return;
+    }
     if fill_page(alloc, steward, page, response).is_err() {
         response.clear();
         response.status = StatusCode::SERVICE_UNAVAILABLE;
@@ -96,14 +106,10 @@ fn fill_page<S: Steward>(
     response: &mut Response,
 ) -> Result<(), AllocError>
     requires { IsBlank response.old }
-    ensures { OnOk result (TellsPage response.new) }
+    ensures { OnOk result (IsText page response.new) }
 {
     let mut text = Vec::new(alloc);
     let status = match steward.tell(page, &mut text)? {
-        Told::Nothing => {
-            response.status = StatusCode::NOT_FOUND;
-            return Ok(());
-        }
         Told::Well => StatusCode::OK,
         Told::Unwell => StatusCode::SERVICE_UNAVAILABLE,
     };

@@ -6,7 +6,8 @@
 
 ghost use Rattle.std.specs.Prelude.{◌≡◌, ◌<◌, ◌≤◌, length};
 ghost use Rattle.std.specs.List.{count_by};
-ghost use Rattle.mac_http.specs.Path.{begins_dot_segment, begins_escape, begins_in_any_case, begins_unsafe, begins_with_dots, has_unsafe, is_plain, is_step};
+ghost use Rattle.mac_http.specs.Path.{begins_dot_segment, begins_escape, begins_in_any_case, begins_misread, begins_unsafe, begins_with_dots, has_unsafe, is_plain, is_step};
+ghost use Rattle.mac_http.specs.Path.{begins_ending, begins_odd, begins_overlong, begins_overlong_escape};
 ghost use Rattle.mac_http.specs.Target.{is_slash};
 
 use crate::target::segment_length;
@@ -22,14 +23,14 @@ const DOT: &[u8] = b".";
 
 const DOTS: &[u8] = b"..";
 
-/// Whether facts are told of a path.
-pub(crate) fn is_plain(path: &[u8]) -> bool
-    ensures { result ≡ is_plain path.now }
+/// Whether facts are told of a path, by strict rules or by the usual ones.
+pub(crate) fn is_plain(strict: bool, path: &[u8]) -> bool
+    ensures { result ≡ is_plain strict path.now }
 {
     path.starts_with(b"/")
         && path.len() <= PATH_MAX
         && slashes(path) <= SEGMENTS_MAX
-        && !has_unsafe(path)
+        && !has_unsafe(strict, path)
 }
 
 /// How many slashes a path has.
@@ -46,19 +47,25 @@ fn slashes(path: &[u8]) -> usize
 }
 
 /// Whether something in the path may be read as another path.
-fn has_unsafe(path: &[u8]) -> bool
-    ensures { result ≡ has_unsafe path.now }
+fn has_unsafe(strict: bool, path: &[u8]) -> bool
+    ensures { result ≡ has_unsafe strict path.now }
 {
     for start in 0..path.len() {
-        if begins_unsafe(&path[start..]) {
+        if begins_unsafe(strict, &path[start..]) {
             return true;
         }
     }
     false
 }
 
-fn begins_unsafe(text: &[u8]) -> bool
-    ensures { result ≡ begins_unsafe text.now }
+fn begins_unsafe(strict: bool, text: &[u8]) -> bool
+    ensures { result ≡ begins_unsafe strict text.now }
+{
+    begins_misread(text) || strict && begins_odd(text)
+}
+
+fn begins_misread(text: &[u8]) -> bool
+    ensures { result ≡ begins_misread text.now }
 {
     text.starts_with(b"//")
         || text.starts_with(b"\\")
@@ -73,6 +80,51 @@ fn begins_escape(text: &[u8]) -> bool
     begins_in_any_case(text, b"%2e")
         || begins_in_any_case(text, b"%2f")
         || begins_in_any_case(text, b"%5c")
+}
+
+/// Whether the text begins with what a strict reader refuses besides.
+fn begins_odd(text: &[u8]) -> bool
+    ensures { result ≡ begins_odd text.now }
+{
+    begins_ending(text) || begins_overlong_escape(text) || begins_overlong(text)
+}
+
+/// Whether the text begins with what some servers end a segment at, or drop.
+fn begins_ending(text: &[u8]) -> bool
+    ensures { result ≡ begins_ending text.now }
+{
+    text.starts_with(b";")
+        || begins_in_any_case(text, b"%3b")
+        || text.starts_with(b"%00")
+        || text.starts_with(b"%09")
+        || begins_in_any_case(text, b"%u")
+}
+
+/// Whether the text begins with an escape of a character in more bytes than it needs.
+fn begins_overlong_escape(text: &[u8]) -> bool
+    ensures { result ≡ begins_overlong_escape text.now }
+{
+    begins_in_any_case(text, b"%c0")
+        || begins_in_any_case(text, b"%c1")
+        || begins_in_any_case(text, b"%e0%8")
+        || begins_in_any_case(text, b"%e0%9")
+        || begins_in_any_case(text, b"%f0%8")
+}
+
+/// Whether the text begins with a character in more bytes than it needs.
+fn begins_overlong(text: &[u8]) -> bool
+    ensures { result ≡ begins_overlong text.now }
+{
+    match text {
+        [] => false,
+        [first] => *first == 0xC0 || *first == 0xC1,
+        [first, next, ..] => {
+            *first == 0xC0
+                || *first == 0xC1
+                || *first == 0xE0 && 0x80 <= *next && *next <= 0x9F
+                || *first == 0xF0 && 0x80 <= *next && *next <= 0x8F
+        }
+    }
 }
 
 /// Whether the text begins with the front, in any case of its letters.

@@ -32,14 +32,14 @@ pub fn respond(
     alloc: Global,
     seen: &SeenTokens,
     keys: &KeyTable,
-    rules: Rules,
+    rules: Rules<'_>,
     moment: Option<u64>,
     request: &Request<Bytes>,
     response: &mut Response,
 )
     requires { IsBlank response.old }
-    ensures { Responds rules.granted
-        (found_of keys.now rules.sources moment (head_of request.now)) response.new }
+    ensures { Responds rules.entry.granted
+        (found_of keys.now rules.entry moment (head_of request.now)) response.new }
 {
     if fill(alloc, seen, keys, rules, moment, request, response).is_err() {
         response.clear();
@@ -51,16 +51,16 @@ fn fill(
     alloc: Global,
     seen: &SeenTokens,
     keys: &KeyTable,
-    rules: Rules,
+    rules: Rules<'_>,
     moment: Option<u64>,
     request: &Request<Bytes>,
     response: &mut Response,
 ) -> Result<(), AllocError>
     requires { IsBlank response.old }
-    ensures { OnOk result (Tells rules.granted
-        (found_of keys.now rules.sources moment (head_of request.now)) response.new) }
+    ensures { OnOk result (Tells rules.entry.granted
+        (found_of keys.now rules.entry moment (head_of request.now)) response.new) }
 {
-    let finding = find(alloc, seen, keys, rules.sources, moment, request)?;
+    let finding = find(alloc, seen, keys, rules, moment, request)?;
     say(alloc, rules.granted, &finding, response)
 }
 
@@ -87,7 +87,7 @@ fn status(granted: Granted, finding: &Finding) -> StatusCode
         Finding::Unknown => StatusCode::NOT_FOUND,
         Finding::NoToken | Finding::Invalid(_) => StatusCode::UNAUTHORIZED,
         Finding::UnsafePath | Finding::Unsatisfied(_) => StatusCode::FORBIDDEN,
-        Finding::ManyFacts => StatusCode::BAD_REQUEST,
+        Finding::Fragment | Finding::ManyFacts => StatusCode::BAD_REQUEST,
         Finding::NoMoment => StatusCode::INTERNAL_SERVER_ERROR,
         Finding::Granted(_) => granted.status(),
     }
@@ -101,7 +101,8 @@ fn put_fields(alloc: Global, finding: &Finding, response: &mut Response) -> Resu
     ensures body { response.new.body ≡ response.old.body }
 {
     match finding {
-        Finding::Unknown | Finding::ManyFacts | Finding::NoMoment => Ok(()),
+        Finding::Unknown | Finding::Fragment => Ok(()),
+        Finding::ManyFacts | Finding::NoMoment => Ok(()),
         Finding::NoToken => {
             response.add_header(WWW_AUTHENTICATE, HeaderValue::from_static("Macaroon"))
         }
@@ -157,7 +158,8 @@ fn put_body(alloc: Global, finding: &Finding, body: &mut Rope) -> Result<(), All
     match finding {
         Finding::UnsafePath => body.put_slice(b"{\"reason\":\"the path is not plain\"}"),
         Finding::Unsatisfied(index) => put_unsatisfied(alloc, *index, body),
-        Finding::Unknown | Finding::NoToken | Finding::ManyFacts | Finding::NoMoment => Ok(()),
+        Finding::Unknown | Finding::NoToken | Finding::Fragment => Ok(()),
+        Finding::ManyFacts | Finding::NoMoment => Ok(()),
         Finding::Invalid(_) | Finding::Granted(_) => Ok(()),
     }
 }

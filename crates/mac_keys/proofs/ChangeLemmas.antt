@@ -10,9 +10,10 @@ use Rattle.std.specs.List.{Any, cons_option, count_by}
 use Rattle.std.specs.Str.{bytes_eq}
 use Rattle.std.specs.FinMap as map
 use Rattle.mac_hmac.specs.Chain.{root_of}
+use Rattle.mac_keys.specs.declared.fault.KeyFault.{KeyFault}
 use Rattle.mac_keys.specs.declared.fault.LineFault.{LineFault}
 use Rattle.mac_keys.specs.declared.keys.Keys.{Keys}
-use Rattle.mac_keys.specs.Change.{AddsKey, DropsKey, HasKeys, HasOne, HasTwo, IsKeyLine, IsLine, PutsAbove, TakesLower}
+use Rattle.mac_keys.specs.Change.{AddsKey, AddsLower, DropsFirst, DropsKey, HasKeys, HasOne, HasTwo, IsKeyLine, IsLine, IsLower, PutsAbove, SwapsKeys, TakesLower}
 use Rattle.mac_keys.specs.Found.{IsFound, is_line_of}
 use Rattle.mac_keys.specs.Line.{Given, line_of}
 use Rattle.mac_keys.specs.Meaning.{GivesName}
@@ -335,6 +336,122 @@ drops_key name text changed start end (first, second, (table, made, there)) foun
       new = table_text changed (found.lines ++ lines_of (drop end text)) after lines
           (reads_joined found.lines (lines_of (drop end text)) (keys_of []) (keys_of found.lines) after front
           (without_line (keys_of found.lines) after a.below (drop end text) a.behind rest));
+    }
+
+-- ---- the second line of a name
+
+-- the second line of a name gives it its second key
+second_gives : (name first second : List ℕ) (above : List (List ℕ)) (old : List ℕ) (below : List (List ℕ)) (table : Table) → Reads (keys_of []) (above ++ old ∷ below) table
+    → count_by (is_line_of name) above ≡ 1 → is_line_of name old ≡ true → map.get table name ≡ Some (two first second) → Gives name second old
+second_gives name first second above old below table reads one_named named there =
+    let (between, front, _) = reads_apart above (old ∷ below) (keys_of []) table reads in
+    let (key, has_key) = one_above (keys_given name above) (sym (count_keys name above (keys_of []) between front) ∙ one_named) in
+    let whole : key ∷ cons_option (key_said name (line_of old)) (keys_given name below) ≡ first ∷ second ∷ [] =
+    ap (λ ks. ks ++ cons_option (key_said name (line_of old)) (keys_given name below)) (sym has_key)
+    ∙ sym (keys_apart name above old below) ∙ keys_there (above ++ old ∷ below) table name (two first second) reads there in
+    let given : cons_option (key_said name (line_of old)) (keys_given name below) ≡ second ∷ [] = cc in
+    let met = meets name second above old below table reads named given in
+    met.gives
+
+pub is_lower : (name text line shown : List ℕ) (others : List (List ℕ)) (start end : ℕ) → HasTwo text name → IsFound name text 1 start end
+    → lines_of (drop start text) ≡ shown ∷ others → line ≡ shown ++ 10 ∷ [] → IsLower name text line
+is_lower name text line shown others start end (first, second, (table, made, there)) found here is =
+    let a = around name text 1 start end found in
+    let reads = reads_text text (found.lines ++ found.line ∷ a.below) table a.all made in
+    let gives = second_gives name first second found.lines found.line a.below table reads found.count found.named there in
+    let lines : shown ∷ others ≡ found.line ∷ a.below = sym here ∙ a.here in
+    let same : shown ≡ found.line = cc in
+    let whole : line ≡ found.line ++ 10 ∷ [] = is ∙ ap (λ l. l ++ 10 ∷ []) same in
+    record {
+      first = first;
+      secret = gives.secret;
+      key = record {
+        line = found.line;
+        alone = λ rest. ap (λ l. lines_of (l ++ rest)) whole
+            ∙ ap lines_of (append_assoc found.line (10 ∷ []) rest)
+            ∙ slice_split_at is_line_feed found.line 10 rest found.unbroken refl;
+        said = gives.said;
+      };
+      had = (table, made, there ∙ ap (λ k. Some (two first k)) (sym gives.derived));
+    }
+
+-- ---- changes of the table, one after the other
+
+abbrev first_key : Option Keys → List ℕ
+first_key None = []
+first_key (Some keys) = keys.first
+
+abbrev key_or_none : Option (List ℕ) → List ℕ
+key_or_none None = []
+key_or_none (Some key) = key
+
+abbrev second_key : Option Keys → List ℕ
+second_key None = []
+second_key (Some keys) = key_or_none keys.second
+
+abbrev table_in : Result Table KeyFault → Table → Table
+table_in (Ok table) other = table
+table_in (Err fault) other = other
+
+one_table : (text : List ℕ) (one other : Table) → table_of text ≡ Ok one → table_of text ≡ Ok other → one ≡ other
+one_table text one other made again = ap (λ r. table_in r one) (sym made ∙ again)
+
+put_again : (table between : Table) (name : List ℕ) (x y z : Keys) → between ≡ map.insert table name x → y ≡ z → map.insert between name y ≡ map.insert table name z
+put_again table between name x y z is same = ap (λ t. map.insert t name y) is ∙ last_insert table name x y ∙ ap (map.insert table name) same
+
+pub one_left : (name text changed : List ℕ) → DropsKey name text changed → HasOne changed name
+one_left name text changed d = (d.first, (map.insert d.table name (one d.first), d.new, get_inserted d.table name (one d.first)))
+
+pub two_added : (name key text changed : List ℕ) → AddsKey name key text changed → HasTwo changed name
+two_added name key text changed a = (key, a.first, (map.insert a.table name (two key a.first), a.new, get_inserted a.table name (two key a.first)))
+
+pub two_swapped : (name text changed : List ℕ) → SwapsKeys name text changed → HasTwo changed name
+two_swapped name text changed s = (s.second, s.first, (map.insert s.table name (two s.second s.first), s.new, get_inserted s.table name (two s.second s.first)))
+
+pub swaps_keys : (name text rest changed line : List ℕ) → IsLower name text line → DropsKey name text rest
+    → ((secret : List ℕ) → IsKeyLine name secret line → AddsKey name (root_of secret) rest changed) → SwapsKeys name text changed
+swaps_keys name text rest changed line lower drops adds =
+    let added = adds lower.secret lower.key in
+    let (table, made, there) = lower.had in
+    let key : drops.second ≡ root_of lower.secret = ap second_key (sym drops.had ∙ ap (λ t. map.get t name) (one_table text drops.table table drops.old made) ∙ there) in
+    let between : added.table ≡ map.insert drops.table name (one drops.first) = one_table rest added.table (map.insert drops.table name (one drops.first)) added.old drops.new in
+    let kept : added.first ≡ drops.first = ap first_key (sym added.had ∙ ap (λ t. map.get t name) between ∙ get_inserted drops.table name (one drops.first)) in
+    let keys : two (root_of lower.secret) added.first ≡ two drops.second drops.first = ap (λ k. two k added.first) (sym key) ∙ ap (two drops.second) kept in
+    record {
+      table = drops.table;
+      first = drops.first;
+      second = drops.second;
+      old = drops.old;
+      had = drops.had;
+      new = added.new ∙ ap Ok (put_again drops.table added.table name (one drops.first) (two (root_of lower.secret) added.first) (two drops.second drops.first) between keys);
+    }
+
+pub adds_lower : (name key text between changed : List ℕ) → AddsKey name key text between → SwapsKeys name between changed → AddsLower name key text changed
+adds_lower name key text between changed adds swaps =
+    let put = two key adds.first in
+    let is : swaps.table ≡ map.insert adds.table name put = one_table between swaps.table (map.insert adds.table name put) swaps.old adds.new in
+    let there : Some (two swaps.first swaps.second) ≡ Some put = sym swaps.had ∙ ap (λ t. map.get t name) is ∙ get_inserted adds.table name put in
+    let keys : two swaps.second swaps.first ≡ two adds.first key = ap (λ k. two k swaps.first) (ap second_key there) ∙ ap (two adds.first) (ap first_key there) in
+    record {
+      table = adds.table;
+      first = adds.first;
+      old = adds.old;
+      had = adds.had;
+      new = swaps.new ∙ ap Ok (put_again adds.table swaps.table name put (two swaps.second swaps.first) (two adds.first key) is keys);
+    }
+
+pub drops_first : (name text between changed : List ℕ) → SwapsKeys name text between → DropsKey name between changed → DropsFirst name text changed
+drops_first name text between changed swaps drops =
+    let put = two swaps.second swaps.first in
+    let is : drops.table ≡ map.insert swaps.table name put = one_table between drops.table (map.insert swaps.table name put) drops.old swaps.new in
+    let there : Some (two drops.first drops.second) ≡ Some put = sym drops.had ∙ ap (λ t. map.get t name) is ∙ get_inserted swaps.table name put in
+    record {
+      table = swaps.table;
+      first = swaps.first;
+      second = swaps.second;
+      old = swaps.old;
+      had = swaps.had;
+      new = drops.new ∙ ap Ok (put_again swaps.table drops.table name put (one drops.first) (one swaps.second) is (ap one (ap first_key there)));
     }
 
 -- ---- the keys that a name has

@@ -8,9 +8,6 @@ use Rattle.mac_keys.proofs.Numbered.{each_None, results-none, first_of, results-
 
 -- ---- numbered from 0, a line's fault is that in its place
 
-numbered_fault : ℕ → Option LineFault → Option (ℕ × LineFault)
-numbered_fault place found = option_map {U = ℕ × LineFault} (λ fault. (place + 1, fault)) found
-
 fault_at-zero_add : (lines : List (List ℕ)) (place : ℕ) (line : List ℕ) → fault_at lines (0 + place, line) ≡ option_map {U = ℕ × LineFault} (λ fault. (place + 1, fault)) (fault_in_place lines place line)
 fault_at-zero_add lines place line = ap (λ n. fault_at lines (n, line)) (zero-add place)
 

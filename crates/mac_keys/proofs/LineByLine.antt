@@ -84,11 +84,6 @@ made_by_reads lines table reads = (read_back [] lines table reads).1
 
 -- ---- the lines of a name
 
-abbrev is_said : List ℕ → Result (Option Given) LineFault → Bool
-is_said name (Ok (Some g)) = bytes_eq g.name name
-is_said name (Ok None) = false
-is_said name (Err fault) = false
-
 none_given : (name : List ℕ) (secret : Result (List ℕ) LineFault) → given name secret ≡ Ok None → ⊥
 none_given name (Ok secret) e = cc
 none_given name (Err fault) e = cc

@@ -1,5 +1,5 @@
 -- The entries of a table, with names as lists of bytes, as a finite map.
-use Rattle.std.proofs.Common.{◌≡◌, ℕ, ◌+◌, Bool, cond, List, [], ◌∷◌, length, Some, None, refl, sym, ap, ◌∙◌, arith, Vec, Global}
+use Rattle.std.proofs.Common.{◌≡◌, ℕ, ◌+◌, cond, List, [], ◌∷◌, length, Some, None, refl, sym, ap, ◌∙◌, arith, Vec, Global}
 use Rattle.std.specs.declared.cmp.Ordering.{Ordering}
 use Rattle.std.specs.declared.cmp.Ordering.TheVariants.{Less, Equal, Greater}
 use Rattle.std.specs.Ordering.{nat_cmp, is_eq, eq_by_cmp, match_ordering}
@@ -70,11 +70,6 @@ len-by_name (e ∷ es) ordered =
     ∙ ap (λ found. cond (is_some found) (map.len rest) (map.len rest + 1)) none
     ∙ ap (λ n. n + 1) (len-by_name es ordered.1)
     ∙ (omega arith)
-
--- what the test for a name and the number of entries say of the map that a table is seen as
-pub contains_key-by_name : {X : Type 0} (es : List (Vec ℕ Global × X)) (keys : map.FinMap order X) (q : List ℕ) (b : Bool) → map.from_entries {R = order} (by_name es) ≡ keys
-    → b ≡ is_some (lookup (is_at (λ k. order q k.items)) es) → map.contains_key keys q ≡ b
-contains_key-by_name es keys q b seen found = ap (λ m. map.contains_key m q) (sym seen) ∙ ap is_some (get-by_name es q) ∙ sym found
 
 pub len-seen : {X : Type 0} (es : List (Vec ℕ Global × X)) (keys : map.FinMap order X) (n : ℕ) → map.from_entries {R = order} (by_name es) ≡ keys
     → IsStrictlySortedBy order_of (keys_of es) → n ≡ length es → map.len keys ≡ n

@@ -3,6 +3,7 @@ use Rattle.std.specs.Prelude.{◌≡◌, ◌⊎◌, ℕ, List, [], ◌∷◌, �
 use Rattle.std.specs.Prelude.{Ok, Err}
 use Rattle.std.specs.List.{Any}
 use Rattle.std.specs.FinMap.{get, insert}
+use Rattle.mac_hmac.specs.Chain.{root_of}
 use Rattle.mac_keys.specs.declared.change.ChangeFault.{ChangeFault}
 use Rattle.mac_keys.specs.declared.change.ChangeFault.TheVariants as change
 use Rattle.mac_keys.specs.declared.fault.KeyFault.{KeyFault}
@@ -54,6 +55,10 @@ pub record TakesLower (name text changed : List ℕ) : Type 0 where
 
 -- ---- what becomes of the table
 
+-- the key file has no fault, and these keys at the name
+abbrev pub HasKeys : List ℕ → List ℕ → Option Keys → Type 0
+HasKeys text name keys = (table : Table) × (table_of text ≡ Ok table) × (get table name ≡ keys)
+
 -- the name had one key, which is its second now, below a new one; each other name has its own
 pub record AddsKey (name key text changed : List ℕ) : Type 0 where
   pub table : Table
@@ -72,11 +77,50 @@ pub record DropsKey (name text changed : List ℕ) : Type 0 where
   pub had : get table name ≡ Some (record { first = first; second = Some second })
   pub new : table_of changed ≡ Ok (insert table name (record { first = first; second = None }))
 
--- ---- why nothing changes
+-- the name had one key, which is its first now, above a new one; each other name has its own
+pub record AddsLower (name key text changed : List ℕ) : Type 0 where
+  pub table : Table
+  pub first : List ℕ
+  pub old : table_of text ≡ Ok table
+  pub had : get table name ≡ Some (record { first = first; second = None })
+  pub new : table_of changed
+      ≡ Ok (insert table name (record { first = first; second = Some key }))
 
--- the key file has no fault, and these keys at the name
-abbrev pub HasKeys : List ℕ → List ℕ → Option Keys → Type 0
-HasKeys text name keys = (table : Table) × (table_of text ≡ Ok table) × (get table name ≡ keys)
+-- the name had two keys, of which the second is its first now; each other name has its own
+pub record SwapsKeys (name text changed : List ℕ) : Type 0 where
+  pub table : Table
+  pub first : List ℕ
+  pub second : List ℕ
+  pub old : table_of text ≡ Ok table
+  pub had : get table name ≡ Some (record { first = first; second = Some second })
+  pub new : table_of changed
+      ≡ Ok (insert table name (record { first = second; second = Some first }))
+
+-- the name had two keys, of which it has the second alone now; each other name has its own
+pub record DropsFirst (name text changed : List ℕ) : Type 0 where
+  pub table : Table
+  pub first : List ℕ
+  pub second : List ℕ
+  pub old : table_of text ≡ Ok table
+  pub had : get table name ≡ Some (record { first = first; second = Some second })
+  pub new : table_of changed ≡ Ok (insert table name (record { first = second; second = None }))
+
+-- the lower line of the name stands above the other one now; all else is as it was
+pub record RaisesLower (name text changed : List ℕ) : Type 0 where
+  pub line : List ℕ
+  pub rest : List ℕ
+  pub taken : TakesLower name text rest
+  pub put : PutsAbove name line rest changed
+
+-- a line feed ends the line, which gives the name its second key
+pub record IsLower (name text line : List ℕ) : Type 0 where
+  pub first : List ℕ
+  pub secret : List ℕ
+  pub key : IsKeyLine name secret line
+  pub had : HasKeys text name
+      (Some (record { first = first; second = Some (root_of secret) }))
+
+-- ---- why nothing changes
 
 abbrev pub HasTwo : List ℕ → List ℕ → Type 0
 HasTwo text name = (first second : List ℕ)

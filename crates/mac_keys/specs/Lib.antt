@@ -8,3 +8,4 @@ pub mod Meaning
 pub mod Names
 pub mod Table
 pub mod Taken
+pub mod Weak

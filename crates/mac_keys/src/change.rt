@@ -3,9 +3,10 @@ ghost use Rattle.std.specs.Prelude.{◌≡◌, ◌+◌, ◌<◌, ◌≤◌, ◌=
 ghost use Rattle.std.specs.Prelude.{take, drop, All, IfOk, IfErr, IfSome, MatchOption};
 ghost use Rattle.std.specs.List.{count_by};
 ghost use Rattle.mac_hmac.specs.Chain.{root_of};
-ghost use Rattle.mac_keys.specs.Change.{AddsKey, DropsKey, HasKeys, HasOne, HasTwo, IsFileFault};
-ghost use Rattle.mac_keys.specs.Change.{IsKeyLine};
-ghost use Rattle.mac_keys.specs.Change.{PutsAbove, RefusesAbove, RefusesDrop, TakesLower};
+ghost use Rattle.mac_keys.specs.Change.{AddsKey, AddsLower, DropsFirst, DropsKey, HasKeys, HasOne};
+ghost use Rattle.mac_keys.specs.Change.{HasTwo, IsFileFault, IsKeyLine, IsLower, PutsAbove};
+ghost use Rattle.mac_keys.specs.Change.{RaisesLower, RefusesAbove, RefusesDrop, SwapsKeys};
+ghost use Rattle.mac_keys.specs.Change.{TakesLower};
 ghost use Rattle.mac_keys.specs.Found.{IsFound, IsUnbroken, is_line_of};
 ghost use Rattle.mac_keys.specs.Table.{lines_of};
 ghost use Rattle.mac_keys.specs.declared.change.ChangeFault.TheVariants.{File};
@@ -95,6 +96,63 @@ pub fn drop_lower(alloc: Global, text: &[u8], name: &[u8]) -> Result<Vec<u8>, Ch
     Ok(take_lower(alloc, text, name)?)
 }
 
+/// The text with a line below that of a name which has one: the first step of a change of keys that
+/// several daemons make one after the other.
+///
+/// The name's old key mints still, and the new one is verified. Takes the time and the memory of
+/// four readings.
+pub fn add_below(
+    alloc: Global,
+    text: &[u8],
+    name: &[u8],
+    line: &[u8],
+) -> Result<Vec<u8>, ChangeFault>
+    requires { (secret : List ℕ) × IsKeyLine name.now secret line.now }
+    ensures text { IfOk result (λ changed. (between : List ℕ)
+        × PutsAbove name.now line.now text.now between
+        × RaisesLower name.now between changed.items) }
+    ensures table { IfOk result (λ changed. (secret : List ℕ)
+        → IsKeyLine name.now secret line.now
+        → AddsLower name.now (root_of secret) text.now changed.items) }
+    ensures fault { IfErr result (RefusesAbove text.now name.now) }
+{
+    let between = add_above(alloc, text, name, line)?;
+    Ok(raise_line(alloc, between.as_slice(), name)?)
+}
+
+/// The text with the lower line of a name that has two above the other one: the second step of a
+/// change of keys that several daemons make one after the other.
+///
+/// The key of that line mints from then on, and the other one is still verified. Takes the time and
+/// the memory of two readings.
+pub fn raise_lower(alloc: Global, text: &[u8], name: &[u8]) -> Result<Vec<u8>, ChangeFault>
+    ensures text { IfOk result (λ changed. RaisesLower name.now text.now changed.items) }
+    ensures table { IfOk result (λ changed. SwapsKeys name.now text.now changed.items) }
+    ensures fault { IfErr result (RefusesDrop text.now name.now) }
+{
+    let Some(keys) = read_keys(alloc, text, name)? else {
+        return Err(ChangeFault::NoLine);
+    };
+    if keys.second.is_none() {
+        return Err(ChangeFault::OneLine);
+    }
+    Ok(raise_line(alloc, text, name)?)
+}
+
+/// The text without the upper line of a name that has two, in whose place the lower one stands.
+///
+/// The key of the lower line mints from then on, and what was minted under the other one is
+/// refused. Takes the time and the memory of three readings.
+pub fn drop_upper(alloc: Global, text: &[u8], name: &[u8]) -> Result<Vec<u8>, ChangeFault>
+    ensures text { IfOk result (λ changed. (between : List ℕ)
+        × RaisesLower name.now text.now between × TakesLower name.now between changed.items) }
+    ensures table { IfOk result (λ changed. DropsFirst name.now text.now changed.items) }
+    ensures fault { IfErr result (RefusesDrop text.now name.now) }
+{
+    let between = raise_lower(alloc, text, name)?;
+    Ok(take_lower(alloc, between.as_slice(), name)?)
+}
+
 /// The keys that the file gives a name.
 fn read_keys(alloc: Global, text: &[u8], name: &[u8]) -> Result<Option<Keys>, KeyFault>
     ensures keys { IfOk result (HasKeys text.now name.now) }
@@ -129,6 +187,38 @@ fn take_lower(alloc: Global, text: &[u8], name: &[u8]) -> Result<Vec<u8>, AllocE
         unreachable!("the name has two lines")
     };
     join(alloc, &text[..start], b"", &text[end..])
+}
+
+/// The text with the second line of a name above its first.
+fn raise_line(alloc: Global, text: &[u8], name: &[u8]) -> Result<Vec<u8>, AllocError>
+    requires { HasTwo text.now name.now }
+    ensures text { IfOk result (λ changed. RaisesLower name.now text.now changed.items) }
+    ensures table { IfOk result (λ changed. SwapsKeys name.now text.now changed.items) }
+{
+    let line = copy_lower(alloc, text, name)?;
+    let rest = take_lower(alloc, text, name)?;
+    put_above(alloc, rest.as_slice(), name, line.as_slice())
+}
+
+/// The second line of a name, with its line feed, which at the end of a file it may lack.
+fn copy_lower(alloc: Global, text: &[u8], name: &[u8]) -> Result<Vec<u8>, AllocError>
+    requires { HasTwo text.now name.now }
+    ensures { IfOk result (λ line. IsLower name.now text.now line.items) }
+{
+    let Some((start, _)) = find_line(text, name, 1) else {
+        unreachable!("the name has two lines")
+    };
+    join(alloc, first_line(&text[start..]), b"\n", b"")
+}
+
+/// The first line of a text, without its line feed.
+fn first_line(text: &[u8]) -> &[u8]
+    ensures { (others : List (List ℕ)) × (lines_of text.now ≡ result.now ∷ others) }
+{
+    match find_line_feed(text) {
+        Some(place) => &text[..place],
+        None => text,
+    }
 }
 
 /// Three texts in one.

@@ -11,9 +11,13 @@ mod keys;
 pub mod laws;
 mod line;
 mod table;
+mod weak;
+mod wiping;
 
-pub use change::{ChangeFault, add_above, drop_lower};
+pub use change::{ChangeFault, add_above, add_below, drop_lower, drop_upper, raise_lower};
 pub use fault::{KeyFault, LineFault};
 pub use keys::{KeyName, Keys};
 pub use line::{NAME_MAX, is_name};
 pub use table::{KeyTable, NAMES_MAX};
+pub use weak::{SOUND_BYTES, find_weak};
+pub use wiping::wipe;

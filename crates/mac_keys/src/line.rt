@@ -115,7 +115,7 @@ fn is_ignored(line: &[u8]) -> bool
 }
 
 /// The name and the digits behind `key `, as the next space parts them.
-fn fields(line: &[u8]) -> Option<(&[u8], &[u8])>
+pub(crate) fn fields(line: &[u8]) -> Option<(&[u8], &[u8])>
     ensures { option_map (λ found. (found.0.now, found.1.now)) result ≡ fields_of line.now }
 {
     parted(line.strip_prefix(b"key ")?)

@@ -12,7 +12,8 @@ ghost use Rattle.mac_keys.specs.declared.fault.KeyFault.TheVariants.{Memory};
 use crate::fault::{KeyFault, LineFault};
 use crate::keys::{KeyName, Keys};
 use crate::line::{Refusal, read_line};
-use mac_hmac::root_key;
+use crate::wiping::{show, wipe};
+use mac_hmac::{RootKey, root_key};
 use std::alloc::{AllocError, Global};
 use std::collections::BTreeMap;
 use std::marker::Model;
@@ -20,10 +21,24 @@ use std::marker::Model;
 /// The greatest number of names in a table.
 pub const NAMES_MAX: usize = 1000;
 
-/// The names of a key file, each with the root keys of its secrets.
-#[derive(Drop)]
+/// The names of a key file, each with the root keys of its secrets. The keys are overwritten where a
+/// table is let go of.
 pub struct KeyTable {
     keys: BTreeMap<Vec<u8>, Keys>,
+}
+
+impl Drop for KeyTable {
+    fn drop(self) {
+        let KeyTable { mut keys } = self;
+        let blank = RootKey::from_bytes([0; 32]);
+        for kept in keys.values_mut() {
+            *kept = Keys {
+                first: blank,
+                second: Some(blank),
+            };
+            show(kept);
+        }
+    }
 }
 
 impl Model for KeyTable {
@@ -95,7 +110,11 @@ impl KeyTable {
         ensures memory { IsErrOf result Refusal.Memory → HasPairs line.now }
     {
         match read_line(alloc, line)? {
-            Some(given) => self.put(alloc, given.name, &given.secret),
+            Some(mut given) => {
+                let taken = self.put(alloc, given.name, &given.secret);
+                wipe(given.secret.as_mut_slice());
+                taken
+            }
             None => Ok(()),
         }
     }

@@ -122,6 +122,7 @@ printed-kind_bytes kind.ConnectionDropped = refl
 printed-kind_bytes kind.LimitReached = refl
 printed-kind_bytes kind.LimitLow = refl
 printed-kind_bytes kind.AcceptFault = refl
+printed-kind_bytes kind.SystemFault = refl
 printed-kind_bytes kind.Request = refl
 printed-kind_bytes kind.Replaced = refl
 printed-kind_bytes kind.Drain = refl

@@ -1,8 +1,9 @@
 //! What a line says beyond its kind.
 
-ghost use Rattle.std.specs.Prelude.{◌≡◌, ◌++◌, [], IfOk, OnOk};
+ghost use Rattle.std.specs.Prelude.{◌≡◌, ◌≢◌, ◌++◌, [], true, IfOk, OnOk};
 ghost use Rattle.std.specs.Fmt.{decimal};
 ghost use Rattle.mac_log.specs.Fields.{field_text};
+ghost use Rattle.mac_log.specs.Name.{is_told_name};
 
 use crate::NoMemory;
 use crate::key::Key;
@@ -34,8 +35,9 @@ impl Fields {
         }
     }
 
-    /// These fields and one more, whose value may be any bytes.
+    /// These fields and one more, whose value may be any bytes, but for the name of a key.
     pub fn with_text(self, key: Key, value: &[u8]) -> Result<Fields, NoMemory>
+        requires name { key ≡ Key.Name → is_told_name value.now ≡ true }
         ensures { IfOk result (λ fields. fields ≡ self ++ field_text key value.now) }
     {
         let Fields { mut text } = self;
@@ -45,6 +47,7 @@ impl Fields {
 
     /// These fields and one more, a decimal number.
     pub fn with_number(self, alloc: Global, key: Key, value: u64) -> Result<Fields, NoMemory>
+        requires name { key ≢ Key.Name }
         ensures { IfOk result (λ fields. fields ≡ self ++ field_text key (decimal value)) }
     {
         let digits = value.to_string(alloc)?;

@@ -42,7 +42,7 @@ pub enum Key {
     Cause,
     /// What a request asks for.
     Asks,
-    /// The name of a key, and never the key.
+    /// The name of a key, and never the key, nor a token that stands in its place.
     Name,
     /// What a request was answered.
     Verdict,

@@ -6,7 +6,7 @@ ghost use Rattle.mac_log.specs.Kind.{is_bounded, kind_level, kind_word};
 use crate::level::Level;
 
 /// How many kinds of lines there are.
-pub const KINDS: usize = 15;
+pub const KINDS: usize = 16;
 
 /// What a line tells of.
 #[derive(Clone, Copy, Debug, PartialEq, Eq)]
@@ -31,6 +31,8 @@ pub enum Kind {
     LimitLow,
     /// The system gave no connection.
     AcceptFault,
+    /// The system refused a step that is made again, or that the daemon goes on without.
+    SystemFault,
     /// A request was answered.
     Request,
     /// Another daemon's socket is in the place of the daemon's own.
@@ -56,6 +58,7 @@ impl Kind {
         Kind::LimitReached,
         Kind::LimitLow,
         Kind::AcceptFault,
+        Kind::SystemFault,
         Kind::Request,
         Kind::Replaced,
         Kind::Drain,
@@ -78,6 +81,7 @@ impl Kind {
             Kind::LimitReached => "limit_reached",
             Kind::LimitLow => "limit_low",
             Kind::AcceptFault => "accept_fault",
+            Kind::SystemFault => "system_fault",
             Kind::Request => "request",
             Kind::Replaced => "replaced",
             Kind::Drain => "drain",
@@ -91,7 +95,7 @@ impl Kind {
         ensures { result ≡ kind_level self }
     {
         match self {
-            Kind::KeysRefused | Kind::AcceptFault => Level::Error,
+            Kind::KeysRefused | Kind::AcceptFault | Kind::SystemFault => Level::Error,
             Kind::KeysEmpty
             | Kind::ConnectionFault
             | Kind::ConnectionDropped

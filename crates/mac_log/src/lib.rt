@@ -4,7 +4,7 @@
 //! Who posts a line never waits for who reads it: one thread prints what waits in a bounded queue.
 //! Of each kind but that of requests at most ten lines a second are printed, and then one that says
 //! how many were left out. Lines of requests leave a quarter of the queue to the others. No value
-//! can end a line or pass for a key of it ([`laws`]).
+//! can end a line or pass for a key of it ([`laws`]), and no token stands where a name is told.
 #![tactic(auto)]
 
 mod clock;
@@ -16,6 +16,7 @@ mod level;
 mod line;
 mod log;
 mod moment;
+mod name;
 mod printer;
 mod quota;
 mod value;
@@ -27,6 +28,7 @@ pub use level::Level;
 pub use line::Line;
 pub use log::{Log, REQUESTS_WAITING_MAX, WAITING_MAX};
 pub use moment::MOMENT_MAX;
+pub use name::{TOKEN_MIN, is_told_name};
 pub use printer::start_log;
 pub use quota::{LINES_MAX, Quota, SECOND};
 pub use std::alloc::AllocError as NoMemory;

@@ -44,6 +44,9 @@ pub struct Handover {
     pub session: Session,
     /// What its requests may do.
     pub rights: Arc<Rights, Global>,
+    /// The place of the key table that its last requests may have been answered under, among those
+    /// that were published. Whoever takes it answers under that one, or one behind it.
+    pub place: u64,
     /// When it last made progress, on the clock of [`microseconds`](crate::microseconds).
     pub since: u64,
     /// What it is known by.

@@ -1,5 +1,8 @@
 //! A loop: a thread's turns over its clients.
 
+ghost use Rattle.std.specs.Prelude.{◌≡◌, ◌≤◌, IsTrue};
+ghost use Rattle.mac_plain.specs.Client.{may_move};
+
 mod sharing;
 mod sweeping;
 
@@ -51,6 +54,8 @@ pub struct Loop {
     round: Round,
     parts: usize,
     shares: Shares,
+    // How many bytes may be unsent in this turn on a client that is read.
+    unsent_max: usize,
     // At how many looks in a row it has worked nearly all of the time.
     late: u8,
     // The seconds after which a client that makes no progress is ended, where they were asked for.
@@ -90,6 +95,7 @@ pub fn make_loops<R: Net>(
             round: Round::new(alloc, seen.share()?)?,
             parts: PARTS_MAX,
             shares: Shares::new(alloc, count)?,
+            unsent_max: 0,
             late: 0,
             idle,
             is_draining: false,
@@ -113,11 +119,11 @@ impl Loop {
             self.wait();
             self.now = microseconds(rt);
             self.take_events();
-            self.welcome(rt, loops, watch);
+            self.welcome(rt, loops, outlook, watch);
             self.drain(loops);
             self.serve_ready(rt, loops, outlook, watch);
             self.sweep(rt, loops, watch);
-            self.keep_time(rt, loops, watch);
+            self.keep_time(rt, loops, outlook, watch);
             if self.members.count() == 0 && loops.is_closed() {
                 return;
             }
@@ -147,27 +153,38 @@ impl Loop {
     }
 
     /// Takes in the clients that were handed over.
-    fn welcome<R: Wait + Clock, W: Watch>(&mut self, rt: &R, loops: &Loops, watch: &W) {
+    fn welcome<R: Wait + Clock, K: Outlook, W: Watch>(
+        &mut self,
+        rt: &R,
+        loops: &Loops,
+        outlook: &mut K,
+        watch: &W,
+    ) {
         for _ in rt.forever() {
             let Some(client) = loops.take(rt, self.number) else {
                 return;
             };
-            self.receive(rt, client, loops, watch);
+            self.receive(rt, client, loops, outlook, watch);
         }
     }
 
-    /// Takes a client in, or ends it where there is no memory for that.
-    fn receive<R: Wait + Clock, W: Watch>(
+    /// Takes a client in, or ends it where there is no memory for that. It is answered under no
+    /// older table than before: first the loop comes as far as whoever answered it last.
+    fn receive<R: Wait + Clock, K: Outlook, W: Watch>(
         &mut self,
         rt: &R,
         client: Handover,
         loops: &Loops,
+        outlook: &mut K,
         watch: &W,
     ) {
         let life = client.life();
-        if !self.take_in(client, loops) {
-            watch.end(rt, life, Some(PlainFault::NoMemory));
+        if outlook.reach(client.place) {
+            if self.take_in(client, loops, outlook) {
+                return;
+            }
         }
+        watch.end(rt, life, Some(PlainFault::NoMemory));
     }
 
     /// Once the loops are draining, takes nothing more from its clients than what has come.
@@ -182,11 +199,14 @@ impl Loop {
     }
 
     /// Whether there was memory to take a client in.
-    fn take_in(&mut self, client: Handover, loops: &Loops) -> bool {
+    fn take_in<K: Outlook>(&mut self, client: Handover, loops: &Loops, outlook: &K) -> bool
+        requires { client.place ≤ (K.known outlook.now).tables.place }
+    {
         let Handover {
             port,
             session,
             rights,
+            place: _,
             since,
             badge,
         } = client;
@@ -219,12 +239,13 @@ impl Loop {
         watch: &W,
     ) {
         self.pick(rt, loops);
-        let unsent_max = loops.unsent_max();
+        self.unsent_max = loops.unsent_max();
         let spare = loops.begin_turn();
         // What makes turns long is read in small pieces.
         let threads = if self.parts < PARTS_MAX { 1 } else { spare };
         let batch = self.batch.as_mut_slice();
-        self.round.serve(rt, threads, outlook, batch, unsent_max);
+        self.round
+            .serve(rt, threads, outlook, batch, self.unsent_max);
         loops.end_turn();
         let mut traffic = Traffic::NONE;
         for _ in rt.forever() {
@@ -233,7 +254,7 @@ impl Loop {
             };
             loops.count_unsent(0, client.unsent());
             traffic = traffic.plus(self.members.count_traffic(slot, &client));
-            self.look_after(rt, slot, client, unsent_max, loops, watch);
+            self.look_after(rt, slot, client, loops, outlook, watch);
         }
         watch.count(&Turn {
             requests: self.round.take_counts(),
@@ -272,13 +293,13 @@ impl Loop {
     }
 
     /// Does what a client's turn has left to do.
-    fn look_after<R: Wait + Clock, W: Watch>(
+    fn look_after<R: Wait + Clock, K: Outlook, W: Watch>(
         &mut self,
         rt: &R,
         slot: usize,
         mut client: Client<SocketPort>,
-        unsent_max: usize,
         loops: &Loops,
+        outlook: &K,
         watch: &W,
     ) {
         self.tell_exchanges(rt, slot, &client, watch);
@@ -291,12 +312,12 @@ impl Loop {
         }
         if client.course() == Course::Wide {
             loops.count_unsent(client.unsent(), 0);
-            let client = self.part(slot, client);
+            let client = self.part(slot, client, outlook);
             watch.widen(rt, client);
             return;
         }
         watch.see(self.members.life(slot, &client), client.unsent());
-        self.note_turn(slot, &mut client, unsent_max);
+        self.note_turn(slot, &mut client);
         self.members.put(slot, client);
     }
 
@@ -316,8 +337,15 @@ impl Loop {
         }
     }
 
-    /// A client that leaves its slot and the loop's poll.
-    fn part(&mut self, slot: usize, client: Client<SocketPort>) -> Handover {
+    /// A client that leaves its slot and the loop's poll. It takes along how far the tables were
+    /// that it was answered under here.
+    fn part<K: Outlook>(&mut self, slot: usize, client: Client<SocketPort>, outlook: &K) -> Handover
+        requires { IsTrue (may_move client.course) }
+        ensures port { result.port ≡ client.port }
+        ensures session { result.session ≡ client.session }
+        ensures rights { result.rights ≡ client.rights }
+        ensures place { result.place ≡ (K.known outlook.now).tables.place }
+    {
         let progress = Progress::of(&client);
         let since = self.members.note_progress(slot, progress, self.now);
         let badge = self.members.badge(slot);
@@ -328,13 +356,14 @@ impl Loop {
             port,
             session,
             rights,
+            place: outlook.place(),
             since,
             badge,
         }
     }
 
     /// Notes what a client waits for after its turn.
-    fn note_turn(&mut self, slot: usize, client: &mut Client<SocketPort>, unsent_max: usize) {
+    fn note_turn(&mut self, slot: usize, client: &mut Client<SocketPort>) {
         let awaits = client.unsent() > 0;
         let Some(note) = self.members.note(slot) else {
             return;
@@ -343,7 +372,7 @@ impl Loop {
         if note.is_closing || (client.has_begun() && client.port().has_read()) {
             client.wake_reading();
         }
-        note.is_deep = client.is_busy(unsent_max);
+        note.is_deep = client.is_busy(self.unsent_max);
         let (is_deep, awaited) = (note.is_deep, note.awaits_room);
         note.awaits_room = awaits;
         if awaits != awaited {
@@ -357,7 +386,13 @@ impl Loop {
     }
 
     /// Counts what a turn took, fits the next one to it, and shares clients with other loops.
-    fn keep_time<R: Wait + Clock, W: Watch>(&mut self, rt: &R, loops: &Loops, watch: &W) {
+    fn keep_time<R: Wait + Clock, K: Outlook, W: Watch>(
+        &mut self,
+        rt: &R,
+        loops: &Loops,
+        outlook: &mut K,
+        watch: &W,
+    ) {
         let now = microseconds(rt);
         let spent = now.saturating_sub(self.now);
         if spent > TURN_LONG {
@@ -368,7 +403,7 @@ impl Loop {
         loops.add_work(self.number, spent);
         if self.shares.is_due(now) {
             loops.look(&mut self.shares, now);
-            self.spread(rt, loops, watch);
+            self.spread(rt, loops, outlook, watch);
         }
     }
 }

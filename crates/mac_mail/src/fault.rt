@@ -1,8 +1,5 @@
 //! Why a queue or a mailbox refuses.
 
-ghost use Rattle.std.specs.Prelude.{◌≡◌};
-ghost use Rattle.mac_mail.specs.Fault.{put_code};
-
 use crate::closing::{Closed, Open};
 use thiserror::Error;
 
@@ -21,18 +18,4 @@ pub enum PutFault {
     /// The pass has put as many as it ever may.
     #[error("the pass has put as many tickets as it may")]
     Spent,
-}
-
-impl PutFault {
-    /// The fault's number: 1 to 4.
-    pub fn code(&self) -> u8
-        ensures { result ≡ put_code self.now }
-    {
-        match self {
-            PutFault::Full(_) => 1,
-            PutFault::Closed(_) => 2,
-            PutFault::NoMemory => 3,
-            PutFault::Spent => 4,
-        }
-    }
 }

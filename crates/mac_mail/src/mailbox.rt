@@ -1,13 +1,11 @@
 //! A mailbox: posts wait here for the one who takes them.
 
 ghost use Rattle.std.specs.Prelude.{◌≡◌, Option, [], ◌∷◌, ◌++◌, IfErr, IfOk, IfSome, IfNone};
-ghost use Rattle.mac_mail.specs.Fault.{IsMailFault};
-ghost use Rattle.mac_mail.specs.Post.{entry_of, handled, receipt_of, IsDelivered};
+ghost use Rattle.mac_mail.specs.Post.{entry_of, handled, IsDelivered};
 ghost use Rattle.crossbeam_queue.specs.Passes.{view, IsSamePass};
 
 use crate::bell::{Bell, Notice};
 use crate::closing::{Closed, Closing};
-use crate::fault::PutFault;
 use crate::post::Post;
 use crate::receipt::{Delivery, Receipt};
 use crossbeam_queue::protocol::{Free, Lesson, Outcome, Protocol};
@@ -113,25 +111,6 @@ impl<S: Service> Mailbox<S> {
             closing: Closing::new(alloc)?,
         };
         Ok((mail, pass))
-    }
-
-    /// Puts the post in, and wakes who waits for posts.
-    pub fn push<R: Wait>(&self, rt: &R, post: Post<S>) -> Result<Receipt<S>, (PutFault, Post<S>)>
-        ensures posted { IfOk result (λ receipt. receipt ≡ receipt_of self.now post) }
-        ensures fault { IfErr result (λ e. IsMailFault self.now e.0) }
-        ensures back { IfErr result (λ e. e.1 ≡ post) }
-    {
-        let found = match self.closing.look() {
-            Ok(found) => found,
-            Err(closed) => return Err((PutFault::Closed(closed), post)),
-        };
-        match self.put_in(rt, post) {
-            Ok(pass) => {
-                self.posts.ring();
-                Ok(Receipt { pass, found })
-            }
-            Err(post) => Err((PutFault::Full(found), post)),
-        }
     }
 
     /// Puts the post in, where there is room, and wakes nobody.

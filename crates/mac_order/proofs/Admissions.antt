@@ -14,7 +14,7 @@ use Rattle.mac_order.specs.State.{Connection, State, unsent}
 use Rattle.mac_order.specs.Step.{after_arrive, after_send, after_reply, after_close, after_claim, after_finish, is_claimable, step}
 use Rattle.mac_order.specs.Ran.{ran}
 use Rattle.mac_order.specs.History.{given_by, admitted_by, admitted}
-use Rattle.mac_order.proofs.Staffed.{slice_get-set_same, put}
+use Rattle.mac_order.proofs.Put.{slice_get-set_same, put}
 use Rattle.mac_order.proofs.Steps.{found_connection, found_claim, found_task, found_finish}
 
 enumerate_from-append : {Item : Type 0} (first : ℕ) (items others : List Item) → enumerate_from first (items ++ others) ≡ enumerate_from first items ++ enumerate_from (first + length items) others

@@ -8,7 +8,7 @@ use Rattle.mac_order.specs.State.{Connection, State}
 use Rattle.mac_order.specs.Step.{after_close, on_connection}
 use Rattle.mac_order.specs.History.{IsBeginningOf}
 use Rattle.mac_order.proofs.Bounded.{no_length}
-use Rattle.mac_order.proofs.Staffed.{slice_get-set_same}
+use Rattle.mac_order.proofs.Put.{slice_get-set_same}
 use Rattle.mac_order.proofs.Steps.{on_connection-known}
 use Rattle.mac_order.proofs.Moves.{Moved, stays, arrives, claims, finishes, sends, closes}
 

@@ -4,7 +4,7 @@ use Rattle.std.proofs.lemmas.Bool.{false≢true}
 use Rattle.std.proofs.lemmas.Bool.Decides.{eqb_tells}
 use Rattle.std.specs.FinMap.{get, get-empty, remove}
 use Rattle.std.specs.Ordering.{nat_cmp}
-use Rattle.mac_order.specs.Buffer.{Buffer, IsBounded, open_fault, settle_fault, opened, settled, sent_off, closed_off, fresh_buffer}
+use Rattle.mac_order.specs.Buffer.{Buffer, IsBounded, open_fault, settle_fault, opened, settled, sent_off, closed_off}
 use Rattle.mac_order.specs.Slots.{IsLaidOut, answers_in, lies_as}
 use Rattle.mac_order.proofs.Waiting.{outside, within, position, get-answers_in-outside, answers_in-empty, get-insert_other, get-remove_same, get-remove_other}
 use Rattle.mac_order.proofs.Faults.{open_fault-none, settle_fault-none}
@@ -26,14 +26,6 @@ bounded next slips room slots closed laid = record {
     | within above under ↦ (above, under)
   ];
   closed = λ shut. (laid.closed_is_empty shut, ap (answers_in next) (no_length slots (laid.slots_fit ∙ rw shut refl)) ∙ answers_in-empty next);
-}
-
-pub bounded-fresh_buffer : {Job : Type 0} → IsBounded (fresh_buffer {Job = Job})
-bounded-fresh_buffer = record {
-  slips = omega arith;
-  places = omega arith;
-  answers = λ place is. absurd (not_some _ (get-empty nat_cmp place) is);
-  closed = λ shut. absurd (false≢true shut);
 }
 
 module _ {Job : Type 0} {buffer : Buffer Job} (old : IsBounded buffer) where

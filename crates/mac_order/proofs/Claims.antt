@@ -1,5 +1,5 @@
 -- No place is claimed twice.
-use Rattle.std.proofs.Common.{◌≡◌, ℕ, zero, suc, ◌<◌, inl, inr, true, List, [], ◌∷◌, set, Option, Some, None, slice_get, sym, ◌∙◌, ap, refl, subst, arith}
+use Rattle.std.proofs.Common.{◌≡◌, ℕ, zero, suc, ◌<◌, inl, inr, true, false, List, [], ◌∷◌, set, Option, Some, None, slice_get, sym, ◌∙◌, ap, refl, subst, arith}
 use Rattle.std.proofs.lemmas.Bool.{false≢true, cases_Bool}
 use Rattle.std.proofs.lemmas.Option.{none-some, same_Some, slice_get_within}
 use Rattle.std.specs.FinSet.{FinSet, contains, insert}
@@ -10,12 +10,16 @@ use Rattle.mac_order.specs.declared.event.Event.TheVariants.{Claim}
 use Rattle.mac_order.specs.declared.event.Outcome.TheVariants as outcome
 use Rattle.mac_order.specs.State.{Connection, State}
 use Rattle.mac_order.specs.Step.{after_claim, is_claimable, step}
-use Rattle.mac_order.proofs.Marks.{contains-insert_same, contains-insert_other}
-use Rattle.mac_order.proofs.Staffed.{slice_get-set_same, claimable-unclaimed}
+use Rattle.mac_order.proofs.Places.{contains-insert_same, contains-insert_other}
+use Rattle.mac_order.proofs.Put.{slice_get-set_same}
 use Rattle.mac_order.proofs.Runs.{StandsAt}
 use Rattle.mac_order.proofs.Steps.{found_claim}
 use Rattle.mac_order.proofs.Moves.{Moved, stays, arrives, claims, finishes, sends, closes, by_step}
 use Rattle.std.proofs.lemmas.Bool.Decides.{eqb_tells}
+
+-- a place that is claimable was not claimed
+claimable-unclaimed : {Job Reply : Type 0} (link : Connection Job Reply) (place : ℕ) → is_claimable link place ≡ true → contains link.claimed place ≡ false
+claimable-unclaimed link place is = grind arith
 
 contains-more : (claimed : FinSet nat_cmp) (place other : ℕ) → contains claimed other ≡ true → contains (insert claimed place) other ≡ true
 contains-more claimed place other is = elim (eqb_tells other place) [

@@ -9,7 +9,7 @@ use Rattle.mac_order.specs.declared.event.Outcome.TheVariants as outcome
 use Rattle.mac_order.specs.State.{Connection, State, fresh, opening}
 use Rattle.mac_order.specs.Step.{step, after_arrive, after_send, after_close, after_claim, after_finish, is_claimable}
 use Rattle.mac_order.specs.Ran.{ran}
-use Rattle.mac_order.proofs.Sends.{slice_get-within}
+use Rattle.mac_order.proofs.Put.{slice_get-within}
 use Rattle.mac_order.proofs.Moves.{Moved, by_step}
 use Rattle.mac_order.proofs.Steps.{found_connection, found_claim, found_task, found_finish}
 

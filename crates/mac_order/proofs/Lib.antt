@@ -1,10 +1,8 @@
 pub mod Bounded
 pub mod Faults
 pub mod Waiting
-pub mod Marks
-pub mod Tracked
-pub mod Sends
-pub mod Staffed
+pub mod Places
+pub mod Put
 pub mod Steps
 pub mod Runs
 pub mod Moves

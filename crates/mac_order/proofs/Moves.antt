@@ -13,7 +13,7 @@ use Rattle.mac_order.specs.declared.event.Outcome.TheVariants as outcome
 use Rattle.mac_order.specs.State.{Connection, State, unsent}
 use Rattle.mac_order.specs.History.{place_of, sent_by}
 use Rattle.mac_order.specs.Step.{after_arrive, after_send, after_reply, after_close, after_claim, after_finish, is_claimable, step}
-use Rattle.mac_order.proofs.Staffed.{slice_get-set_same, slice_get-set_other, put}
+use Rattle.mac_order.proofs.Put.{slice_get-set_same, slice_get-set_other, put}
 use Rattle.mac_order.proofs.Steps.{found_connection, found_claim, found_task, found_finish}
 
 module _ {Job Reply : Type 0} where

@@ -11,7 +11,7 @@ use Rattle.mac_order.specs.State.{Connection, State}
 use Rattle.mac_order.specs.Step.{step, after_send}
 use Rattle.mac_order.specs.History.{place_of}
 use Rattle.mac_order.specs.Ran.{ran}
-use Rattle.mac_order.proofs.Marks.{contains-insert_other}
+use Rattle.mac_order.proofs.Places.{contains-insert_other}
 use Rattle.mac_order.proofs.Kept.{length-step}
 use Rattle.mac_order.proofs.Runs.{StandsAt}
 use Rattle.mac_order.proofs.Steps.{found_connection}

@@ -8,7 +8,7 @@ use Rattle.mac_order.specs.declared.event.Event.TheVariants.{Arrive, Claim, Fini
 use Rattle.mac_order.specs.State.{Connection, State}
 use Rattle.mac_order.specs.Step.{step}
 use Rattle.mac_order.specs.History.{LeadsTo}
-use Rattle.mac_order.proofs.Marks.{contains-insert_same, contains-insert_other}
+use Rattle.mac_order.proofs.Places.{contains-insert_same, contains-insert_other}
 use Rattle.mac_order.proofs.Beginnings.{slice_get-seam}
 
 module _ {Job Reply : Type 0} where

@@ -9,11 +9,6 @@ use Rattle.mac_order.specs.State.{Connection, State}
 use Rattle.mac_order.specs.Step.{after_arrive, after_send, after_reply, after_close, after_finish, on_connection, step, is_change}
 use Rattle.mac_order.proofs.Steps.{set-found, found_connection, found_claim, found_task, found_finish}
 
--- what follows for a call that comes to what is given
-pub refused_by : {Kept : Type 0} (given : Kept × Outcome) (old new : Kept) (outcome : Outcome) → ◌≡◌ {A = Kept × Outcome} (new, outcome) given → (is_change given.1 ≡ false → given.0 ≡ old) → is_change outcome ≡ false → new ≡ old
-refused_by {Kept} given old new outcome comes keeps refused =
-    ap (λ (pair : Kept × Outcome). pair.0) comes ∙ keeps (ap (λ (pair : Kept × Outcome). is_change pair.1) (sym comes) ∙ refused)
-
 module _ {Job Reply : Type 0} where
   -- what is done with a connection leaves it as it was where it is refused
   abbrev KeepsRefused : (Connection Job Reply → Connection Job Reply × Outcome) → Type 0

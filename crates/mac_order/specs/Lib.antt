@@ -1,10 +1,7 @@
 pub mod Buffer
-pub mod Fault
 pub mod History
 pub mod Ran
 pub mod Slots
-pub mod Staffed
 pub mod State
 pub mod Step
 pub mod Stored
-pub mod Tracked

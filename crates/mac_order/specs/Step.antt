@@ -1,6 +1,6 @@
 -- What one event does, by cases, the first that holds. What a case does not name stays.
 -- All of it is this project's own.
-use Rattle.std.specs.Prelude.{◌≡◌, ℕ, Bool, true, false, IsTrue, not, ◌&&◌, if◌then◌else◌, nat_lt, nat_le, [], ◌∷◌, ◌++◌, length, slice_get, slice_set, Option, None, Some, Result, Ok, Err}
+use Rattle.std.specs.Prelude.{◌≡◌, ℕ, Bool, true, false, not, ◌&&◌, if◌then◌else◌, nat_lt, nat_le, [], ◌∷◌, ◌++◌, length, slice_get, slice_set, Option, None, Some}
 use Rattle.std.specs.FinSet.{contains, insert}
 use Rattle.mac_order.specs.State.{Connection, State, unsent}
 use Rattle.mac_order.specs.declared.reorder.TheConstants.{SLOTS}
@@ -135,20 +135,3 @@ is_change Discarded = true
 is_change (Sent place) = true
 is_change Closed = true
 is_change outcome = false
-
--- whether memory is taken where an event comes to this
-abbrev pub is_growth : Outcome → Bool
-is_growth (Admitted place) = true
-is_growth Finished = true
-is_growth outcome = false
-
--- in this state the event takes memory
-abbrev pub TakesMemory : {Which Job Reply : Type 0} → (Job → Reply) → State Job Reply
-    → Event Which Job Reply → Type 0
-TakesMemory reply_to state event = IsTrue (is_growth (step reply_to state event).1)
-
--- a call comes to what is given, or to want of memory: only where memory is taken, and unchanged
-abbrev pub ComesTo : {Kept Fault : Type 0} → Kept → Kept → Result Outcome Fault
-    → Kept × Outcome → Type 0
-ComesTo {Kept} old new (Ok outcome) given = ◌≡◌ {A = Kept × Outcome} (new, outcome) given
-ComesTo old new (Err fault) given = (new ≡ old) × IsTrue (is_growth given.1)

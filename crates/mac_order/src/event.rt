@@ -1,9 +1,9 @@
-//! The events of the world, and what comes of each.
+//! The events of the world that the laws speak of, and what comes of each. `specs/Step.antt` defines
+//! what each does.
 
 use crate::service::Service;
 
-/// What may happen next in a [`World`](crate::World). Connections and workers go by their numbers,
-/// from 0 on.
+/// What may happen next in the world. Connections and workers go by their numbers, from 0 on.
 #[derive(Drop)]
 pub enum Event<S: Service> {
     /// This job arrives on this connection.
@@ -47,8 +47,6 @@ pub enum Outcome {
     Waiting,
     /// There is no such connection or worker.
     Nowhere,
-    /// Memory ran out, and nothing has changed.
-    NoMemory,
 }
 
 /// What a worker has claimed: a place of a connection.

@@ -10,7 +10,6 @@ pub mod laws;
 mod next;
 mod reorder;
 mod service;
-mod world;
 
 pub use answer::Answer;
 pub use event::{Assignment, Event, Outcome};
@@ -18,4 +17,3 @@ pub use fault::{OpenFault, SettleFault};
 pub use next::Next;
 pub use reorder::{Reorder, SLOTS};
 pub use service::{NoMemory, Service};
-pub use world::World;

@@ -1,2 +1,3 @@
 pub mod HomeLemmas
 pub mod PageLemmas
+pub mod SecretLemmas

@@ -23,13 +23,15 @@ put_one old new x x' is more = more ∙ ap (λ a. old ++ a ∷ []) is
 put_more : {X : Type 0} (old mid new xs : List X) (x x' : X) → x ≡ x' → mid ≡ old ++ xs → new ≡ mid ++ x ∷ [] → new ≡ old ++ (xs ++ x' ∷ [])
 put_more old mid new xs x x' is put more = more ∙ ap (λ l. l ++ x ∷ []) put ∙ append_assoc old xs (x ∷ []) ∙ ap (λ a. old ++ (xs ++ a ∷ [])) is
 
--- five fields put one after the other
-pub five_put : {X : Type 0} (o0 o1 o2 o3 o4 o5 : List X) (a b c d e a' b' c' d' e' : X) → a ≡ a' → b ≡ b' → c ≡ c' → d ≡ d' → e ≡ e'
-    → o1 ≡ o0 ++ a ∷ [] → o2 ≡ o1 ++ b ∷ [] → o3 ≡ o2 ++ c ∷ [] → o4 ≡ o3 ++ d ∷ [] → o5 ≡ o4 ++ e ∷ []
-    → o5 ≡ o0 ++ a' ∷ b' ∷ c' ∷ d' ∷ e' ∷ []
-five_put o0 o1 o2 o3 o4 o5 a b c d e a' b' c' d' e' is_a is_b is_c is_d is_e e1 e2 e3 e4 e5 =
+-- six fields put one after the other
+pub six_put : {X : Type 0} (o0 o1 o2 o3 o4 o5 o6 : List X) (a b c d e f a' b' c' d' e' f' : X)
+    → a ≡ a' → b ≡ b' → c ≡ c' → d ≡ d' → e ≡ e' → f ≡ f'
+    → o1 ≡ o0 ++ a ∷ [] → o2 ≡ o1 ++ b ∷ [] → o3 ≡ o2 ++ c ∷ [] → o4 ≡ o3 ++ d ∷ [] → o5 ≡ o4 ++ e ∷ [] → o6 ≡ o5 ++ f ∷ []
+    → o6 ≡ o0 ++ a' ∷ b' ∷ c' ∷ d' ∷ e' ∷ f' ∷ []
+six_put o0 o1 o2 o3 o4 o5 o6 a b c d e f a' b' c' d' e' f' is_a is_b is_c is_d is_e is_f e1 e2 e3 e4 e5 e6 =
     let one = put_one o0 o1 a a' is_a e1 in
     let two = put_more o0 o1 o2 (a' ∷ []) b b' is_b one e2 in
     let three = put_more o0 o2 o3 (a' ∷ b' ∷ []) c c' is_c two e3 in
     let four = put_more o0 o3 o4 (a' ∷ b' ∷ c' ∷ []) d d' is_d three e4 in
-    put_more o0 o4 o5 (a' ∷ b' ∷ c' ∷ d' ∷ []) e e' is_e four e5
+    let five = put_more o0 o4 o5 (a' ∷ b' ∷ c' ∷ d' ∷ []) e e' is_e four e5 in
+    put_more o0 o5 o6 (a' ∷ b' ∷ c' ∷ d' ∷ e' ∷ []) f f' is_f five e6

@@ -18,8 +18,8 @@ use Rattle.mac_page.specs.declared.route.File.{File}
 use Rattle.mac_page.specs.declared.route.File.TheVariants.{Document, Style, Script}
 use Rattle.mac_page.specs.declared.site.Site.{Site}
 use Rattle.mac_page.specs.declared.told.Told.{Told}
-use Rattle.mac_page.specs.declared.told.Told.TheVariants.{Foreign, Unknown, NoGet, NoPost, File as Shown, Names, Called}
-use Rattle.mac_page.specs.Home.{is_at_home}
+use Rattle.mac_page.specs.declared.told.Told.TheVariants.{Foreign, Unknown, NoGet, NoPost, File as Shown, Here, Names, Called}
+use Rattle.mac_page.specs.Home.{is_at_home, is_shown}
 use Rattle.mac_page.specs.Route.{asked_in, file_in}
 
 -- what is told, if the method is the one that is taken
@@ -43,22 +43,36 @@ told_call site request (Some asked) =
     where_taken (is_post request)
     (Called (outcome_of site.keys asked.1 asked.0 (body_of request))) NoPost
 
--- the same, and of the path of the names
+-- what a request is told that asks who answers
+abbrev pub told_here : Request (List ℕ) → Told
+told_here request = where_taken (is_get request) Here NoGet
+
+-- what a path is told that names no file: the names, a call, or nothing
 abbrev pub told_plain : Site → Request (List ℕ) → List ℕ → Told
 told_plain site request path =
     if bytes_eq path (codes "/names") then where_taken (is_get request) (told_names site) NoGet
     else told_call site request (asked_in path)
 
--- what a path is told that names this file, or none
-abbrev pub told_file : Site → Request (List ℕ) → Option File → Told
-told_file site request (Some file) = where_taken (is_get request) (Shown file) NoGet
-told_file site request None = told_plain site request (uri_path (head_of request).uri)
+-- what a request for this file is told: nothing where another page asks, or another site is asked
+abbrev pub told_file : Site → Request (List ℕ) → File → Told
+told_file site request file =
+    if is_shown site (head_of request)
+    then where_taken (is_get request) (Shown file) NoGet else Foreign
 
--- what a request is told: nothing of what another page asks, or of what is asked of another site
-abbrev pub told_of : Site → Request (List ℕ) → Told
-told_of site request =
+-- what a request for no file is told: nothing where the site's own page doesn't ask
+abbrev pub told_elsewhere : Site → Request (List ℕ) → Told
+told_elsewhere site request =
     if is_at_home site (head_of request)
-    then told_file site request (file_in (uri_path (head_of request).uri)) else Foreign
+    then (if bytes_eq (uri_path (head_of request).uri) (codes "/here") then told_here request
+    else told_plain site request (uri_path (head_of request).uri)) else Foreign
+
+-- what a request is told
+abbrev pub told_at : Site → Request (List ℕ) → Option File → Told
+told_at site request (Some file) = told_file site request file
+told_at site request None = told_elsewhere site request
+
+abbrev pub told_of : Site → Request (List ℕ) → Told
+told_of site request = told_at site request (file_in (uri_path (head_of request).uri))
 
 -- ---- the response
 
@@ -73,6 +87,7 @@ status_of Unknown = 404
 status_of NoGet = 405
 status_of NoPost = 405
 status_of (Shown file) = 200
+status_of Here = 200
 status_of (Names json) = 200
 status_of (Called o) = status_of_outcome o
 
@@ -97,11 +112,13 @@ fields_for Unknown = []
 fields_for NoGet = takes (codes "GET")
 fields_for NoPost = takes (codes "POST")
 fields_for (Shown file) = (codes "content-type", type_of file) ∷ []
+fields_for Here = (codes "content-type", codes "text/plain; charset=utf-8") ∷ []
 fields_for (Names json) = is_json
 fields_for (Called o) = fields_of_outcome o
 
 -- what a browser may do with a response: take scripts, styles and answers from the site alone, show
--- it in no frame, guess no type, tell nobody where it was, keep nothing
+-- it in no frame, share no window with another page, guess no type, tell nobody where it was, keep
+-- nothing
 abbrev pub guards : List Header
 guards = (
   codes "content-security-policy",
@@ -110,7 +127,8 @@ guards = (
     ∷ (codes "x-content-type-options", codes "nosniff")
     ∷ (codes "referrer-policy", codes "no-referrer")
     ∷ (codes "cache-control", codes "no-store")
-    ∷ (codes "cross-origin-resource-policy", codes "same-origin") ∷ []
+    ∷ (codes "cross-origin-resource-policy", codes "same-origin")
+    ∷ (codes "cross-origin-opener-policy", codes "same-origin") ∷ []
 
 -- the text of a file
 abbrev pub text_of : Site → File → List ℕ
@@ -129,6 +147,7 @@ body_for site Unknown = []
 body_for site NoGet = []
 body_for site NoPost = []
 body_for site (Shown file) = text_of site file
+body_for site Here = site.secrets.of_site
 body_for site (Names json) = json
 body_for site (Called o) = body_of_outcome o
 

@@ -1,6 +1,6 @@
 //! The response that tells what a request is told.
 
-ghost use Rattle.std.specs.Prelude.{◌≡◌, ◌∷◌, [], ◌++◌, OnOk};
+ghost use Rattle.std.specs.Prelude.{◌≡◌, ◌∷◌, [], ◌++◌, OnOk, codes};
 ghost use Rattle.http_header.specs.FieldValue.{plain_value};
 ghost use Rattle.http_server.specs.Response.{IsBlank, fields_of};
 ghost use Rattle.mac_http.specs.Calling.{is_json};
@@ -28,6 +28,9 @@ const POLICY: &str = "default-src 'none'; script-src 'self'; style-src 'self'; \
 
 /// The name of the field by which other sites may not take a response for themselves.
 const RESOURCE_POLICY: &str = "cross-origin-resource-policy";
+
+/// The name of the field by which pages of other sites have no hold on the page's window.
+const OPENER_POLICY: &str = "cross-origin-opener-policy";
 
 /// Fills a blank response to a request. Where memory is refused it is a 503 without fields.
 pub(crate) fn respond(alloc: Global, site: &Site, request: &Request<Bytes>, response: &mut Response)
@@ -72,7 +75,7 @@ fn status(told: &Told) -> StatusCode
         Told::Foreign => StatusCode::FORBIDDEN,
         Told::Unknown => StatusCode::NOT_FOUND,
         Told::NoGet | Told::NoPost => StatusCode::METHOD_NOT_ALLOWED,
-        Told::File(_) | Told::Names(_) => StatusCode::OK,
+        Told::File(_) | Told::Here | Told::Names(_) => StatusCode::OK,
         Told::Called(outcome) => outcome_status(outcome),
     }
 }
@@ -99,9 +102,16 @@ fn put_fields(told: &Told, response: &mut Response) -> Result<(), AllocError>
         Told::NoGet => response.add_header(ALLOW, HeaderValue::from_static("GET")),
         Told::NoPost => response.add_header(ALLOW, HeaderValue::from_static("POST")),
         Told::File(file) => response.add_header(CONTENT_TYPE, media_type(*file)),
+        Told::Here => response.add_header(CONTENT_TYPE, plain_text()),
         Told::Names(_) => put_json(response),
         Told::Called(outcome) => put_outcome(outcome, response),
     }
+}
+
+fn plain_text() -> HeaderValue
+    ensures { result ≡ plain_value (codes "text/plain; charset=utf-8") }
+{
+    HeaderValue::from_static("text/plain; charset=utf-8")
 }
 
 /// The type of a file.
@@ -150,12 +160,15 @@ fn put_guards(response: &mut Response) -> Result<(), AllocError>
     let referrer = HeaderValue::from_static("no-referrer");
     let cache = HeaderValue::from_static("no-store");
     let resource = HeaderName::from_static(RESOURCE_POLICY);
+    let opener = HeaderName::from_static(OPENER_POLICY);
     let origin = HeaderValue::from_static("same-origin");
+    let alone = HeaderValue::from_static("same-origin");
     response.add_header(CONTENT_SECURITY_POLICY, policy)?;
     response.add_header(X_CONTENT_TYPE_OPTIONS, types)?;
     response.add_header(REFERRER_POLICY, referrer)?;
     response.add_header(CACHE_CONTROL, cache)?;
     response.add_header(resource, origin)?;
+    response.add_header(opener, alone)?;
     Ok(())
 }
 
@@ -166,6 +179,7 @@ fn put_body(site: &Site, told: &Told, body: &mut Rope) -> Result<(), AllocError>
     match told {
         Told::Foreign | Told::Unknown | Told::NoGet | Told::NoPost => Ok(()),
         Told::File(file) => body.put_slice(text(site, *file)),
+        Told::Here => body.put_slice(&site.secrets.of_site.digits()),
         Told::Names(json) => body.put_slice(json.as_slice()),
         Told::Called(outcome) => put_outcome_body(outcome, body),
     }

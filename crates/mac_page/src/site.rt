@@ -1,5 +1,6 @@
 //! What is served.
 
+use crate::secret::Secrets;
 use mac_keys::KeyTable;
 
 /// The texts of the files.
@@ -22,6 +23,8 @@ pub struct Site {
     pub address: String,
     /// The name of this machine with the same port.
     pub local: String,
+    /// What its page and it know alone.
+    pub secrets: Secrets,
     /// The keys under which it mints and verifies.
     pub keys: KeyTable,
     /// Whether they are a file's. Else there are none, and nothing is told of their names.

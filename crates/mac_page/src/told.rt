@@ -3,10 +3,10 @@
 ghost use Rattle.std.specs.Prelude.{◌≡◌, IfOk, codes, bytes_eq};
 ghost use Rattle.std.specs.Option.{option_map};
 ghost use Rattle.http.specs.Request.{head_of};
-ghost use Rattle.mac_page.specs.Told.{is_get, is_post, told_call, told_file, told_names, told_of};
-ghost use Rattle.mac_page.specs.Told.{told_plain};
+ghost use Rattle.mac_page.specs.Told.{is_get, is_post, told_call, told_elsewhere, told_file};
+ghost use Rattle.mac_page.specs.Told.{told_here, told_names, told_of, told_plain};
 
-use crate::home::is_at_home;
+use crate::home::{is_at_home, is_shown};
 use crate::route::{File, asked_in, file_in};
 use crate::site::Site;
 use bytes::Bytes;
@@ -15,13 +15,16 @@ use mac_calls::{Outcome, answer, names_json};
 use mac_http::Asked;
 use std::alloc::{AllocError, Global};
 
+/// The path of what the page is told, so that it knows who answers.
+const HERE: &[u8] = b"/here";
+
 /// The path of the names of the keys.
 const NAMES: &[u8] = b"/names";
 
 /// What a request is told.
 #[derive(Drop)]
 pub enum Told {
-    /// It is asked of another site, or by another page.
+    /// It is asked of another site, or by another page, or by none that has the secret.
     Foreign,
     /// There is nothing at its path.
     Unknown,
@@ -31,6 +34,8 @@ pub enum Told {
     NoPost,
     /// The text of a file.
     File(File),
+    /// It is the site that answers.
+    Here,
     /// The names of the keys, as JSON.
     Names(mac_wire::Bytes),
     /// What came of a call.
@@ -45,34 +50,51 @@ pub(crate) fn told_of(
 ) -> Result<Told, AllocError>
     ensures { IfOk result (λ told. told ≡ told_of site.now request.now) }
 {
+    match file_in(request.uri().path().as_bytes()) {
+        Some(file) => Ok(told_file(site, request, file)),
+        None => told_elsewhere(alloc, site, request),
+    }
+}
+
+/// What a request for this file is told.
+fn told_file(site: &Site, request: &Request<Bytes>, file: File) -> Told
+    ensures { result ≡ told_file site.now request.now file }
+{
+    if !is_shown(site, request) {
+        Told::Foreign
+    } else if is_get(request) {
+        Told::File(file)
+    } else {
+        Told::NoGet
+    }
+}
+
+/// What a request for no file is told.
+fn told_elsewhere(alloc: Global, site: &Site, request: &Request<Bytes>) -> Result<Told, AllocError>
+    ensures { IfOk result (λ told. told ≡ told_elsewhere site.now request.now) }
+{
     if !is_at_home(site, request) {
         return Ok(Told::Foreign);
     }
-    told_file(
-        alloc,
-        site,
-        request,
-        file_in(request.uri().path().as_bytes()),
-    )
+    let path = request.uri().path().as_bytes();
+    if path == HERE {
+        return Ok(told_here(request));
+    }
+    told_plain(alloc, site, request, path)
 }
 
-/// What a path is told that names this file, or none.
-fn told_file(
-    alloc: Global,
-    site: &Site,
-    request: &Request<Bytes>,
-    file: Option<File>,
-) -> Result<Told, AllocError>
-    ensures { IfOk result (λ told. told ≡ told_file site.now request.now file) }
+/// What a request is told that asks who answers.
+fn told_here(request: &Request<Bytes>) -> Told
+    ensures { result ≡ told_here request.now }
 {
-    match file {
-        Some(file) if is_get(request) => Ok(Told::File(file)),
-        Some(_) => Ok(Told::NoGet),
-        None => told_plain(alloc, site, request, request.uri().path().as_bytes()),
+    if is_get(request) {
+        Told::Here
+    } else {
+        Told::NoGet
     }
 }
 
-/// What a path is told that names no file.
+/// What another path is told.
 fn told_plain(
     alloc: Global,
     site: &Site,

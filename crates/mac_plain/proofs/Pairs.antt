@@ -234,12 +234,6 @@ more_answered {P} tells taken written current arena first second xs ys zs same o
     (λ k x y z f s. subst (λ (l : List (List ℕ)). Goes tells taken written current x z l []) (sym (asked-append k arena first second))
     (answers_more tells taken written current x y z (asked_of k arena first) (asked_of k arena second) f s))
 
--- no request is answered
-pub none_answered : {P : Type 0} (tells : Bool) (taken written : P → List ℕ) (current : Current) (arena : List ℕ) (xs : List (Client P))
-    → AreAnswered tells taken written current (λ k. asked_of k arena []) xs xs
-none_answered {P} tells taken written current arena xs =
-    each_same (λ k (b a : Client P). Goes tells taken written current b a (asked_of k arena []) []) xs (λ k x there. nothing_goes tells taken written current x)
-
 -- the request of a client that isn't there
 pub nobody_answered : {P : Type 0} (tells : Bool) (taken written : P → List ℕ) (current : Current) (arena : List ℕ) (r : Request) (xs : List (Client P)) → length xs ≤ r.owner
     → AreAnswered tells taken written current (λ k. asked_of k arena (r ∷ [])) xs xs

@@ -1,5 +1,5 @@
 -- A plain connection: how it stands, and what came and went meanwhile.
-use Rattle.std.specs.Prelude.{◌≡◌, ℕ, Bool, IsTrue, List, ◌++◌, map}
+use Rattle.std.specs.Prelude.{◌≡◌, ℕ, Bool, true, false, IsTrue, List, ◌++◌, map}
 use Rattle.mac_board.specs.Noticed.{Current}
 use Rattle.mac_wire.specs.declared.arrival.Arrival.{Arrival}
 use Rattle.mac_wire.specs.declared.arrival.Arrival.TheVariants as arrival
@@ -61,6 +61,14 @@ StandsSo (course.Ended why) session read written done =
     Stands session read written (arrivals done) (replies done)
     × IsUnfinished session.carried.items
 StandsSo (course.Fallen why) session read written done = HasFallen session read written done
+
+-- A client that goes on so may be answered elsewhere from now on: nothing that was read is lost, and
+-- more may come. Who takes it knows its session, and not how it went on.
+abbrev pub may_move : Course → Bool
+may_move course.Open = true
+may_move course.Wide = true
+may_move (course.Ended why) = false
+may_move (course.Fallen why) = false
 
 -- so much was read and written on a client, and these are the jobs that it has answered
 abbrev pub HasAnswered : {P : Type 0} → Client P → (read written : List ℕ) → List Job → Type 0

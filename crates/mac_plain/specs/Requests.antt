@@ -35,11 +35,9 @@ abbrev pub jobs_at : {P : Type 0} → Current → List (Client P) → List ℕ �
 jobs_at current clients arena requests =
     map (λ r. job_at current arena r (slice_get clients r.owner)) requests
 
--- each reply is that to the job at its place; some at the end may be missing
+-- these are the replies to the jobs, in order, one to each
 abbrev pub AreReplies : List Job → List Reply → Type 0
-AreReplies jobs replies =
-    (i : ℕ) (reply : Reply) → slice_get replies i ≡ Some reply
-    → slice_get (map reply_to_job jobs) i ≡ Some reply
+AreReplies jobs replies = replies ≡ map reply_to_job jobs
 
 -- each request lies in that many bytes
 abbrev pub AreWithin : ℕ → List Request → Type 0

@@ -6,7 +6,7 @@ ghost use Rattle.mac_wire.specs.declared.arrival.Arrival.TheVariants as arrival;
 ghost use Rattle.mac_wire.specs.Reply.{IsReply};
 ghost use Rattle.mac_wire.specs.Session.{Stands};
 ghost use Rattle.mac_decide.specs.declared.job.Job.{Job};
-ghost use Rattle.mac_plain.specs.Client.{HasAnswered, answer_under, arrivals, replies, terms_for};
+ghost use Rattle.mac_plain.specs.Client.{HasAnswered, answer_under, arrivals, may_move, replies, terms_for};
 ghost use Rattle.mac_plain.specs.Goes.{Goes, after_reply};
 ghost use Rattle.mac_wire.specs.Stream.{version_or_one as version_so_far};
 
@@ -64,9 +64,20 @@ impl<P: Port> Client<P> {
         }
     }
 
+    /// Whether it may be answered elsewhere from now on: nothing of it is lost, and more may come.
+    pub fn may_move(&self) -> bool
+        ensures { result ≡ may_move self.now.course }
+    {
+        matches!(self.course, Course::Open | Course::Wide)
+    }
+
     /// The device, the session and the rights, for who answers it from now on.
     pub fn into_parts(self) -> (P, Session, Arc<Rights, Global>)
-        ensures { result ≡ (self.port, self.session, self.rights) }
+        requires { IsTrue (may_move self.course) }
+        ensures parts { result ≡ (self.port, self.session, self.rights) }
+        ensures stands { (read written : List ℕ) (done : List Job)
+            → HasAnswered self read written done
+            → Stands result.1 read written (arrivals done) (replies done) }
     {
         let Client {
             port,
@@ -86,7 +97,9 @@ impl<P: Port> Client<P> {
     }
 
     /// How it goes on.
-    pub fn course(&self) -> Course {
+    pub fn course(&self) -> Course
+        ensures { result ≡ self.now.course }
+    {
         self.course
     }
 

@@ -3,15 +3,13 @@
 #![tactic(auto)]
 
 mod fault;
-mod hand;
 pub mod laws;
 mod passes;
 mod pool;
 
-pub use fault::{DeskFault, HandFault, PoolFault};
-pub use hand::Hand;
+pub use fault::{DeskFault, PoolFault};
 pub use mac_queue::{
     Claim, Desk, Mailbox, Post, PutFault, Putter, Queue, QueuePass, Taker, Tally, Ticket,
 };
-pub use mac_worker::{Gate, NoGate, Worked, worker};
+pub use mac_worker::{Worked, worker};
 pub use pool::{DESKS_MAX, Finished, Pool, WORKERS_MAX};

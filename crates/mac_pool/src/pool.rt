@@ -8,20 +8,19 @@ ghost use Rattle.mac_mail.specs.Taking.{fresh_taking};
 ghost use Rattle.mac_queue.specs.Putting.{pass_of};
 ghost use Rattle.mac_worker.specs.Working.{HasWorked};
 
-use crate::fault::{DeskFault, HandFault, PoolFault};
-use crate::hand::Hand;
+use crate::fault::{DeskFault, PoolFault};
 use crate::passes::{Slots, bring_home, first_home, home_count, slots_of, take_out};
 use mac_mail::History;
 use mac_order::{NoMemory, Service};
 use mac_queue::{Desk, PASSES, Queue, QueuePass, Tally};
-use mac_worker::{Gate, NoGate, Worked, worker};
+use mac_worker::{Worked, worker};
 use std::alloc::Global;
-use std::marker::{Model, PhantomData};
+use std::marker::Model;
 use std::snapshot::Snapshot;
 use std::sync::{Arc, Wait};
 use std::thread::{Builder, Promise, PromisedHandle, Threads};
 
-/// The most workers of a pool, and the passes that are kept for workers and hands.
+/// The most workers of a pool, and the passes that are kept for them.
 pub const WORKERS_MAX: usize = 16;
 
 /// The greatest number of desks that are out at a time.
@@ -52,19 +51,18 @@ pub struct Finished<S: Service> {
     pub workers: History<Worked<S>>,
 }
 
-/// A queue with its workers and its 80 passes, each at home or out with a worker, a desk or a hand.
+/// A queue with its workers and its 80 passes, each at home or out with a worker or a desk.
 /// A pool that is dropped leaves its workers asleep: stop it instead.
 #[derive(Drop)]
-pub struct Pool<S: Service, G: Gate> {
+pub struct Pool<S: Service> {
     queue: Arc<Queue<S>, Global>,
     workers: Vec<Thread<S>>,
     passes: Slots<S>,
     // The room for what `stop` hands to the queue's tally.
     all: Vec<QueuePass<S>>,
-    gate: PhantomData<G>,
 }
 
-impl<S: Service, G: Gate> Model for Pool<S, G> {
+impl<S: Service> Model for Pool<S> {
     ghost use Rattle.mac_pool.specs.Pool.{Slots, slots_code};
 
     ghost Value = { Slots S.Job };
@@ -87,21 +85,15 @@ impl<S: Service, G: Gate> Model for Pool<S, G> {
         (vec_capacity p.workers) p.passes.items p.all.items (vec_capacity p.all) };
 }
 
-impl<S: Service, G: Gate> Pool<S, G> {
+impl<S: Service> Pool<S> {
     /// Starts so many workers, each in a thread of its own. Takes the room for all that the pool
     /// keeps later; where a thread or memory is refused, those that were started are ended.
-    pub fn start<R>(
-        rt: &R,
-        alloc: Global,
-        workers: usize,
-        gate: Arc<G, Global>,
-    ) -> Result<Pool<S, G>, PoolFault>
+    pub fn start<R>(rt: &R, alloc: Global, workers: usize) -> Result<Pool<S>, PoolFault>
     where
         R: Threads + Wait + Copy + Send + 'static,
         S: 'static,
         S::Job: 'static,
         S::Reply: 'static,
-        G: 'static,
         ensures count { (result ≡ Err PoolFault.Count) ↔ ((workers ≡ 0) ⊎ (WORKERS_MAX < workers)) }
         ensures started { IfOk result (λ pool. IsStarted workers pool) }
     {
@@ -112,7 +104,7 @@ impl<S: Service, G: Gate> Pool<S, G> {
             return Err(PoolFault::NoMemory);
         };
         for _ in 0..workers {
-            if let Err(fault) = pool.hire(rt, alloc, &gate) {
+            if let Err(fault) = pool.hire(rt, alloc) {
                 pool.dismiss(rt);
                 return Err(fault);
             }
@@ -121,7 +113,7 @@ impl<S: Service, G: Gate> Pool<S, G> {
     }
 
     /// A pool with all passes at home.
-    fn idle(alloc: Global) -> Result<Pool<S, G>, NoMemory>
+    fn idle(alloc: Global) -> Result<Pool<S>, NoMemory>
         ensures { IfOk result (λ pool. IsStarted 0 pool) }
     {
         let (row, fresh) = Queue::new(alloc)?;
@@ -134,18 +126,16 @@ impl<S: Service, G: Gate> Pool<S, G> {
             workers,
             passes,
             all,
-            gate: PhantomData,
         })
     }
 
     /// Starts one worker more.
-    fn hire<R>(&mut self, rt: &R, alloc: Global, gate: &Arc<G, Global>) -> Result<(), PoolFault>
+    fn hire<R>(&mut self, rt: &R, alloc: Global) -> Result<(), PoolFault>
     where
         R: Threads + Wait + Copy + Send + 'static,
         S: 'static,
         S::Job: 'static,
         S::Reply: 'static,
-        G: 'static,
         requires started { IsStarted self.old.workers self.old }
         requires room { self.old.workers < WORKERS_MAX }
         ensures hired { OnOk result (IsStarted (self.old.workers + 1) self.new
@@ -155,11 +145,8 @@ impl<S: Service, G: Gate> Pool<S, G> {
         let Ok(queue) = Arc::try_clone(&self.queue) else {
             return Err(PoolFault::NoMemory);
         };
-        let Ok(gate) = Arc::try_clone(gate) else {
-            return Err(PoolFault::NoMemory);
-        };
         let pass = take_out(&mut self.passes, self.workers.len());
-        match started(*rt, alloc, queue, pass, gate) {
+        match started(*rt, alloc, queue, pass) {
             Some(thread) => {
                 self.workers.push_reserved(thread);
                 Ok(())
@@ -199,30 +186,6 @@ impl<S: Service, G: Gate> Pool<S, G> {
         self.take_home(desk.into_pass());
     }
 
-    /// A hand, at a pass that is kept for workers. Its claims are told in the tally.
-    pub fn hand(&mut self, _alloc: Global) -> Result<Hand<S>, HandFault>
-        ensures hand { IfOk result (λ hand. IsGiven self.old hand self.new
-            × (hand.number < WORKERS_MAX)) }
-        ensures same { OnErr result (self.new ≡ self.old) }
-        ensures out { (result ≡ Err HandFault.AllOut) ↔ AreOut 0 WORKERS_MAX self.old.passes }
-    {
-        let Some(number) = first_home(&self.passes, 0, WORKERS_MAX) else {
-            return Err(HandFault::AllOut);
-        };
-        let Ok((queue, pass)) = self.give(number) else {
-            return Err(HandFault::NoMemory);
-        };
-        Ok(Hand { queue, pass })
-    }
-
-    /// Takes a hand back.
-    pub fn hand_back(&mut self, hand: Hand<S>)
-        requires { hand.queue ≡ self.old.queue }
-        ensures { self.new ≡ with_home self.old hand }
-    {
-        self.take_home(hand.into_pass());
-    }
-
     /// Gives the pass of this number, with a handle on its queue.
     fn give(&mut self, number: usize) -> Result<(Arc<Queue<S>, Global>, QueuePass<S>), NoMemory>
         requires home { IsHome number self.old.passes }
@@ -243,9 +206,9 @@ impl<S: Service, G: Gate> Pool<S, G> {
         self.passes[number] = Some(pass);
     }
 
-    /// Ends the workers, and tells the books of the queue. While a desk or a hand is out, the pool
-    /// comes back as it was.
-    pub fn stop<R: Threads + Wait>(self, rt: &R) -> Result<Tally, Pool<S, G>>
+    /// Ends the workers, and tells the books of the queue. While a desk is out, the pool comes
+    /// back as it was.
+    pub fn stop<R: Threads + Wait>(self, rt: &R) -> Result<Tally, Pool<S>>
         ensures out { IsErr result ↔ (length (at_home self.passes) + self.workers ≢ PASSES) }
         ensures same { IfErr result (λ pool. pool ≡ self) }
         ensures tally { IfOk result (λ tally. IsStopped self tally) }
@@ -257,7 +220,7 @@ impl<S: Service, G: Gate> Pool<S, G> {
     }
 
     /// The same, and tells what each worker did.
-    pub fn finish<R: Threads + Wait>(self, rt: &R) -> Result<Finished<S>, Pool<S, G>>
+    pub fn finish<R: Threads + Wait>(self, rt: &R) -> Result<Finished<S>, Pool<S>>
         ensures out { IsErr result ↔ (length (at_home self.passes) + self.workers ≢ PASSES) }
         ensures same { IfErr result (λ pool. pool ≡ self) }
         ensures finished { IfOk result (λ end. IsFinished self end.workers end.tally) }
@@ -270,7 +233,6 @@ impl<S: Service, G: Gate> Pool<S, G> {
             workers,
             passes,
             mut all,
-            gate: _,
         } = self;
         let mut came = History::new();
         queue.close();
@@ -290,39 +252,23 @@ impl<S: Service, G: Gate> Pool<S, G> {
             workers,
             passes: _,
             mut all,
-            gate: _,
         } = self;
         queue.close();
         bring_back(rt, &queue, workers, &mut all, &mut History::new());
     }
 }
 
-impl<S: Service> Pool<S, NoGate> {
-    /// A pool without workers: its tickets are claimed by hands.
-    pub fn by_hand(alloc: Global) -> Result<Pool<S, NoGate>, PoolFault>
-        ensures started { IfOk result (λ pool. IsStarted 0 pool) }
-        ensures fault { IfErr result (λ fault. fault ≡ PoolFault.NoMemory) }
-    {
-        match Pool::idle(alloc) {
-            Ok(pool) => Ok(pool),
-            Err(_) => Err(PoolFault::NoMemory),
-        }
-    }
-}
-
 /// A thread in which a worker works, if the system gives one.
-fn started<S, G, R>(
+fn started<S, R>(
     rt: R,
     alloc: Global,
     queue: Arc<Queue<S>, Global>,
     pass: QueuePass<S>,
-    gate: Arc<G, Global>,
 ) -> Option<Thread<S>>
 where
     S: Service + 'static,
     S::Job: 'static,
     S::Reply: 'static,
-    G: Gate + 'static,
     R: Threads + Wait + Copy + Send + 'static,
     requires queue { pass.queue ≡ (arc_value queue).tickets }
     ensures { IfSome result (λ thread. thread.promise.0.value ≡ pass) }
@@ -331,7 +277,7 @@ where
     let work = move || -> Worked<S>
         requires { pass.queue ≡ (arc_value queue).tickets }
         ensures { HasWorked pass result.claimed result.pass result.deliveries }
-    { worker(&rt, alloc, &queue, pass, &*gate) };
+    { worker(&rt, alloc, &queue, pass) };
     Builder::new()
         .stack_size(STACK)
         .spawn_with(&rt, promise, work)

@@ -1,12 +1,7 @@
--- Why an intake admits no job, and the number of that. All of it is this project's own.
+-- Why an intake admits no job. All of it is this project's own.
 use Rattle.std.specs.Prelude.{ℕ, ◌-◌, ◌^◌, ◌==◌, if◌then◌else◌, Option, None, Some}
 use Rattle.mac_ring.specs.declared.fault.AdmitFault.{AdmitFault}
 use Rattle.mac_ring.specs.declared.fault.AdmitFault.TheVariants.{Full, Last}
-
--- the number of a fault of `admit`
-abbrev pub admit_code : AdmitFault → ℕ
-admit_code Full = 1
-admit_code Last = 2
 
 -- the first reason, if any, why no job is admitted, where so many slips are free and this is the
 -- job's place

@@ -1,8 +1,5 @@
 //! Why an intake admits no job.
 
-ghost use Rattle.std.specs.Prelude.{◌≡◌};
-ghost use Rattle.mac_ring.specs.Fault.{admit_code};
-
 use thiserror::Error;
 
 /// Why an intake did not admit a job.
@@ -14,16 +11,4 @@ pub enum AdmitFault {
     /// The place would be the greatest that a number can name, which is never given.
     #[error("the ring has no place left to give")]
     Last,
-}
-
-impl AdmitFault {
-    /// The fault's number: 1 or 2.
-    pub fn code(&self) -> u8
-        ensures { result ≡ admit_code self.now }
-    {
-        match self {
-            AdmitFault::Full => 1,
-            AdmitFault::Last => 2,
-        }
-    }
 }

@@ -135,9 +135,3 @@ waiting-released answers place posts waiting at other is = elim (eqb_tells at pl
       absurd cc)
   | inr away ↦ waiting at other (sym (get-remove_other answers place at away.1) ∙ is)
 ]
-
--- what waits is answered also once there are more posts
-pub waiting-more : (answers : FinMap nat_cmp Job) (posts more : List (ℕ × Option Job))
-    → ((at : ℕ) (other : Job) → get answers at ≡ Some other → Contains posts (at, Some other))
-    → (at : ℕ) (other : Job) → get answers at ≡ Some other → Contains (posts ++ more) (at, Some other)
-waiting-more answers posts more waiting at other is = Contains-append_left posts more (at, Some other) (waiting at other is)

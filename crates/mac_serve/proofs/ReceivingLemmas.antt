@@ -4,7 +4,6 @@ use Rattle.std.specs.Prelude.{Option, Some, None, Result, Ok, Err, OnOk, OnErr, 
 use Rattle.std.specs.declared.alloc.Global.{Global}
 use Rattle.std.specs.declared.vec.Vec.{Vec}
 use Rattle.std.proofs.Math.Seq.{take-append-add, take-length}
-use Rattle.std.proofs.lemmas.List.{take-append-le}
 use Rattle.std.proofs.lemmas.List.{map-append}
 use Rattle.mac_ring.specs.Ring.{admitted, IsSameIntake}
 use Rattle.mac_mail.specs.Mail.{Mail}
@@ -25,7 +24,7 @@ use Rattle.mac_decide.specs.declared.job.Job.{Job}
 use Rattle.mac_serve.specs.declared.incoming.InboundFault.{InboundFault}
 use Rattle.mac_serve.specs.declared.incoming.InboundFault.TheVariants as fault
 use Rattle.mac_serve.specs.declared.inbound.Inbound.{Inbound}
-use Rattle.mac_serve.specs.Receiving.{Gave, IsSameHalf, HasTold, IsTold, Past, IsPast, Reads, Readings, TakesUnder, terms_of, read_of, jobs_of, placed, IsBehind, TakesIn, TakesSome, Receives, ReceivesUnder, HasRun, GoesOn, Continues, Ran}
+use Rattle.mac_serve.specs.Receiving.{Gave, IsSameHalf, HasTold, Past, IsPast, Reads, Readings, TakesUnder, terms_of, read_of, jobs_of, placed, IsBehind, TakesIn, TakesSome, Receives, ReceivesUnder, HasRun, GoesOn, Continues, Ran}
 
 placed-append : (mail : Mail) (place : ℕ) (jobs more : List Job) → placed mail place (jobs ++ more) ≡ placed mail place jobs ++ placed mail (place + length jobs) more
 unfolding placed
@@ -70,10 +69,6 @@ behind-more : (n few count : ℕ) → IsBehind few count → IsBehind (n + few) 
 behind-more n few count (inl same) = inl (ap (λ (m : ℕ). n + m) same)
 behind-more n few count (inr less) = inr (omega (arith, less))
 
-behind-few : (few count : ℕ) → IsBehind few count → few ≤ count
-behind-few few count (inl same) = omega (arith, same)
-behind-few few count (inr less) = omega (arith, less)
-
 -- where nothing was put, the pass is as it was
 put-nothing : (a : Inbound) → a.putter ≡ record a.putter { put = a.putter.put ++ [] }
 put-nothing a = ap (λ (l : List (Mail × (ℕ × Job))). record a.putter { put = l }) (sym (append-nil a.putter.put))
@@ -105,19 +100,6 @@ takes-some-more jobs more a b c first then =
       put_is = then.put_is ∙ put-more jobs (take then.puts more) a b first
           ∙ ap (λ (l : List Job). record a.putter { put = a.putter.put ++ placed a.putter.mail (length (admitted a.ring)) l }) (sym (take-append-add jobs more then.puts));
     }
-
-pub takes-some-longer : (jobs more : List Job) (a b : Inbound) → TakesSome jobs a b → TakesSome (jobs ++ more) a b
-takes-some-longer jobs more a b took = record {
-  same = took.same;
-  count = took.count;
-  there = omega (arith, took.there, length-append jobs more);
-  admitted_is = took.admitted_is ∙ ap (λ (l : List Job). admitted a.ring ++ l) (sym (take-append-le took.count jobs more took.there));
-  puts = took.puts;
-  put_behind = took.put_behind;
-  put_is = took.put_is
-      ∙ ap (λ (l : List Job). record a.putter { put = a.putter.put ++ placed a.putter.mail (length (admitted a.ring)) l })
-      (sym (take-append-le took.puts jobs more (omega (arith, took.there, behind-few took.puts took.count took.put_behind))));
-}
 
 -- all of the jobs are some of them
 pub takes-some-all : (jobs : List Job) (a b : Inbound) → TakesIn jobs a b → TakesSome jobs a b
@@ -454,12 +436,6 @@ has-finished tells AreTaken version past given given' reader reader' a b end on 
 -- the version that the reader knows is that of the stream
 known-version : (reader : FrameReader) (stream : List ℕ) → HasTold reader stream → (arrivals_of stream).version ≡ version_or_one (version_of reader)
 known-version reader stream told = sym (told_is stream) ∙ ap version_or_one (sym told)
-
--- any bytes behind others are of a stream that tells its version
-pub is-told : (stream bytes : List ℕ) → 0 < length bytes → IsTold (stream ++ bytes)
-is-told [] [] some = absurd (omega (arith, some))
-is-told [] (b ∷ bytes) some = ((arrivals_of (b ∷ bytes)).version, refl)
-is-told (first ∷ rest) bytes some = ((arrivals_of (first ∷ (rest ++ bytes))).version, refl)
 
 -- a first piece came
 pub begins : (rights : Rights) (tells told_keys : Bool) (known : Noticed) (past : Past) (given given' : List ℕ) (reader : FrameReader) (a : Inbound) (more : Vec Arrival Global)

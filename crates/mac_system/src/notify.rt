@@ -1,12 +1,15 @@
 //! A word to the service manager (`sd_notify(3)`).
 
-ghost use Rattle.std.specs.Prelude.{◌≡◌, ◌≤◌, MatchOption};
+ghost use Rattle.std.specs.Prelude.{◌≡◌, ◌≢◌, ◌≤◌, IfErr, MatchOption};
+ghost use Rattle.std.specs.IoError.{error_kind};
 ghost use Rattle.mac_system.specs.Notify.{IsAddress, IsNotifyPath, state_text};
 ghost use Rattle.mac_system.specs.declared.notify.TheConstants.{NOTIFY_PATH_MAX};
 
 use crate::variable::variable;
 use std::alloc::{Alloc, Global};
 use std::env::Env;
+use std::io;
+use std::io::{Error, ErrorKind};
 
 /// The greatest number of bytes in the path of a socket: a `sockaddr_un` has room for these and a
 /// 0.
@@ -73,19 +76,38 @@ impl NotifySocket {
         })
     }
 
-    /// Tells a state. Whether it was sent; nobody says whether it was read.
-    pub fn tell(&self, state: State) -> bool {
+    /// Tells a state, or why it can't be told. A call that was broken off is made again. Nobody says
+    /// whether it was read.
+    pub fn tell(&self, state: State) -> io::Result<()>
+        ensures retried { IfErr result (λ fault. error_kind fault ≢ ErrorKind.Interrupted) }
+    {
+        for _ in 0..u64::MAX {
+            match self.send(state) {
+                Ok(()) => return Ok(()),
+                Err(fault) if fault.kind() == ErrorKind::Interrupted => {}
+                Err(fault) => return Err(fault),
+            }
+        }
+        Err(ErrorKind::TimedOut.into())
+    }
+
+    /// Sends a state once.
+    fn send(&self, state: State) -> io::Result<()> {
         let kind = libc::net::SOCK_DGRAM | libc::net::SOCK_CLOEXEC;
         let descriptor = unsafe { libc::net::socket(libc::net::AF_UNIX, kind, 0) };
         if descriptor < 0 {
-            return false;
+            return Err(Error::from_raw_os_error(os::errno()));
         }
         let flags = libc::net::MSG_NOSIGNAL | libc::net::MSG_DONTWAIT;
         let text = state.text().as_bytes();
         let sent = unsafe {
             libc::net::sendto(descriptor, text, flags, &self.address, self.length)
         };
+        let code = os::errno();
         libc::close(descriptor);
-        sent >= 0
+        if sent < 0 {
+            return Err(Error::from_raw_os_error(code));
+        }
+        Ok(())
     }
 }

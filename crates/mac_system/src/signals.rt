@@ -1,12 +1,15 @@
 //! Signals. A program of this toolchain can't hold one back; `packaging/launcher.c` does, and hands
 //! over a descriptor from which they are read (`signalfd(2)`).
 
-ghost use Rattle.std.specs.Prelude.{◌≡◌, ◌↔◌, Some};
-ghost use Rattle.mac_system.specs.Signals.{signal_number};
+ghost use Rattle.std.specs.Prelude.{◌≡◌, ◌≢◌, ◌↔◌, Some, IfErr};
+ghost use Rattle.std.specs.IoError.{error_kind};
+ghost use Rattle.mac_system.specs.Signals.{signal_number, IsNumberOf};
 
 use crate::variable::variable;
 use std::alloc::{Alloc, Global};
 use std::env::Env;
+use std::io;
+use std::io::{Error, ErrorKind};
 
 /// The variable in which the launcher tells the number of the descriptor.
 pub const SIGNALS_VARIABLE: &str = "MACAROOND_SIGNALS";
@@ -60,24 +63,43 @@ impl Signals {
         Some(Signals { descriptor })
     }
 
-    /// Waits for the next signal. There is none where the descriptor isn't one for signals.
-    pub fn wait(&self) -> Option<Signal> {
+    /// Waits for the next signal. A read that was broken off is made again; any other fault is
+    /// told, and a further call reads again.
+    pub fn wait(&self) -> io::Result<Signal>
+        ensures retried { IfErr result (λ fault. error_kind fault ≢ ErrorKind.Interrupted) }
+    {
         for _ in 0..u64::MAX {
-            let number = self.next_number()?;
-            if let Some(signal) = Signal::of_number(number) {
-                return Some(signal);
+            match self.next_number() {
+                Ok(number) => {
+                    if let Some(signal) = Signal::of_number(number) {
+                        return Ok(signal);
+                    }
+                }
+                Err(fault) if fault.kind() == ErrorKind::Interrupted => {}
+                Err(fault) => return Err(fault),
             }
         }
-        None
+        Err(ErrorKind::TimedOut.into())
     }
 
-    /// The number of the next signal: the first word of its record.
-    fn next_number(&self) -> Option<u32> {
+    /// The number of the next signal, or why the system gives none.
+    fn next_number(&self) -> io::Result<u32> {
         let mut record = [0u8; RECORD_SIZE];
-        if libc::read(self.descriptor, &mut record) != RECORD_SIZE as isize {
-            return None;
-        }
-        let number = [record[0], record[1], record[2], record[3]];
-        Some(u32::from_le_bytes(number))
+        let answer = libc::read(self.descriptor, &mut record);
+        number_of(answer, os::errno(), &record)
     }
+}
+
+/// What a read of a record came to, by the system's answer and its number of a fault: the number of
+/// a signal, or the fault. A record that is cut short tells no signal.
+fn number_of(answer: isize, code: i32, bytes: &[u8; RECORD_SIZE]) -> io::Result<u32>
+    ensures { IsNumberOf answer code bytes.now result }
+{
+    if answer < 0 {
+        return Err(Error::from_raw_os_error(code));
+    }
+    if answer != RECORD_SIZE as isize {
+        return Err(ErrorKind::UnexpectedEof.into());
+    }
+    Ok(u32::from_le_bytes([bytes[0], bytes[1], bytes[2], bytes[3]]))
 }

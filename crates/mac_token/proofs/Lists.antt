@@ -3,16 +3,12 @@ use Rattle.std.proofs.Common.{◌≡◌, ℕ, ◌+◌, ◌<◌, List, [], ◌∷
 use Rattle.std.specs.declared.alloc.Global.{Global}
 use Rattle.std.specs.declared.vec.Vec.{Vec}
 use Rattle.std.proofs.lemmas.List.{get_or-map, length-map, map_more, take_at, take-map}
-use Rattle.std.proofs.lemmas.List.Elements.{All-map}
 use Rattle.mac_token.specs.RawToken.{byte_lists}
 
 -- what holds of each element seen through f holds of f of each element
 pub All_of_map : {X Y : Type 0} (P : X → Type 0) (f : Y → X) (ys : List Y) → All P (map f ys) → All (λ y. P (f y)) ys
 All_of_map P f ys all k d below =
     subst P (get_or-map f ys k d (f d) below) (all k (f d) (subst (λ n. k < n) (sym (length-map ys f)) below))
-
-pub all_through : {X Y : Type 0} (P : X → Type 0) (f : Y → X) (ys : List Y) → All (λ y. P (f y)) ys ↔ All P (map f ys)
-all_through P f ys = (All-map P f ys, All_of_map P f ys)
 
 -- what was pushed is cut off again
 pub cut_back : (old new : List (Vec ℕ Global)) (more : List (List ℕ)) (n : ℕ) → n ≡ length old → byte_lists new ≡ byte_lists old ++ more → byte_lists (take n new) ≡ byte_lists old

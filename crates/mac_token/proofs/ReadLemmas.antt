@@ -16,7 +16,7 @@ use Rattle.mac_token.specs.V1Reading.{v1_of}
 use Rattle.mac_token.specs.V2Whole.{v2_of}
 use Rattle.mac_token.specs.JsonReading.{json_text_of}
 use Rattle.mac_token.specs.Spells.{BeginsWith, CallsForBare, IsBare, Carries, Spells}
-use Rattle.mac_token.specs.Read.{calls_for_bare, bare_bytes, bare_of, or_malformed, token_of_read}
+use Rattle.mac_token.specs.Read.{calls_for_bare, bare_bytes, bare_of, or_malformed}
 use Rattle.mac_token.proofs.Base64Read.{base64_takes, base64_again}
 use Rattle.mac_token.proofs.V1Laws.{v1_takes, v1_again}
 use Rattle.mac_token.proofs.V2Whole.{v2_takes, v2_again}
@@ -128,8 +128,3 @@ spells_one bytes r s (a, carries_a, is_r) (b, carries_b, is_s) =
 pub told_from_fails : (fault : TokenFault) (reading : Option RawParts) → Fails fault reading → IsFault fault (or_malformed reading)
 told_from_fails (Refused reason) reading fails = ap or_malformed fails.1 ∙ ap Err (sym fails.0)
 told_from_fails Memory reading fails = tt
-
--- and of the token
-pub view_from_fails : (fault : TokenFault) (reading : Option RawParts) → Fails fault reading → IsFault fault (token_of_read (or_malformed reading))
-view_from_fails (Refused reason) reading fails = ap token_of_read (told_from_fails (Refused reason) reading fails)
-view_from_fails Memory reading fails = tt

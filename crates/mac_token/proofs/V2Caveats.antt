@@ -21,9 +21,6 @@ ended parts rest = flat_map section parts ++ end_mark ++ rest
 ended_more : (s : SectionParts) (parts : List SectionParts) (rest : List ℕ) → ended (s ∷ parts) rest ≡ section s ++ ended parts rest
 ended_more s parts rest = ap (λ (t : List ℕ). t ++ rest) (append_assoc (section s) (flat_map section parts) end_mark) ∙ append_assoc (section s) (flat_map section parts ++ end_mark) rest
 
-ended_none : (rest : List ℕ) → ended [] rest ≡ end_mark ++ rest
-ended_none rest = refl
-
 pub section_at-ended : (s : SectionParts) (parts : List SectionParts) (rest : List ℕ) → section_at (ended (s ∷ parts) rest) ≡ Some (s, ended parts rest)
 section_at-ended s parts rest = ap section_at (ended_more s parts rest) ∙ section_again s (ended parts rest)
 

@@ -32,11 +32,6 @@ pub left_out : (location : List ℕ) → length location ≡ 0 → optional Loca
 left_out [] e = refl
 left_out (b ∷ bytes) e = absurd (omega arith)
 
--- another is a field
-pub kept_in : (location : List ℕ) → (length location ≡ 0 → ⊥) → optional Location (written_location location) ≡ field Location location
-kept_in [] e = absurd (e refl)
-kept_in (b ∷ bytes) e = refl
-
 -- a section by its parts
 section_is : (location : Option (List ℕ)) (identifier : List ℕ) → section (written_section location identifier) ≡ optional Location location ++ field Identifier identifier ++ 0 ∷ []
 section_is location identifier =

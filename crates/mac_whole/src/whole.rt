@@ -9,10 +9,10 @@ use crate::caller::Caller;
 use crate::fault::WholeFault;
 use mac_board::Outlook;
 use mac_decide::Macaroons;
-use mac_pool::{DESKS_MAX, DeskFault, Finished, NoGate, Pool, PoolFault, WORKERS_MAX};
+use mac_pool::{DESKS_MAX, DeskFault, Finished, Pool, PoolFault, WORKERS_MAX};
 use mac_wire::{Sink, Source};
 use std::alloc::Global;
-use std::sync::{Arc, Wait};
+use std::sync::Wait;
 use std::thread::{Threads, for_each_mut};
 
 /// Starts so many workers, serves all connections at once, each from its source to its sink at a
@@ -40,10 +40,7 @@ where
     if callers.len() > DESKS_MAX {
         return Err(WholeFault::Crowd);
     }
-    let Ok(gate) = Arc::new(alloc, NoGate) else {
-        return Err(WholeFault::NoMemory);
-    };
-    let mut pool = match Pool::start(rt, alloc, workers, gate) {
+    let mut pool = match Pool::start(rt, alloc, workers) {
         Ok(pool) => pool,
         Err(PoolFault::Count) => return Err(WholeFault::Count),
         Err(PoolFault::NoThread) => return Err(WholeFault::NoThread),
@@ -62,7 +59,7 @@ where
 fn seat_from<R: Threads + Wait + Sync, In: Source, Out: Sink, K: Outlook>(
     rt: &R,
     alloc: Global,
-    pool: &mut Pool<Macaroons, NoGate>,
+    pool: &mut Pool<Macaroons>,
     callers: &mut [Caller<In, Out, K>],
     next: usize,
 ) -> Result<(), WholeFault>

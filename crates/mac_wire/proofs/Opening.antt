@@ -135,9 +135,6 @@ has_ended_in v s stream handed so_far oversize =
     let p = parts v s stream handed so_far in
     has_ended s p.frames handed p.read (sym (ap (λ (a : Arrivals). a.ending) p.is) ∙ oversize)
 
-pub nothing_broken : (v : Option Version) (stream : List ℕ) (handed : List Arrival) → HasReadIn v stage.Broken stream handed → ⊥
-nothing_broken v stream handed so_far = (parts v stage.Broken stream handed so_far).read
-
 -- after an Oversize the version is there
 pub tells_ended : (v : Option Version) (s : Stage) (stream piece : List ℕ) (handed : List Arrival) → HasReadIn v s stream handed → HasEndedAt s → v ≡ version_told (stream ++ piece)
 tells_ended None (stage.Open held) stream piece handed read ended = absurd ended

@@ -24,9 +24,6 @@ pub record Counted (payloads : List (List ℕ)) (bytes rest : List ℕ) (count :
   pub size : length bytes ≡ length (framed done) + length rest
   pub begins : rest ≡ take (length rest) (framed todo)
 
-pub counted-none : (payloads : List (List ℕ)) (bytes : List ℕ) → AllByRecursion Fits payloads → bytes ≡ take (length bytes) (framed payloads) → Counted payloads bytes bytes 0
-counted-none payloads bytes fit begins = record { done = []; todo = payloads; parts = refl; fit = fit; number = refl; size = omega arith; begins = begins }
-
 -- the length that the front of a frame tells
 told-front : (payload more rest : List ℕ) → length payload ≤ FRAME_MAX → rest ≡ take (length rest) (frame payload ++ more) → 4 ≤ length rest → told_length rest ≡ length payload
 told-front payload more rest fits begins long =

@@ -1,8 +1,8 @@
 -- What was posted answers what was claimed.
-use Rattle.std.proofs.Common.{◌≡◌, ℕ, ◌⊎◌, inl, inr, List, [], ◌∷◌, ◌++◌, None, Some, map, sym, ◌∙◌, ap, refl, subst, ⊎_elim, append-nil, append_assoc}
+use Rattle.std.proofs.Common.{◌≡◌, ◌⊎◌, inl, inr, List, [], ◌∷◌, ◌++◌, None, Some, map, sym, ◌∙◌, ap, subst, ⊎_elim, append-nil, append_assoc}
 use Rattle.std.specs.Arc.{arc_value}
 use Rattle.mac_mail.specs.Mail.{Mail}
-use Rattle.mac_mail.specs.Post.{entry_of, IsDelivered}
+use Rattle.mac_mail.specs.Post.{entry_of}
 use Rattle.mac_mail.specs.declared.receipt.Delivery.{Delivery}
 use Rattle.mac_mail.specs.declared.receipt.Delivery.TheVariants.{Posted, Closed}
 use Rattle.mac_queue.specs.Balance.{entry_of as claim_of}
@@ -27,11 +27,6 @@ module _ {S Job Reply : Type 0} where
   -- a parcel moves from those that are left to those that are sent
   pub parcel_done : (done left rest parcels : List (Parcel S Job Reply)) (parcel : Parcel S Job Reply) → left ≡ parcel ∷ rest → done ++ left ≡ parcels → (done ++ parcel ∷ []) ++ rest ≡ parcels
   parcel_done done left rest parcels parcel split was = append_assoc done (parcel ∷ []) rest ∙ subst (λ (l : List (Parcel S Job Reply)). done ++ l ≡ parcels) split was
-
-  -- where all are sent
-  pub posted_all : (sent left parcels : List (Parcel S Job Reply)) (book book' : List (Delivery S Job Reply)) → left ≡ [] → sent ++ left ≡ parcels → HasPosted sent book book' → HasPosted parcels book book'
-  posted_all sent left parcels book book' none was posted =
-      subst (λ (l : List (Parcel S Job Reply)). HasPosted l book book') (sym (append-nil sent) ∙ subst (λ (l : List (Parcel S Job Reply)). sent ++ l ≡ parcels) none was) posted
 
   -- a ticket's parcel that was delivered answers the claim
   answered_one : (ticket : Ticket S Job Reply) (parcel : Parcel S Job Reply) (delivery : Delivery S Job Reply) → IsAnswerTo ticket parcel → IsSent parcel delivery → IsAnswered (claim_of ticket) delivery

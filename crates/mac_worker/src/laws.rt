@@ -2,7 +2,7 @@
 
 ghost use Rattle.std.specs.Prelude.{◌≡◌};
 
-use crate::gate::TURN_MAX;
+use crate::work::TURN_MAX;
 
 /// A worker takes up to 32 tickets at a time.
 pub fn a_turn_has_32_tickets()

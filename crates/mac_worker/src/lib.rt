@@ -2,10 +2,8 @@
 //! their mailboxes, for as long as the queue is open.
 #![tactic(auto)]
 
-mod gate;
 pub mod laws;
 mod posting;
 mod work;
 
-pub use gate::{Gate, NoGate, TURN_MAX};
-pub use work::{Worked, worker};
+pub use work::{TURN_MAX, Worked, worker};

@@ -6,7 +6,6 @@ ghost use Rattle.mac_mail.specs.Post.{IsDelivered};
 ghost use Rattle.mac_queue.specs.Balance.{entry_of};
 ghost use Rattle.mac_worker.specs.Parcel.{IsAnswered, IsSent, HasPosted};
 
-use crate::gate::Gate;
 use crate::work::{Mails, Parcel, Parcels};
 use mac_mail::{Delivery, History, Mailbox, Post};
 use mac_order::Service;
@@ -14,7 +13,7 @@ use mac_queue::Ticket;
 use std::sync::Wait;
 
 /// Posts that there was no memory for the ticket.
-pub fn give_up<S: Service, G: Gate, R: Wait>(rt: &R, gate: &G, ticket: Ticket<S>) -> Delivery<S>
+pub fn give_up<S: Service, R: Wait>(rt: &R, ticket: Ticket<S>) -> Delivery<S>
     ensures { IsAnswered (entry_of ticket) result }
 {
     let Ticket {
@@ -22,17 +21,14 @@ pub fn give_up<S: Service, G: Gate, R: Wait>(rt: &R, gate: &G, ticket: Ticket<S>
         job: _,
         mail,
     } = ticket;
-    gate.before(place);
     let delivery = mail.deliver(rt, Post::Failed(place));
     mail.ring();
-    gate.after(place);
     delivery
 }
 
 /// Posts the parcels, in order, and wakes nobody: their mailboxes are owed a ring.
-pub fn post_all<S: Service, G: Gate, R: Wait>(
+pub fn post_all<S: Service, R: Wait>(
     rt: &R,
-    gate: &G,
     parcels: &mut Parcels<S>,
     owed: &mut Mails<S>,
     book: &mut History<Delivery<S>>,
@@ -44,17 +40,12 @@ pub fn post_all<S: Service, G: Gate, R: Wait>(
         × (deque_capacity owed.new ≡ deque_capacity owed.old) }
 {
     while let Some(parcel) = parcels.pop_front() {
-        book.add(&post_one(rt, gate, parcel, owed));
+        book.add(&post_one(rt, parcel, owed));
     }
 }
 
 /// Posts the parcel.
-fn post_one<S: Service, G: Gate, R: Wait>(
-    rt: &R,
-    gate: &G,
-    parcel: Parcel<S>,
-    owed: &mut Mails<S>,
-) -> Delivery<S>
+fn post_one<S: Service, R: Wait>(rt: &R, parcel: Parcel<S>, owed: &mut Mails<S>) -> Delivery<S>
     requires { deque_len owed.old + 1 ≤ deque_capacity owed.old }
     ensures sent { IsSent parcel result }
     ensures owed { deque_len owed.new ≤ deque_len owed.old + 1 }
@@ -63,7 +54,6 @@ fn post_one<S: Service, G: Gate, R: Wait>(
     let Parcel { post, mail } = parcel;
     let place = place_of(&post);
     let delivery = deliver(rt, &mail, post, owed);
-    gate.after(place);
     if mail.is_due(place) {
         owed.push_back_reserved(mail);
     }

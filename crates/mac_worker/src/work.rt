@@ -6,9 +6,8 @@ ghost use Rattle.mac_queue.specs.Balance.{entry_of};
 ghost use Rattle.mac_queue.specs.Pass.{with_claimed};
 ghost use Rattle.mac_worker.specs.Parcel.{IsAnswerTo, AnswerEach, joined};
 ghost use Rattle.mac_worker.specs.Working.{with_tickets, HasTurned, HasWorked};
-ghost use Rattle.mac_worker.specs.declared.gate.TheConstants.{TURN_MAX};
+ghost use Rattle.mac_worker.specs.declared.work.TheConstants.{TURN_MAX};
 
-use crate::gate::{Gate, TURN_MAX};
 use crate::posting::{give_up, post_all, ring_all};
 use mac_mail::{Delivery, History, Mailbox, Post};
 use mac_order::{Answer, NoMemory, Service};
@@ -16,6 +15,9 @@ use mac_queue::{Claim, Queue, QueuePass, Ticket};
 use std::alloc::Global;
 use std::collections::VecDeque;
 use std::sync::{Arc, Wait};
+
+/// The most tickets of a worker's turn.
+pub const TURN_MAX: usize = 32;
 
 /// What a worker leaves behind.
 #[derive(Drop)]
@@ -76,12 +78,11 @@ impl<S: Service> Turn<S> {
 
 /// Claims tickets and posts their answers until the queue is closed and empty. A full mailbox is
 /// waited for; at a closed one the post is dropped.
-pub fn worker<S: Service, G: Gate, R: Wait>(
+pub fn worker<S: Service, R: Wait>(
     rt: &R,
     alloc: Global,
     queue: &Queue<S>,
     mut pass: QueuePass<S>,
-    gate: &G,
 ) -> Worked<S>
     requires { pass.queue ≡ queue.now.tickets }
     ensures { HasWorked pass result.claimed result.pass result.deliveries }
@@ -106,10 +107,10 @@ pub fn worker<S: Service, G: Gate, R: Wait>(
         match &mut room {
             Some(turn) => {
                 let book = &mut deliveries;
-                claimed += turn_from(rt, alloc, queue, &mut pass, gate, turn, ticket, book);
+                claimed += turn_from(rt, alloc, queue, &mut pass, turn, ticket, book);
             }
             None => {
-                deliveries.add(&give_up(rt, gate, ticket));
+                deliveries.add(&give_up(rt, ticket));
                 room = Turn::new(alloc).ok();
             }
         }
@@ -154,12 +155,11 @@ fn next_ticket<S: Service, R: Wait>(
 
 /// Works on the ticket, and on others that wait, so many that no other worker idles for it.
 /// Answers how many others.
-fn turn_from<S: Service, G: Gate, R: Wait>(
+fn turn_from<S: Service, R: Wait>(
     rt: &R,
     alloc: Global,
     queue: &Queue<S>,
     pass: &mut QueuePass<S>,
-    gate: &G,
     turn: &mut Turn<S>,
     ticket: Ticket<S>,
     book: &mut History<Delivery<S>>,
@@ -170,19 +170,19 @@ fn turn_from<S: Service, G: Gate, R: Wait>(
 {
     turn.tickets.push_back_reserved(ticket);
     let waiting = queue.waiting(rt, pass);
-    let others = turn_size(waiting, queue.workers(), gate.most()) - 1;
+    let others = turn_size(waiting, queue.workers()) - 1;
     let claimed = claim_more(rt, queue, pass, others, &mut turn.tickets);
     if waiting > others {
         queue.ring();
     }
-    answer_all(alloc, gate, &mut turn.tickets, &mut turn.parcels);
-    post_all(rt, gate, &mut turn.parcels, &mut turn.owed, book);
+    answer_all(alloc, &mut turn.tickets, &mut turn.parcels);
+    post_all(rt, &mut turn.parcels, &mut turn.owed, book);
     ring_all(&mut turn.owed);
     claimed
 }
 
 /// How many tickets a turn takes, of which one is claimed and so many wait.
-fn turn_size(waiting: usize, workers: u64, most: usize) -> usize
+fn turn_size(waiting: usize, workers: u64) -> usize
     ensures least { 1 ≤ result }
     ensures most { result ≤ TURN_MAX }
 {
@@ -192,7 +192,7 @@ fn turn_size(waiting: usize, workers: u64, most: usize) -> usize
     } else {
         TURN_MAX
     };
-    share.min(most).max(1)
+    share.max(1)
 }
 
 /// Claims up to so many tickets more.
@@ -224,12 +224,7 @@ fn claim_more<S: Service, R: Wait>(
 }
 
 /// Works on a run of tickets, in order. All that is claimed at a time comes through here.
-fn answer_all<S: Service, G: Gate>(
-    alloc: Global,
-    gate: &G,
-    tickets: &mut Tickets<S>,
-    parcels: &mut Parcels<S>,
-)
+fn answer_all<S: Service>(alloc: Global, tickets: &mut Tickets<S>, parcels: &mut Parcels<S>)
     requires empty { parcels.old.items ≡ [] }
     requires room { deque_len tickets.old ≤ deque_capacity parcels.old }
     ensures answers { AnswerEach tickets.old.items parcels.new.items }
@@ -239,20 +234,15 @@ fn answer_all<S: Service, G: Gate>(
         × (deque_capacity parcels.new ≡ deque_capacity parcels.old) }
 {
     if tickets.len() > 1 {
-        if let Ok((labels, jobs)) = taken_apart(alloc, gate, tickets) {
+        if let Ok((labels, jobs)) = taken_apart(alloc, tickets) {
             return answer_together(alloc, labels, jobs, parcels);
         }
     }
-    answer_each(alloc, gate, tickets, parcels);
+    answer_each(alloc, tickets, parcels);
 }
 
 /// Works on the tickets one by one.
-fn answer_each<S: Service, G: Gate>(
-    alloc: Global,
-    gate: &G,
-    tickets: &mut Tickets<S>,
-    parcels: &mut Parcels<S>,
-)
+fn answer_each<S: Service>(alloc: Global, tickets: &mut Tickets<S>, parcels: &mut Parcels<S>)
     requires empty { parcels.old.items ≡ [] }
     requires room { deque_len tickets.old ≤ deque_capacity parcels.old }
     ensures answers { AnswerEach tickets.old.items parcels.new.items }
@@ -262,15 +252,13 @@ fn answer_each<S: Service, G: Gate>(
         × (deque_capacity parcels.new ≡ deque_capacity parcels.old) }
 {
     while let Some(ticket) = tickets.pop_front() {
-        gate.before(ticket.place);
         parcels.push_back_reserved(answer(alloc, ticket));
     }
 }
 
 /// Takes the tickets apart, into what stays of each and its job.
-fn taken_apart<S: Service, G: Gate>(
+fn taken_apart<S: Service>(
     alloc: Global,
-    gate: &G,
     tickets: &mut Tickets<S>,
 ) -> Result<(Vec<Label<S>>, Vec<S::Job>), NoMemory>
     ensures parts { IfOk result (λ parts. joined parts.0.items parts.1.items ≡ tickets.old.items) }
@@ -282,7 +270,6 @@ fn taken_apart<S: Service, G: Gate>(
     let mut labels = Vec::with_capacity(alloc, tickets.len())?;
     let mut jobs = Vec::with_capacity(alloc, tickets.len())?;
     while let Some(Ticket { place, job, mail }) = tickets.pop_front() {
-        gate.before(place);
         labels.push_reserved(Label { place, mail });
         jobs.push_reserved(job);
     }

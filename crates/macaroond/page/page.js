@@ -1,5 +1,5 @@
 // The page of `macaroond page`. What it says of a token, the daemon says: this only asks, and shows the
-// answers as text. It keeps nothing, and asks nobody but the address that it came from.
+// answers as text. It keeps no token, and asks nobody but the daemon that it was opened for.
 "use strict";
 
 const $ = (id) => document.getElementById(id);
@@ -28,23 +28,69 @@ function now() {
   return Math.floor(Date.now() / 1000);
 }
 
-// ---- Asking
+// ---- The daemon
 
-// The status and the object of an answer. No call changes anything, so one whose connection had ended is sent again.
-async function ask(path, body, isAgain) {
-  const how = { cache: "no-store", credentials: "omit" };
+// The address that the daemon printed has two secrets behind its #: what this page shows with each call, and what the
+// daemon shows this page. They are kept for this tab alone, so that it can be loaded again, and leave the address.
+const KEPT = "secrets";
+const SECRETS = /^#([0-9a-f]{32})([0-9a-f]{32})$/;
+let secrets = takenSecrets();
+// Why nothing is asked any more.
+let gone = "";
+
+function takenSecrets() {
+  const opened = location.hash;
+  if (SECRETS.test(opened)) sessionStorage.setItem(KEPT, opened);
+  if (opened) history.replaceState(null, "", location.pathname);
+  const [, ours, daemons] = SECRETS.exec(sessionStorage.getItem(KEPT)) || [];
+  return { ours, daemons };
+}
+
+async function fetched(path, how) {
+  const headers = { ...how.headers, "Macaroond-Page": secrets.ours };
+  const reply = await fetch(path, { cache: "no-store", credentials: "omit", redirect: "error", ...how, headers });
+  return { status: reply.status, text: await reply.text() };
+}
+
+// Whether the daemon answers that this page was opened for. Once it has ended, another program may have its port: that
+// one doesn't know the daemon's secret, and gets no call.
+async function isHere() {
+  if (gone) return false;
+  try {
+    const { text } = await fetched("/here", {});
+    if (text === secrets.daemons) return true;
+  } catch {
+    // No connection: it has ended.
+  }
+  end("macaroond has ended, and this page asks nothing more. Start it again, and open the address that it prints.");
+  return false;
+}
+
+// Asks nothing more, and forgets the secrets.
+function end(words) {
+  if (gone) return;
+  gone = words;
+  secrets = {};
+  sessionStorage.removeItem(KEPT);
+  look();
+}
+
+// The status and the object of an answer.
+async function ask(path, body) {
+  const how = {};
   if (body) {
     Object.assign(how, { method: "POST", headers: { "Content-Type": "application/json" }, body: JSON.stringify(body) });
     if (utf8(how.body).length > BODY_MAX) {
       return { status: 413, told: { reason: "this is more than a request may have" } };
     }
   }
+  if (!await isHere()) return { status: 0, told: {} };
   try {
-    const reply = await fetch(path, how);
-    const text = await reply.text();
-    return { status: reply.status, told: text ? JSON.parse(text) : {} };
+    const { status, text } = await fetched(path, how);
+    return { status, told: text ? JSON.parse(text) : {} };
   } catch {
-    return isAgain ? { status: 0, told: {} } : ask(path, body, true);
+    await isHere();
+    return { status: 0, told: {} };
   }
 }
 
@@ -52,7 +98,7 @@ async function ask(path, body, isAgain) {
 function refusal({ status, told }) {
   if (told.code) return "refused " + told.code + ": " + told.reason;
   if (told.reason) return "refused: " + told.reason;
-  if (status === 0) return "macaroond doesn't answer. Does it still run?";
+  if (status === 0) return gone || "macaroond didn't answer.";
   return "refused " + status;
 }
 
@@ -215,7 +261,7 @@ async function look() {
   $("clear").hidden = pasted.text === "";
   $("example").hidden = !$("clear").hidden;
   const size = utf8(pasted.token).length;
-  const reply = pasted.token === "" ? null : size > TOKEN_MAX
+  const reply = gone ? { status: 0, told: {} } : pasted.token === "" ? null : size > TOKEN_MAX
     ? { status: 400, told: { code: 22, reason: "the token passes a limit" } }
     : await ask("/inspect", { token: pasted.token });
   if (turn !== turns.look) return;
@@ -783,9 +829,15 @@ $("mint-form").onsubmit = (event) => {
 };
 // A bound that passes while one looks turns its caveat over.
 setInterval(() => {
-  if (said && bounds.some((it) => it && it.at > asOf && it.at <= now())) check();
+  if (said && !gone && bounds.some((it) => it && it.at > asOf && it.at <= now())) check();
 }, 1000);
 
+// Where the daemon ends, the page says so without being asked.
+setInterval(() => document.hidden || isHere(), 3000);
+// The address of another daemon was opened in this tab.
+addEventListener("hashchange", () => location.reload());
+
+if (!secrets.ours) end("This page is to be opened at the whole address that `macaroond page` printed.");
 (async () => {
   const reply = await ask("/names");
   names = reply.status === 200 ? reply.told.names : [];

@@ -5,10 +5,10 @@ use Rattle.std.specs.declared.alloc.Global.{Global}
 use Rattle.std.specs.declared.string.String.{String}
 use Rattle.mac_keys.specs.Table.{Table}
 use Rattle.mac_wire.specs.Request.{Asked}
-use Rattle.mac_words.specs.Said.{Says, SaysAlone}
+use Rattle.mac_words.specs.Said.{Says}
 use Rattle.mac_words.specs.declared.saying.Said.{Said}
 use Rattle.macaroond.specs.Doing.{DoesTask, EndsTask, IsMomentGiven}
-use Rattle.macaroond.specs.People.{GivesMoment, IsToldSo, SaysWords, SaysWordsAlone}
+use Rattle.macaroond.specs.People.{GivesMoment, IsToldSo, SaysWords}
 use Rattle.macaroond.specs.declared.people.asking.Task.{Task}
 use Rattle.macaroond.specs.declared.people.fault.PersonFault.{PersonFault}
 use Rattle.macaroond.specs.declared.status.Status.{Status}
@@ -18,11 +18,6 @@ pub said_of_words : (P : Said → Type 0) (table : Table) (token : List ℕ) (re
     → SaysWords table token request result → ((said : Said) → Says table token request (Ok said) → P said) → IfOk result P
 said_of_words P table token request (Ok said) says then = then said says
 said_of_words P table token request (Err why) says then = tt
-
-pub said_of_words_alone : (P : Said → Type 0) (token : List ℕ) (request : Asked) (result : Result Said PersonFault)
-    → SaysWordsAlone token request result → ((said : Said) → SaysAlone token request (Ok said) → P said) → IfOk result P
-said_of_words_alone P token request (Ok said) says then = then said says
-said_of_words_alone P token request (Err why) says then = tt
 
 -- the moment that a word names, if there is a word
 pub moment_given : (at : Option (String Global)) (moment : ℕ)

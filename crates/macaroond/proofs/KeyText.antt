@@ -17,9 +17,6 @@ pub record Divides (input : List ℕ) (start : ℕ) : Type 0 where
   pub input_is : input ≡ flat_map ended full ++ drop start input
   pub lines_are : lines input ≡ full ++ lines (drop start input)
 
-pub divides-none : (input : List ℕ) → Divides input 0
-divides-none input = record { full = []; are_full = tt; input_is = refl; lines_are = refl }
-
 pub AreFull-push : (full : List (List ℕ)) (line : List ℕ) → AreFull full → is_empty line ≡ false → AreFull (full ++ line ∷ [])
 AreFull-push [] line h e = (e, tt)
 AreFull-push (first ∷ full) line h e = (h.0, AreFull-push full line h.1 e)

@@ -37,10 +37,6 @@ remains-cut text old new new' sent rest n r e =
     remains-begins text old new' (drop n sent ++ rest)
     (remains-sent text old new new' (take n sent) (drop n sent ++ rest) (rw parts at r) e)
 
--- all of it was written
-pub remains-all : (text old new : List ℕ) → Remains text old new [] → new ≡ old ++ text
-remains-all text old new r = r.new_is ∙ ap (λ (l : List ℕ). old ++ l) (sym (append-nil r.out) ∙ r.whole)
-
 -- the next line was gathered
 pub remains-more : (text old new gathered gathered' line rest rest' : List ℕ) →
     Remains text old new (gathered ++ rest) → gathered' ≡ gathered ++ line → rest ≡ line ++ rest' →

@@ -9,7 +9,7 @@ use Rattle.std.specs.declared.string.String.{String}
 use Rattle.std.specs.declared.alloc.Global.{Global}
 use Rattle.clap.specs.Kinds.{IsAmong, Kinds}
 use Rattle.clap.specs.Words.{App, Row, Rule, Text, fault_of, first_of, new_app, subcommand_of}
-use Rattle.clap.specs.Words.{with_subcommand}
+use Rattle.clap.specs.Words.{with_rule, with_subcommand}
 use Rattle.clap.specs.declared.error.kind.ErrorKind.{ErrorKind}
 use Rattle.clap.specs.declared.error.kind.ErrorKind.TheVariants.{DisplayHelp, DisplayVersion}
 use Rattle.clap.specs.declared.error.kind.ErrorKind.TheVariants.{OutOfMemory}
@@ -45,31 +45,45 @@ program = record (new_app (codes "macaroond")) {
   };
 }
 
--- the subcommand `serve`, all of whose options have to be given
-abbrev pub serve_command : App
-serve_command = with_rules (new_app (codes "serve"))
+-- the subcommand `serve` with the options that have to be given
+abbrev pub served_app : App
+served_app = with_rules (new_app (codes "serve"))
     (required (option (codes "socket"))
     ∷ required (option (codes "keys"))
     ∷ required (number 16 (option (codes "workers")))
     ∷ required (number 1000 (option (codes "accept")))
     ∷ [])
 
--- the options of `listen` for its sockets over HTTP
-abbrev pub http_rules : List Rule
-http_rules = option (codes "http")
+-- the same with its flag
+abbrev pub serve_command : App
+serve_command = with_rule served_app (flag (codes "keys-of-others"))
+
+-- the options of `listen` for its sockets over HTTP: for gateways
+abbrev pub gateway_rules : List Rule
+gateway_rules = option (codes "http")
     ∷ option (codes "http-anywhere")
     ∷ option (codes "http-mode")
     ∷ number 1024 (option (codes "http-connections"))
     ∷ number 3600 (option (codes "http-patience"))
     ∷ option (codes "http-granted")
     ∷ option (codes "http-facts")
+    ∷ flag (codes "http-strict-paths")
+    ∷ option (codes "http-names")
+    ∷ []
+
+-- for calls, and for operators; the last but one is an option of earlier versions
+abbrev pub calls_rules : List Rule
+calls_rules = option (codes "http-calls")
+    ∷ option (codes "http-calls-mode")
+    ∷ option (codes "http-calls-allow")
+    ∷ option (codes "http-calls-names")
     ∷ option (codes "http-allow")
     ∷ option (codes "http-admin")
     ∷ []
 
 -- the subcommand `listen`, whose socket and key file have to be given
 abbrev pub listen_command : App
-listen_command = with_rules (with_rules (new_app (codes "listen"))
+listen_command = with_rules (with_rules (with_rules (new_app (codes "listen"))
     (required (option (codes "socket"))
     ∷ required (option (codes "keys"))
     ∷ number 16 (option (codes "workers"))
@@ -85,7 +99,8 @@ listen_command = with_rules (with_rules (new_app (codes "listen"))
     ∷ option (codes "verify-names")
     ∷ flag (codes "replace")
     ∷ option (codes "log")
-    ∷ [])) http_rules
+    ∷ flag (codes "keys-of-others")
+    ∷ [])) gateway_rules) calls_rules
 
 -- the subcommand `page`, both of whose options may be left out
 abbrev pub page_command : App
@@ -171,6 +186,7 @@ HasServe options rows = IsText options.socket (first_of (codes "socket") rows)
     × IsText options.keys (first_of (codes "keys") rows)
     × IsNumber 16 options.workers (first_of (codes "workers") rows)
     × IsNumber 1000 options.accept (first_of (codes "accept") rows)
+    × (options.keys_of_others ≡ is_set (codes "keys-of-others") rows)
 
 -- the values of its options for HTTP
 abbrev pub HasHttp : HttpOptions → List Row → Type 0
@@ -181,6 +197,12 @@ HasHttp options rows = IsOptionalText options.here (codes "http") rows
     × IsNumberOrNone 3600 options.patience (first_of (codes "http-patience") rows)
     × IsOptionalText options.granted (codes "http-granted") rows
     × IsOptionalText options.facts (codes "http-facts") rows
+    × (options.strict_paths ≡ is_set (codes "http-strict-paths") rows)
+    × IsOptionalText options.names (codes "http-names") rows
+    × IsOptionalText options.calls (codes "http-calls") rows
+    × (mode_given (first_of (codes "http-calls-mode") rows) ≡ Some options.calls_mode)
+    × IsOptionalText options.calls_allow (codes "http-calls-allow") rows
+    × IsOptionalText options.calls_names (codes "http-calls-names") rows
     × IsOptionalText options.allow (codes "http-allow") rows
     × IsOptionalText options.admin (codes "http-admin") rows
 
@@ -201,6 +223,7 @@ HasListen options rows = IsText options.socket (first_of (codes "socket") rows)
     × IsOptionalText options.verify_names (codes "verify-names") rows
     × (options.replace ≡ is_set (codes "replace") rows)
     × IsOptionalText options.log (codes "log") rows
+    × (options.keys_of_others ≡ is_set (codes "keys-of-others") rows)
     × HasHttp options.http rows
 
 -- the values of the options of `page`
@@ -232,11 +255,12 @@ abbrev pub IsChosen : Chosen → Option (Text × List Row) → Type 0
 IsChosen (Machine choice) met = IsChoice choice met
 IsChosen (Person task) met = IsTask task met
 
--- `--mode`, `--verify-mode` or `--http-mode` was given with digits that name none
+-- an option for a mode was given with digits that name none
 abbrev pub NamesNoMode : List Row → Type 0
 NamesNoMode rows = (mode_given (first_of (codes "mode") rows) ≡ None)
     ⊎ ((mode_given (first_of (codes "verify-mode") rows) ≡ None)
-    ⊎ (mode_given (first_of (codes "http-mode") rows) ≡ None))
+    ⊎ ((mode_given (first_of (codes "http-mode") rows) ≡ None)
+    ⊎ (mode_given (first_of (codes "http-calls-mode") rows) ≡ None)))
 
 abbrev pub HasUnknownMode : Option (Text × List Row) → Type 0
 HasUnknownMode met = (rows : List Row) × (met ≡ Some (codes "listen", rows)) × NamesNoMode rows

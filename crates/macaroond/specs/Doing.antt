@@ -1,18 +1,21 @@
 -- What doing a person's task comes to: what is said, and how the run ends.
-use Rattle.std.specs.Prelude.{◌≡◌, ◌≢◌, ◌⊎◌, ◌&&◌, ◌||◌, ℕ, Bool, true, false, List, [], ◌∷◌}
-use Rattle.std.specs.Prelude.{Option, Some, None, codes, length}
+use Rattle.std.specs.Prelude.{◌≡◌, ◌≢◌, ◌⊎◌, ◌&&◌, ◌||◌, ◌==◌, ◌+◌, ◌<◌, ◌++◌, ℕ, Bool, true, false}
+use Rattle.std.specs.Prelude.{List, [], ◌∷◌, Option, Some, None, codes, if◌then◌else◌, length}
 use Rattle.std.specs.Prelude.{option_map, string_bytes, Result, Ok, Err}
 use Rattle.std.specs.Bool.{MatchBool}
+use Rattle.std.specs.List.{flat_map}
 use Rattle.std.specs.Option.{is_some}
 use Rattle.std.specs.declared.alloc.Global.{Global}
+use Rattle.std.specs.declared.string.String.{String}
 use Rattle.std.specs.declared.vec.Vec.{Vec}
 use Rattle.mac_hmac.specs.Chain.{root_of}
-use Rattle.mac_keys.specs.Change.{AddsKey, DropsKey, IsKeyLine}
+use Rattle.mac_keys.specs.Change.{AddsKey, AddsLower, DropsFirst, DropsKey, IsKeyLine, SwapsKeys}
 use Rattle.mac_keys.specs.declared.change.ChangeFault.{ChangeFault}
 use Rattle.mac_keys.specs.declared.change.ChangeFault.TheVariants as change
 use Rattle.mac_keys.specs.declared.fault.KeyFault.TheVariants as key
 use Rattle.mac_keys.specs.Table.{Table, table_of}
 use Rattle.mac_wire.specs.declared.request.TokenForm.{TokenForm}
+use Rattle.mac_words.specs.Escaped.{escaped}
 use Rattle.mac_words.specs.KeyLine.{GivesLine}
 use Rattle.mac_words.specs.Moment.{IsMoment}
 use Rattle.mac_words.specs.NameList.{names_text}
@@ -36,6 +39,8 @@ use Rattle.macaroond.specs.declared.people.fault.PersonFault.{PersonFault}
 use Rattle.macaroond.specs.declared.people.fault.PersonFault.TheVariants as fault
 use Rattle.macaroond.specs.declared.people.status_page.AskedPage.{AskedPage}
 use Rattle.macaroond.specs.declared.people.status_page.AskedPage.TheVariants as page
+use Rattle.macaroond.specs.declared.people.keygen.Change.{Change}
+use Rattle.macaroond.specs.declared.people.keygen.Change.TheVariants as made
 use Rattle.macaroond.specs.declared.people.keygen.Deed.{Deed}
 use Rattle.macaroond.specs.declared.people.keygen.Deed.TheVariants as deed
 use Rattle.macaroond.specs.declared.status.Status.{Status}
@@ -71,40 +76,73 @@ PrintsLine name said = IsNewLine name said.text × (said.is_refusal ≡ false)
 abbrev pub SaysNothing : Said → Type 0
 SaysNothing said = (said.text.items ≡ []) × (said.is_refusal ≡ false)
 
--- one of the options names a file
-abbrev pub names_file : KeygenWords → Bool
-names_file words = is_some words.into || (is_some words.above || is_some words.drop)
+-- what is said is this text, and no refusal
+abbrev pub SaysOf : List ℕ → Said → Type 0
+SaysOf text said = (said.text.items ≡ text) × (said.is_refusal ≡ false)
 
--- two of them do
-abbrev pub names_two : KeygenWords → Bool
-names_two words = (is_some words.into && (is_some words.above || is_some words.drop))
-    || (is_some words.above && is_some words.drop)
+abbrev pub one_if : {X : Type 0} → Option X → ℕ
+one_if given = if is_some given then 1 else 0
 
--- what the words ask for: a line that is printed, or the one option that names a file
+-- how many of the options are given that put a new line into a file
+abbrev pub putting : KeygenWords → ℕ
+putting words = one_if words.into + one_if words.above + one_if words.below
+
+-- how many of those that make no key
+abbrev pub taking : KeygenWords → ℕ
+taking words = one_if words.raise + one_if words.drop + one_if words.drop_first
+
+-- the path that is given with the option of a change
+abbrev pub path_given : Change → KeygenWords → Option (String Global)
+path_given made.Above words = words.above
+path_given made.Below words = words.below
+path_given made.Raise words = words.raise
+path_given made.Drop words = words.drop
+path_given made.DropFirst words = words.drop_first
+
+-- what some of the options ask for, of which so many are given: a line that is printed, or what the
+-- only one says
+abbrev pub GivesPart : ℕ → KeygenWords → Result Deed PersonFault → Type 0
+GivesPart count words (Ok deed.Print) = count ≡ 0
+GivesPart count words (Ok (deed.Into path)) =
+    (option_map string_bytes words.into ≡ Some path.now) × (count ≡ 1)
+GivesPart count words (Ok (deed.Change change path)) =
+    (option_map string_bytes (path_given change words) ≡ Some path.now) × (count ≡ 1)
+GivesPart count words (Err why) = (why ≡ fault.Options) × (1 < count)
+
+-- what all of them ask for
 abbrev pub GivesDeed : KeygenWords → Result Deed PersonFault → Type 0
-GivesDeed words (Ok deed.Print) = names_file words ≡ false
-GivesDeed words (Ok (deed.Into path)) =
-    (option_map string_bytes words.into ≡ Some path.now) × (names_two words ≡ false)
-GivesDeed words (Ok (deed.Above path)) =
-    (option_map string_bytes words.above ≡ Some path.now) × (names_two words ≡ false)
-GivesDeed words (Ok (deed.Drop path)) =
-    (option_map string_bytes words.drop ≡ Some path.now) × (names_two words ≡ false)
-GivesDeed words (Err why) = (why ≡ fault.Options) × (names_two words ≡ true)
+GivesDeed words result = GivesPart (putting words + taking words) words result
 
--- the line is printed where no option names a file; else nothing is
+-- which line was dropped, if one was
+abbrev pub SaysChange : Change → List ℕ → Said → Type 0
+SaysChange made.Drop name said = SaysOf (name ++ codes ": the second line is dropped\n") said
+SaysChange made.DropFirst name said = SaysOf (name ++ codes ": the first line is dropped\n") said
+SaysChange _ name said = SaysNothing said
+
+-- what is said where a deed is done
+abbrev pub SaysDeed : Deed → List ℕ → Said → Type 0
+SaysDeed deed.Print name said = PrintsLine name said
+SaysDeed (deed.Into path) name said = SaysNothing said
+SaysDeed (deed.Change change path) name said = SaysChange change name said
+
+-- the one deed that the words ask for is done
 abbrev pub DoesKeygen : KeygenWords → Said → Type 0
 DoesKeygen words said =
-    MatchBool (names_file words) (SaysNothing said) (PrintsLine (string_bytes words.name) said)
+    (deed : Deed) × GivesDeed words (Ok deed) × SaysDeed deed (string_bytes words.name) said
 
 -- the text is a line that gives some name a secret
 abbrev pub IsSomeLine : List ℕ → Type 0
 IsSomeLine text = (name secret : List ℕ) × IsKeyLine name secret text
 
--- one name has one more key in the changed text, or one less; all else stays
-abbrev pub IsChange : List ℕ → List ℕ → Type 0
-IsChange text changed = (name : List ℕ)
-    × (((secret : List ℕ) × AddsKey name (root_of secret) text changed)
-    ⊎ DropsKey name text changed)
+-- what a change makes of the keys of a name; each other name has its own
+abbrev pub IsChanged : Change → List ℕ → List ℕ → List ℕ → Type 0
+IsChanged made.Above name text changed =
+    (secret : List ℕ) × AddsKey name (root_of secret) text changed
+IsChanged made.Below name text changed =
+    (secret : List ℕ) × AddsLower name (root_of secret) text changed
+IsChanged made.Raise name text changed = SwapsKeys name text changed
+IsChanged made.Drop name text changed = DropsKey name text changed
+IsChanged made.DropFirst name text changed = DropsFirst name text changed
 
 -- how a run ends in which a key file doesn't change
 abbrev pub change_status : ChangeFault → Status
@@ -164,10 +202,18 @@ abbrev pub IsBody : List ℕ → List ℕ → Type 0
 IsBody reply body =
     (head : ResponseHead) × ReadsResponse reply head body × (status_code head ≡ 200)
 
-abbrev pub IsPageOf : List ℕ → Said → Type 0
-IsPageOf reply said = IsBody reply said.text.items × (said.is_refusal ≡ false)
+-- a byte of a body as a terminal may be shown it: a line feed, 10, ends a line
+abbrev pub shown_byte : ℕ → List ℕ
+shown_byte byte = if byte == 10 then byte ∷ [] else escaped (byte ∷ [])
 
--- what is said of a daemon: the body of some response, where one page was asked for
+abbrev pub shown : List ℕ → List ℕ
+shown body = flat_map shown_byte body
+
+abbrev pub IsPageOf : List ℕ → Said → Type 0
+IsPageOf reply said = (body : List ℕ) × IsBody reply body
+    × (said.text.items ≡ shown body) × (said.is_refusal ≡ false)
+
+-- what is said of a daemon: the body of some response as it is shown, where one page was asked for
 abbrev pub DoesStatus : StatusWords → Said → Type 0
 DoesStatus words said =
     ((words.prometheus && words.connections) ≡ false) × ((reply : List ℕ) × IsPageOf reply said)

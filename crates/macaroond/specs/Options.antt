@@ -84,7 +84,9 @@ HasCommand met = (name : Text) × (rows : List Row) × (met ≡ Some (name, rows
 -- what is made of the options for HTTP
 abbrev pub ChoosesHttp : List Row → Result HttpOptions OptionFault → Type 0
 ChoosesHttp rows (Ok options) = HasHttp options rows
-ChoosesHttp rows (Err fault.UnknownMode) = mode_given (first_of (codes "http-mode") rows) ≡ None
+ChoosesHttp rows (Err fault.UnknownMode) =
+    (mode_given (first_of (codes "http-mode") rows) ≡ None)
+    ⊎ (mode_given (first_of (codes "http-calls-mode") rows) ≡ None)
 ChoosesHttp rows (Err fault.NoMemory) = Unit {0}
 
 -- what is made of them: the choice, or an option for a mode names none, or memory ran out

@@ -22,6 +22,8 @@ use Rattle.mac_words.specs.declared.fault.TextFault.TheVariants as text
 use Rattle.mac_words.specs.declared.key_lines.NameFault.TheVariants as name
 use Rattle.mac_words.specs.declared.saying.Said.{Said}
 use Rattle.macaroond.specs.Arguments.{flag, option, required}
+use Rattle.macaroond.specs.declared.fault.PipeFault.{PipeFault}
+use Rattle.macaroond.specs.declared.fault.PipeFault.TheVariants as pipe
 use Rattle.macaroond.specs.declared.status.Status.{Status}
 use Rattle.macaroond.specs.declared.status.Status.TheVariants as status
 use Rattle.macaroond.specs.declared.people.fault.PersonFault.{PersonFault}
@@ -46,11 +48,12 @@ word name = record (new_rule name) { value_names = 1 }
 abbrev pub repeated : Rule → Rule
 repeated rule = record rule { action = Some Append; parser = Some NonEmptyString }
 
--- the subcommand `keygen`, with three options and a word
+-- the subcommand `keygen`, with six options and a word
 abbrev pub keygen_command : App
-keygen_command = with_rule (with_rule (with_rule (with_rule (new_app (codes "keygen"))
-    (option (codes "into"))) (option (codes "above"))) (option (codes "drop")))
-    (required (word (codes "name")))
+keygen_command = with_rule (with_rule (with_rule (with_rule (with_rule (with_rule (with_rule
+    (new_app (codes "keygen")) (option (codes "into"))) (option (codes "above")))
+    (option (codes "below"))) (option (codes "raise"))) (option (codes "drop")))
+    (option (codes "drop-first"))) (required (word (codes "name")))
 
 -- the subcommand `check`, with one option
 abbrev pub check_command : App
@@ -122,7 +125,10 @@ abbrev pub HasKeygen : KeygenWords → List Row → Type 0
 HasKeygen words rows = IsGivenText words.name (codes "name") rows
     × IsOptionalText words.into (codes "into") rows
     × IsOptionalText words.above (codes "above") rows
+    × IsOptionalText words.below (codes "below") rows
+    × IsOptionalText words.raise (codes "raise") rows
     × IsOptionalText words.drop (codes "drop") rows
+    × IsOptionalText words.drop_first (codes "drop-first") rows
 
 abbrev pub HasMint : MintWords → List Row → Type 0
 HasMint words rows = IsGivenText words.keys (codes "keys") rows
@@ -235,8 +241,16 @@ person_status (fault.Checked path line kind) = status.Refused
 person_status (fault.Change path why) = status.Refused
 person_status (fault.Exists path) = status.Refused
 person_status (fault.Beside path) = status.Refused
+person_status (fault.Left path) = status.Refused
+person_status (fault.Busy path) = status.Refused
+person_status (fault.Link path) = status.Refused
 person_status (fault.Meanwhile path) = status.Refused
 person_status _ = status.DeviceFault
+
+-- how a person's run ends that has no table of a key file
+abbrev pub key_file_status : PipeFault → Status
+key_file_status pipe.Memory = status.NoMemory
+key_file_status _ = status.DeviceFault
 
 abbrev pub said_status : Bool → Status
 said_status is_refusal = if is_refusal then status.Refused else status.Done

@@ -71,6 +71,8 @@ http_status (http.Address word fault) = status.BadLine
 http_status http.Granted = status.BadLine
 http_status http.Source = status.BadLine
 http_status http.Call = status.BadLine
+http_status http.Moved = status.BadLine
+http_status (http.CallsAnywhere word) = status.BadLine
 http_status http.NoMemory = status.NoMemory
 
 -- a line that asks for no work ends with its own status; where help can't be printed, with that of

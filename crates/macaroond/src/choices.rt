@@ -37,6 +37,8 @@ pub struct ServeOptions {
     pub workers: u64,
     /// How many connections are served, from 1 to 1,000.
     pub accept: u64,
+    /// Whether the key file may be one that others may use.
+    pub keys_of_others: bool,
 }
 
 /// What `listen` is told.
@@ -73,6 +75,8 @@ pub struct ListenOptions {
     pub replace: bool,
     /// What is logged beside the usual: the word `requests`.
     pub log: Option<String>,
+    /// Whether the key file may be one that others may use.
+    pub keys_of_others: bool,
     /// Its sockets over HTTP.
     pub http: HttpOptions,
 }
@@ -94,8 +98,21 @@ pub struct HttpOptions {
     pub granted: Option<String>,
     /// Where facts are taken from, with commas between the words.
     pub facts: Option<String>,
-    /// What may be asked over HTTP beside verify: mint, attenuate, inspect, check, with commas
-    /// between them.
+    /// Whether paths that facts are told of may hold nothing that some servers read in a way of
+    /// their own.
+    pub strict_paths: bool,
+    /// The names that may be used at all of these, with commas between them; else all.
+    pub names: Option<String>,
+    /// Addresses of this machine where calls are answered, with commas between them.
+    pub calls: Option<String>,
+    /// Who may connect to those of calls that are Unix sockets.
+    pub calls_mode: Mode,
+    /// Which calls are answered there: mint, attenuate, inspect, check, with commas between them;
+    /// else all but mint.
+    pub calls_allow: Option<String>,
+    /// The names that may be used there, with commas between them; else all.
+    pub calls_names: Option<String>,
+    /// The calls that gateways' addresses answered in earlier versions: no longer taken.
     pub allow: Option<String>,
     /// Addresses of this machine where operators ask, with commas between them.
     pub admin: Option<String>,

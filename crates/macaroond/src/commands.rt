@@ -2,8 +2,8 @@
 ghost use Rattle.std.specs.Prelude.{◌≡◌, false, IfOk};
 ghost use Rattle.clap.specs.Words.{app_of, rule_of};
 ghost use Rattle.macaroond.specs.Arguments.{number, number_from, option, required, with_rules};
-ghost use Rattle.macaroond.specs.CommandLine.{command_line, http_rules, listen_command};
-ghost use Rattle.macaroond.specs.CommandLine.{page_command, pipe_command, serve_command};
+ghost use Rattle.macaroond.specs.CommandLine.{calls_rules, command_line, gateway_rules, listen_command};
+ghost use Rattle.macaroond.specs.CommandLine.{page_command, pipe_command, serve_command, served_app};
 
 use crate::parts::{
     KEYS_HELP, add_arg, add_subcommand, build_flag, build_option, build_subcommand,
@@ -77,7 +77,7 @@ ended, M of them in a fault. PATH must not be there yet, and stays when the run 
 has key lines, as `macaroond pipe` reads them, and at most 16777216 bytes.
 
 Example:
-  macaroond serve --socket /tmp/macaroond.sock --keys examples/keys --workers 2 --accept 3
+  macaroond serve --socket /tmp/macaroond.sock --keys keys --workers 2 --accept 3
 
 Exit status:
   0  all connections were served
@@ -99,7 +99,9 @@ answered, or that began a request since. One that rests, or that is owed replies
 
 Runs until SIGTERM or SIGINT. Then it takes no more connections, answers what has come, closes each
 connection once its replies are sent, and ends. A second signal ends it at once. The key file is
-looked at twice a second, and at SIGHUP. A changed one is taken where it has no fault.
+looked at twice a second, and at SIGHUP. A changed one is taken where it has no fault. It has to
+belong to root or the daemon's user, be closed to others, and its group may read it at most, where
+that is the daemon's own.
 
 Over HTTP a gateway asks for /verify/NAME with the field `Authorization: Bearer TOKEN`. It gets 200
 where the token is granted, and else 401, 403 or 404. /healthz tells whether the daemon is well.
@@ -120,9 +122,9 @@ Exit status:
 const PAGE_HELP: &str = "\
 Prints the URL of the page once a browser can open it, and serves it until the process is ended.
 The page tells what a macaroon says, which of its caveats hold with facts at a moment, and adds
-caveats. With --keys it mints and verifies too: whoever may connect from this machine may do so. The
-key file is read once, as the run begins. A request is refused that another page makes, or that
-names another address.
+caveats. With --keys it mints and verifies too, for whoever has the URL: behind its # stands a
+secret, fresh at each start, and a request that doesn't bring it is refused. So is one that another
+page makes, or that names another address. The key file is read once, as the run begins.
 
 Example:
   macaroond page --keys keys
@@ -179,6 +181,8 @@ const REPLACE_HELP: &str =
 const LOG_HELP: &str =
     "What is logged besides: requests, a line for each request [default: nothing]";
 
+const OTHERS_HELP: &str = "Takes a key file that others may use too, which is refused without this";
+
 const HTTP_HELP: &str =
     "Where gateways ask over HTTP: unix:PATH, 127.0.0.1:PORT or [::1]:PORT, with commas between";
 
@@ -198,8 +202,26 @@ const HTTP_GRANTED_HELP: &str = "The status that grants: 200 or 204 [default: 20
 const HTTP_FACTS_HELP: &str =
     "Where facts are taken from: header, query, forwarded, with commas between [default: none]";
 
-const HTTP_ALLOW_HELP: &str = "What may be asked over HTTP besides: mint, attenuate, inspect, \
-    check, with commas between [default: nothing]";
+const HTTP_STRICT_HELP: &str =
+    "Tells no fact of a path that holds ; or %00, %09, %u or bytes that are no shortest UTF-8";
+
+const HTTP_NAMES_HELP: &str =
+    "The names that may be verified over HTTP, with commas between [default: all]";
+
+const HTTP_CALLS_HELP: &str =
+    "Where programs of this machine call with JSON: unix:PATH or ports of loopback, with commas";
+
+const HTTP_CALLS_MODE_HELP: &str =
+    "Who may connect to Unix sockets of --http-calls: 600, 660 or 666 [default: 600]";
+
+const HTTP_CALLS_ALLOW_HELP: &str = "Which calls are answered there: mint, attenuate, inspect, \
+    check, with commas between [default: all but mint]";
+
+const HTTP_CALLS_NAMES_HELP: &str =
+    "The names that may be used there, with commas between [default: all]";
+
+const HTTP_ALLOW_HELP: &str =
+    "No longer taken: --http-calls and --http-calls-allow stand in its place";
 
 const PAGE_ADDRESS_HELP: &str =
     "Where it is served: 127.0.0.1:PORT or [::1]:PORT [default: 127.0.0.1 at a free port]";
@@ -233,9 +255,17 @@ fn build_pipe<'a>(alloc: Global) -> Command<'a>
     build_subcommand(alloc, "pipe", about, PIPE_HELP)
 }
 
-/// The subcommand `serve`, all of whose options have to be given.
+/// The subcommand `serve`, all of whose options have to be given but for its flag.
 fn build_serve<'a>(alloc: Global) -> Result<Command<'a>, AllocError>
     ensures { IfOk result (λ serve. app_of serve ≡ serve_command) }
+{
+    let serve = build_served(alloc)?;
+    add_arg(serve, build_flag(alloc, "keys-of-others", OTHERS_HELP))
+}
+
+/// The same with the options that have to be given.
+fn build_served<'a>(alloc: Global) -> Result<Command<'a>, AllocError>
+    ensures { IfOk result (λ serve. app_of serve ≡ served_app) }
 {
     let about = "Answers the requests of so many connections over a Unix socket";
     let serve = build_subcommand(alloc, "serve", about, SERVE_HELP);
@@ -281,6 +311,7 @@ fn build_listen<'a>(alloc: Global) -> Result<Command<'a>, AllocError>
     )?;
     let listen = add_arg(listen, build_flag(alloc, "replace", REPLACE_HELP))?;
     let listen = add_arg(listen, build_option(alloc, "log", "WORDS", LOG_HELP))?;
+    let listen = add_arg(listen, build_flag(alloc, "keys-of-others", OTHERS_HELP))?;
     add_http(alloc, listen)
 }
 
@@ -299,7 +330,8 @@ fn build_page<'a>(alloc: Global) -> Result<Command<'a>, AllocError>
 
 /// The subcommand with its options for HTTP.
 fn add_http<'a>(alloc: Global, listen: Command<'a>) -> Result<Command<'a>, AllocError>
-    ensures { IfOk result (λ whole. app_of whole ≡ with_rules (app_of listen.entry) http_rules) }
+    ensures { IfOk result (λ whole. app_of whole
+        ≡ with_rules (with_rules (app_of listen.entry) gateway_rules) calls_rules) }
 {
     let anywhere = build_option(alloc, "http-anywhere", "ADDRESSES", HTTP_ANYWHERE_HELP);
     let most = build_count(
@@ -316,18 +348,35 @@ fn add_http<'a>(alloc: Global, listen: Command<'a>) -> Result<Command<'a>, Alloc
     );
     let granted = build_option(alloc, "http-granted", "STATUS", HTTP_GRANTED_HELP);
     let facts = build_option(alloc, "http-facts", "SOURCES", HTTP_FACTS_HELP);
-    let allow = build_option(alloc, "http-allow", "CALLS", HTTP_ALLOW_HELP);
-    let admin = build_option(alloc, "http-admin", "ADDRESSES", HTTP_ADMIN_HELP);
+    let mode = build_option(alloc, "http-mode", "DIGITS", HTTP_MODE_HELP);
+    let strict = build_flag(alloc, "http-strict-paths", HTTP_STRICT_HELP);
+    let names = build_option(alloc, "http-names", "NAMES", HTTP_NAMES_HELP);
     let listen = add_arg(listen, build_option(alloc, "http", "ADDRESSES", HTTP_HELP))?;
     let listen = add_arg(listen, anywhere)?;
-    let listen = add_arg(
-        listen,
-        build_option(alloc, "http-mode", "DIGITS", HTTP_MODE_HELP),
-    )?;
+    let listen = add_arg(listen, mode)?;
     let listen = add_arg(listen, most)?;
     let listen = add_arg(listen, patience)?;
     let listen = add_arg(listen, granted)?;
     let listen = add_arg(listen, facts)?;
+    let listen = add_arg(listen, strict)?;
+    let listen = add_arg(listen, names)?;
+    add_calls(alloc, listen)
+}
+
+/// The subcommand with its options for calls over HTTP, and for operators.
+fn add_calls<'a>(alloc: Global, listen: Command<'a>) -> Result<Command<'a>, AllocError>
+    ensures { IfOk result (λ whole. app_of whole ≡ with_rules (app_of listen.entry) calls_rules) }
+{
+    let calls = build_option(alloc, "http-calls", "ADDRESSES", HTTP_CALLS_HELP);
+    let mode = build_option(alloc, "http-calls-mode", "DIGITS", HTTP_CALLS_MODE_HELP);
+    let allowed = build_option(alloc, "http-calls-allow", "CALLS", HTTP_CALLS_ALLOW_HELP);
+    let names = build_option(alloc, "http-calls-names", "NAMES", HTTP_CALLS_NAMES_HELP);
+    let allow = build_option(alloc, "http-allow", "CALLS", HTTP_ALLOW_HELP);
+    let admin = build_option(alloc, "http-admin", "ADDRESSES", HTTP_ADMIN_HELP);
+    let listen = add_arg(listen, calls)?;
+    let listen = add_arg(listen, mode)?;
+    let listen = add_arg(listen, allowed)?;
+    let listen = add_arg(listen, names)?;
     let listen = add_arg(listen, allow)?;
     add_arg(listen, admin)
 }

@@ -1,19 +1,23 @@
 //! The sockets over HTTP that the options of `listen` name.
 
-ghost use Rattle.std.specs.Prelude.{◌≡◌, IfErr, IfOk, map};
+ghost use Rattle.std.specs.Prelude.{◌≡◌, IfErr, IfOk, Some, map};
 ghost use Rattle.std.specs.List.{list_all, list_any, slice_split};
 ghost use Rattle.std.specs.Str.{bytes_eq};
 ghost use Rattle.macaroond.specs.Http.{GivesAddresses, GivesCalls, GivesSources, IsPlan, IsRefused};
 ghost use Rattle.macaroond.specs.Http.{granted_of, is_call, is_source, pages_beside, words_of};
+ghost use Rattle.macaroond.specs.Http.{AreTerms};
+ghost use Rattle.mac_gate.specs.declared.address.Reach.TheVariants.{Loopback};
 ghost use Rattle.macaroond.specs.Rights.{is_comma};
 
 use crate::choices::HttpOptions;
 use crate::commands::VERSION;
 use crate::key_watch::ListenFault;
 use crate::operating::{OPERATORS_LOOPS, OPERATORS_MAX};
+use crate::rights::read_rights;
 use mac_daemon::Holdings;
-use mac_gate::{Address, AddressFault, Doors, ListFault, Pages, Reach, Terms, read_addresses};
-use mac_http::{Calls, Granted, Rules, Sources};
+use mac_decide::Rights;
+use mac_gate::{Address, AddressFault, Doors, ListFault, Reach, Terms, read_addresses};
+use mac_http::{Calls, Granted, Pages, Sources};
 use std::alloc::{Alloc, AllocError, Global};
 use std::fs::{File, Files};
 use std::net::{Net, TcpListener, TcpStream};
@@ -42,40 +46,88 @@ const INSPECT: &[u8] = b"inspect";
 
 const CHECK: &[u8] = b"check";
 
+/// Addresses where one kind of peers asks.
+#[derive(Drop)]
+pub struct AddressGroup<'a> {
+    /// Where they are.
+    pub addresses: Vec<Address<'a>>,
+    /// The permissions of the files of those that are Unix sockets.
+    pub permissions: u32,
+    /// What is allowed there.
+    pub rights: Rights,
+}
+
 /// Sockets over HTTP, as options name them.
 #[derive(Drop)]
 pub struct HttpPlan<'a> {
-    /// Where they are.
-    pub addresses: Vec<Address<'a>>,
+    /// Where gateways ask.
+    pub gateways: AddressGroup<'a>,
+    /// Where programs call.
+    pub callers: AddressGroup<'a>,
+    /// The calls that are answered there.
+    pub calls: Calls,
     /// Where operators ask, and nobody else.
-    pub admin: Vec<Address<'a>>,
-    /// The permissions of the files of those that are Unix sockets.
-    pub permissions: u32,
-    /// How their connections are served.
+    pub operators: AddressGroup<'a>,
+    /// How the connections of gateways are served.
     pub terms: Terms,
 }
 
-impl<'a> HttpPlan<'a> {
+impl<'a> AddressGroup<'a> {
     /// How many connections there may be at a time: none where there is no address.
-    pub fn connections(&self) -> usize {
+    fn connections(&self, terms: &Terms) -> usize {
         if self.addresses.is_empty() {
             0
         } else {
-            self.terms.connections
+            terms.connections
         }
     }
 
-    /// How many descriptors its sockets may need where so many loops serve them, and those of
-    /// operators.
-    pub fn descriptors(&self, loops: usize) -> u64 {
-        let doors = self.admin.len().saturating_add(1);
-        let operators = gate_descriptors(OPERATORS_MAX, doors, OPERATORS_LOOPS);
+    /// How many descriptors its sockets may need where so many loops serve them.
+    fn descriptors(&self, terms: &Terms, loops: usize) -> u64 {
         if self.addresses.is_empty() {
-            return operators;
+            0
+        } else {
+            gate_descriptors(terms.connections, self.addresses.len(), loops)
         }
-        gate_descriptors(self.terms.connections, self.addresses.len(), loops).saturating_add(
-            operators,
-        )
+    }
+}
+
+impl<'a> HttpPlan<'a> {
+    /// How many connections of gateways and of callers there may be at a time.
+    pub fn connections(&self) -> usize {
+        self.gateways
+            .connections(&self.terms)
+            .saturating_add(self.callers.connections(&self.terms))
+    }
+
+    /// How many descriptors its sockets may need where so many loops serve those of gateways, and
+    /// as many those of callers.
+    pub fn descriptors(&self, loops: usize) -> u64 {
+        let doors = self.operators.addresses.len().saturating_add(1);
+        let operators = gate_descriptors(OPERATORS_MAX, doors, OPERATORS_LOOPS);
+        let gateways = self.gateways.descriptors(&self.terms, loops);
+        let callers = self.callers.descriptors(&self.terms, loops);
+        operators.saturating_add(gateways).saturating_add(callers)
+    }
+
+    /// How the connections of callers are served.
+    pub fn calls_terms(&self) -> Terms
+        ensures { result ≡ record self.now.terms { calls = self.now.calls } }
+    {
+        Terms {
+            calls: self.calls,
+            ..self.terms
+        }
+    }
+
+    /// The first port at which tokens are minted: there every user of the machine may have one.
+    pub fn minting_port(&self) -> Option<Address<'a>> {
+        for address in &self.callers.addresses {
+            if self.calls.mint && matches!(address, Address::Tcp(_)) {
+                return Some(*address);
+            }
+        }
+        None
     }
 }
 
@@ -97,8 +149,12 @@ pub enum HttpFault<'a> {
     Granted,
     /// A word of `--http-facts` is no source.
     Source,
-    /// A word of `--http-allow` is no call.
+    /// A word of `--http-calls-allow` is no call.
     Call,
+    /// `--http-allow` is no longer taken.
+    Moved,
+    /// A word of `--http-calls` is an address that other machines may reach.
+    CallsAnywhere { word: &'a [u8] },
     /// Memory ran out.
     NoMemory,
 }
@@ -119,31 +175,76 @@ pub fn plan_http<'a>(alloc: Global, options: &'a HttpOptions) -> Result<HttpPlan
     ensures plan { IfOk result (IsPlan options.now) }
     ensures refused { IfErr result (IsRefused options.now) }
 {
+    if options.allow.is_some() {
+        return Err(HttpFault::Moved);
+    }
     let mut addresses = read_named(alloc, &options.here, Reach::Loopback)?;
     let anywhere = read_named(alloc, &options.anywhere, Reach::Anywhere)?;
     addresses.extend_from_slice(&anywhere)?;
     let admin = read_named(alloc, &options.admin, Reach::Loopback)?;
+    let terms = plan_terms(alloc, options)?;
+    let calls = read_calls(alloc, &options.calls_allow)?;
+    let gateways = AddressGroup {
+        addresses,
+        permissions: options.mode.permissions(),
+        rights: read_rights(alloc, false, &options.names)?,
+    };
+    let callers = AddressGroup {
+        addresses: read_callers(alloc, &options.calls)?,
+        permissions: options.calls_mode.permissions(),
+        rights: read_rights(alloc, calls.mint, &options.calls_names)?,
+    };
+    let operators = AddressGroup {
+        addresses: admin,
+        permissions: options.mode.permissions(),
+        rights: read_rights(alloc, false, &None)?,
+    };
+    Ok(HttpPlan {
+        gateways,
+        callers,
+        calls,
+        operators,
+        terms,
+    })
+}
+
+/// How the connections of gateways are served.
+fn plan_terms<'a>(alloc: Global, options: &HttpOptions) -> Result<Terms, HttpFault<'a>>
+    ensures terms { IfOk result (AreTerms options.now) }
+    ensures refused { IfErr result (IsRefused options.now) }
+{
     let Some(granted) = read_granted(&options.granted) else {
         return Err(HttpFault::Granted);
     };
-    let sources = read_sources(alloc, &options.facts)?;
-    let calls = read_calls(alloc, &options.allow)?;
-    Ok(HttpPlan {
-        addresses,
-        admin,
-        permissions: options.mode.permissions(),
-        terms: Terms {
-            rules: Rules {
-                sources,
-                granted,
-                calls,
-            },
-            connections: options.connections.unwrap_or(CONNECTIONS) as usize,
-            patience: Duration::from_secs(options.patience.unwrap_or(PATIENCE)),
-            pages: pages_beside(&options.admin),
-            version: VERSION,
-        },
+    let sources = read_sources(alloc, options.strict_paths, &options.facts)?;
+    Ok(Terms {
+        sources,
+        granted,
+        calls: Calls::none(),
+        connections: options.connections.unwrap_or(CONNECTIONS) as usize,
+        patience: Duration::from_secs(options.patience.unwrap_or(PATIENCE)),
+        pages: pages_beside(&options.admin),
+        version: VERSION,
     })
+}
+
+/// The addresses where programs call: other machines may reach none of them.
+fn read_callers<'a>(
+    alloc: Global,
+    list: &'a Option<String>,
+) -> Result<Vec<Address<'a>>, HttpFault<'a>>
+    ensures { GivesAddresses Loopback list.now result }
+{
+    match read_named(alloc, list, Reach::Loopback) {
+        Ok(addresses) => Ok(addresses),
+        Err(
+            HttpFault::Address {
+                word,
+                fault: AddressFault::Foreign,
+            },
+        ) => Err(HttpFault::CallsAnywhere { word }),
+        Err(fault) => Err(fault),
+    }
 }
 
 /// The pages that gateways are told: none where operators have addresses of their own.
@@ -189,8 +290,12 @@ fn read_granted(status: &Option<String>) -> Option<Granted>
 }
 
 /// The sources of facts that a list names, which may be left out.
-fn read_sources<'a>(alloc: Global, list: &Option<String>) -> Result<Sources, HttpFault<'a>>
-    ensures { GivesSources list.now result }
+fn read_sources<'a>(
+    alloc: Global,
+    strict: bool,
+    list: &Option<String>,
+) -> Result<Sources, HttpFault<'a>>
+    ensures { GivesSources strict list.now result }
 {
     let words = list_words(alloc, list)?;
     if !are_sources(&words) {
@@ -200,14 +305,30 @@ fn read_sources<'a>(alloc: Global, list: &Option<String>) -> Result<Sources, Htt
         header: has_word(&words, HEADER),
         query: has_word(&words, QUERY),
         forwarded: has_word(&words, FORWARDED),
+        strict,
     })
 }
 
-/// The calls that a list allows, which may be left out.
+/// The calls that a list allows; where it is left out, those that need no key.
 fn read_calls<'a>(alloc: Global, list: &Option<String>) -> Result<Calls, HttpFault<'a>>
     ensures { GivesCalls list.now result }
 {
-    let words = list_words(alloc, list)?;
+    match list {
+        Some(list) => read_listed_calls(alloc, list),
+        None => Ok(Calls {
+            mint: false,
+            attenuate: true,
+            inspect: true,
+            check: true,
+        }),
+    }
+}
+
+/// The calls that a list allows.
+fn read_listed_calls<'a>(alloc: Global, list: &String) -> Result<Calls, HttpFault<'a>>
+    ensures { GivesCalls (Some list.now) result }
+{
+    let words = listed_words(alloc, list)?;
     if !are_calls(&words) {
         return Err(HttpFault::Call);
     }
@@ -224,9 +345,17 @@ fn list_words(alloc: Global, list: &Option<String>) -> Result<Vec<&[u8]>, AllocE
     ensures { IfOk result (λ words. map (λ word. word.now) words.items ≡ words_of list.now) }
 {
     match list {
-        Some(list) => split_words(alloc, list.as_str().as_bytes()),
+        Some(list) => listed_words(alloc, list),
         None => Ok(Vec::new(alloc)),
     }
+}
+
+/// The words of a list.
+fn listed_words(alloc: Global, list: &String) -> Result<Vec<&[u8]>, AllocError>
+    ensures { IfOk result (λ words.
+        map (λ word. word.now) words.items ≡ words_of (Some list.now)) }
+{
+    split_words(alloc, list.as_str().as_bytes())
 }
 
 /// What stands between the commas of a list.
@@ -274,19 +403,23 @@ fn has_word(words: &[&[u8]], sought: &[u8]) -> bool
     words.iter().any(|word| *word == sought)
 }
 
-/// Opens doors at these addresses, in their order.
+/// Opens doors at a group of addresses, in their order.
 pub(crate) fn open_doors<'a, R>(
     rt: &R,
-    addresses: &[Address<'a>],
-    permissions: u32,
+    group: AddressGroup<'a>,
     holdings: &mut Holdings,
 ) -> Result<Doors, ListenFault<'a>>
 where
     R: Alloc<A = Global> + Files<File = File> + Clock + Wait,
     R: Net<Listener = TcpListener, Stream = TcpStream>,
 {
-    let mut doors = Doors::new(rt.alloc());
-    for address in addresses {
+    let AddressGroup {
+        addresses,
+        permissions,
+        rights,
+    } = group;
+    let mut doors = Doors::new(rt.alloc(), rights);
+    for address in &addresses {
         if let Err(fault) = doors.open(rt, *address, permissions, holdings) {
             return Err(ListenFault::Door(*address, fault));
         }

@@ -5,6 +5,7 @@ ghost use Rattle.macaroond.specs.Inner.{Takes};
 ghost use Rattle.macaroond.specs.declared.fault.PipeFault.TheVariants.{Device};
 
 use crate::fault::PipeFault;
+use mac_keys::wipe;
 use mac_wire::Source;
 use std::alloc::Global;
 
@@ -29,6 +30,7 @@ pub(crate) fn read_input<R: Source>(alloc: Global, source: &mut R) -> Result<Vec
         let room = PIECE.min(INPUT_MAX + 1 - input.len());
         let count = source.read(&mut piece[..room])?;
         if count == 0 {
+            wipe(&mut piece);
             return Ok(input);
         }
         input.extend_from_slice(&piece[..count])?;

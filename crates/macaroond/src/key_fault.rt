@@ -1,4 +1,4 @@
-//! Why a daemon gets no keys, in words for who starts it.
+//! Why a key file gives no keys, in words for who starts a daemon and who asks for something once.
 
 use crate::fault::PipeFault;
 use crate::people::PersonFault;
@@ -9,7 +9,7 @@ use thiserror::Error;
 
 /// Why a key file has no text. A daemon that runs tells of one that is missing in the same words.
 #[derive(Clone, Copy, Debug, Error)]
-enum TextFault<'a> {
+pub enum TextlessFile<'a> {
     /// There is none.
     #[error("{path}: there is no key file; `macaroond keygen NAME --into {path}` makes one")]
     Missing { path: &'a str },
@@ -27,35 +27,30 @@ enum TextFault<'a> {
     TooLong { path: &'a str },
 }
 
-impl<'a> TextFault<'a> {
+impl<'a> TextlessFile<'a> {
     /// Why the file at a path can't be read.
-    fn find<R: Files>(rt: &R, path: &'a str) -> TextFault<'a> {
+    pub(crate) fn find<R: Files>(rt: &R, path: &'a str) -> TextlessFile<'a> {
         match fs::metadata(rt, path) {
-            Err(refused) => TextFault::of_kind(refused.kind(), path),
-            Ok(found) if found.is_dir() => TextFault::Folder { path },
+            Err(refused) => TextlessFile::of_kind(refused.kind(), path),
+            Ok(found) if found.is_dir() => TextlessFile::Folder { path },
             Ok(_) => match File::open(rt, path) {
-                Err(refused) => TextFault::of_kind(refused.kind(), path),
-                Ok(_) => TextFault::Unreadable { path },
+                Err(refused) => TextlessFile::of_kind(refused.kind(), path),
+                Ok(_) => TextlessFile::Unreadable { path },
             },
         }
     }
 
-    fn of_kind(kind: ErrorKind, path: &'a str) -> TextFault<'a> {
+    /// Why a file can't be read for which the system gives this error.
+    fn of_kind(kind: ErrorKind, path: &'a str) -> TextlessFile<'a> {
         match kind {
-            ErrorKind::NotFound => TextFault::Missing { path },
-            ErrorKind::PermissionDenied => TextFault::Forbidden { path },
-            _ => TextFault::Unreadable { path },
+            ErrorKind::NotFound => TextlessFile::Missing { path },
+            ErrorKind::PermissionDenied => TextlessFile::Forbidden { path },
+            _ => TextlessFile::Unreadable { path },
         }
     }
 }
 
 /// Says on standard error why the key file at a path gives no table.
 pub(crate) fn say_key_fault<R: Eprint + Files>(rt: &R, path: &str, fault: PipeFault) {
-    let _ = match fault {
-        PipeFault::Device => eprintln!(rt; "error: {}", TextFault::find(rt, path)),
-        PipeFault::TooLong => eprintln!(rt; "error: {}", TextFault::TooLong { path }),
-        PipeFault::Keys { .. } | PipeFault::Memory => {
-            eprintln!(rt; "error: {}", PersonFault::of_key_file(path, fault))
-        }
-    };
+    let _ = eprintln!(rt; "error: {}", PersonFault::of_key_file(rt, path, fault));
 }

@@ -4,9 +4,9 @@ ghost use Rattle.macaroond.specs.Doing.{IsKeyTable};
 
 use crate::fault::PipeFault;
 use crate::input::read_input;
-use crate::key_file::read_keys;
-use mac_board::{Editor, FileState, Mark, ReadFault, Sight, Stamp};
-use mac_keys::KeyTable;
+use crate::key_file::{KeysRead, access_of, read_key_file};
+use crate::people::exposure_of;
+use mac_board::{Editor, Exposure, FileState, Mark, ReadFault, Sight, Stamp};
 use mac_wire::ReaderSource;
 use std::alloc::{Alloc, AllocError, Global};
 use std::fs::{File, Files, Metadata};
@@ -15,11 +15,20 @@ use std::os::unix::fs::MetadataExt;
 use std::sync::Wait;
 use std::{fs, io};
 
+/// A key file that a daemon follows.
+#[derive(Clone, Copy)]
+pub(crate) struct KeyPlace<'a> {
+    /// Its path.
+    pub(crate) path: &'a str,
+    /// Whether others may use it.
+    pub(crate) of_others: bool,
+}
+
 /// What a key file gave first.
 #[derive(Drop)]
 pub(crate) struct FirstKeys {
-    /// Its table.
-    pub(crate) table: KeyTable,
+    /// Its table, and what is to be known of the file besides.
+    pub(crate) read: KeysRead,
     /// The state of the file before it was read.
     pub(crate) before: FileState,
     /// Its state after.
@@ -31,51 +40,67 @@ pub(crate) fn read_first<R>(rt: &R, path: &str) -> Result<FirstKeys, PipeFault>
 where
     R: Files + Alloc<A = Global>,
     R::File: Send,
-    ensures { IfOk result (λ first. IsKeyTable first.table) }
+    ensures { IfOk result (λ first. IsKeyTable first.read.table) }
 {
     let before = find_state(rt, path);
-    let table = read_keys(rt, path)?;
+    let read = read_key_file(rt, path)?;
     let after = find_state(rt, path);
     Ok(FirstKeys {
-        table,
+        read,
         before,
         after,
     })
 }
 
 /// Looks at a key file, and reads it where its editor wants that.
-pub(crate) fn look_at<R, K>(rt: &R, path: &str, editor: &Editor<K>) -> Result<Sight, AllocError>
+pub(crate) fn look_at<R, K>(
+    rt: &R,
+    keys: KeyPlace<'_>,
+    editor: &Editor<K>,
+) -> Result<Sight, AllocError>
 where
     R: Files<File = File> + Alloc<A = Global>,
     K: Wait + Drop,
 {
-    let found = find_state(rt, path);
+    let found = find_state(rt, keys.path);
     match found {
-        FileState::Marked(_) if editor.wants(found) => read_sight(rt, path, found),
+        FileState::Marked(_) if editor.wants(found) => read_sight(rt, keys, found),
         _ => Ok(Sight::Glance(found)),
     }
 }
 
 /// Reads a file that was found in a state, between two looks at the very file that is read.
-fn read_sight<R>(rt: &R, path: &str, found: FileState) -> Result<Sight, AllocError>
+fn read_sight<R>(rt: &R, keys: KeyPlace<'_>, found: FileState) -> Result<Sight, AllocError>
 where
     R: Files<File = File> + Alloc<A = Global>,
 {
-    let Ok(file) = File::open(rt, path) else {
+    let Ok(file) = File::open(rt, keys.path) else {
         return Ok(Sight::Read {
             before: found,
             text: Err(ReadFault::Unreadable),
-            after: find_state(rt, path),
+            after: find_state(rt, keys.path),
         });
     };
-    let before = state_of(file.metadata());
-    let text = read_text(rt.alloc(), &file)?;
+    let told = file.metadata();
+    let text = match exposure_told(&told) {
+        Some(why) if !keys.of_others => Err(ReadFault::Exposed(why)),
+        _ => read_text(rt.alloc(), &file)?,
+    };
+    let before = state_of(told);
     let after = state_of(file.metadata());
     Ok(Sight::Read {
         before,
         text,
         after,
     })
+}
+
+/// Why others may use the file of which the system tells this.
+fn exposure_told(told: &io::Result<Metadata>) -> Option<Exposure> {
+    match told {
+        Ok(found) => exposure_of(access_of(found)),
+        Err(_) => None,
+    }
 }
 
 /// The text of a file, if it can be read and isn't too long.

@@ -4,7 +4,7 @@ ghost use Rattle.macaroond.specs.Watching.{Watches};
 
 use crate::commands::HTTP_CONNECTIONS_MAX;
 use crate::http::{HttpPlan, open_doors};
-use crate::key_store::{FirstKeys, look_at};
+use crate::key_store::{FirstKeys, KeyPlace, look_at};
 use crate::operating::{OperatorsGate, open_status, start_operators, warn_of_no_status};
 use mac_board::Editor;
 use mac_daemon::{
@@ -23,8 +23,8 @@ use std::sync::Wait;
 use std::thread::Threads;
 use std::time::{Clock, Duration};
 
-/// The most connections over HTTP that options name.
-const HTTP_MOST: usize = HTTP_CONNECTIONS_MAX as usize;
+/// The most connections over HTTP that options name, of gateways and of callers.
+const HTTP_MOST: usize = 2 * HTTP_CONNECTIONS_MAX as usize;
 
 /// How many milliseconds pass between two looks at the key file.
 const PAUSE_MILLIS: u64 = 500;
@@ -76,7 +76,7 @@ pub(crate) fn listen_and_watch<'a, R>(
     rt: &R,
     terms: Terms<'_>,
     sockets: Sockets<'a>,
-    keys: &str,
+    keys: KeyPlace<'_>,
     first: FirstKeys,
     claim: Claim,
     process: Process,
@@ -98,7 +98,7 @@ fn listen_holding<'a, R>(
     rt: &R,
     terms: Terms<'_>,
     sockets: Sockets<'a>,
-    keys: &str,
+    keys: KeyPlace<'_>,
     first: FirstKeys,
     surroundings: Surroundings,
     holdings: &mut Holdings,
@@ -109,12 +109,12 @@ where
     R: Threads + Wait + Sync + Copy + Send + 'static,
 {
     let FirstKeys {
-        table,
+        read,
         before,
         after,
     } = first;
     let room = followers_of(sockets.http.connections());
-    let editor = Editor::new(rt.alloc(), *rt, table, room, before, after)?;
+    let editor = Editor::new(rt.alloc(), *rt, read.table, room, before, after)?;
     let side_path = sockets.side.as_ref().map(|side| side.path);
     let started = start_all(rt, terms, sockets, &editor, surroundings, holdings)?;
     started.daemon.open(rt, terms, side_path, holdings)?;
@@ -132,6 +132,7 @@ where
 struct Started<R: Wait + Drop> {
     daemon: Daemon,
     gate: Option<Gate>,
+    callers: Option<Gate>,
     operators: Option<OperatorsGate<R>>,
 }
 
@@ -152,8 +153,17 @@ where
 {
     let Sockets { rights, side, http } = sockets;
     let alloc = rt.alloc();
-    let doors = open_doors(rt, &http.addresses, http.permissions, holdings)?;
-    let mut for_operators = open_doors(rt, &http.admin, http.permissions, holdings)?;
+    let calls_terms = http.calls_terms();
+    let HttpPlan {
+        gateways,
+        callers,
+        operators,
+        terms: gateways_terms,
+        ..
+    } = http;
+    let doors = open_doors(rt, gateways, holdings)?;
+    let for_callers = open_doors(rt, callers, holdings)?;
+    let mut for_operators = open_doors(rt, operators, holdings)?;
     let status = open_status(rt, alloc, terms.path, &mut for_operators, holdings);
     let followers = editor.followers()?;
     let daemon = listen(
@@ -169,11 +179,14 @@ where
     if let Err(fault) = status {
         warn_of_no_status(rt, terms.path, &fault);
     }
-    let gate = start_gate(rt, doors, editor, &daemon, terms.shape.loops, http.terms)?;
+    let loops = terms.shape.loops;
+    let gate = start_gate(rt, doors, editor, &daemon, loops, gateways_terms)?;
+    let callers = start_gate(rt, for_callers, editor, &daemon, loops, calls_terms)?;
     let operators = start_operators(rt, for_operators, &daemon)?;
     Ok(Started {
         daemon,
         gate,
+        callers,
         operators,
     })
 }
@@ -183,10 +196,14 @@ fn end_all<R: Wait + Clock + Drop>(rt: &R, started: Started<R>) {
     let Started {
         daemon,
         gate,
+        callers,
         operators,
     } = started;
     if let Some(gate) = gate {
         gate.end();
+    }
+    if let Some(callers) = callers {
+        callers.end();
     }
     if let Some(operators) = operators {
         operators.end();
@@ -231,7 +248,7 @@ where
 /// What a daemon looks at now and then, by their paths.
 #[derive(Clone, Copy)]
 struct Watched<'a> {
-    keys: &'a str,
+    keys: KeyPlace<'a>,
     socket: &'a str,
 }
 
@@ -264,17 +281,17 @@ where
 
 /// Looks at a key file once: a table that is to be taken is put up, and what came of it is told.
 /// Where memory runs out, the next look finds the same.
-fn look_once<R>(rt: &R, path: &str, editor: Editor<R>, daemon: &Daemon) -> Editor<R>
+fn look_once<R>(rt: &R, keys: KeyPlace<'_>, editor: Editor<R>, daemon: &Daemon) -> Editor<R>
 where
     R: Alloc<A = Global> + Files<File = File> + Clock + Wait + Drop,
     ensures { Watches editor result }
 {
-    let Ok(sight) = look_at(rt, path, &editor) else {
+    let Ok(sight) = look_at(rt, keys, &editor) else {
         return editor;
     };
     let (editor, told) = editor.look(rt.alloc(), sight);
     if let Ok(news) = told {
-        daemon.tell_keys(rt, path, news);
+        daemon.tell_keys(rt, keys.path, news);
     }
     editor
 }

@@ -35,6 +35,7 @@ mod people;
 mod piping;
 mod reply_line;
 mod rights;
+mod seats;
 mod status;
 mod telling;
 
@@ -49,8 +50,8 @@ use descriptors::open_standard;
 pub use fault::PipeFault;
 use http::plan_http;
 pub use input::INPUT_MAX;
-use key_file::read_keys;
-use key_store::read_first;
+use key_file::read_key_file;
+use key_store::{KeyPlace, read_first};
 use key_watch::{Sockets, listen_and_watch};
 use logging::read_log;
 use mac_board::Publisher;
@@ -59,7 +60,7 @@ use mac_pool::WORKERS_MAX;
 use mac_system::SystemMoments;
 use mac_wire::{ReaderSource, WriterSink};
 use page::run_page;
-use people::{run_task, warn_of_no_keys, warn_of_readers};
+use people::{admit_keys, run_task};
 pub use people::{PersonFault, Task};
 pub use piping::pipe;
 use rights::read_sockets;
@@ -76,7 +77,7 @@ use std::time::Clock;
 use std::{io, thread};
 use telling::{
     show, tell_daemon, tell_ending, tell_fault, tell_http, tell_key_file, tell_listen, tell_log,
-    tell_nowhere, tell_served_keys,
+    tell_nowhere, tell_served_keys, warn_of_minting,
 };
 
 /// How many connections there are at a time, where nothing else is asked for.
@@ -187,12 +188,15 @@ where
     if let Err(refused) = open_standard(rt) {
         return tell_nowhere(rt, &refused);
     }
-    let keys = match read_keys(rt, options.keys.as_str()) {
-        Ok(keys) => keys,
-        Err(fault) => return tell_served_keys(rt, options.keys.as_str(), fault),
+    let keys = options.keys.as_str();
+    let read = match read_key_file(rt, keys) {
+        Ok(read) => read,
+        Err(fault) => return tell_served_keys(rt, keys, fault),
     };
-    warn_of_no_keys(rt, options.keys.as_str(), keys.len());
-    let Ok(publisher) = Publisher::new(rt.alloc(), *rt, keys, FOLLOWERS_MAX) else {
+    if !admit_keys(rt, keys, &read, options.keys_of_others) {
+        return Status::DeviceFault;
+    }
+    let Ok(publisher) = Publisher::new(rt.alloc(), *rt, read.table, FOLLOWERS_MAX) else {
         return tell_daemon(rt, path, &DaemonFault::NoMemory);
     };
     let Ok(followers) = publisher.followers() else {
@@ -230,14 +234,19 @@ where
     if let Err(refused) = open_standard(rt) {
         return tell_nowhere(rt, &refused);
     }
-    let keys = options.keys.as_str();
-    let first = match read_first(rt, keys) {
-        Ok(first) => first,
-        Err(fault) => return tell_key_file(rt, keys, fault),
+    let keys = KeyPlace {
+        path: options.keys.as_str(),
+        of_others: options.keys_of_others,
     };
-    warn_of_readers(rt, keys);
-    let names = first.table.len();
-    warn_of_no_keys(rt, keys, names);
+    let first = match read_first(rt, keys.path) {
+        Ok(first) => first,
+        Err(fault) => return tell_key_file(rt, keys.path, fault),
+    };
+    if !admit_keys(rt, keys.path, &first.read, keys.of_others) {
+        return Status::DeviceFault;
+    }
+    warn_of_minting(rt, http.minting_port());
+    let names = first.read.table.len();
     let reserved = http.descriptors(count_loops(rt, options.loops));
     let terms = name_terms(rt, options, names, reserved, has_requests);
     let Ok((rights, side)) = read_sockets(rt.alloc(), options) else {

@@ -4,8 +4,8 @@ use crate::commands::VERSION;
 use crate::key_watch::ListenFault;
 use mac_board::Publisher;
 use mac_daemon::{Daemon, DaemonFault, Holdings};
-use mac_gate::{DoorFault, Doors, Gate, Pages, Terms, open_gate};
-use mac_http::{Calls, Granted, Rules, Sources};
+use mac_gate::{DoorFault, Doors, Gate, Terms, open_gate};
+use mac_http::{Calls, Granted, Pages, Sources};
 use mac_keys::KeyTable;
 use std::alloc::{Alloc, AllocError, Global};
 use std::fs::{File, Files};
@@ -108,18 +108,17 @@ where
 /// How the connections of operators are served.
 fn operators_terms() -> Terms {
     Terms {
-        rules: Rules {
-            sources: Sources {
-                header: false,
-                query: false,
-                forwarded: false,
-            },
-            granted: Granted::Ok,
-            calls: Calls::none(),
+        sources: Sources {
+            header: false,
+            query: false,
+            forwarded: false,
+            strict: false,
         },
+        granted: Granted::Ok,
+        calls: Calls::none(),
+        pages: Pages::All,
         connections: OPERATORS_MAX,
         patience: Duration::from_secs(PATIENCE),
-        pages: Pages::All,
         version: VERSION,
     }
 }

@@ -15,7 +15,7 @@ use std::alloc::{AllocError, Global};
 /// Why options that `clap` takes give no choice.
 #[derive(Clone, Copy)]
 pub enum OptionFault {
-    /// `--mode`, `--verify-mode` or `--http-mode` has digits that name no mode.
+    /// `--mode`, `--verify-mode`, `--http-mode` or `--http-calls-mode` has digits that name no mode.
     UnknownMode,
     /// Memory ran out.
     NoMemory,
@@ -57,6 +57,7 @@ fn read_serve(alloc: Global, options: &ArgMatches<'_>) -> Result<Choice, OptionF
         keys: read_text(alloc, options, "keys")?,
         workers: read_number(options, "workers"),
         accept: read_number(options, "accept"),
+        keys_of_others: read_flag(options, "keys-of-others"),
     }))
 }
 
@@ -88,6 +89,7 @@ fn read_listen(alloc: Global, options: &ArgMatches<'_>) -> Result<Choice, Option
         verify_names: read_optional_text(alloc, options, "verify-names")?,
         replace: read_flag(options, "replace"),
         log: read_optional_text(alloc, options, "log")?,
+        keys_of_others: read_flag(options, "keys-of-others"),
         http,
     }))
 }
@@ -102,12 +104,15 @@ fn read_page(alloc: Global, options: &ArgMatches<'_>) -> Result<Choice, OptionFa
     }))
 }
 
-/// What the options of `listen` say of sockets over HTTP; the mode is looked at first.
+/// What the options of `listen` say of sockets over HTTP; the modes are looked at first.
 fn read_http(alloc: Global, options: &ArgMatches<'_>) -> Result<HttpOptions, OptionFault>
     requires { HasHttpOptions (rows_of (found_of options.now)) }
     ensures { ChoosesHttp (rows_of (found_of options.now)) result }
 {
-    let Some(mode) = read_mode(options, "http-mode") else {
+    let (Some(mode), Some(calls_mode)) = (
+        read_mode(options, "http-mode"),
+        read_mode(options, "http-calls-mode"),
+    ) else {
         return Err(OptionFault::UnknownMode);
     };
     Ok(HttpOptions {
@@ -118,6 +123,12 @@ fn read_http(alloc: Global, options: &ArgMatches<'_>) -> Result<HttpOptions, Opt
         patience: read_optional_number(options, "http-patience"),
         granted: read_optional_text(alloc, options, "http-granted")?,
         facts: read_optional_text(alloc, options, "http-facts")?,
+        strict_paths: read_flag(options, "http-strict-paths"),
+        names: read_optional_text(alloc, options, "http-names")?,
+        calls: read_optional_text(alloc, options, "http-calls")?,
+        calls_mode,
+        calls_allow: read_optional_text(alloc, options, "http-calls-allow")?,
+        calls_names: read_optional_text(alloc, options, "http-calls-names")?,
         allow: read_optional_text(alloc, options, "http-allow")?,
         admin: read_optional_text(alloc, options, "http-admin")?,
     })

@@ -5,20 +5,19 @@ use crate::descriptors::open_standard;
 use crate::key_file::read_keys;
 use crate::page_texts::{DOCUMENT, SCRIPT, STYLE};
 use crate::people::{warn_of_no_keys, warn_of_readers};
+use crate::seats::Seats;
 use crate::status::Status;
 use crate::telling::{tell_door, tell_fault, tell_key_file, tell_nowhere, tell_page_address};
 use mac_gate::{Address, AddressFault, DoorFault, Reach, read_address};
 use mac_http::Watch;
 use mac_keys::KeyTable;
-use mac_page::{PageFace, Site, Texts, attend_page};
+use mac_page::{PageFace, Secret, Secrets, Site, Texts, attend_page};
 use std::alloc::{Alloc, AllocError, Global};
 use std::fs::{File, Files};
 use std::hash::RandomState;
 use std::net::{Net, SocketAddr, TcpListener, TcpStream};
 use std::random::RandomSource;
-use std::sync::atomic::AtomicUsize;
-use std::sync::atomic::Ordering::SeqCst;
-use std::sync::{Arc, Wait};
+use std::sync::{Arc, Mutex, Wait};
 use std::thread::{Builder, Threads};
 use std::time::{Clock, Duration};
 use std::{io, thread};
@@ -38,25 +37,37 @@ const PAUSE_MILLIS: u64 = 100;
 /// The stack of a connection's thread, in bytes, whatever limit the process was started under.
 const STACK: usize = 1_048_576;
 
-/// What the threads share: what is served, and how many connections there are.
+/// What the threads share: what is served, and the connections.
 #[derive(Drop)]
 struct House {
     site: Site,
-    live: AtomicUsize,
+    seats: Mutex<Seats>,
 }
 
-/// A connection is given what time its socket was told.
+/// A connection that has a seat. It is given what time its socket was told.
 #[derive(Drop)]
-struct Patient;
+struct Seated<'a, R> {
+    rt: &'a R,
+    seats: &'a Mutex<Seats>,
+    number: u64,
+}
 
-impl Watch for Patient {
+impl<R: Wait> Watch for Seated<'_, R> {
     fn before_read(&mut self) -> io::Result<()> {
         Ok(())
     }
 
     fn after_write(&mut self) -> io::Result<()> {
+        self.seats.lock(self.rt).renew(self.number);
         Ok(())
     }
+}
+
+/// A secret that was drawn, and its digits as the URL tells them.
+#[derive(Drop)]
+struct Drawn {
+    secret: Secret,
+    digits: String,
 }
 
 /// Serves the page until the process is ended, and says how the run ended.
@@ -114,13 +125,33 @@ where
         Ok(opened) => opened,
         Err(fault) => return tell_door(rt, Address::Tcp(address), fault),
     };
-    let Ok(house) = build_house(rt.alloc(), served, keys, has_keys) else {
+    let (Some(page), Some(own)) = (draw_secret(rt), draw_secret(rt)) else {
+        return tell_fault(rt, Status::DeviceFault);
+    };
+    let secrets = Secrets {
+        of_page: page.secret,
+        of_site: own.secret,
+    };
+    let Ok(house) = build_house(rt.alloc(), served, secrets, keys, has_keys) else {
         return tell_fault(rt, Status::NoMemory);
     };
-    if println!(rt; "http://{served}/").is_err() {
+    let (first, second) = (page.digits.as_str(), own.digits.as_str());
+    if println!(rt; "http://{served}/#{first}{second}").is_err() {
         return tell_fault(rt, Status::DeviceFault);
     }
     welcome_each(rt, &listener, &house)
+}
+
+/// A fresh secret of 128 bits; none where the system gives no random bytes, or no memory.
+fn draw_secret<R>(rt: &R) -> Option<Drawn>
+where
+    R: Alloc<A = Global> + RandomSource,
+{
+    let mut bits = [0u8; 16];
+    rt.fill_bytes(&mut bits).ok()?;
+    let digits = hex::encode(rt.alloc(), bits).ok()?;
+    let secret = Secret::new(<[u8; 32]>::try_from(digits.as_str().as_bytes()).ok()?);
+    Some(Drawn { secret, digits })
 }
 
 /// A socket that listens, and the address where it does.
@@ -137,6 +168,7 @@ where
 fn build_house(
     alloc: Global,
     served: SocketAddr,
+    secrets: Secrets,
     keys: KeyTable,
     has_keys: bool,
 ) -> Result<Arc<House, Global>, AllocError> {
@@ -150,12 +182,13 @@ fn build_house(
         texts,
         address: format!(in alloc; "{served}")?,
         local: format!(in alloc; "localhost:{port}")?,
+        secrets,
         keys,
         has_keys,
     };
     let house = House {
         site,
-        live: AtomicUsize::new(0),
+        seats: Mutex::new(Seats::new(alloc, CONNECTIONS)?),
     };
     Ok(Arc::new(alloc, house)?)
 }
@@ -175,46 +208,53 @@ where
     unreachable!()
 }
 
-/// Has a connection served in a thread of its own. One too many is closed, and so is one for which
-/// there is no thread or no memory.
+/// Has a connection served in a thread of its own. One for which there is no thread or no memory is
+/// closed.
 fn welcome<R>(rt: &R, stream: TcpStream, house: &Arc<House, Global>)
 where
     R: Alloc<A = Global> + RandomSource + Threads + Wait + Sync + Copy + Send + 'static,
 {
-    let Ok(own) = Arc::try_clone(house) else {
+    let (Ok(stream), Ok(own)) = (Arc::new(rt.alloc(), stream), Arc::try_clone(house)) else {
         return;
     };
-    if house.live.fetch_add(1, SeqCst) >= CONNECTIONS {
-        house.live.fetch_sub(1, SeqCst);
+    let Ok(seated) = Arc::try_clone(&stream) else {
         return;
-    }
+    };
+    let Ok(number) = house.seats.lock(rt).enter(seated) else {
+        return;
+    };
     let rt = *rt;
     let work = move || {
-        let _ = serve_stream(&rt, &stream, &own.site);
-        own.live.fetch_sub(1, SeqCst);
+        let _ = serve_stream(&rt, &stream, &own, number);
+        let _ = own.seats.lock(&rt).leave(number);
     };
     if Builder::new().stack_size(STACK).spawn(&rt, work).is_err() {
-        house.live.fetch_sub(1, SeqCst);
+        let _ = house.seats.lock(&rt).leave(number);
     }
 }
 
 /// Answers the requests of a connection until it is done, or brings nothing for too long.
-fn serve_stream<R>(rt: &R, stream: &TcpStream, site: &Site) -> io::Result<()>
+fn serve_stream<R>(rt: &R, stream: &TcpStream, house: &House, number: u64) -> io::Result<()>
 where
-    R: Alloc<A = Global> + RandomSource,
+    R: Alloc<A = Global> + RandomSource + Wait,
 {
     let patience = Some(Duration::from_secs(PATIENCE));
     stream.set_nodelay(true)?;
     stream.set_read_timeout(patience)?;
     stream.set_write_timeout(patience)?;
     let secrets = RandomState::new(rt)?;
-    let mut face = PageFace::new(rt.alloc(), site);
+    let mut face = PageFace::new(rt.alloc(), &house.site);
+    let mut seated = Seated {
+        rt,
+        seats: &house.seats,
+        number,
+    };
     let (mut reader, mut writer) = (stream, stream);
     attend_page(
         rt.alloc(),
         secrets,
         &mut face,
-        &mut Patient,
+        &mut seated,
         &mut reader,
         &mut writer,
     )

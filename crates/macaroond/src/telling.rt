@@ -16,6 +16,14 @@ use mac_gate::{Address, DoorFault, GateFault};
 use std::fs::Files;
 use std::io;
 
+/// What is told of `--http-allow`.
+const CALLS_MOVED: &str = "--http-allow is no longer taken; name addresses for calls by \
+    --http-calls, and which calls are answered there by --http-calls-allow";
+
+/// What is told of an address of `--http-calls` that is not this machine's alone.
+const CALLS_HERE: &str =
+    "other machines may reach this address; calls are answered to this machine alone";
+
 /// Says why the options for HTTP can't be followed, and how the run ends.
 pub fn tell_http<R: Eprint>(rt: &R, fault: HttpFault<'_>) -> Status
     ensures { result ≡ http_status fault.entry }
@@ -38,7 +46,26 @@ pub fn tell_http<R: Eprint>(rt: &R, fault: HttpFault<'_>) -> Status
             let _ = eprintln!(rt; "error: a call is mint, attenuate, inspect or check");
             Status::BadLine
         }
+        HttpFault::Moved => {
+            let _ = eprintln!(rt; "error: {CALLS_MOVED}");
+            Status::BadLine
+        }
+        HttpFault::CallsAnywhere { word } => {
+            let word = str::from_utf8(word).unwrap_or("a word that is no text");
+            let _ = eprintln!(rt; "error: {word}: {CALLS_HERE}");
+            Status::BadLine
+        }
         HttpFault::NoMemory => tell_fault(rt, Status::NoMemory),
+    }
+}
+
+/// Warns of a port at which tokens are minted: it has no mode.
+pub fn warn_of_minting<R: Eprint>(rt: &R, port: Option<Address<'_>>) {
+    if let Some(address) = port {
+        let _ = eprintln!(rt;
+            "warning: {address}: every user of this machine may have tokens minted here; \
+            a Unix socket is for those whom --http-calls-mode names"
+        );
     }
 }
 

@@ -73,18 +73,9 @@ pub(crate) fn close_each(mut state: [[u32; 8]; 8], inner: &[[u32; 8]; 8]) -> [[u
     digests_of(&state)
 }
 
-/// The digests of eight messages, each a block and the text after it, of any length (FIPS 180-4,
-/// section 6.2). It costs the blocks of the longest message.
-pub fn digest_each(blocks: &[[u8; 64]; 8], texts: &[&[u8]; 8]) -> [[u8; 32]; 8]
-    ensures { (j : ℕ) → j < 8 → slice_index_or result j []
-        ≡ sha256 (slice_index_or blocks.now j [] ++ text_at texts.now j) }
-{
-    are_whole(blocks);
-    digests_of(&finish_each(begin_each(blocks), texts))
-}
-
 /// The digests of eight messages, each a block and the digest of an inner block and a text after
-/// it, of any length. It costs two blocks more than `digest_each` of the inner ones.
+/// it, of any length (FIPS 180-4, section 6.2). It costs the blocks of the longest inner message,
+/// and two more.
 pub fn nested_digest_each(
     outer_blocks: &[[u8; 64]; 8],
     inner_blocks: &[[u8; 64]; 8],

@@ -12,5 +12,5 @@ mod state;
 mod word;
 
 pub use begun::{begin, nested_digest_from, nested_digest_from_each};
-pub use digests::{digest_each, nested_digest_each, paired_digest_each};
+pub use digests::{nested_digest_each, paired_digest_each};
 pub use padding::BLOCK;

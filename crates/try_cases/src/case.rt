@@ -101,14 +101,6 @@ impl<'a> Case<'a> {
         }
     }
 
-    /// The same, below 2^32.
-    pub(crate) fn small(&mut self) -> u32 {
-        match u32::try_from(self.number()) {
-            Ok(number) => number,
-            Err(_) => self.no_case(0),
-        }
-    }
-
     /// The 32 bytes that the next word spells.
     pub(crate) fn digest(&mut self) -> [u8; 32] {
         match <[u8; 32]>::try_from(self.bytes().as_slice()) {

@@ -1,7 +1,7 @@
 //! The kinds of cases, and what answers each. Each crate's cases stand in a file of its name.
 
 use crate::case::{Case, CaseFault};
-use crate::{asked, decide, devices, hmac, keys, lane, token, wire, world};
+use crate::{asked, decide, devices, hmac, keys, lane, token, wire};
 use std::alloc::{AllocError, Global};
 
 /// What a line's case comes to, or that it is none.
@@ -57,14 +57,9 @@ pub(crate) fn outcome(alloc: Global, line: &str) -> Result<String, AllocError> {
 /// token FORM SECRET LOCATION IDENTIFIER CAVEAT,.. TOKEN: how a token agrees with its parts
 /// length FORM LOCATION IDENTIFIER CAVEAT,..: how many bytes a token of these has, or the refusal
 /// answer FILE PAYLOAD: the reply's frame
-/// world FILE WORKERS EVENT..: what each event comes to, and what is sent
-/// lane CONNECTIONS WORKERS EVENT..: the same of a world of numbers, and what arrived
 /// buffer CALL..: what calls come to, the next place, the open slips
-/// buffer_texts: the number and the text of each fault of a buffer
+/// buffer_texts: the text of each fault of a buffer
 ///
-/// an event: arrive CONNECTION JOB, claim WORKER CONNECTION PLACE, finish WORKER, send CONNECTION
-///           or close CONNECTION; in a world of macaroons a JOB is a payload, and oversize
-///           CONNECTION an arrival too
 /// a call: open JOB, settle PLACE JOB, next or close
 /// ```
 fn answer(case: &mut Case<'_>, kind: &str) {
@@ -75,7 +70,6 @@ fn answer(case: &mut Case<'_>, kind: &str) {
         || devices::tells(case, kind)
         || token::tells(case, kind)
         || decide::tells(case, kind)
-        || world::tells(case, kind)
         || lane::tells(case, kind);
     if !is_known {
         case.fail(CaseFault::NoCase);

@@ -1,79 +1,20 @@
 //! Cases of `mac_order`. Jobs are numbers, and the reply to a number is its eight bytes, the
 //! greatest first.
 
-ghost use Rattle.std.specs.Prelude.{◌<◌, length};
-
 mod digits;
 
 use crate::case::{Case, CaseFault, WORDS_MAX};
-use crate::world::{event_of, say_outcomes};
 use digits::Digits;
-use mac_order::{Answer, Event, Next, OpenFault, Reorder, SettleFault, World};
+use mac_order::{Answer, Next, OpenFault, Reorder, SettleFault};
 
 /// Tells what a case comes to, if it is one of these kinds.
 pub(crate) fn tells(case: &mut Case<'_>, kind: &str) -> bool {
     match kind {
-        "lane" => outcomes(case),
         "buffer" => calls(case),
         "buffer_texts" => fault_texts(case),
         _ => return false,
     }
     true
-}
-
-/// What events come to, and then what arrived and was sent on each connection.
-fn outcomes(case: &mut Case<'_>) {
-    let connections = case.small();
-    let workers = case.small();
-    let events = events(case);
-    let Ok(mut world) = World::<Digits>::new(case.alloc, connections, workers) else {
-        return case.fail(CaseFault::Memory);
-    };
-    match world.run(case.alloc, events) {
-        Ok(outcomes) => say_outcomes(case, &outcomes),
-        Err(_) => case.fail(CaseFault::Memory),
-    }
-    for number in 0..connections {
-        say_lists(case, &world, number);
-    }
-}
-
-/// The events that the words spell.
-fn events(case: &mut Case<'_>) -> Vec<Event<Digits>> {
-    let mut events = Vec::new(case.alloc);
-    for _ in 0..WORDS_MAX {
-        if case.is_empty() {
-            break;
-        }
-        let event = event(case);
-        case.keep(&mut events, event);
-    }
-    events
-}
-
-fn event(case: &mut Case<'_>) -> Event<Digits> {
-    let word = case.word();
-    if word == "arrive" {
-        return Event::Arrive(case.small(), case.number());
-    }
-    event_of(case, word)
-}
-
-/// Appends the jobs that arrived on a connection, and the replies that were sent.
-fn say_lists(case: &mut Case<'_>, world: &World<Digits>, number: u32)
-    requires { number < length world.now.connections }
-{
-    case.say("arrived");
-    for job in world.arrived(number).iter() {
-        case.say(" ");
-        case.say_number(*job);
-    }
-    case.say(" sent");
-    for reply in world.sent(number).iter() {
-        case.say(" ");
-        case.digits(reply);
-    }
-    case.say(";");
 }
 
 /// What the calls of a reorder buffer come to, and then its next place and its open slips.
@@ -116,7 +57,7 @@ fn say_opened(case: &mut Case<'_>, buffer: &mut Reorder<Digits>) {
     match buffer.open(case.number()) {
         Ok(place) => say_with(case, "place ", place),
         Err((fault, back)) => {
-            say_with(case, "fault ", fault.code() as u64);
+            case.tell(format!(in case.alloc; "fault {fault}"));
             say_with(case, " job ", back);
         }
     }
@@ -130,7 +71,7 @@ fn say_settled(case: &mut Case<'_>, buffer: &mut Reorder<Digits>) {
     };
     match buffer.settle(place, answer) {
         Ok(()) => case.say("settled"),
-        Err((fault, _)) => say_with(case, "fault ", fault.code() as u64),
+        Err((fault, _)) => case.tell(format!(in case.alloc; "fault {fault}")),
     }
 }
 
@@ -148,10 +89,10 @@ fn say_sent(case: &mut Case<'_>, buffer: &mut Reorder<Digits>) {
     }
 }
 
-/// The number and the text of each fault of a buffer.
+/// The text of each fault of a buffer.
 fn fault_texts(case: &mut Case<'_>) {
     for fault in [OpenFault::Full, OpenFault::Closed, OpenFault::Last] {
-        case.tell(format!(in case.alloc; "open {} {fault}; ", fault.code()));
+        case.tell(format!(in case.alloc; "open {fault}; "));
     }
     for fault in [
         SettleFault::Old,
@@ -159,6 +100,6 @@ fn fault_texts(case: &mut Case<'_>) {
         SettleFault::Twice,
         SettleFault::Closed,
     ] {
-        case.tell(format!(in case.alloc; "settle {} {fault}; ", fault.code()));
+        case.tell(format!(in case.alloc; "settle {fault}; "));
     }
 }

@@ -13,7 +13,6 @@ mod lane;
 mod token;
 mod verdicts;
 mod wire;
-mod world;
 
 use kinds::outcome;
 use std::io::{self, BufRead, BufReader};

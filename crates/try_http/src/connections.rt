@@ -2,10 +2,11 @@
 
 use crate::fixed::{FixedMoment, FixedSteward, NoWatch};
 use mac_board::FixedTables;
-use mac_decide::SeenTokens;
-use mac_http::{Calls, Face, Granted, Rules, Sources, attend};
+use mac_decide::{Names, Rights, SeenTokens};
+use mac_http::{Calls, Face, Granted, Pages, Rules, Sources, Way, attend};
 use mac_keys::KeyTable;
-use std::alloc::Global;
+use mac_wire::Bytes;
+use std::alloc::{AllocError, Global};
 use std::hash::RandomState;
 use std::io;
 use std::random::RandomSource;
@@ -15,6 +16,9 @@ const MEMORY: usize = 1_048_576;
 
 /// What begins the line of a connection.
 const BEGIN: &[u8] = b"== ";
+
+/// What begins the word of the names that may be used.
+const NAMES: &[u8] = b"names=";
 
 /// The key file, and the lines from the first connection on.
 pub fn split_front(input: &[u8]) -> (&[u8], &[u8]) {
@@ -68,10 +72,11 @@ where
     if words.is_empty() {
         return Ok(());
     }
+    let rights = rights_of(alloc, words)?;
     let mut face = Face::new(
         alloc,
         FixedTables(keys),
-        rules_of(words),
+        rules_of(words, &rights),
         FixedMoment::new(),
         steward_of(words, seen.share()?),
     );
@@ -113,12 +118,36 @@ fn steward_of(words: &[u8], seen: SeenTokens) -> FixedSteward {
     }
 }
 
+/// What the words allow: under the names behind `names=`, with commas between them, or under all.
+fn rights_of(alloc: Global, words: &[u8]) -> Result<Rights, AllocError> {
+    let mut names = None;
+    for word in words.split(|byte| *byte == b' ') {
+        if let Some(list) = word.strip_prefix(NAMES) {
+            names = Some(names_of(alloc, list)?);
+        }
+    }
+    Ok(Rights {
+        may_mint: !has(words, b"no-mint"),
+        names,
+    })
+}
+
+/// The names of a list, between its commas.
+fn names_of(alloc: Global, list: &[u8]) -> Result<Names, AllocError> {
+    let mut names = Vec::new(alloc);
+    for name in list.split(|byte| *byte == b',') {
+        names.push(Bytes::new(Vec::from_slice(alloc, name)?))?;
+    }
+    Ok(Names::new(names))
+}
+
 /// The rules that the words name.
-fn rules_of(words: &[u8]) -> Rules {
+fn rules_of<'a>(words: &[u8], rights: &'a Rights) -> Rules<'a> {
     let sources = Sources {
         header: has(words, b"header"),
         query: has(words, b"query"),
         forwarded: has(words, b"forwarded"),
+        strict: has(words, b"strict"),
     };
     let granted = if has(words, b"204") {
         Granted::NoContent
@@ -131,9 +160,23 @@ fn rules_of(words: &[u8]) -> Rules {
         inspect: has(words, b"inspect"),
         check: has(words, b"check"),
     };
+    let pages = if has(words, b"operators") {
+        Pages::All
+    } else if has(words, b"pageless") {
+        Pages::Nothing
+    } else {
+        Pages::Public
+    };
     Rules {
         sources,
         granted,
         calls,
+        pages,
+        rights,
+        way: if has(words, b"port") {
+            Way::Port
+        } else {
+            Way::Socket
+        },
     }
 }

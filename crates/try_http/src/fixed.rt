@@ -35,7 +35,7 @@ impl Moments for FixedMoment {
     }
 }
 
-/// A daemon that stays as it is. It has no numbers.
+/// A daemon that stays as it is.
 #[derive(Drop)]
 pub struct FixedSteward {
     /// Whether its connections are to end.
@@ -57,7 +57,10 @@ impl Steward for FixedSteward {
 
     fn tell(&self, page: Page, text: &mut Vec<u8>) -> Result<Told, AllocError> {
         match page {
-            Page::Numbers | Page::Status | Page::Connections => Ok(Told::Nothing),
+            Page::Numbers | Page::Status | Page::Connections => {
+                text.extend_from_slice(b"told\n")?;
+                Ok(Told::Well)
+            }
             Page::Health if self.is_well => {
                 text.extend_from_slice(b"ok\n")?;
                 Ok(Told::Well)

@@ -6,30 +6,24 @@ ghost use Rattle.try_pool.specs.Desks.{AreAt, Kept};
 use crate::digits::Digits;
 use crate::fault::RunFault;
 use crate::runs::Outcome;
-use mac_pool::{Desk, NoGate, Pool, PoolFault, Post, PutFault, Putter, Taker};
+use mac_pool::{Desk, Pool, PoolFault, Post, PutFault, Putter, Taker};
 use std::alloc::Global;
-use std::sync::{Arc, Wait};
+use std::sync::Wait;
 use std::thread;
 use std::thread::Threads;
-
-/// A pool whose workers nobody holds back.
-pub(crate) type FreePool = Pool<Digits, NoGate>;
 
 pub(crate) type Desks = Vec<Desk<Digits>>;
 
 /// A pool of so many workers.
-pub(crate) fn pool_of<R>(rt: &R, alloc: Global, workers: usize) -> Result<FreePool, PoolFault>
+pub(crate) fn pool_of<R>(rt: &R, alloc: Global, workers: usize) -> Result<Pool<Digits>, PoolFault>
 where
     R: Threads + Wait + Copy + Send + 'static,
 {
-    match Arc::new(alloc, NoGate) {
-        Ok(gate) => Pool::start(rt, alloc, workers, gate),
-        Err(_) => Err(PoolFault::NoMemory),
-    }
+    Pool::start(rt, alloc, workers)
 }
 
 /// A desk, if there is memory.
-pub(crate) fn desk_of(alloc: Global, pool: &mut FreePool) -> Result<Desk<Digits>, RunFault>
+pub(crate) fn desk_of(alloc: Global, pool: &mut Pool<Digits>) -> Result<Desk<Digits>, RunFault>
     ensures queue { pool.new.queue ≡ pool.old.queue }
     ensures at { IfOk result (λ desk. desk.putter.queue ≡ pool.old.queue) }
 {
@@ -40,7 +34,7 @@ pub(crate) fn desk_of(alloc: Global, pool: &mut FreePool) -> Result<Desk<Digits>
 }
 
 /// So many desks, or as many as there are.
-pub(crate) fn desks_of(alloc: Global, pool: &mut FreePool, count: usize) -> Desks
+pub(crate) fn desks_of(alloc: Global, pool: &mut Pool<Digits>, count: usize) -> Desks
     ensures queue { pool.new.queue ≡ pool.old.queue }
     ensures at { AreAt pool.old.queue result.items }
 {
@@ -62,7 +56,7 @@ fn keep(desks: &mut Desks, desk: Desk<Digits>)
 }
 
 /// Takes the desks back.
-pub(crate) fn all_home(pool: &mut FreePool, mut desks: Desks)
+pub(crate) fn all_home(pool: &mut Pool<Digits>, mut desks: Desks)
     requires { AreAt pool.old.queue desks.items }
     ensures { pool.new.queue ≡ pool.old.queue }
 {
@@ -74,7 +68,7 @@ pub(crate) fn all_home(pool: &mut FreePool, mut desks: Desks)
 /// The books of a pool that ends now, if all went well so far.
 pub(crate) fn books_if<R: Threads + Wait>(
     rt: &R,
-    pool: FreePool,
+    pool: Pool<Digits>,
     is_right: bool,
 ) -> Result<Outcome, RunFault> {
     match pool.stop(rt) {

@@ -7,7 +7,7 @@ use std::alloc::{AllocError, AllocFailed};
 pub(crate) enum RunFault {
     /// The word isn't one of a run's forms.
     NoRun,
-    /// Memory, a thread, a desk or a hand was refused.
+    /// Memory, a thread or a desk was refused.
     Refused,
     /// What came back isn't what was to come.
     Wrong,

@@ -1,14 +1,16 @@
 //! Single calls of a queue, a mailbox and a pool, and whether they answer as they are to.
 
-ghost use Rattle.std.specs.Prelude.{◌≡◌, IfSome};
+ghost use Rattle.std.specs.Prelude.{◌≡◌, IfOk, IfSome};
+ghost use Rattle.std.specs.Arc.{arc_value};
 ghost use Rattle.mac_queue.specs.Pass.{AreFresh};
 
 use crate::digits::{Digits, REFUSED};
 use crate::drive::{all_home, answered, books_if, desk_of, desks_of, pool_of, put_run};
 use crate::fault::RunFault;
 use crate::runs::Outcome;
+use mac_mail::Delivery;
 use mac_pool::{
-    Claim, Desk, DeskFault, Hand, Mailbox, Pool, PoolFault, Post, PutFault, Queue, QueuePass, Taker,
+    Claim, Desk, DeskFault, Mailbox, PoolFault, Post, PutFault, Queue, QueuePass, Taker,
 };
 use std::alloc::Global;
 use std::sync::atomic::AtomicBool;
@@ -53,14 +55,50 @@ pub(crate) fn right_if(is_right: bool) -> Result<Outcome, RunFault> {
 }
 
 /// Puts at a queue from which nobody claims, until one is refused.
-fn full<R: Threads + Wait>(rt: &R, alloc: Global) -> Result<Outcome, RunFault> {
-    let Ok(mut pool) = Pool::by_hand(alloc) else {
-        return Err(RunFault::Refused);
-    };
-    let mut desk = desk_of(alloc, &mut pool)?;
-    let is_right = fills(rt, &mut desk);
-    pool.home(desk);
-    books_if(rt, pool, is_right)
+fn full<R: Wait>(rt: &R, alloc: Global) -> Result<Outcome, RunFault> {
+    let Line { queue, first, .. } = Line::new(alloc)?;
+    let mut desk = desk_at(alloc, &queue, first)?;
+    right_if(fills(rt, &mut desk))
+}
+
+/// A queue that no worker serves, and two of its passes.
+#[derive(Drop)]
+struct Line {
+    queue: Arc<Queue<Digits>, Global>,
+    first: QueuePass<Digits>,
+    second: QueuePass<Digits>,
+    ghost one: { first.queue ≡ (arc_value queue).tickets },
+    ghost other: { second.queue ≡ (arc_value queue).tickets },
+}
+
+impl Line {
+    fn new(alloc: Global) -> Result<Line, RunFault> {
+        let (queue, passes) = Queue::<Digits>::new(alloc)?;
+        let Some((first, second)) = two_of(&queue, passes) else {
+            return Err(RunFault::Wrong);
+        };
+        let queue = Arc::new(alloc, queue)?;
+        Ok(Line {
+            queue,
+            first,
+            second,
+        })
+    }
+}
+
+/// A desk with this pass, if there is memory.
+fn desk_at(
+    alloc: Global,
+    queue: &Arc<Queue<Digits>, Global>,
+    pass: QueuePass<Digits>,
+) -> Result<Desk<Digits>, RunFault>
+    requires { pass.queue ≡ (arc_value queue.now).tickets }
+    ensures { IfOk result (λ desk. desk.putter.queue ≡ (arc_value queue.now).tickets) }
+{
+    match Desk::new(alloc, Arc::try_clone(queue)?, pass) {
+        Ok(desk) => Ok(desk),
+        Err(_) => Err(RunFault::Refused),
+    }
 }
 
 /// Whether 8,192 jobs go in and the next is handed back.
@@ -73,15 +111,12 @@ fn fills<R: Wait>(rt: &R, desk: &mut Desk<Digits>) -> bool
 
 /// Puts at a closed queue, of a ticket and of a job.
 fn closed<R: Wait>(rt: &R, alloc: Global) -> Result<Outcome, RunFault> {
-    let (queue, passes) = Queue::<Digits>::new(alloc)?;
-    let Some((first, mut second)) = two_of(&queue, passes) else {
-        return Err(RunFault::Wrong);
-    };
-    let queue = Arc::new(alloc, queue)?;
-    let theirs = Arc::try_clone(&queue)?;
-    let Ok(mut desk) = Desk::new(alloc, theirs, first) else {
-        return Err(RunFault::Refused);
-    };
+    let Line {
+        queue,
+        first,
+        mut second,
+    } = Line::new(alloc)?;
+    let mut desk = desk_at(alloc, &queue, first)?;
     let is_put = put_run(rt, &mut desk.putter, 5, 2);
     let is_refused = refuses_a_ticket(rt, &queue, &mut second);
     let is_late = matches!(desk.putter.put(rt, 7, 8), Err((PutFault::Closed(_), 8)));
@@ -157,17 +192,19 @@ fn fails_once<R: Wait>(rt: &R, desk: &mut Desk<Digits>) -> bool
         && answered(desk.taker.wait(rt)) == 2
 }
 
-/// Two desks put two jobs and three, each in a thread of its own; two hands claim three of them.
+/// Two desks put two jobs and three, each in a thread of its own; then their passes claim three.
 fn exchange<R>(rt: &R, alloc: Global) -> Result<Outcome, RunFault>
 where
-    R: Threads + Wait + Copy + Send + Sync + 'static,
+    R: Threads + Wait + Sync,
 {
-    let Ok(mut pool) = Pool::by_hand(alloc) else {
-        return Err(RunFault::Refused);
-    };
-    let one = desk_of(alloc, &mut pool)?;
-    let other = desk_of(alloc, &mut pool)?;
-    let (one, other) = thread::join(
+    let Line {
+        queue,
+        first,
+        second,
+    } = Line::new(alloc)?;
+    let one = desk_at(alloc, &queue, first)?;
+    let other = desk_at(alloc, &queue, second)?;
+    let ((is_put, one), (is_other_put, other)) = thread::join(
         rt,
         move || -> (bool, Desk<Digits>)
             ensures { result.1.putter.queue ≡ one.putter.queue }
@@ -176,10 +213,9 @@ where
             ensures { result.1.putter.queue ≡ other.putter.queue }
         { put_at(rt, other, 3) },
     );
-    pool.home(one.1);
-    pool.home(other.1);
-    let is_claimed = has_claimed(rt, alloc, &mut pool, 2) && has_claimed(rt, alloc, &mut pool, 1);
-    books_if(rt, pool, one.0 && other.0 && is_claimed)
+    let is_claimed = claims_by(rt, &queue, one.into_pass(), 2)
+        && claims_by(rt, &queue, other.into_pass(), 1);
+    right_if(is_put && is_other_put && is_claimed)
 }
 
 /// Puts so many jobs at a desk.
@@ -190,34 +226,28 @@ fn put_at<R: Wait>(rt: &R, mut desk: Desk<Digits>, count: u64) -> (bool, Desk<Di
     (is_put, desk)
 }
 
-/// Whether a hand claims so many tickets.
-fn has_claimed<R: Wait>(
+/// Whether so many tickets are claimed by a pass.
+fn claims_by<R: Wait>(
     rt: &R,
-    alloc: Global,
-    pool: &mut Pool<Digits, mac_pool::NoGate>,
+    queue: &Queue<Digits>,
+    mut pass: QueuePass<Digits>,
     count: u64,
-) -> bool {
-    let Ok(mut hand) = pool.hand(alloc) else {
-        return false;
-    };
-    let is_claimed = claims_by(rt, &mut hand, count);
-    pool.hand_back(hand);
-    is_claimed
-}
-
-fn claims_by<R: Wait>(rt: &R, hand: &mut Hand<Digits>, count: u64) -> bool
-    ensures { hand.new.queue ≡ hand.old.queue }
+) -> bool
+    requires { pass.queue ≡ queue.now.tickets }
 {
     let mut is_claimed = true;
     for _ in 0..count {
-        is_claimed &= matches!(hand.claim(rt), Claim::Got(_));
+        is_claimed &= matches!(queue.claim(rt, &mut pass), Claim::Got(_));
     }
     is_claimed
 }
 
 /// All desks, what the next one meets, and one once they are home.
-fn desks<R: Threads + Wait>(rt: &R, alloc: Global) -> Result<Outcome, RunFault> {
-    let Ok(mut pool) = Pool::by_hand(alloc) else {
+fn desks<R>(rt: &R, alloc: Global) -> Result<Outcome, RunFault>
+where
+    R: Threads + Wait + Copy + Send + 'static,
+{
+    let Ok(mut pool) = pool_of(rt, alloc, 1) else {
         return Err(RunFault::Refused);
     };
     let desks = desks_of(alloc, &mut pool, DESKS);
@@ -257,18 +287,17 @@ where
 
 /// A mailbox is filled, taken from by two sides, closed, and taken from again.
 fn mailbox<R: Wait>(rt: &R, alloc: Global) -> Result<Outcome, RunFault> {
-    let Ok(mut pool) = Pool::by_hand(alloc) else {
-        return Err(RunFault::Refused);
-    };
-    let Ok(mut hand) = pool.hand(alloc) else {
-        return Err(RunFault::Refused);
-    };
+    let Line {
+        queue,
+        first,
+        mut second,
+    } = Line::new(alloc)?;
     let Desk {
         mut putter,
         mut taker,
-    } = desk_of(alloc, &mut pool)?;
+    } = desk_at(alloc, &queue, first)?;
     let is_put = put_run(rt, &mut putter, 0, 1);
-    let is_right = match hand.claim(rt) {
+    let is_right = match queue.claim(rt, &mut second) {
         Claim::Got(ticket) => is_filled(rt, &ticket.mail) && is_taken(rt, &ticket.mail, &mut taker),
         _ => false,
     };
@@ -279,12 +308,15 @@ fn mailbox<R: Wait>(rt: &R, alloc: Global) -> Result<Outcome, RunFault> {
 fn is_filled<R: Wait>(rt: &R, mail: &Mailbox<Digits>) -> bool {
     let mut is_in = true;
     for place in 0..POSTS {
-        is_in &= mail.push(rt, Post::Failed(place)).is_ok();
+        is_in &= matches!(
+            mail.try_deliver(rt, Post::Failed(place)),
+            Ok(Delivery::Posted(_))
+        );
     }
     is_in
         && matches!(
-            mail.push(rt, Post::Failed(POSTS)),
-            Err((PutFault::Full(_), Post::Failed(POSTS)))
+            mail.try_deliver(rt, Post::Failed(POSTS)),
+            Err(Post::Failed(POSTS))
         )
 }
 
@@ -294,8 +326,8 @@ fn is_taken<R: Wait>(rt: &R, mail: &Mailbox<Digits>, taker: &mut Taker<Digits>) 
     let is_second = matches!(taker.take(rt), Some(Post::Failed(1)));
     taker.close();
     let is_late = matches!(
-        mail.push(rt, Post::Failed(9)),
-        Err((PutFault::Closed(_), Post::Failed(9)))
+        mail.try_deliver(rt, Post::Failed(9)),
+        Ok(Delivery::Closed(_))
     );
     is_first && is_second && is_late && matches!(taker.take(rt), Some(Post::Failed(2)))
 }
@@ -305,10 +337,8 @@ fn rung<R>(rt: &R, alloc: Global) -> Result<Outcome, RunFault>
 where
     R: Threads + Wait + Sync,
 {
-    let Ok(mut pool) = Pool::by_hand(alloc) else {
-        return Err(RunFault::Refused);
-    };
-    let Desk { putter, mut taker } = desk_of(alloc, &mut pool)?;
+    let Line { queue, first, .. } = Line::new(alloc)?;
+    let Desk { putter, mut taker } = desk_at(alloc, &queue, first)?;
     let flag = AtomicBool::new(false);
     let (has_post, _) = thread::join(
         rt,

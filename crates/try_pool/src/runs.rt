@@ -56,7 +56,7 @@ where
 /// full                     8,192 tickets, and one that is refused
 /// closed                   puts at a closed queue
 /// refused_work             a job in the middle whose work meets want of memory
-/// exchange                 two desks put 2 and 3, each in a thread; two hands claim 3 of them
+/// exchange                 two desks put 2 and 3, each in a thread; their passes claim 3 of them
 /// desks                    64 desks, and one that is refused
 /// start:WORKERS            a number of workers that is refused
 /// desk_out                 an end while a desk is out, and once it is home

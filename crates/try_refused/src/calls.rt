@@ -1,7 +1,7 @@
 //! The calls, by their words.
 
 use crate::outcome::{Outcome, Refused};
-use crate::{answers, pools, tokens, wire, worlds};
+use crate::{answers, buffers, pools, tokens, wire};
 use std::alloc::Global;
 use std::sync::Wait;
 use std::thread::Threads;
@@ -25,8 +25,8 @@ where
 /// push attenuate                          a token of three caveats more, and of one
 /// feed sink                               frames, and a device over memory
 /// make make_all                           the answer of a job, and of eight
-/// buffer world ring arrive finish run     the core, and the ring
-/// queue by_hand start desk worker          the pool
+/// buffer ring                             the core, and the ring
+/// queue start desk worker                 the pool
 /// ```
 fn of_call<R>(rt: &R, alloc: Global, word: &str) -> Option<Result<Outcome, Refused>>
 where
@@ -40,15 +40,10 @@ where
         "sink" => Ok(wire::makes_sinks(alloc)),
         "make" => answers::makes(alloc),
         "make_all" => answers::makes_all(alloc),
-        "buffer" => Ok(worlds::makes_buffers(alloc)),
-        "world" => Ok(worlds::makes_worlds(alloc)),
-        "ring" => Ok(worlds::makes_rings(alloc)),
-        "arrive" => worlds::arrives(alloc),
-        "finish" => worlds::finishes(alloc),
-        "run" => worlds::runs(alloc),
+        "buffer" => Ok(buffers::makes_buffers(alloc)),
+        "ring" => Ok(buffers::makes_rings(alloc)),
         "queue" => Ok(pools::makes_queues(alloc)),
-        "by_hand" => Ok(pools::makes_by_hand(rt, alloc)),
-        "start" => pools::starts(rt, alloc),
+        "start" => Ok(pools::starts(rt, alloc)),
         "desk" => pools::desks(rt, alloc),
         "worker" => pools::works(rt, alloc),
         _ => return None,

@@ -4,13 +4,13 @@
 #![tactic(auto)]
 
 mod answers;
+mod buffers;
 mod calls;
 mod outcome;
 mod pools;
 mod samples;
 mod tokens;
 mod wire;
-mod worlds;
 
 use calls::told;
 use std::{env, io};

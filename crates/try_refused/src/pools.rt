@@ -6,9 +6,9 @@ use crate::answers::{is_sent, opened};
 use crate::outcome::{Outcome, Refused, made_if, once_more, stood_if};
 use crate::samples::mint_job;
 use mac_decide::Macaroons;
-use mac_pool::{Desk, DeskFault, Gate, NoGate, Pool, PoolFault, Post, Putter, Queue};
+use mac_pool::{Desk, DeskFault, Pool, PoolFault, Post, Putter, Queue};
 use std::alloc::Global;
-use std::sync::{Arc, Wait};
+use std::sync::Wait;
 use std::thread::Threads;
 
 /// How many workers a pool is to start.
@@ -24,40 +24,25 @@ fn is_queue(alloc: Global) -> Option<bool> {
 }
 
 /// Whether the pool ends with so many tickets put and claimed: no desk is out then.
-fn ends<R: Threads + Wait, G: Gate>(rt: &R, pool: Pool<Macaroons, G>, tickets: u64) -> bool {
+fn ends<R: Threads + Wait>(rt: &R, pool: Pool<Macaroons>, tickets: u64) -> bool {
     match pool.stop(rt) {
         Ok(tally) => tally.put == tickets && tally.claimed == tickets && tally.left == 0,
         Err(_) => false,
     }
 }
 
-pub(crate) fn makes_by_hand<R: Threads + Wait>(rt: &R, alloc: Global) -> Outcome {
-    once_more(is_by_hand(rt, alloc), is_by_hand(rt, alloc))
-}
-
-fn is_by_hand<R: Threads + Wait>(rt: &R, alloc: Global) -> Option<bool> {
-    let pool = Pool::by_hand(alloc).ok()?;
-    Some(ends(rt, pool, 0))
-}
-
-/// Each worker has a handle on the gate: where none is left, no other handle is.
-pub(crate) fn starts<R>(rt: &R, alloc: Global) -> Result<Outcome, Refused>
+pub(crate) fn starts<R>(rt: &R, alloc: Global) -> Outcome
 where
     R: Threads + Wait + Copy + Send + 'static,
 {
-    let mut gate = Arc::new(alloc, NoGate)?;
-    let first = is_started(rt, alloc, &gate);
-    let is_alone = Arc::get_mut(&mut gate).is_some();
-    let outcome = once_more(first, is_started(rt, alloc, &gate));
-    Ok(if is_alone { outcome } else { Outcome::Wrong })
+    once_more(is_started(rt, alloc), is_started(rt, alloc))
 }
 
-fn is_started<R>(rt: &R, alloc: Global, gate: &Arc<NoGate, Global>) -> Option<bool>
+fn is_started<R>(rt: &R, alloc: Global) -> Option<bool>
 where
     R: Threads + Wait + Copy + Send + 'static,
 {
-    let gate = Arc::try_clone(gate).ok()?;
-    match Pool::<Macaroons, NoGate>::start(rt, alloc, WORKERS, gate) {
+    match Pool::<Macaroons>::start(rt, alloc, WORKERS) {
         Ok(pool) => Some(ends(rt, pool, 0)),
         Err(PoolFault::NoMemory | PoolFault::NoThread) => None,
         Err(PoolFault::Count) => Some(false),
@@ -65,8 +50,11 @@ where
 }
 
 /// No desk is out after the refusal; then there is one, and it comes home.
-pub(crate) fn desks<R: Threads + Wait>(rt: &R, alloc: Global) -> Result<Outcome, Refused> {
-    let Ok(mut pool) = Pool::<Macaroons, NoGate>::by_hand(alloc) else {
+pub(crate) fn desks<R>(rt: &R, alloc: Global) -> Result<Outcome, Refused>
+where
+    R: Threads + Wait + Copy + Send + 'static,
+{
+    let Ok(mut pool) = Pool::<Macaroons>::start(rt, alloc, 1) else {
         return Err(Refused);
     };
     match pool.desk(alloc) {
@@ -79,11 +67,7 @@ pub(crate) fn desks<R: Threads + Wait>(rt: &R, alloc: Global) -> Result<Outcome,
     }
 }
 
-fn gives_a_desk<R: Threads + Wait>(
-    rt: &R,
-    alloc: Global,
-    mut pool: Pool<Macaroons, NoGate>,
-) -> bool {
+fn gives_a_desk<R: Threads + Wait>(rt: &R, alloc: Global, mut pool: Pool<Macaroons>) -> bool {
     let Ok(desk) = pool.desk(alloc) else {
         return false;
     };
@@ -97,8 +81,7 @@ pub(crate) fn works<R>(rt: &R, alloc: Global) -> Result<Outcome, Refused>
 where
     R: Threads + Wait + Copy + Send + 'static,
 {
-    let gate = Arc::new(alloc, NoGate)?;
-    let Ok(mut pool) = Pool::start(rt, alloc, 1, gate) else {
+    let Ok(mut pool) = Pool::start(rt, alloc, 1) else {
         return Err(Refused);
     };
     let Ok(mut desk) = pool.desk(alloc) else {

@@ -1,5 +1,5 @@
 //! A connection that reads and writes at once: its peer sends the second frame only once it has the
-//! first reply, and the first job waits until the second frame is asked for.
+//! first reply.
 
 ghost use Rattle.std.specs.Prelude.{true};
 
@@ -9,35 +9,16 @@ use crate::report::met_text;
 use crate::serving::{ROOM, by_a_pool};
 use crate::streams::{FIRST_REPLY, TWO_FRAMES};
 use crate::waiting::{FIRST_FRAME, Waiting};
-use mac_pool::Gate;
 use mac_wire::{DeviceFault, MemSink, Sink};
 use std::alloc::Global;
-use std::sync::{Arc, Wait};
+use std::sync::Wait;
 use std::thread::Threads;
 
-/// The first flag tells that the second frame is asked for, the second that the first reply was
-/// written.
-#[derive(Drop)]
-struct Meeting {
-    flags: Flags,
-}
-
-/// Holds the first job until the second frame is asked for.
-impl Gate for Meeting {
-    fn before(&self, place: u64) {
-        if place == 0 {
-            self.flags.await_first();
-        }
-    }
-
-    fn after(&self, _place: u64) {}
-}
-
-/// Tells that the first reply was written.
+/// Tells by the second flag that the first reply was written.
 #[derive(Drop)]
 struct Telling<'a> {
     inner: MemSink,
-    meeting: &'a Meeting,
+    flags: &'a Flags,
 }
 
 impl<'a> Sink for Telling<'a> {
@@ -50,7 +31,7 @@ impl<'a> Sink for Telling<'a> {
     fn write(&mut self, buf: &[u8]) -> Result<usize, DeviceFault> {
         let count = self.inner.write(buf);
         if self.inner.bytes().len() >= FIRST_REPLY {
-            self.meeting.flags.set_second();
+            self.flags.set_second();
         }
         count
     }
@@ -66,24 +47,16 @@ where
     R: Threads + Wait + Sync + Copy + Send + 'static,
 {
     let flags = Flags::new();
-    let gate = Arc::new(alloc, Meeting { flags })?;
-    let theirs = Arc::try_clone(&gate)?;
-    let (mut source, mut sink) = ends_of(alloc, &gate)?;
-    let (report, tally) = by_a_pool(rt, alloc, 2, theirs, &mut source, &mut sink)?;
-    met_text(alloc, &gate.flags, tally, report, sink.inner.bytes())
+    let (mut source, mut sink) = ends_of(alloc, &flags)?;
+    let (report, tally) = by_a_pool(rt, alloc, 2, &mut source, &mut sink)?;
+    met_text(alloc, &flags, tally, report, sink.inner.bytes())
 }
 
-/// The devices, which meet at a gate.
-fn ends_of<'a>(
-    alloc: Global,
-    meeting: &'a Meeting,
-) -> Result<(Waiting<'a>, Telling<'a>), RunFault> {
+/// The devices, which wait for one another by flags.
+fn ends_of<'a>(alloc: Global, flags: &'a Flags) -> Result<(Waiting<'a>, Telling<'a>), RunFault> {
     let stream = Vec::from_slice(alloc, TWO_FRAMES)?;
     let sink = MemSink::new(alloc, ROOM, ROOM, 0)?;
-    let waiting = Waiting::new(stream, FIRST_FRAME, &meeting.flags);
-    let telling = Telling {
-        inner: sink,
-        meeting,
-    };
+    let waiting = Waiting::new(stream, FIRST_FRAME, flags);
+    let telling = Telling { inner: sink, flags };
     Ok((waiting, telling))
 }

@@ -1,18 +1,19 @@
 //! A worker that posts other answers than are due, or in another order.
 
-ghost use Rattle.std.specs.Prelude.{◌≡◌, IfOk};
+ghost use Rattle.std.specs.Prelude.{◌≡◌, IfSome};
+ghost use Rattle.std.specs.Arc.{arc_value};
+ghost use Rattle.mac_queue.specs.Pass.{AreFresh};
 
 use crate::fault::RunFault;
 use crate::flags::TURNS;
-use crate::report::{Report, fault_number, tally_text};
-use crate::serving::{Caller, Devices, ROOM, Told, attended, books, desk_of, with_books};
+use crate::report::{Report, fault_number};
+use crate::serving::{Caller, Devices, ROOM, attended};
 use crate::streams::{FIRST_REPLY, TWO_FRAMES, TWO_REPLIES, key_table};
 use mac_decide::Macaroons;
-use mac_keys::KeyTable;
 use mac_order::{Answer, Service};
-use mac_pool::{Claim, Hand, NoGate, Pool, Post, Tally, Ticket};
+use mac_queue::{Claim, Desk, Mailbox, Post, Queue, QueuePass, Ticket};
 use std::alloc::Global;
-use std::sync::Wait;
+use std::sync::{Arc, Wait};
 use std::thread;
 use std::thread::Threads;
 
@@ -60,14 +61,13 @@ where
     let posts = posts_of(name)?;
     let stream = Vec::from_slice(alloc, TWO_FRAMES)?;
     let mut devices = Devices::new(alloc, stream, ROOM, 64)?;
-    let (report, tally) = by_hand(rt, alloc, &mut devices, posts)?;
-    posted_text(alloc, tally, posts, report, devices.sink.bytes())
+    let report = by_hand(rt, alloc, &mut devices, posts)?;
+    posted_text(alloc, posts, report, devices.sink.bytes())
 }
 
-/// The books of a pool, the fault, and which replies were sent.
+/// The fault, and which replies were sent.
 fn posted_text(
     alloc: Global,
-    tally: Tally,
     posts: Posts,
     report: Report,
     bytes: &[u8],
@@ -77,48 +77,51 @@ fn posted_text(
     }
     let fault = fault_number(report.fault);
     let sent = sent_text(posts, report)?;
-    let books = tally_text(alloc, tally)?;
-    Ok(format!(in alloc; "{} fault {fault} {sent}", books.as_str())?)
+    Ok(format!(in alloc; "fault {fault} {sent}")?)
 }
 
-/// Serves a connection by a pool without workers, and a hand that posts.
+/// Serves a connection at a queue that no worker serves, while another pass claims and posts.
 fn by_hand<R: Threads + Wait + Sync>(
     rt: &R,
     alloc: Global,
     devices: &mut Devices,
     posts: Posts,
-) -> Result<(Report, Tally), RunFault> {
-    let keys = key_table(alloc)?;
-    let mut pool = idle_pool(alloc)?;
-    let told = at_a_hand(rt, alloc, &keys, &mut pool, devices, posts);
-    with_books(told, books(rt, pool))
+) -> Result<Report, RunFault> {
+    let keys = &key_table(alloc)?;
+    let (queue, passes) = Queue::<Macaroons>::new(alloc)?;
+    let Some((first, pass)) = two_of(&queue, passes) else {
+        return Err(RunFault::Wrong);
+    };
+    let queue = Arc::new(alloc, queue)?;
+    let Ok(desk) = Desk::new(alloc, Arc::try_clone(&queue)?, first) else {
+        return Err(RunFault::Refused);
+    };
+    let caller = Caller { devices, desk };
+    let (told, done) = thread::join(
+        rt,
+        move || attended(rt, alloc, keys, caller),
+        move || -> Result<(), RunFault>
+            requires { pass.queue ≡ (arc_value queue).tickets }
+        { claim_and_post(rt, alloc, &queue, pass, posts) },
+    );
+    done?;
+    Ok(told.report)
 }
 
-/// Serves a connection at a desk of the pool, while a hand posts.
-fn at_a_hand<R: Threads + Wait + Sync>(
-    rt: &R,
-    alloc: Global,
-    keys: &KeyTable,
-    pool: &mut Pool<Macaroons, NoGate>,
-    devices: &mut Devices,
-    posts: Posts,
-) -> Result<Report, RunFault> {
-    let hand = hand_of(alloc, pool)?;
-    let desk = desk_of(alloc, pool)?;
-    let caller = Caller { devices, desk };
-    let (told, working) = thread::join(
-        rt,
-        move || -> Told
-            ensures { result.desk.putter.queue ≡ caller.entry.desk.putter.queue }
-        { attended(rt, alloc, keys, caller) },
-        move || -> Worked
-            ensures { result.hand.queue ≡ hand.queue }
-        { work(rt, alloc, hand, posts) },
-    );
-    pool.home(told.desk);
-    pool.hand_back(working.hand);
-    working.done?;
-    Ok(told.report)
+/// The first two passes of a queue.
+fn two_of(
+    queue: &Queue<Macaroons>,
+    passes: Vec<QueuePass<Macaroons>>,
+) -> Option<(QueuePass<Macaroons>, QueuePass<Macaroons>)>
+    requires { AreFresh queue.now.tickets passes.items }
+    ensures { IfSome result (λ two.
+        (two.0.queue ≡ queue.now.tickets) × (two.1.queue ≡ queue.now.tickets)) }
+{
+    let _queue = queue;
+    let mut passes = passes.into_iter();
+    let first = passes.next()?;
+    let second = passes.next()?;
+    Some((first, second))
 }
 
 /// Which replies were sent. Where the first answer comes twice, its reply may be out before the
@@ -136,57 +139,32 @@ fn sent_text(posts: Posts, report: Report) -> Result<&'static str, RunFault> {
     }
 }
 
-fn idle_pool(alloc: Global) -> Result<Pool<Macaroons, NoGate>, RunFault> {
-    match Pool::by_hand(alloc) {
-        Ok(pool) => Ok(pool),
-        Err(_) => Err(RunFault::Refused),
-    }
-}
-
-fn hand_of(alloc: Global, pool: &mut Pool<Macaroons, NoGate>) -> Result<Hand<Macaroons>, RunFault>
-    ensures queue { pool.new.queue ≡ pool.old.queue }
-    ensures at { IfOk result (λ hand. hand.queue ≡ pool.old.queue) }
-{
-    match pool.hand(alloc) {
-        Ok(hand) => Ok(hand),
-        Err(_) => Err(RunFault::Refused),
-    }
-}
-
-/// Whether the hand claimed both tickets and posted, and the hand.
-#[derive(Drop)]
-struct Worked {
-    done: Result<(), RunFault>,
-    hand: Hand<Macaroons>,
-}
-
-fn work<R: Wait>(rt: &R, alloc: Global, mut hand: Hand<Macaroons>, posts: Posts) -> Worked
-    ensures { result.hand.queue ≡ hand.queue }
-{
-    let done = claim_and_post(rt, alloc, &mut hand, posts);
-    Worked { done, hand }
-}
-
 /// Claims both tickets, and posts.
 fn claim_and_post<R: Wait>(
     rt: &R,
     alloc: Global,
-    hand: &mut Hand<Macaroons>,
+    queue: &Queue<Macaroons>,
+    mut pass: QueuePass<Macaroons>,
     posts: Posts,
 ) -> Result<(), RunFault>
-    ensures { hand.new.queue ≡ hand.old.queue }
+    requires { pass.queue ≡ queue.now.tickets }
 {
-    let first = next_ticket(rt, hand)?;
-    let second = next_ticket(rt, hand)?;
+    let first = next_ticket(rt, queue, &mut pass)?;
+    let second = next_ticket(rt, queue, &mut pass)?;
     post_all(rt, alloc, &first, &second, posts)
 }
 
 /// The next ticket, looked for some ten million times.
-fn next_ticket<R: Wait>(rt: &R, hand: &mut Hand<Macaroons>) -> Result<Ticket<Macaroons>, RunFault>
-    ensures { hand.new.queue ≡ hand.old.queue }
+fn next_ticket<R: Wait>(
+    rt: &R,
+    queue: &Queue<Macaroons>,
+    pass: &mut QueuePass<Macaroons>,
+) -> Result<Ticket<Macaroons>, RunFault>
+    requires { pass.old.queue ≡ queue.now.tickets }
+    ensures { pass.new.queue ≡ pass.old.queue }
 {
     for _ in 0..TURNS {
-        if let Claim::Got(ticket) = hand.claim(rt) {
+        if let Claim::Got(ticket) = queue.claim(rt, pass) {
             return Ok(ticket);
         }
         thread::yield_now();
@@ -217,7 +195,7 @@ fn post_all<R: Wait>(
         }
         Posts::FarAway => post(rt, alloc, 200, first),
         Posts::Failed => {
-            let _ = first.mail.push(rt, Post::Failed(0));
+            deliver(rt, &first.mail, Post::Failed(0));
             Ok(())
         }
     }
@@ -234,6 +212,12 @@ fn post<R: Wait>(
     let Ok(answer) = Answer::make(alloc, job) else {
         return Err(RunFault::Refused);
     };
-    let _ = of.mail.push(rt, Post::Answered(place, answer));
+    deliver(rt, &of.mail, Post::Answered(place, answer));
     Ok(())
+}
+
+/// Delivers the post, and wakes who waits for it.
+fn deliver<R: Wait>(rt: &R, mail: &Mailbox<Macaroons>, post: Post<Macaroons>) {
+    let _ = mail.deliver(rt, post);
+    mail.ring();
 }

@@ -9,10 +9,9 @@ use crate::report::met_text;
 use crate::serving::{ROOM, by_a_pool};
 use crate::streams::TWO_FRAMES;
 use crate::waiting::{FIRST_FRAME, Waiting};
-use mac_pool::NoGate;
 use mac_wire::{DeviceFault, MemSink, Sink};
 use std::alloc::Global;
-use std::sync::{Arc, Wait};
+use std::sync::Wait;
 use std::thread::Threads;
 
 /// Fails at its first call, once the source was asked for more. The second flag tells that nothing
@@ -50,9 +49,8 @@ where
     R: Threads + Wait + Sync + Copy + Send + 'static,
 {
     let flags = Flags::new();
-    let gate = Arc::new(alloc, NoGate)?;
     let (mut source, mut sink) = ends_of(alloc, &flags)?;
-    let (report, tally) = by_a_pool(rt, alloc, 1, gate, &mut source, &mut sink)?;
+    let (report, tally) = by_a_pool(rt, alloc, 1, &mut source, &mut sink)?;
     met_text(alloc, &flags, tally, report, sink.inner.bytes())
 }
 

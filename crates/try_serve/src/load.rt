@@ -6,10 +6,9 @@ use crate::requests::full_job;
 use crate::serving::by_a_pool;
 use crate::streams::key_table;
 use mac_decide::answer;
-use mac_pool::NoGate;
 use mac_wire::{Arrival, Bytes, MemSink, MemSource, Reply};
 use std::alloc::{AllocError, Global};
-use std::sync::{Arc, Wait};
+use std::sync::Wait;
 use std::thread::Threads;
 
 /// How many bytes a call of a device passes.
@@ -79,10 +78,9 @@ pub(crate) fn load_told<R>(
 where
     R: Threads + Wait + Sync + Copy + Send + 'static,
 {
-    let gate = Arc::new(alloc, NoGate)?;
     let mut source = MemSource::new(stream_of(alloc, kind, count)?, PIECE, 0);
     let mut sink = MemSink::new(alloc, count.saturating_mul(REPLY) as usize, PIECE, 0)?;
-    let (report, _) = by_a_pool(rt, alloc, workers, gate, &mut source, &mut sink)?;
+    let (report, _) = by_a_pool(rt, alloc, workers, &mut source, &mut sink)?;
     match report.fault {
         None => Ok(format!(in alloc; "arrived {} sent {}", report.arrived, report.sent)?),
         Some(_) => Err(RunFault::Wrong),

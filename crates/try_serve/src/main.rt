@@ -10,7 +10,6 @@ mod flags;
 mod given_up;
 mod load;
 mod many;
-mod overtaking;
 mod payload;
 mod report;
 mod requests;

@@ -11,10 +11,10 @@ use crate::serving::{
 use crate::streams::{key_table, stream_of};
 use mac_decide::Macaroons;
 use mac_keys::KeyTable;
-use mac_pool::{NoGate, Pool, Tally};
+use mac_pool::{Pool, Tally};
 use mac_wire::Version;
 use std::alloc::Global;
-use std::sync::{Arc, Wait};
+use std::sync::Wait;
 use std::thread;
 use std::thread::Threads;
 
@@ -61,9 +61,8 @@ fn two_by_a_pool<R>(
 where
     R: Threads + Wait + Sync + Copy + Send + 'static,
 {
-    let gate = Arc::new(alloc, NoGate)?;
     let keys = key_table(alloc)?;
-    let mut pool = pool_of(rt, alloc, 2, gate)?;
+    let mut pool = pool_of(rt, alloc, 2)?;
     let told = two_at_desks(rt, alloc, &keys, &mut pool, one, other);
     with_books(told, books(rt, pool))
 }
@@ -73,7 +72,7 @@ fn two_at_desks<R: Threads + Wait + Sync>(
     rt: &R,
     alloc: Global,
     keys: &KeyTable,
-    pool: &mut Pool<Macaroons, NoGate>,
+    pool: &mut Pool<Macaroons>,
     one: &mut Devices,
     other: &mut Devices,
 ) -> Result<(Report, Report), RunFault> {
@@ -211,8 +210,7 @@ fn three_by_a_pool<R>(
 where
     R: Threads + Wait + Sync + Copy + Send + 'static,
 {
-    let gate = Arc::new(alloc, NoGate)?;
-    let mut pool = pool_of(rt, alloc, 4, gate)?;
+    let mut pool = pool_of(rt, alloc, 4)?;
     let told = three_at_desks(rt, alloc, keys, &mut pool, asking);
     with_books(told, books(rt, pool))
 }
@@ -222,7 +220,7 @@ fn three_at_desks<R: Threads + Wait + Sync>(
     rt: &R,
     alloc: Global,
     keys: &KeyTable,
-    pool: &mut Pool<Macaroons, NoGate>,
+    pool: &mut Pool<Macaroons>,
     asking: &mut ThreeAsking,
 ) -> Result<ThreeReports, RunFault> {
     let ThreeAsking { one, two, three } = asking;

@@ -1,7 +1,7 @@
 //! The runs, and what does each.
 
 use crate::fault::RunFault;
-use crate::{duplex, false_worker, given_up, load, many, overtaking, serving, tables, whole};
+use crate::{duplex, false_worker, given_up, load, many, serving, tables, whole};
 use mac_wire::Version;
 use std::alloc::{AllocError, Global};
 use std::sync::Wait;
@@ -24,7 +24,6 @@ where
 #[derive(Clone, Copy)]
 enum Kind {
     Stream,
-    Overtaking,
     Duplex,
     Cuts,
     FailingReads,
@@ -42,7 +41,6 @@ enum Kind {
 ///
 /// ```text
 /// stream:NAME:WORKERS:PIECE   a stream by so many workers, in pieces of so many bytes
-/// overtaking                  two frames, of which the first job waits for the second
 /// duplex                      two frames, of which the second waits for the first's reply
 /// cuts:VERSION                two frames in version one or two, cut to each number of bytes
 /// failing_reads:VERSION       the same, and a source that fails at each of its calls
@@ -57,7 +55,6 @@ enum Kind {
 /// ```
 const RUNS: &[(&str, Kind)] = &[
     ("stream", Kind::Stream),
-    ("overtaking", Kind::Overtaking),
     ("duplex", Kind::Duplex),
     ("cuts", Kind::Cuts),
     ("failing_reads", Kind::FailingReads),
@@ -93,7 +90,6 @@ where
             let (workers, piece) = numbers(behind)?;
             serving::stream_told(rt, alloc, first, workers as usize, piece as usize)
         }
-        Kind::Overtaking => overtaking::overtaking_told(rt, alloc),
         Kind::Duplex => duplex::duplex_told(rt, alloc),
         Kind::Cuts => tables::cuts_told(rt, alloc, version(rest)?),
         Kind::FailingReads => tables::reads_told(rt, alloc, version(rest)?),

@@ -9,11 +9,11 @@ use crate::streams::{key_table, stream_of};
 use mac_board::{FixedTables, TimedTables};
 use mac_decide::{Macaroons, Rights};
 use mac_keys::KeyTable;
-use mac_pool::{Desk, Gate, NoGate, Pool, Tally};
+use mac_pool::{Desk, Pool, Tally};
 use mac_serve::{ServeFault, Served, serve};
 use mac_wire::{MemSink, MemSource, Session, Sink, Source};
 use std::alloc::Global;
-use std::sync::{Arc, Wait};
+use std::sync::Wait;
 use std::thread::Threads;
 
 /// How many bytes a memory sink has room for, at least.
@@ -57,26 +57,20 @@ pub(crate) struct Told {
 }
 
 /// A pool of so many workers, if the system gives them.
-pub(crate) fn pool_of<R, G>(
-    rt: &R,
-    alloc: Global,
-    workers: usize,
-    gate: Arc<G, Global>,
-) -> Result<Pool<Macaroons, G>, RunFault>
+pub(crate) fn pool_of<R>(rt: &R, alloc: Global, workers: usize) -> Result<Pool<Macaroons>, RunFault>
 where
     R: Threads + Wait + Copy + Send + 'static,
-    G: Gate + 'static,
 {
-    match Pool::start(rt, alloc, workers, gate) {
+    match Pool::start(rt, alloc, workers) {
         Ok(pool) => Ok(pool),
         Err(_) => Err(RunFault::Refused),
     }
 }
 
 /// A desk, if there is memory.
-pub(crate) fn desk_of<G: Gate>(
+pub(crate) fn desk_of(
     alloc: Global,
-    pool: &mut Pool<Macaroons, G>,
+    pool: &mut Pool<Macaroons>,
 ) -> Result<Desk<Macaroons>, RunFault>
     ensures queue { pool.new.queue ≡ pool.old.queue }
     ensures at { IfOk result (λ desk. desk.putter.queue ≡ pool.old.queue) }
@@ -88,10 +82,7 @@ pub(crate) fn desk_of<G: Gate>(
 }
 
 /// The books of a pool that ends now.
-pub(crate) fn books<R: Threads + Wait, G: Gate>(
-    rt: &R,
-    pool: Pool<Macaroons, G>,
-) -> Result<Tally, RunFault> {
+pub(crate) fn books<R: Threads + Wait>(rt: &R, pool: Pool<Macaroons>) -> Result<Tally, RunFault> {
     match pool.stop(rt) {
         Ok(tally) => Ok(tally),
         Err(_) => Err(RunFault::Wrong),
@@ -155,31 +146,29 @@ pub(crate) fn with_books<T: Copy>(
     Ok((told?, books?))
 }
 
-/// Serves a connection by a pool of its own, to whose workers the gate belongs.
-pub(crate) fn by_a_pool<R, G, In: Source, Out: Sink>(
+/// Serves a connection by a pool of its own.
+pub(crate) fn by_a_pool<R, In: Source, Out: Sink>(
     rt: &R,
     alloc: Global,
     workers: usize,
-    gate: Arc<G, Global>,
     source: &mut In,
     sink: &mut Out,
 ) -> Result<(Report, Tally), RunFault>
 where
     R: Threads + Wait + Sync + Copy + Send + 'static,
-    G: Gate + 'static,
 {
     let keys = key_table(alloc)?;
-    let mut pool = pool_of(rt, alloc, workers, gate)?;
+    let mut pool = pool_of(rt, alloc, workers)?;
     let told = at_a_desk(rt, alloc, &keys, &mut pool, source, sink);
     with_books(told, books(rt, pool))
 }
 
 /// Serves a connection at a desk of the pool.
-fn at_a_desk<R: Threads + Wait + Sync, G: Gate, In: Source, Out: Sink>(
+fn at_a_desk<R: Threads + Wait + Sync, In: Source, Out: Sink>(
     rt: &R,
     alloc: Global,
     keys: &KeyTable,
-    pool: &mut Pool<Macaroons, G>,
+    pool: &mut Pool<Macaroons>,
     source: &mut In,
     sink: &mut Out,
 ) -> Result<Report, RunFault> {
@@ -242,9 +231,8 @@ pub(crate) fn stream_told<R>(
 where
     R: Threads + Wait + Sync + Copy + Send + 'static,
 {
-    let gate = Arc::new(alloc, NoGate)?;
     let mut devices = Devices::new(alloc, stream_of(alloc, name)?, ROOM, piece.max(1))?;
     let Devices { source, sink } = &mut devices;
-    let (report, tally) = by_a_pool(rt, alloc, workers, gate, source, sink)?;
+    let (report, tally) = by_a_pool(rt, alloc, workers, source, sink)?;
     outcome_text(alloc, tally, report, devices.sink.bytes())
 }

@@ -5,10 +5,9 @@ use crate::report::fault_number;
 use crate::serving::{ROOM, by_a_pool};
 use crate::streams::Exchange;
 use crate::table::{Row, Table};
-use mac_pool::NoGate;
 use mac_wire::{MemSink, MemSource, Sink, Source, Version};
 use std::alloc::Global;
-use std::sync::{Arc, Wait};
+use std::sync::Wait;
 use std::thread::Threads;
 
 /// How many workers each pool has.
@@ -69,10 +68,9 @@ fn row_of<R>(
 where
     R: Threads + Wait + Sync + Copy + Send + 'static,
 {
-    let gate = Arc::new(alloc, NoGate)?;
     let mut source = MemSource::new(Vec::from_slice(alloc, stream)?, 1, failing_read);
     let mut sink = MemSink::new(alloc, ROOM, 1, failing_write)?;
-    let (report, _) = by_a_pool(rt, alloc, WORKERS, gate, &mut source, &mut sink)?;
+    let (report, _) = by_a_pool(rt, alloc, WORKERS, &mut source, &mut sink)?;
     let bytes = sink.bytes();
     if bytes.len() as u64 != report.written || !replies.starts_with(bytes) {
         return Err(RunFault::Wrong);

@@ -3,6 +3,7 @@
 //
 //	go_client ask SOCKET COUNT    prints a line for each reply that is another, ten at most
 //	go_client inspect             prints what the client says of each token of standard input, in hexadecimal
+//	go_client words SOCKET        prints the verdict on each token of standard input, without facts
 package main
 
 import (
@@ -32,7 +33,7 @@ const (
 // The secrets of examples/keys.
 var secrets = map[string]string{
 	"bank": "this is our super secret key; only we should know it",
-	"shop": "another secret",
+	"shop": "another long secret",
 }
 
 // A random token, and what it was made of.
@@ -48,8 +49,12 @@ type kind func(*macaroond.Client, *rand.Rand, subject) (came, due string)
 var kinds = []kind{minted, narrowed, granted, granted, lacking, forged, cut, unknown}
 
 func main() {
-	if os.Args[1] == "inspect" {
+	switch os.Args[1] {
+	case "inspect":
 		inspect()
+		return
+	case "words":
+		tell(os.Args[2])
 		return
 	}
 	count, err := strconv.Atoi(os.Args[3])
@@ -81,6 +86,22 @@ func inspect() {
 			fmt.Fprintf(out, " -%x", caveat)
 		}
 		fmt.Fprintln(out)
+	}
+}
+
+// tell prints the verdict on each token.
+func tell(path string) {
+	client, err := macaroond.Dial(context.Background(), path)
+	if err != nil {
+		log.Fatal(err)
+	}
+	lines := bufio.NewScanner(os.Stdin)
+	for lines.Scan() {
+		verdict, err := client.Verify(context.Background(), "bank", lines.Text())
+		if err != nil {
+			log.Fatal(err)
+		}
+		fmt.Println(verdict)
 	}
 }
 

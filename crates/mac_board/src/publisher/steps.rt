@@ -62,11 +62,13 @@ impl<R: Wait + Drop> Publisher<R> {
         let Ok(()) = writer.append(issue) else {
             return (Publisher { writer, last, rt }, Err(PublishFault::NoMemory));
         };
+        // Before the table itself: once one follower has it, each other looks for it.
+        last.store(number + 1, SeqCst);
         let (writer, shown) = writer.publish_as::<Put, R>(&rt);
         let Ok(()) = shown else {
+            last.store(number, SeqCst);
             return (Publisher { writer, last, rt }, Err(PublishFault::NoMemory));
         };
-        last.store(number + 1, SeqCst);
         let writer = shown_again(writer, &rt);
         (Publisher { writer, last, rt }, Ok(()))
     }

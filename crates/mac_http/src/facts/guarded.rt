@@ -1,10 +1,11 @@
 //! The request that the gateway was sent, as the proxies' fields tell of it.
 
 ghost use Rattle.std.specs.Prelude.{◌≡◌, ◌==◌, ◌<◌, ◌++◌, length, position, IfSome};
+ghost use Rattle.std.specs.List.{list_any};
 ghost use Rattle.std.specs.Option.{option_map};
 ghost use Rattle.http.specs.Request.{head_of};
 ghost use Rattle.mac_http.specs.Authorization.{only};
-ghost use Rattle.mac_http.specs.Facts.{is_own, is_question, method_told, path_of, target_told};
+ghost use Rattle.mac_http.specs.Facts.{has_fragment, is_hash, is_own, is_question, method_told, path_of, target_told};
 
 use bytes::Bytes;
 use http::header::{GetAll, HeaderValue};
@@ -81,6 +82,22 @@ fn one_of<'a>(first: &GetAll<'a, HeaderValue>, second: &GetAll<'a, HeaderValue>)
         return None;
     }
     Some(value.as_bytes())
+}
+
+/// Whether the target that is told has a fragment.
+pub(super) fn has_fragment(guarded: Guarded<'_>) -> bool
+    ensures { result ≡ has_fragment (option_map (λ t. t.now) guarded.entry.target) }
+{
+    match guarded.target {
+        Some(target) => has_hash(target),
+        None => false,
+    }
+}
+
+fn has_hash(target: &[u8]) -> bool
+    ensures { result ≡ list_any is_hash target.now }
+{
+    target.iter().any(|byte| *byte == b'#')
 }
 
 /// The path that is told.

@@ -3,6 +3,7 @@
 use crate::inbox::Loops;
 use crate::looping::Loop;
 use crate::watch::Watch;
+use mac_board::Outlook;
 use std::sync::Wait;
 use std::time::Clock;
 
@@ -23,17 +24,23 @@ const SHARE_ONE: u64 = 600;
 impl Loop {
     /// Gives clients to another loop: half of those that are active where this one can't keep up,
     /// all of them where one before it has time for them.
-    pub(super) fn spread<R: Wait + Clock, W: Watch>(&mut self, rt: &R, loops: &Loops, watch: &W) {
+    pub(super) fn spread<R: Wait + Clock, K: Outlook, W: Watch>(
+        &mut self,
+        rt: &R,
+        loops: &Loops,
+        outlook: &mut K,
+        watch: &W,
+    ) {
         let own = self.shares.of(self.number);
         let least = self.shares.least();
         self.note_share(own);
         if self.is_late() && self.shares.of(least) <= SHARE_LOW {
             self.late = 0;
-            self.give(rt, loops, watch, least, 2);
+            self.give(rt, loops, outlook, watch, least, 2);
         } else if own <= SHARE_ONE {
             if let Some(before) = self.shares.first_below(SHARE_ONE - own) {
                 if before < self.number {
-                    self.give(rt, loops, watch, before, 1);
+                    self.give(rt, loops, outlook, watch, before, 1);
                 }
             }
         }
@@ -55,10 +62,11 @@ impl Loop {
     }
 
     /// Gives one of so many active clients to another loop.
-    fn give<R: Wait + Clock, W: Watch>(
+    fn give<R: Wait + Clock, K: Outlook, W: Watch>(
         &mut self,
         rt: &R,
         loops: &Loops,
+        outlook: &mut K,
         watch: &W,
         number: usize,
         of: usize,
@@ -69,17 +77,19 @@ impl Loop {
             if is_active && self.members.client(slot).is_some() {
                 seen = seen.saturating_add(1);
                 if seen % of.max(1) == 0 {
-                    self.move_to(rt, loops, watch, number, slot);
+                    self.move_to(rt, loops, outlook, watch, number, slot);
                 }
             }
         }
     }
 
-    /// Moves the client of a slot to another loop. Where there is no memory for that it stays.
-    fn move_to<R: Wait + Clock, W: Watch>(
+    /// Moves the client of a slot to another loop. Where there is no memory for that it stays, and
+    /// so does one that goes on to its end: whoever took it would read it again.
+    fn move_to<R: Wait + Clock, K: Outlook, W: Watch>(
         &mut self,
         rt: &R,
         loops: &Loops,
+        outlook: &mut K,
         watch: &W,
         number: usize,
         slot: usize,
@@ -87,10 +97,14 @@ impl Loop {
         let Some(client) = self.members.take(slot) else {
             return;
         };
+        if !client.may_move() {
+            self.members.put(slot, client);
+            return;
+        }
         loops.count_unsent(client.unsent(), 0);
-        let client = self.part(slot, client);
+        let client = self.part(slot, client, outlook);
         if let Err(client) = loops.hand(rt, number, client) {
-            self.receive(rt, client, loops, watch);
+            self.receive(rt, client, loops, outlook, watch);
         }
     }
 

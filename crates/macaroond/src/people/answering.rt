@@ -42,7 +42,7 @@ where
 /// What is said to the person.
 fn do_task<'a, R>(rt: &R, task: &'a Task) -> Result<Said, PersonFault<'a>>
 where
-    R: Alloc<A = Global> + Input + Files<File = File> + Net + Clock + RandomSource,
+    R: Alloc<A = Global> + Input + Eprint + Files<File = File> + Net + Clock + RandomSource,
     R::Reader: Send,
     ensures { IfOk result (DoesTask task.now) }
 {
@@ -166,13 +166,17 @@ fn warn<R: Alloc<A = Global> + Eprint + Files>(rt: &R, task: &Task, said: &Said)
         return;
     }
     match task {
-        Task::Mint(words) => warn_of_caveats(rt, words.caveats.as_slice()),
+        Task::Mint(words) => {
+            warn_of_readers(rt, words.keys.as_str());
+            warn_of_caveats(rt, words.caveats.as_slice());
+        },
         Task::Attenuate(words) => warn_of_caveats(rt, words.caveats.as_slice()),
         Task::Check { keys } => {
             warn_of_readers(rt, keys.as_str());
             warn_of_no_keys(rt, keys.as_str(), said.text.len());
         },
-        Task::Keygen(_) | Task::Verify(_) | Task::Inspect { .. } | Task::Status(_) => {},
+        Task::Verify(words) => warn_of_readers(rt, words.keys.as_str()),
+        Task::Keygen(_) | Task::Inspect { .. } | Task::Status(_) => {},
     }
 }
 

@@ -34,7 +34,7 @@ pub enum Task {
     Status(StatusWords),
 }
 
-/// The words of a keygen: of the three paths one at most is to be given.
+/// The words of a keygen: of the paths one at most is to be given.
 #[derive(Drop)]
 pub struct KeygenWords {
     /// The name of the key.
@@ -43,8 +43,14 @@ pub struct KeygenWords {
     pub into: Option<String>,
     /// The path of a key file in which the line is put above the name's old one.
     pub above: Option<String>,
-    /// The path of a key file from which the name's lower line is dropped.
+    /// The path of a key file in which the line is put below the name's old one.
+    pub below: Option<String>,
+    /// The path of a key file in which the name's second line is put above its first.
+    pub raise: Option<String>,
+    /// The path of a key file from which the name's second line is dropped.
     pub drop: Option<String>,
+    /// The path of a key file from which the name's first line is dropped.
+    pub drop_first: Option<String>,
 }
 
 /// The words of a mint.
@@ -128,7 +134,10 @@ fn read_keygen(alloc: Global, options: &ArgMatches<'_>) -> Result<KeygenWords, A
         name: read_text_or_empty(alloc, options, "name")?,
         into: read_optional_text(alloc, options, "into")?,
         above: read_optional_text(alloc, options, "above")?,
+        below: read_optional_text(alloc, options, "below")?,
+        raise: read_optional_text(alloc, options, "raise")?,
         drop: read_optional_text(alloc, options, "drop")?,
+        drop_first: read_optional_text(alloc, options, "drop-first")?,
     })
 }
 

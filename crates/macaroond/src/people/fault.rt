@@ -1,13 +1,15 @@
 //! Why a person gets no answer.
 ghost use Rattle.std.specs.Prelude.{◌≡◌};
-ghost use Rattle.macaroond.specs.People.{person_status};
+ghost use Rattle.macaroond.specs.People.{key_file_status, person_status};
 ghost use Rattle.macaroond.specs.declared.people.fault.PersonFault.TheVariants as fault;
 
 use crate::fault::PipeFault;
+use crate::key_fault::TextlessFile;
 use crate::status::Status;
 use mac_keys::{ChangeFault, LineFault};
 use mac_words::{FieldFault, NameFault, TextFault};
 use std::alloc::AllocError;
+use std::fs::Files;
 use thiserror::Error;
 
 /// Why a person gets no answer. The text is what the program prints behind `error: `.
@@ -35,11 +37,9 @@ pub enum PersonFault<'a> {
         line: u64,
         kind: LineFault,
     },
-    /// The key file.
-    #[error("{path}: the key file can't be read, or is longer than 16777216 bytes")]
-    KeyFile {
-        path: &'a str,
-    },
+    /// The key file has no text.
+    #[error("{0}")]
+    KeyText(TextlessFile<'a>),
     /// A line of the key file that was to be checked, counted from 1, and what is wrong with it.
     #[error("{path}: line {line}: {kind}")]
     Checked {
@@ -58,9 +58,29 @@ pub enum PersonFault<'a> {
     Exists {
         path: &'a str,
     },
-    /// The file beside the key file is there.
+    /// The file beside the key file is there, by which somebody changes it by hand.
     #[error("{path}.new: the file is there already")]
     Beside {
+        path: &'a str,
+    },
+    /// What stands in the way of the new file was left by no run of keygen.
+    #[error("{path}.keygen: what is there is no file that keygen left; remove it")]
+    Left {
+        path: &'a str,
+    },
+    /// Another run of keygen has the new file.
+    #[error("{path}: another run of keygen changes the key file; try again")]
+    Busy {
+        path: &'a str,
+    },
+    /// The key file is a link.
+    #[error("{path}: the key file is a link; give the path of the file that it leads to")]
+    Link {
+        path: &'a str,
+    },
+    /// The change may be lost where the power goes.
+    #[error("{path}: the key file was changed, but its folder can't be brought to the disk")]
+    Unsynced {
         path: &'a str,
     },
     /// Somebody wrote the key file while its change was made.
@@ -69,12 +89,13 @@ pub enum PersonFault<'a> {
         path: &'a str,
     },
     /// A file can't be written.
-    #[error("{path}: the key file can't be written, or not for its owner")]
+    #[error("{path}: the key file can't be written, or not for its owner and group")]
     Unwritten {
         path: &'a str,
     },
     /// Two options name files.
-    #[error("of `--into`, `--above` and `--drop` one alone may be given")]
+    #[error("of `--into`, `--above`, `--below`, `--raise`, `--drop` and `--drop-first` one alone \
+        may be given")]
     Options,
     /// Two flags name pages.
     #[error("of `--prometheus` and `--connections` one alone may be given")]
@@ -103,10 +124,13 @@ pub enum PersonFault<'a> {
 
 impl<'a> PersonFault<'a> {
     /// Why the key file at a path gives no table, in words for people.
-    pub(crate) fn of_key_file(path: &'a str, fault: PipeFault) -> PersonFault<'a> {
+    pub(crate) fn of_key_file<R: Files>(rt: &R, path: &'a str, fault: PipeFault) -> PersonFault<'a>
+        ensures { person_status result ≡ key_file_status fault }
+    {
         match fault {
             PipeFault::Keys { line, kind } => PersonFault::KeyLine { path, line, kind },
-            PipeFault::Device | PipeFault::TooLong => PersonFault::KeyFile { path },
+            PipeFault::Device => PersonFault::KeyText(TextlessFile::find(rt, path)),
+            PipeFault::TooLong => PersonFault::KeyText(TextlessFile::TooLong { path }),
             PipeFault::Memory => PersonFault::Memory,
         }
     }
@@ -131,6 +155,9 @@ impl<'a> PersonFault<'a> {
             | PersonFault::Change { .. }
             | PersonFault::Exists { .. }
             | PersonFault::Beside { .. }
+            | PersonFault::Left { .. }
+            | PersonFault::Busy { .. }
+            | PersonFault::Link { .. }
             | PersonFault::Meanwhile { .. } => Status::Refused,
             _ => Status::DeviceFault,
         }

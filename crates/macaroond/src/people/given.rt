@@ -28,7 +28,7 @@ where
 {
     match read_keys(rt, path) {
         Ok(table) => Ok(table),
-        Err(fault) => Err(PersonFault::of_key_file(path, fault)),
+        Err(fault) => Err(PersonFault::of_key_file(rt, path, fault)),
     }
 }
 

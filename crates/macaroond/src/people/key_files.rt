@@ -1,18 +1,26 @@
 //! Key files, read and written.
-ghost use Rattle.macaroond.specs.Doing.{IsChange, IsSomeLine};
+ghost use Rattle.std.specs.Prelude.{◌≡◌};
+ghost use Rattle.macaroond.specs.Doing.{IsChanged, IsSomeLine};
 
 use super::PersonFault;
+use super::keygen::Change;
+use super::new_file::{Beside, find_itself, is_one, sync_folder};
 use crate::fault::PipeFault;
 use crate::input::read_input;
+use mac_keys::wipe;
 use mac_wire::ReaderSource;
 use std::alloc::{Alloc, Global};
-use std::fs::{self, File, Files, Metadata, OpenOptions};
-use std::io::{self, Write};
-use std::os::fd::AsRawFd;
-use std::os::unix::fs::{MetadataExt, OpenOptionsExt};
+use std::fs::{self, File, Files, Metadata};
+use std::io;
 
-/// The permissions of a key file: its owner alone reads and writes it.
-const OWNER_ALONE: u32 = 0o600;
+/// A key file as it was read to be changed.
+#[derive(Drop)]
+pub(super) struct Kept {
+    /// Its text.
+    pub(super) text: Vec<u8>,
+    /// What the system tells of the very file that was read.
+    found: Metadata,
+}
 
 /// The text of a key file of at most `INPUT_MAX` bytes.
 pub(super) fn read_text<'a, R>(rt: &R, path: &'a str) -> Result<Vec<u8>, PersonFault<'a>>
@@ -21,26 +29,53 @@ where
     R::File: Send,
 {
     let Ok(file) = File::open(rt, path) else {
-        return Err(PersonFault::KeyFile { path });
+        return Err(PersonFault::of_key_file(rt, path, PipeFault::Device));
     };
     match read_input(rt.alloc(), &mut ReaderSource::new(file)) {
         Ok(text) => Ok(text),
-        Err(PipeFault::Memory) => Err(PersonFault::Memory),
-        Err(_) => Err(PersonFault::KeyFile { path }),
+        Err(fault) => Err(PersonFault::of_key_file(rt, path, fault)),
+    }
+}
+
+/// Reads a key file that is to be changed: the file itself, and none that a link leads to.
+pub(super) fn read_kept<'a, R>(rt: &R, path: &'a str) -> Result<Kept, PersonFault<'a>>
+where
+    R: Files<File = File> + Alloc<A = Global>,
+{
+    let named = find_itself(rt, path)?;
+    let Ok(file) = File::open(rt, path) else {
+        return Err(PersonFault::of_key_file(rt, path, PipeFault::Device));
+    };
+    let Ok(found) = file.metadata() else {
+        return Err(PersonFault::of_key_file(rt, path, PipeFault::Device));
+    };
+    if !is_one(&named, &found) {
+        return Err(PersonFault::Meanwhile { path });
+    }
+    match read_input(rt.alloc(), &mut ReaderSource::new(&file)) {
+        Ok(text) => Ok(Kept { text, found }),
+        Err(fault) => Err(PersonFault::of_key_file(rt, path, fault)),
     }
 }
 
 /// Makes a file that isn't there yet, for its owner alone, of a key line. Where that fails, no file
 /// is left.
-pub(super) fn create_file<'a, R: Files<File = File>>(
-    rt: &R,
-    path: &'a str,
-    line: &[u8],
-) -> Result<(), PersonFault<'a>>
+pub(super) fn create_file<'a, R>(rt: &R, path: &'a str, line: &[u8]) -> Result<(), PersonFault<'a>>
+where
+    R: Files<File = File> + Alloc<A = Global>,
     requires { IsSomeLine line.now }
 {
-    match write_new(rt, path, None, line) {
-        Ok(()) => Ok(()),
+    if fs::symlink_metadata(rt, path).is_ok() {
+        return Err(PersonFault::Exists { path });
+    }
+    let beside = Beside::take(rt, path)?;
+    let made = match beside.write(None, line) {
+        Ok(()) => beside.link(rt, path),
+        Err(fault) => Err(fault),
+    };
+    beside.remove(rt);
+    match made {
+        Ok(()) => sync_folder(rt, path),
         Err(error) if error.kind() == io::ErrorKind::AlreadyExists => {
             Err(PersonFault::Exists { path })
         },
@@ -48,95 +83,57 @@ pub(super) fn create_file<'a, R: Files<File = File>>(
     }
 }
 
-/// Puts a changed text in the place of that of a key file: into a new file of its owner beside it,
-/// which is moved over it then. Where that fails, the old file is as it was.
+/// Puts a changed text in the place of that of a key file: into a new file of its owner, its group
+/// and its permissions beside it, which is moved over it then. Where that fails, the old file is as
+/// it was.
 pub(super) fn replace_file<'a, R>(
     rt: &R,
+    change: Change,
+    name: &str,
     path: &'a str,
-    text: &[u8],
+    kept: &Kept,
     changed: &[u8],
 ) -> Result<(), PersonFault<'a>>
 where
     R: Files<File = File> + Alloc<A = Global>,
-    requires { IsChange text.now changed.now }
+    requires { IsChanged change name.now kept.now.text.items changed.now }
 {
-    let Ok(old) = fs::metadata(rt, path) else {
-        return Err(PersonFault::KeyFile { path });
-    };
-    let beside = format!(in rt.alloc(); "{path}.new")?;
-    match write_new(rt, beside.as_str(), Some(&old), changed) {
-        Ok(()) => move_or_remove(rt, beside.as_str(), path, text),
-        Err(error) if error.kind() == io::ErrorKind::AlreadyExists => {
-            Err(PersonFault::Beside { path })
-        },
+    let by_hand = format!(in rt.alloc(); "{path}.new")?;
+    if fs::symlink_metadata(rt, by_hand.as_str()).is_ok() {
+        return Err(PersonFault::Beside { path });
+    }
+    let beside = Beside::take(rt, path)?;
+    let moved = match beside.write(Some(&kept.found), changed) {
+        Ok(()) => move_over(rt, &beside, path, kept),
         Err(_) => Err(PersonFault::Unwritten { path }),
+    };
+    match moved {
+        Ok(()) => sync_folder(rt, path),
+        Err(fault) => {
+            beside.remove(rt);
+            Err(fault)
+        },
     }
 }
 
-/// Moves the new file over the old one, or removes it.
-fn move_or_remove<'a, R>(
+/// Moves the new file over the old one, if that still has the text that it was read with.
+fn move_over<'a, R>(
     rt: &R,
-    beside: &str,
+    beside: &Beside,
     path: &'a str,
-    text: &[u8],
+    kept: &Kept,
 ) -> Result<(), PersonFault<'a>>
 where
     R: Files<File = File> + Alloc<A = Global>,
 {
-    let moved = move_over(rt, beside, path, text);
-    if moved.is_err() {
-        let _ = fs::remove_file(rt, beside);
-    }
-    moved
-}
-
-/// Moves the new file over the old one, if that still has the text that it was read with.
-fn move_over<'a, R>(rt: &R, beside: &str, path: &'a str, text: &[u8]) -> Result<(), PersonFault<'a>>
-where
-    R: Files<File = File> + Alloc<A = Global>,
-{
-    if read_text(rt, path)?.as_slice() != text {
+    let mut now = read_kept(rt, path)?;
+    let is_same = now.text.as_slice() == kept.text.as_slice();
+    wipe(now.text.as_mut_slice());
+    if !is_same {
         return Err(PersonFault::Meanwhile { path });
     }
-    match fs::rename(rt, beside, path) {
+    match beside.move_over(rt, path) {
         Ok(()) => Ok(()),
         Err(_) => Err(PersonFault::Unwritten { path }),
-    }
-}
-
-/// Makes a file with these bytes, which reach the disk, for the owner of another one, if there is
-/// one. Where that fails, it is removed.
-fn write_new<R: Files<File = File>>(
-    rt: &R,
-    path: &str,
-    owned: Option<&Metadata>,
-    bytes: &[u8],
-) -> io::Result<()> {
-    let mut options = OpenOptions::new();
-    options.write(true).create_new(true).mode(OWNER_ALONE);
-    let mut file = options.open(rt, path)?;
-    let written = write_whole(&mut file, owned, bytes);
-    if written.is_err() {
-        let _ = fs::remove_file(rt, path);
-    }
-    written
-}
-
-/// Gives the file its owner and all its bytes, and waits until they are on the disk.
-fn write_whole(file: &mut File, owned: Option<&Metadata>, bytes: &[u8]) -> io::Result<()> {
-    if let Some(other) = owned {
-        give_to(file, other)?;
-    }
-    file.write_all(bytes)?;
-    file.sync_all()
-}
-
-/// Gives a new file to the owner of another one.
-fn give_to(file: &File, other: &Metadata) -> io::Result<()> {
-    let is_theirs = file.metadata()?.uid() == other.uid();
-    if is_theirs || libc::fchown(file.as_raw_fd(), other.uid(), other.gid()) == 0 {
-        Ok(())
-    } else {
-        Err(io::Error::from(io::ErrorKind::PermissionDenied))
     }
 }

@@ -1,16 +1,22 @@
 //! New keys, and changes of keys.
-ghost use Rattle.std.specs.Prelude.{◌≡◌, [], false, IfOk};
-ghost use Rattle.macaroond.specs.Doing.{ChecksText, DoesCheck, DoesKeygen, GivesDeed, IsNewLine};
-ghost use Rattle.macaroond.specs.Doing.{PrintsLine, SaysNothing, change_status};
+ghost use Rattle.std.specs.Prelude.{◌≡◌, ◌++◌, [], false, IfOk};
+ghost use Rattle.macaroond.specs.Doing.{ChecksText, DoesCheck, DoesKeygen, GivesDeed, GivesPart};
+ghost use Rattle.macaroond.specs.Doing.{IsChanged, IsNewLine, PrintsLine, SaysChange, SaysNothing};
+ghost use Rattle.macaroond.specs.Doing.{SaysOf, change_status, putting, taking};
 ghost use Rattle.macaroond.specs.People.{person_status};
+ghost use Rattle.macaroond.specs.declared.people.keygen.Change.TheVariants.{Above, Below};
 
 use super::PersonFault;
 use super::asking::KeygenWords;
 use super::given::draw_secret;
-use super::key_files::{create_file, read_text, replace_file};
-use mac_keys::{ChangeFault, KeyFault, KeyTable, add_above, drop_lower};
+use super::key_files::{create_file, read_kept, read_text, replace_file};
+use super::readers::warn_of_weak;
+use mac_keys::{
+    ChangeFault, KeyFault, KeyTable, add_above, add_below, drop_lower, drop_upper, find_weak,
+    raise_lower, wipe,
+};
 use mac_words::{Said, key_line, list_names};
-use std::alloc::{Alloc, Global};
+use std::alloc::{Alloc, AllocError, Global};
 use std::fs::{File, Files};
 use std::random::RandomSource;
 
@@ -19,11 +25,26 @@ use std::random::RandomSource;
 enum Deed<'a> {
     Print,
     Into(&'a str),
-    Above(&'a str),
-    Drop(&'a str),
+    Change(Change, &'a str),
 }
 
-/// A line of a key file with a new secret, printed or put into a file; or a line that is dropped.
+/// What becomes of the lines of a name.
+#[derive(Clone, Copy)]
+pub(super) enum Change {
+    /// A new line stands above its only one.
+    Above,
+    /// A new line stands below its only one.
+    Below,
+    /// The second of its two lines stands above the first.
+    Raise,
+    /// The second of its two lines is gone.
+    Drop,
+    /// The first of its two lines is gone.
+    DropFirst,
+}
+
+/// A line of a key file with a new secret, printed or put into a file; or a change of the lines that
+/// a file has.
 pub(super) fn do_keygen<'a, R>(rt: &R, words: &'a KeygenWords) -> Result<Said, PersonFault<'a>>
 where
     R: Alloc<A = Global> + Files<File = File> + RandomSource,
@@ -33,8 +54,7 @@ where
     match deed_of(words)? {
         Deed::Print => print_line(rt, name),
         Deed::Into(path) => put_into(rt, name, path),
-        Deed::Above(path) => put_above(rt, name, path),
-        Deed::Drop(path) => drop_line(rt, name, path),
+        Deed::Change(change, path) => change_file(rt, change, name, path),
     }
 }
 
@@ -42,11 +62,34 @@ where
 fn deed_of<'a>(words: &'a KeygenWords) -> Result<Deed<'a>, PersonFault<'a>>
     ensures { GivesDeed words.now result }
 {
-    match (&words.into, &words.above, &words.drop) {
+    match (putting_deed(words)?, taking_deed(words)?) {
+        (Deed::Print, deed) | (deed, Deed::Print) => Ok(deed),
+        _ => Err(PersonFault::Options),
+    }
+}
+
+/// What the options ask for that put a new line into a file.
+fn putting_deed<'a>(words: &'a KeygenWords) -> Result<Deed<'a>, PersonFault<'a>>
+    ensures { GivesPart (putting words.now) words.now result }
+{
+    match (&words.into, &words.above, &words.below) {
         (None, None, None) => Ok(Deed::Print),
         (Some(path), None, None) => Ok(Deed::Into(path.as_str())),
-        (None, Some(path), None) => Ok(Deed::Above(path.as_str())),
-        (None, None, Some(path)) => Ok(Deed::Drop(path.as_str())),
+        (None, Some(path), None) => Ok(Deed::Change(Change::Above, path.as_str())),
+        (None, None, Some(path)) => Ok(Deed::Change(Change::Below, path.as_str())),
+        _ => Err(PersonFault::Options),
+    }
+}
+
+/// What the options ask for that make no key.
+fn taking_deed<'a>(words: &'a KeygenWords) -> Result<Deed<'a>, PersonFault<'a>>
+    ensures { GivesPart (taking words.now) words.now result }
+{
+    match (&words.raise, &words.drop, &words.drop_first) {
+        (None, None, None) => Ok(Deed::Print),
+        (Some(path), None, None) => Ok(Deed::Change(Change::Raise, path.as_str())),
+        (None, Some(path), None) => Ok(Deed::Change(Change::Drop, path.as_str())),
+        (None, None, Some(path)) => Ok(Deed::Change(Change::DropFirst, path.as_str())),
         _ => Err(PersonFault::Options),
     }
 }
@@ -70,45 +113,111 @@ where
     R: Alloc<A = Global> + Files<File = File> + RandomSource,
     ensures { IfOk result SaysNothing }
 {
-    let line = new_line(rt, name)?;
+    let mut line = new_line(rt, name)?;
     create_file(rt, path, line.as_slice())?;
+    wipe(line.as_mut_slice());
     Ok(say_nothing(rt.alloc()))
 }
 
-/// Puts the line above the old one of the name, in the key file of the path.
-fn put_above<'a, R>(rt: &R, name: &str, path: &'a str) -> Result<Said, PersonFault<'a>>
+/// Changes the lines of a name in the key file of the path, and says which one is dropped.
+fn change_file<'a, R>(
+    rt: &R,
+    change: Change,
+    name: &str,
+    path: &'a str,
+) -> Result<Said, PersonFault<'a>>
 where
     R: Alloc<A = Global> + Files<File = File> + RandomSource,
-    ensures { IfOk result SaysNothing }
+    ensures { IfOk result (SaysChange change name.now) }
 {
-    let text = read_text(rt, path)?;
-    let line = new_line(rt, name)?;
-    let changed = match add_above(
-        rt.alloc(),
-        text.as_slice(),
-        name.as_bytes(),
-        line.as_slice(),
-    ) {
-        Ok(changed) => changed,
-        Err(why) => return Err(fault_of_change(path, why)),
-    };
-    replace_file(rt, path, text.as_slice(), changed.as_slice())?;
-    Ok(say_nothing(rt.alloc()))
+    let mut kept = read_kept(rt, path)?;
+    let mut changed = change_text(rt, change, path, kept.text.as_slice(), name)?;
+    replace_file(rt, change, name, path, &kept, changed.as_slice())?;
+    wipe(changed.as_mut_slice());
+    wipe(kept.text.as_mut_slice());
+    say_change(rt.alloc(), change, name)
 }
 
-/// Drops the lower line of the name from the key file of the path.
-fn drop_line<'a, R>(rt: &R, name: &str, path: &'a str) -> Result<Said, PersonFault<'a>>
+/// The text of a key file with a change of the lines of a name.
+fn change_text<'a, R>(
+    rt: &R,
+    change: Change,
+    path: &'a str,
+    text: &[u8],
+    name: &str,
+) -> Result<Vec<u8>, PersonFault<'a>>
 where
-    R: Alloc<A = Global> + Files<File = File>,
-    ensures { IfOk result SaysNothing }
+    R: Alloc<A = Global> + RandomSource,
+    ensures { IfOk result (λ changed. IsChanged change name.now text.now changed.items) }
 {
-    let text = read_text(rt, path)?;
-    let changed = match drop_lower(rt.alloc(), text.as_slice(), name.as_bytes()) {
-        Ok(changed) => changed,
-        Err(why) => return Err(fault_of_change(path, why)),
+    let changed = match change {
+        Change::Above => put_above(rt, text, name)?,
+        Change::Below => put_below(rt, text, name)?,
+        Change::Raise => raise_lower(rt.alloc(), text, name.as_bytes()),
+        Change::Drop => drop_lower(rt.alloc(), text, name.as_bytes()),
+        Change::DropFirst => drop_upper(rt.alloc(), text, name.as_bytes()),
     };
-    replace_file(rt, path, text.as_slice(), changed.as_slice())?;
-    Ok(say_nothing(rt.alloc()))
+    match changed {
+        Ok(changed) => Ok(changed),
+        Err(why) => Err(fault_of_change(path, why)),
+    }
+}
+
+/// The text with a new line above the name's only one.
+fn put_above<'a, R>(
+    rt: &R,
+    text: &[u8],
+    name: &str,
+) -> Result<Result<Vec<u8>, ChangeFault>, PersonFault<'a>>
+where
+    R: Alloc<A = Global> + RandomSource,
+    ensures { IfOk result (λ put. IfOk put (λ changed.
+        IsChanged Above name.now text.now changed.items)) }
+{
+    let mut line = new_line(rt, name)?;
+    let changed = add_above(rt.alloc(), text, name.as_bytes(), line.as_slice());
+    wipe(line.as_mut_slice());
+    Ok(changed)
+}
+
+/// The text with a new line below the name's only one.
+fn put_below<'a, R>(
+    rt: &R,
+    text: &[u8],
+    name: &str,
+) -> Result<Result<Vec<u8>, ChangeFault>, PersonFault<'a>>
+where
+    R: Alloc<A = Global> + RandomSource,
+    ensures { IfOk result (λ put. IfOk put (λ changed.
+        IsChanged Below name.now text.now changed.items)) }
+{
+    let mut line = new_line(rt, name)?;
+    let changed = add_below(rt.alloc(), text, name.as_bytes(), line.as_slice());
+    wipe(line.as_mut_slice());
+    Ok(changed)
+}
+
+/// What is said of a change: which line was dropped, if one was.
+fn say_change<'a>(alloc: Global, change: Change, name: &str) -> Result<Said, PersonFault<'a>>
+    ensures { IfOk result (SaysChange change name.now) }
+{
+    match change {
+        Change::Drop => Ok(say_dropped(alloc, name, b": the second line is dropped\n")?),
+        Change::DropFirst => Ok(say_dropped(alloc, name, b": the first line is dropped\n")?),
+        Change::Above | Change::Below | Change::Raise => Ok(say_nothing(alloc)),
+    }
+}
+
+/// What is said where a line of a name was dropped.
+fn say_dropped(alloc: Global, name: &str, dropped: &[u8]) -> Result<Said, AllocError>
+    ensures { IfOk result (SaysOf (name.now ++ dropped.now)) }
+{
+    let mut text = Vec::from_slice(alloc, name.as_bytes())?;
+    text.extend_from_slice(dropped)?;
+    Ok(Said {
+        text,
+        is_refusal: false,
+    })
 }
 
 /// A line of a key file that gives the name a new secret.
@@ -117,8 +226,10 @@ where
     R: Alloc<A = Global> + RandomSource,
     ensures { IfOk result (IsNewLine name.now) }
 {
-    let secret = draw_secret(rt)?;
-    Ok(key_line(rt.alloc(), name, &secret)?)
+    let mut secret = draw_secret(rt)?;
+    let line = key_line(rt.alloc(), name, &secret);
+    wipe(&mut secret);
+    Ok(line?)
 }
 
 /// Why a key file doesn't change, as a person is told it.
@@ -147,12 +258,17 @@ fn say_nothing(alloc: Global) -> Said
 /// What is said of a key file.
 pub(super) fn do_check<'a, R>(rt: &R, path: &'a str) -> Result<Said, PersonFault<'a>>
 where
-    R: Alloc<A = Global> + Files,
+    R: Alloc<A = Global> + Eprint + Files,
     R::File: Send,
     ensures { IfOk result DoesCheck }
 {
-    let text = read_text(rt, path)?;
-    say_names(rt.alloc(), path, text.as_slice())
+    let mut text = read_text(rt, path)?;
+    let said = say_names(rt.alloc(), path, text.as_slice());
+    if said.is_ok() {
+        warn_of_weak(rt, path, find_weak(text.as_slice()));
+    }
+    wipe(text.as_mut_slice());
+    said
 }
 
 /// The names of a key file, or its first fault.

@@ -1,15 +1,64 @@
-//! What is warned of in a key file: who may read it, and that it has no key.
+//! What is said of a key file that is right in itself: who may use it, that a secret is soon
+//! guessed, and that it has no key.
 
+use crate::key_file::{KeysRead, access_of};
+use mac_board::{Access, Exposure, Reader, find_exposure, reader_of};
+use mac_keys::SOUND_BYTES;
 use std::fs::{self, Files};
-use std::os::unix::fs::PermissionsExt;
 
-/// The permissions that others than a file's owner have.
-const OTHERS: u32 = 0o077;
+/// The number of the user root.
+const ROOT: u32 = 0;
 
-/// Warns on standard error of a key file that others than its owner may read or write.
+/// Whether a daemon may have the keys of a file that was read: others may not use it, unless that
+/// was asked for. Says on standard error why not, and what is amiss besides.
+pub(crate) fn admit_keys<R: Eprint>(rt: &R, path: &str, read: &KeysRead, of_others: bool) -> bool {
+    if let Some(why) = exposure_of(read.access) {
+        if !of_others {
+            let _ = eprintln!(rt; "error: {path}: {why}; or take it so by --keys-of-others");
+            return false;
+        }
+        let _ = eprintln!(rt; "warning: {path}: {why}");
+    }
+    warn_of_weak(rt, path, read.weak);
+    warn_of_no_keys(rt, path, read.table.len());
+    true
+}
+
+/// Why a key file isn't for a daemon of this process alone.
+pub(crate) fn exposure_of(access: Access) -> Option<Exposure> {
+    find_exposure(access, reader_of(access, libc::geteuid(), libc::getegid()))
+}
+
+/// Warns on standard error of a key file that others may use. Root looks at the files of others,
+/// and takes a file for one that its owner's daemon reads, by its group.
 pub(crate) fn warn_of_readers<R: Files + Eprint>(rt: &R, path: &str) {
-    if is_shared(rt, path) {
-        let _ = eprintln!(rt; "warning: {path}: others than its owner may use the key file");
+    let Ok(found) = fs::metadata(rt, path) else {
+        return;
+    };
+    let access = access_of(&found);
+    let exposure = if libc::geteuid() == ROOT {
+        let reader = Reader {
+            user: access.owner,
+            group: access.group,
+        };
+        find_exposure(access, reader)
+    } else {
+        exposure_of(access)
+    };
+    if let Some(why) = exposure {
+        let _ = eprintln!(rt; "warning: {path}: {why}");
+    }
+}
+
+/// Warns on standard error of a line of a key file whose secret is soon guessed.
+pub(crate) fn warn_of_weak<R: Eprint>(rt: &R, path: &str, weak: Option<usize>) {
+    if let Some(place) = weak {
+        let line = place.saturating_add(1);
+        let _ = eprintln!(rt;
+            "warning: {path}: line {line}: the secret has fewer than {} bytes, which may be \
+            guessed; `macaroond keygen NAME` prints a line with 32",
+            SOUND_BYTES
+        );
     }
 }
 
@@ -19,13 +68,5 @@ pub(crate) fn warn_of_no_keys<R: Eprint>(rt: &R, path: &str, names: usize) {
         let _ = eprintln!(rt;
             "warning: {path}: the key file has no key; `macaroond keygen NAME` prints a line for it"
         );
-    }
-}
-
-/// Whether others than its owner may read or write a file.
-fn is_shared<R: Files>(rt: &R, path: &str) -> bool {
-    match fs::metadata(rt, path) {
-        Ok(file) => file.permissions().mode() & OTHERS != 0,
-        Err(_) => false,
     }
 }

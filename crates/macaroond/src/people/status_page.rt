@@ -1,7 +1,7 @@
 //! What a daemon that listens tells of itself.
-ghost use Rattle.std.specs.Prelude.{◌≡◌, IfOk, MatchOption};
+ghost use Rattle.std.specs.Prelude.{◌≡◌, ◌++◌, IfOk, MatchOption, OnOk};
 ghost use Rattle.httparse.specs.Grammar.{ResponseHead, ReadsResponse, status_code};
-ghost use Rattle.macaroond.specs.Doing.{DoesStatus, GivesPage, IsBody, IsPageOf};
+ghost use Rattle.macaroond.specs.Doing.{DoesStatus, GivesPage, IsBody, IsPageOf, shown, shown_byte};
 
 use super::PersonFault;
 use super::asking::StatusWords;
@@ -11,8 +11,8 @@ use crate::operating::status_path;
 use httparse::Status;
 use httparse::spans::{EMPTY_HEADER_SPAN, parse_response};
 use mac_wire::ReaderSource;
-use mac_words::Said;
-use std::alloc::{Alloc, Global};
+use mac_words::{Said, append_escaped};
+use std::alloc::{Alloc, AllocError, Global};
 use std::io::Write;
 use std::net::Net;
 use std::os::unix::net::UnixStream;
@@ -87,7 +87,8 @@ where
     }
 }
 
-/// What is said of a response: its body, where it has what was asked for.
+/// What is said of a response: its body as a terminal may be shown it, where it has what was asked
+/// for. Whoever has the socket wrote it.
 fn say_page<'a>(alloc: Global, socket: &'a str, reply: &[u8]) -> Result<Said, PersonFault<'a>>
     ensures { IfOk result (IsPageOf reply.now) }
 {
@@ -95,11 +96,31 @@ fn say_page<'a>(alloc: Global, socket: &'a str, reply: &[u8]) -> Result<Said, Pe
         return Err(PersonFault::NoDaemon { socket });
     };
     let mut text = Vec::new(alloc);
-    text.extend_from_slice(body)?;
+    append_shown(body, &mut text)?;
     Ok(Said {
         text,
         is_refusal: false,
     })
+}
+
+/// Appends a body, whose lines stay.
+fn append_shown(body: &[u8], out: &mut Vec<u8>) -> Result<(), AllocError>
+    ensures { OnOk result (out.new.items ≡ out.old.items ++ shown body.now) }
+{
+    for byte in body {
+        append_byte(*byte, out)?;
+    }
+    Ok(())
+}
+
+/// Appends a byte of a body.
+fn append_byte(byte: u8, out: &mut Vec<u8>) -> Result<(), AllocError>
+    ensures { OnOk result (out.new.items ≡ out.old.items ++ shown_byte byte) }
+{
+    if byte == b'\n' {
+        return out.extend_from_slice(&[byte]);
+    }
+    append_escaped(&[byte], out)
 }
 
 /// The body of a response that has what was asked for.

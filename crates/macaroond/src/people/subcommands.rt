@@ -17,13 +17,18 @@ use std::alloc::{AllocError, Global};
 const KEYGEN_HELP: &str = "\
 Prints a line of a key file, `key NAME SECRET`: the secret is 32 random bytes of the system, in
 hexadecimal. NAME has 1 to 64 letters, digits, dots, underscores or dashes. Whoever can read the
-line can mint tokens under the key, so a key file is for its owner alone: the options that write
-files give them mode 600. One of them at most may be given:
-  --into makes a file that isn't there yet, with the line.
-  --above puts the line above that of a name which has one. From then on the new key mints, and
-  tokens of the old one are verified all the same.
-  --drop makes no key. It drops the lower line of a name that has two, once its tokens are gone.
-The last two write FILE.new, for the owner of FILE, and move it over FILE, whose other bytes stay.
+line can mint tokens under the key, so a key file is for its owner alone. The first line of a name
+mints, and tokens of both are verified. One of these options at most may be given:
+  --into makes a file of mode 600 that isn't there yet, with the line.
+  --above puts the line above that of a name which has one: the new key mints from then on.
+  --below puts the line below that of a name which has one: the old key mints still.
+  --raise makes no key. It puts the second line of a name above its first, whose key minted so far.
+  --drop makes no key. It drops the second line of a name that has two, once its tokens are gone,
+  and prints which one that was. It never drops the line that mints.
+  --drop-first makes no key. It drops the first line of a name that has two: the second one mints.
+All but --into keep the owner, the group and the mode of FILE, and its other bytes. They write
+FILE.keygen and move it over FILE; what a run that was cut left of it, the next run removes. FILE
+may not be a link.
 
 Example:
   macaroond keygen bank --into keys
@@ -32,8 +37,9 @@ Example:
 
 Exit status:
   0  the line was printed, or the file was written
-  1  refused, and nothing was changed: FILE (--into) or FILE.new is there already, FILE was changed
-     meanwhile, or the name has no line, or two already (--above), or one alone (--drop)
+  1  refused, and nothing was changed: FILE (--into) or FILE.new is there already, FILE is a link or
+     was changed meanwhile, another run changes it, or the name has no line, or two already (--above
+     and --below), or one alone (--raise, --drop and --drop-first)
   2  a bad command line
   3  the system gives no random bytes, a file or standard output failed, or a key line has a fault
   4  memory ran out";
@@ -41,7 +47,8 @@ Exit status:
 /// What the help of `check` says below its options.
 const CHECK_HELP: &str = "\
 Prints a line for each name of the key file, in the order of their bytes: `NAME: one key`, or
-`NAME: two keys`. Warns on standard error of a file that others than its owner may read or write.
+`NAME: two keys`. Warns on standard error of a file that others may use, and of a secret of fewer
+than 16 bytes.
 
 Example:
   macaroond check --keys keys
@@ -147,7 +154,13 @@ const INTO_HELP: &str = "Makes this file with the line, for its owner alone";
 
 const ABOVE_HELP: &str = "Puts the line above the name's old one in this key file";
 
-const DROP_HELP: &str = "Drops the name's lower line from this key file";
+const BELOW_HELP: &str = "Puts the line below the name's old one in this key file";
+
+const RAISE_HELP: &str = "Puts the name's second line above its first in this key file";
+
+const DROP_HELP: &str = "Drops the name's second line from this key file";
+
+const FIRST_HELP: &str = "Drops the name's first line, whose key mints, from this key file";
 
 const KEY_HELP: &str = "The name of the key";
 
@@ -174,7 +187,7 @@ pub(crate) fn add_people<'a>(alloc: Global, program: Command<'a>) -> Result<Comm
     add_subcommand(program, build_status(alloc)?)
 }
 
-/// The subcommand `keygen`, with three options and the name of the key.
+/// The subcommand `keygen`, with six options and the name of the key.
 fn build_keygen<'a>(alloc: Global) -> Result<Command<'a>, AllocError>
     ensures { IfOk result (λ whole. app_of whole ≡ keygen_command) }
 {
@@ -186,7 +199,13 @@ fn build_keygen<'a>(alloc: Global) -> Result<Command<'a>, AllocError>
     );
     let command = add_arg(command, build_option(alloc, "into", "FILE", INTO_HELP))?;
     let command = add_arg(command, build_option(alloc, "above", "FILE", ABOVE_HELP))?;
+    let command = add_arg(command, build_option(alloc, "below", "FILE", BELOW_HELP))?;
+    let command = add_arg(command, build_option(alloc, "raise", "FILE", RAISE_HELP))?;
     let command = add_arg(command, build_option(alloc, "drop", "FILE", DROP_HELP))?;
+    let command = add_arg(
+        command,
+        build_option(alloc, "drop-first", "FILE", FIRST_HELP),
+    )?;
     add_arg(command, build_word(alloc, "name", "NAME", KEY_HELP))
 }
 

@@ -1,6 +1,7 @@
 use Rattle.std.proofs.Common.{◌≡◌, ◌+◌, ◌-◌, List, drop, get_or, take, take_all, rules, ap, subst, arith, ◌∙◌}
 use Rattle.std.specs.Prelude.{Some, slice_get}
 use Rattle.mac_decide.specs.Prepared.{reply_to_job}
+use Rattle.mac_wire.specs.declared.reply.Reply.{Reply}
 use Rattle.mac_plain.specs.Goes.{AreAnswered}
 use Rattle.mac_plain.specs.Requests.{asked_of, job_at}
 use Rattle.mac_plain.specs.declared.request.Request.{Request}
@@ -16,7 +17,7 @@ loop-index-preserved g c current arena are =
     let it = get_or run i none in
     let kept = job_kept g.P.Port.tells g.P.Port.taken g.P.Port.written current (λ k. asked_of k arena (take i run)) arena it c.args.clients.now c.loop-index.clients (search rules) (c.loop-index.invariant current arena are) in
     let reply_is = some_then (λ r. slice_get c.args.replies.now i ≡ Some r.now) (λ r. r.now ≡ reply_to_job (job_at current arena it (slice_get c.loop-index.clients it.owner))) c.reply_at.result
-    (λ r there. answered_at current c.args.clients.now arena run i none r.now (are i r.now there) ∙ ap reply_to_job kept) c.reply_at.ensures.there in
+    (λ r there. answered_at current c.args.clients.now arena run i none r.now (subst (λ (l : List Reply). slice_get l i ≡ Some r.now) are there) ∙ ap reply_to_job kept) c.reply_at.ensures.there in
     let given = c.give.ensures current arena (get_or run i none) (run_one i run none (omega (arith, c.loop-index-test.true))) reply_is in
     subst (λ (l : List Request). AreAnswered g.P.Port.tells g.P.Port.taken g.P.Port.written current (λ k. asked_of k arena l) c.args.clients.now c.give.new.clients) (run_more i (i + 1) run (omega arith))
     (more_answered g.P.Port.tells g.P.Port.taken g.P.Port.written current arena (take i run) one c.args.clients.now c.loop-index.clients c.give.new.clients (search rules)

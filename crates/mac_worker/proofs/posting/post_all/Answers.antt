@@ -1,5 +1,5 @@
 use Rattle.std.proofs.Common.{[], ◌∷◌, ◌++◌, arith, rules, refl, ◌∙◌}
-use Rattle.mac_worker.proofs.Posts.{posted_none, posted_one, posted_all, parcel_done}
+use Rattle.mac_worker.proofs.Posts.{posted_none, posted_one, parcel_done}
 use Rattle.mac_worker.proofs.posting.post_all.Goals as goal
 
 pub loop-parcel-init : goal.loop-parcel-init

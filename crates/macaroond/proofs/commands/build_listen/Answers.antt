@@ -2,7 +2,7 @@ use Rattle.std.proofs.Common.{◌∙◌, ap, ap₂}
 use Rattle.std.proofs.lemmas.Result.{IfOk-weaker}
 use Rattle.clap.specs.Words.{App, with_rule}
 use Rattle.macaroond.specs.Arguments.{with_rules}
-use Rattle.macaroond.specs.CommandLine.{http_rules}
+use Rattle.macaroond.specs.CommandLine.{calls_rules, gateway_rules}
 use Rattle.macaroond.proofs.commands.build_listen.Goals as goal
 
 -- one line for each option
@@ -23,4 +23,5 @@ returns c =
     let names_too = c.in_ok-listen-13.ensures ∙ ap₂ with_rule mode_too c.build_option-5.ensures.rule in
     let replace = c.in_ok-listen-14.ensures ∙ ap₂ with_rule names_too c.build_flag.ensures.rule in
     let log = c.in_ok-listen-15.ensures ∙ ap₂ with_rule replace c.build_option-6.ensures.rule in
-    IfOk-weaker c.add_http.result _ _ (λ listen last. last ∙ ap (λ (app : App). with_rules app http_rules) log) c.add_http.ensures
+    let others = c.in_ok-listen-16.ensures ∙ ap₂ with_rule log c.build_flag-2.ensures.rule in
+    IfOk-weaker c.add_http.result _ _ (λ listen last. last ∙ ap (λ (app : App). with_rules (with_rules app gateway_rules) calls_rules) others) c.add_http.ensures

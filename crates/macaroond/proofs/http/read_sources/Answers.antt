@@ -15,4 +15,4 @@ returns c =
     let header = c.has_word.ensures ∙ any_lent (codes "header") c.in_ok-words.ensures c.deref-2.ensures.value in
     let query = c.has_word-2.ensures ∙ any_lent (codes "query") c.in_ok-words.ensures c.deref-3.ensures.value in
     let forwarded = c.has_word-3.ensures ∙ any_lent (codes "forwarded") c.in_ok-words.ensures c.deref-4.ensures.value in
-    (all, λ i. record { header = header i; query = query i; forwarded = forwarded i })
+    (all, λ i. record { header = header i; query = query i; forwarded = forwarded i; strict = c.args.strict })

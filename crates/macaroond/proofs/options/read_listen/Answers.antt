@@ -20,6 +20,7 @@ returns c = (
     c.in_ok-read_optional_text-3.ensures,
     c.read_flag.ensures,
     c.in_ok-read_optional_text-4.ensures,
+    c.read_flag-2.ensures,
     c.in_ok-http.ensures,
   ),
 )

@@ -1,4 +1,5 @@
-use Rattle.std.proofs.Common.{◌≡◌, ◌^◌, ℕ, List, Option, None, Some, length, slice_set, ap, ◌∙◌, subst, sym, refl, length-set, arith}
+use Rattle.std.proofs.Common.{◌≡◌, ◌^◌, ℕ, List, Option, None, Some, length, slice_set, ap, ◌∙◌, subst, sym, refl, length-set, arith, rules}
+use Rattle.std.proofs.lemmas.Option.{slice_get_within}
 use Rattle.mac_decide.specs.declared.job.Job.{Job}
 use Rattle.mac_mail.specs.Taking.{fresh_taking}
 use Rattle.mac_queue.specs.Pass.{Pass}
@@ -84,8 +85,7 @@ returns-in-Ok-start_connection-clause-taken g c =
       who = c.in-Ok-start_connection.connection;
       was_free = c.requires;
       berths_are = refl;
-      badge_is = started.badge;
-      session_is = started.session;
+      client_is = started.client;
       mark_is = started.mark ∙ c.mark_of.ensures;
       given = subst (λ (pass : Pass Job). IsGiven c.args.self.now.pool pass c.desk.new.self) (sym (ap (λ d. pass_of d.putter) started.desk)) given;
       fresh = ap (λ d. d.taker) started.desk ∙ c.in-Ok-desk.ensures.fresh ∙ sym (ap (λ d. fresh_taking d.putter.mail) started.desk);
@@ -106,3 +106,30 @@ returns-in-Err-clause-refused g c =
       λ number was.
           subst (λ (after : List (Option (Pass Job))). IsHome number after) (sym after) (home_again slots putter.number putter back given.was_home number was),
     )
+
+-- without a desk the pool is as it was
+pub invariant_of-self : goal.invariant_of-self
+invariant_of-self g c =
+    let same = c.in_default-desk.ensures.same in
+    let workers = ap (λ (p : Slots Job). p.workers) same in
+    let few = c.args.self.now.few in
+    record {
+      size = c.args.self.now.size;
+      home = λ k x at. c.args.self.now.home k x at ∙ sym (ap (λ (p : Slots Job). p.queue) same);
+      marked = c.args.self.now.marked;
+      passes = ap (λ (p : Slots Job). length p.passes) same ∙ c.args.self.now.passes;
+      few = omega (arith, workers, few);
+      manned = subst (λ (p : Slots Job). IsManned p.workers p.passes number_of c.args.self.now.berths.items) (sym same) c.args.self.now.manned;
+    }
+
+pub mark_of-requires : goal.mark_of-requires
+mark_of-requires g c =
+    let within = slice_get_within c.args.self.now.berths.items c.args.berth None c.requires in
+    let size = c.args.self.now.size in
+    omega (arith, within, size)
+
+pub index_mut-requires : goal.index_mut-requires
+index_mut-requires g c =
+    let within = slice_get_within c.args.self.now.berths.items c.args.berth None c.requires in
+    let same : c.args.self.now.berths.len ≡ length c.args.self.now.berths.items = search rules in
+    omega (arith, within, same)

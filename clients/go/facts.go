@@ -1,0 +1,54 @@
+package macaroond
+
+import (
+	"net/http"
+	"regexp"
+	"strings"
+)
+
+// The limits of a path that facts are told of.
+const (
+	pathMax    = 4_096
+	slashesMax = 64
+)
+
+// An empty segment, a backslash, an escape of a dot, a slash or a backslash, or a segment of
+// one dot or two.
+var otherwiseRead = regexp.MustCompile(`(?i)//|\\|%2e|%2f|%5c|/\.\.?(/|$)`)
+
+// RequestFacts gives the method and the path of a request, for Guard; or an ErrNotPlain.
+func RequestFacts(r *http.Request) ([]string, error) {
+	target := r.RequestURI
+	if target == "" {
+		target = r.URL.EscapedPath()
+	}
+	facts, err := PathFacts(target)
+	if err != nil {
+		return nil, err
+	}
+	return append([]string{"method = " + r.Method}, facts...), nil
+}
+
+// PathFacts gives `path = /a/b`, and `path under ..` for each step of the path: `/`, `/a` and
+// `/a/b`. The target is what the request's line has, up to a `?` and with its escapes:
+// `/%C3%A4`, and not `/ä`. A path that isn't plain is an ErrNotPlain. These are the rules of
+// the daemon's source `forwarded` (docs/HTTP.md).
+func PathFacts(target string) ([]string, error) {
+	path, _, _ := strings.Cut(target, "?")
+	if !isPlain(path) {
+		return nil, ErrNotPlain
+	}
+	facts := []string{"path = " + path, "path under /"}
+	for end := 2; end <= len(path); end++ {
+		if path[end-1] != '/' && (end == len(path) || path[end] == '/') {
+			facts = append(facts, "path under "+path[:end])
+		}
+	}
+	return facts, nil
+}
+
+// isPlain tells whether each server reads the path alike.
+func isPlain(path string) bool {
+	isWithin := len(path) <= pathMax && strings.Count(path, "/") <= slashesMax
+	return strings.HasPrefix(path, "/") && isWithin && !otherwiseRead.MatchString(path)
+}

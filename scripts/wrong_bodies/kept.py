@@ -1,0 +1,75 @@
+"""What came of wrong bodies: kept in a crate's out/ as it comes, and counted for the pages."""
+import hashlib
+import json
+import subprocess
+
+# Beside a crate's proofs.
+KEPT = "out/wrong-bodies.json"
+# Where the counts of all crates are written.
+RECORD = "docs/wrong-bodies.txt"
+HEAD = """\
+# What came of the wrong bodies of each crate, by `scripts/wrong_bodies/wrong_bodies.py --record`:
+# the crate, the commit whose tree was tried, and how many were refused at a clause, by name alone,
+# weren't covered, were let through, and didn't compile.
+"""
+
+
+class Kept:
+    """The verdicts on a crate's bodies, each with a digest of what was tried."""
+
+    def __init__(self, top, crate, needed, edits):
+        self.path = top / "crates" / crate / KEPT
+        names = sorted(it.split()[0] for it in needed)
+        texts = [digest(top / "crates" / it) for it in names if (top / "crates" / it).is_dir()]
+        self.digests = {it.stem: hashed(*texts, it.read_bytes()) for it in edits}
+
+    def all(self):
+        try:
+            return json.loads(self.path.read_text())
+        except (OSError, ValueError):
+            return {}
+
+    def valid(self):
+        """The kind of each verdict and what was said, of bodies that are as they were tried."""
+        return {
+            name: (it["kind"], it["said"])
+            for name, it in self.all().items()
+            if it["digest"] == self.digests.get(name) and it["kind"] != "NOT_PROVED"
+        }
+
+    def keep(self, verdicts):
+        found = self.all()
+        for name, (kind, said) in verdicts.items():
+            found[name] = {"kind": kind, "said": said, "digest": self.digests[name]}
+        written = self.path.with_suffix(".new")
+        written.write_text(json.dumps(found, indent=1))
+        written.replace(self.path)
+
+
+def hashed(*parts):
+    return hashlib.sha256(b"\0".join(parts)).hexdigest()
+
+
+def digest(crate):
+    """A digest of the crate's sources, definitions and proofs."""
+    folders = (crate / it for it in ("src", "specs", "proofs"))
+    files = sorted(it for folder in folders for it in folder.rglob("*") if it.is_file())
+    parts = (part for it in files for part in (str(it.relative_to(crate)).encode(), it.read_bytes()))
+    return hashed(*parts).encode()
+
+
+def record(top, crate, counts):
+    """Writes a crate's counts into the table of all, with the commit whose tree was tried."""
+    rows = recorded(top)
+    command = ["git", "-C", str(top), "rev-parse", "--short=7", "HEAD"]
+    commit = subprocess.run(command, capture_output=True, text=True).stdout.strip()
+    rows[crate] = [commit or "unknown", *map(str, counts)]
+    lines = (" ".join([name, *row]) for name, row in sorted(rows.items()))
+    (top / RECORD).write_text(HEAD + "\n".join(lines) + "\n")
+
+
+def recorded(top):
+    """The words of each crate's line in that table."""
+    path = top / RECORD
+    lines = path.read_text().splitlines() if path.exists() else []
+    return {it.split()[0]: it.split()[1:] for it in lines if it and not it.startswith("#")}
