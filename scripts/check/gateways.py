@@ -19,14 +19,13 @@ from check.gateway_rows import ALICE, HELLO, HOST, PAST, ROWS, UNASKED, Row, nar
 from check.gateway_servers import GATEWAYS, asked, connected, guarded, head, program_of
 from common.daemon import PATIENCE
 
-# What a gateway answers that got no verdict, and what each does: of a daemon that is gone, of one
-# that hangs, and of one that has no key of the name.
+# What a gateway answers that got no verdict, and what each does: of a daemon that is gone, and of one that hangs.
 LOST = (500, 502, 503, 504)
 LOST_BY = {
-    "nginx": (500, 500, 500),
-    "caddy": (502, 504, 404),
-    "haproxy": (503, 503, 503),
-    "apache": (503, 503, 503),
+    "nginx": (500, 500),
+    "caddy": (502, 504),
+    "haproxy": (503, 503),
+    "apache": (503, 503),
 }
 # More requests than a gateway keeps connections, and after how many seconds none is left of those
 # that it doesn't keep.
@@ -161,8 +160,8 @@ def as_keys_change(name, scene):
     yield "by the old key", asked_row(scene, GRANTED), (401, "Macaroon", [])
     yield "without a token", asked_row(scene, NO_TOKEN), due_of(NO_TOKEN, name)
     scene.daemon.write_keys(NEW_SECRET, "inn")
-    await_status(scene, NEW, LOST_BY[name][2])
-    yield "no key of the name", asked_row(scene, NEW), (LOST_BY[name][2], "", [])
+    await_status(scene, NEW, 401)
+    yield "no key of the name", asked_row(scene, NEW), (401, "Macaroon", [])
 
 
 # What a client of README's gateway sends, and whether that is granted.

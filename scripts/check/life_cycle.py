@@ -257,6 +257,7 @@ def by_the_page(system):
 def by_hand(system):
     """The commands for people, as anybody."""
     script = """
+        umask 077
         macaroond keygen bank > /tmp/keys
         token=$(macaroond mint --keys /tmp/keys --key bank --identifier alice)
         macaroond verify --keys /tmp/keys --key bank "$token"

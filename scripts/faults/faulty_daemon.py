@@ -114,7 +114,8 @@ def served(times):
             return None
         ended, replies = came
         word = ENDINGS.get((ended.status, ended.output))
-        if ended.error and not ended.error.startswith((b"error: ", b"fault 4\n")):
+        fault = ended.error.removeprefix(UNREMEMBERED)
+        if fault and not fault.startswith((b"error: ", b"fault 4\n")):
             return None
         whole = sum(count == 2 * times for count in replies)
         return word if None not in replies and whole >= WHOLE.get(word, 2) else None
