@@ -2,18 +2,21 @@
 """The gate: every proof, then the programs that it left beside their pages and the work of others.
 
 Its last line counts what passed, failed and was skipped in all of it; it ends with 1 where
-something failed. With `--all` nothing may be skipped.
+something failed. With `--all` nothing may be skipped; with `--anew` nothing is taken over that was
+proved on this machine before.
 """
 import pathlib
 import re
 import shutil
 import subprocess
 import sys
+import time
 
 TOP = pathlib.Path(__file__).resolve().parent.parent
 # The line in which a step counts.
 COUNTS = re.compile(r"(?:[\w. -]+: )?(\d+) passed, (\d+) failed(?:, (\d+) skipped)?")
-PROOFS, PROGRAMS, OUTSIDE = ["rt", "ci"], ["make", "--silent", "taken"], ["scripts/outside.py"]
+PROOFS = ["rt", "ci", *(["--anew"] if "--anew" in sys.argv else [])]
+PROGRAMS, OUTSIDE = ["make", "--silent", "taken"], ["scripts/outside.py"]
 
 
 def followed(command):
@@ -21,7 +24,7 @@ def followed(command):
 
     The line in which it counts is passed on under the command's name: one line alone ends the gate.
     """
-    counts, name = None, " ".join(command)
+    counts, name, begin = None, " ".join(command), time.monotonic()
     print(f"gate: {name}", flush=True)
     if "/" not in command[0] and shutil.which(command[0]) is None:
         print(f"gate: there is no command `{command[0]}`")
@@ -32,6 +35,7 @@ def followed(command):
             told = COUNTS.fullmatch(line.rstrip("\n"))
             counts = [int(it or 0) for it in told.groups()] if told else counts
             print(f"from {name}: {line}" if told else line, end="", flush=True)
+    print(f"gate: {name} took {(time.monotonic() - begin) / 60:.0f} minutes", flush=True)
     return run.returncode, counts
 
 

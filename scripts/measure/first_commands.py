@@ -22,7 +22,7 @@ from common import TOP
 COMMANDS = {
     "demo": ["make", "--silent", "demo"],
     "build": ["make", "--silent", "build"],
-    "test": ["rt", "ci", "--anew"],
+    "test": ["scripts/gate.py", "--anew"],
 }
 
 
