@@ -1,0 +1,17 @@
+-- Who is not listed yet has room in the list, and a mark is not seen.
+use Rattle.std.proofs.Common.{sym, refl, true}
+use Rattle.mac_slots.proofs.Views.{same_view}
+use Rattle.mac_slots.proofs.Counts.{room_to_list, with_listed-new}
+use Rattle.mac_slots.proofs.slots.Slots.list.Goals as goal
+
+pub push_back_reserved-requires : goal.push_back_reserved-requires
+push_back_reserved-requires g c =
+    rw c.self.inside.ready.ok.0
+    (room_to_list c.self.inside.slots.slots c.self.inside.ready.items _ c.args.slot c.in-Some.owned.now c.self.invariant (sym c.in-Some.ensures.value) c.if-not-owned.true)
+
+pub returns-then-not-owned : goal.returns-then-not-owned
+returns-then-not-owned g c =
+    let inside = c.self.inside in
+    let found = sym c.in-Some.ensures.value in
+    rw (c.push_back_reserved.ensures.items, same_view inside.slots.slots c.args.slot c.in-Some.owned.now (record { connection = c.in-Some.owned.now.connection; is_listed = true }) found refl, ← c.self.view_is)
+    (sym (with_listed-new inside.slots.slots inside.ready.items _ c.args.slot c.in-Some.owned.now c.self.invariant found c.if-not-owned.true))
