@@ -24,8 +24,6 @@ use std::time::Clock;
 pub struct Arrival {
     pub stream: Stream,
     pub keys: Follower,
-    /// Its place among all connections.
-    pub place: usize,
 }
 
 /// Where a loop gets connections from.
@@ -43,7 +41,7 @@ struct Inbox {
 pub struct House {
     // What is allowed at its doors.
     rights: Rights,
-    places: Mutex<Places<()>>,
+    places: Mutex<Places>,
     inboxes: Vec<Inbox>,
     is_ending: AtomicBool,
     // Whether no further connection comes in.
@@ -77,7 +75,7 @@ impl House {
         }
         let house = House {
             rights,
-            places: Mutex::new(Places::new(alloc, terms.connections)?),
+            places: Mutex::new(Places::new(terms.connections)),
             inboxes,
             is_ending: AtomicBool::new(false),
             is_closed: AtomicBool::new(false),
@@ -184,17 +182,12 @@ impl House {
         let Some(inbox) = self.inboxes.get(number) else {
             return;
         };
-        let Some(place) = self.give_place(rt) else {
+        if !self.give_place(rt) {
             return;
-        };
+        }
         inbox.count.fetch_add(1, SeqCst);
-        let arrival = Arrival {
-            stream,
-            keys,
-            place,
-        };
-        if inbox.queue.push(rt, arrival).is_err() {
-            self.leave(rt, number, place);
+        if inbox.queue.push(rt, Arrival { stream, keys }).is_err() {
+            self.leave(rt, number);
             return;
         }
         let _ = inbox.waker.wake();
@@ -209,13 +202,13 @@ impl House {
     }
 
     /// Frees the place of a connection that has ended in a loop.
-    pub fn leave<R: Wait>(&self, rt: &R, number: usize, place: usize) {
+    pub fn leave<R: Wait>(&self, rt: &R, number: usize) {
         if let Some(inbox) = self.inboxes.get(number) {
             inbox.count.fetch_sub(1, SeqCst);
         }
         let mut places = self.places.lock(rt);
         let places = &mut *places;
-        places.leave(place);
+        places.leave();
         self.guests.leave(rt);
     }
 
@@ -244,13 +237,15 @@ impl House {
         idlest
     }
 
-    /// A place, if there is one.
-    fn give_place<R: Wait>(&self, rt: &R) -> Option<usize> {
+    /// Takes a place, if one is free. Whether that was so.
+    fn give_place<R: Wait>(&self, rt: &R) -> bool {
         let mut places = self.places.lock(rt);
         let places = &mut *places;
-        let place = places.enter(())?;
-        self.guests.enter(rt);
-        Some(place)
+        let is_given = places.enter();
+        if is_given {
+            self.guests.enter(rt);
+        }
+        is_given
     }
 }
 

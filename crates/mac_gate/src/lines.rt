@@ -2,19 +2,15 @@
 
 use crate::line::Line;
 use http_server::Service;
+use mac_slots::Slots;
 use mio::{Registry, Token};
-use std::alloc::{AllocError, Global};
-use std::collections::VecDeque;
+use std::alloc::Global;
 use std::time::Duration;
 
-/// The connections of a loop, each at its place.
+/// The connections of a loop, each in its slot.
 #[derive(Drop)]
 pub struct Lines<S> {
-    lines: Vec<Option<Line<S>>>,
-    // Whether each place is listed as ready, and those that are.
-    listed: Vec<bool>,
-    ready: VecDeque<usize>,
-    count: usize,
+    slots: Slots<Line<S>>,
     patience: Duration,
     // No peer has taken too long before then.
     due: Option<Duration>,
@@ -24,10 +20,7 @@ impl<S: Service + Drop> Lines<S> {
     /// No connections, whose peers may each take so long.
     pub fn new(alloc: Global, patience: Duration) -> Lines<S> {
         Lines {
-            lines: Vec::new(alloc),
-            listed: Vec::new(alloc),
-            ready: VecDeque::new(alloc),
-            count: 0,
+            slots: Slots::new(alloc),
             patience,
             due: None,
         }
@@ -35,17 +28,17 @@ impl<S: Service + Drop> Lines<S> {
 
     /// Whether there are none.
     pub fn is_empty(&self) -> bool {
-        self.count == 0
+        self.slots.count() == 0
     }
 
     /// Whether one is ready.
     pub fn has_ready(&self) -> bool {
-        !self.ready.is_empty()
+        self.slots.has_ready()
     }
 
     /// How many are ready.
     pub fn count_ready(&self) -> usize {
-        self.ready.len()
+        self.slots.count_ready()
     }
 
     /// How long it is until a peer may have taken too long, if there is one.
@@ -56,33 +49,18 @@ impl<S: Service + Drop> Lines<S> {
         }
     }
 
-    /// Has room for a place, and for its being ready.
-    fn reserve(&mut self, place: usize) -> Result<(), AllocError> {
-        for _ in self.lines.len()..=place {
-            self.ready.reserve(self.lines.len().saturating_add(1))?;
-            self.listed.push(false)?;
-            self.lines.push(None)?;
-        }
-        Ok(())
-    }
-
-    /// Takes a connection in at its place, and has the poll tell of it. Whether that could be.
-    pub fn begin(
-        &mut self,
-        registry: &Registry,
-        place: usize,
-        line: Line<S>,
-        now: Duration,
-    ) -> bool {
-        if self.reserve(place).is_err() || line.join(registry, Token(place)).is_err() {
+    /// Takes a connection in, and has the poll tell of it. Whether that could be.
+    pub fn begin(&mut self, registry: &Registry, line: Line<S>, now: Duration) -> bool {
+        let Ok(slot) = self.slots.reserve() else {
+            return false;
+        };
+        if line.join(registry, Token(slot)).is_err() {
+            let _ = self.slots.release(slot);
             return false;
         }
-        if let Some(own) = self.lines.get_mut(place) {
-            *own = Some(line);
-            self.count = self.count.saturating_add(1);
-        }
+        let _ = self.slots.put(slot, line);
         self.expect(now.saturating_add(self.patience));
-        self.list(place);
+        self.list(slot);
         true
     }
 
@@ -97,90 +75,70 @@ impl<S: Service + Drop> Lines<S> {
         }
     }
 
-    /// A poll has told of a place.
-    pub fn wake(&mut self, place: usize, reads: bool, writes: bool, closes: bool) {
-        if let Some(Some(line)) = self.lines.get_mut(place) {
+    /// A poll has told of a slot.
+    pub fn wake(&mut self, slot: usize, reads: bool, writes: bool, closes: bool) {
+        if let Some(line) = self.slots.get_mut(slot) {
             line.wake(reads, writes, closes);
         }
-        self.list(place);
+        self.list(slot);
     }
 
-    /// Lists a place as ready, once, where its connection is.
-    fn list(&mut self, place: usize) {
-        let is_ready = match self.lines.get(place) {
-            Some(Some(line)) => line.is_ready(),
-            _ => false,
-        };
-        if let Some(listed) = self.listed.get_mut(place) {
-            if is_ready && !*listed && self.ready.push_back(place).is_ok() {
-                *listed = true;
-            }
+    /// Lists a slot as ready, where its connection is.
+    fn list(&mut self, slot: usize) {
+        if self.slots.get(slot).is_some_and(|line| line.is_ready()) {
+            self.slots.list(slot);
         }
     }
 
     /// Takes nothing more from those that are idle than what has come.
     pub fn end_idle(&mut self) {
-        for place in 0..self.lines.len() {
-            self.end_if_idle(place);
+        for slot in 0..self.slots.bound() {
+            self.end_if_idle(slot);
         }
     }
 
     /// The same of one of them.
-    fn end_if_idle(&mut self, place: usize) {
-        if let Some(Some(line)) = self.lines.get_mut(place) {
+    fn end_if_idle(&mut self, slot: usize) {
+        if let Some(line) = self.slots.get_mut(slot) {
             line.end_if_idle();
         }
-        self.list(place);
+        self.list(slot);
     }
 
-    /// The next one that is ready does what it can; what it drops is read into the piece. Its
-    /// place, where it has ended.
+    /// The next one that is ready does what it can; what it drops is read into the piece. Whether
+    /// one has ended.
     pub fn advance_next(
         &mut self,
         registry: &Registry,
         now: Duration,
         is_ending: bool,
         piece: &mut [u8],
-    ) -> Option<usize> {
-        let place = self.ready.pop_front()?;
-        if let Some(listed) = self.listed.get_mut(place) {
-            *listed = false;
-        }
-        let goes_on = match self.lines.get_mut(place) {
-            Some(Some(line)) => {
-                line.advance(now, piece) && line.update(registry, Token(place)).is_ok()
-            }
-            _ => return None,
+    ) -> bool {
+        let Some(slot) = self.slots.next_ready() else {
+            return false;
         };
-        if !goes_on {
-            self.end(place);
-            return Some(place);
+        let Some(line) = self.slots.get_mut(slot) else {
+            return false;
+        };
+        if line.advance(now, piece) && line.update(registry, Token(slot)).is_ok() {
+            self.stay(slot, now, is_ending);
+            return false;
         }
-        self.stay(place, now, is_ending);
-        None
+        let _ = self.slots.release(slot);
+        true
     }
 
     /// Notes what one that goes on waits for.
-    fn stay(&mut self, place: usize, now: Duration, is_ending: bool) {
+    fn stay(&mut self, slot: usize, now: Duration, is_ending: bool) {
         if is_ending {
-            self.end_if_idle(place);
+            self.end_if_idle(slot);
         }
-        let left = match self.lines.get(place) {
-            Some(Some(line)) => line.left(self.patience, now),
-            _ => None,
-        };
-        if let Some(left) = left {
-            self.expect(now.saturating_add(left));
+        if let Some(line) = self.slots.get(slot) {
+            if let Some(left) = line.left(self.patience, now) {
+                self.expect(now.saturating_add(left));
+            }
         }
-        self.list(place);
-    }
-
-    /// Lets a connection go.
-    fn end(&mut self, place: usize) {
-        if let Some(own) = self.lines.get_mut(place) {
-            *own = None;
-            self.count = self.count.saturating_sub(1);
-        }
+        self.list(slot);
     }
 
     /// Whether it is time to look for peers that have taken too long.
@@ -188,26 +146,22 @@ impl<S: Service + Drop> Lines<S> {
         self.due.is_some_and(|due| due <= now)
     }
 
-    /// How many places there are.
-    pub fn places(&self) -> usize {
-        self.lines.len()
+    /// How many slots a look at all of them goes through.
+    pub fn bound(&self) -> usize {
+        self.slots.bound()
     }
 
-    /// Lets the connection of a place go, where its peer has taken too long. Whether that was so.
-    pub fn drop_late(&mut self, place: usize, now: Duration) -> bool {
-        let left = match self.lines.get(place) {
-            Some(Some(line)) => line.left(self.patience, now),
-            _ => return false,
+    /// Lets the connection of a slot go, where its peer has taken too long. Whether that was so.
+    pub fn drop_late(&mut self, slot: usize, now: Duration) -> bool {
+        let Some(line) = self.slots.get(slot) else {
+            return false;
         };
-        match left {
+        match line.left(self.patience, now) {
             Some(left) => {
                 self.expect(now.saturating_add(left));
                 false
             }
-            None => {
-                self.end(place);
-                true
-            }
+            None => self.slots.release(slot).is_some(),
         }
     }
 

@@ -19,7 +19,7 @@ use std::sync::{Arc, Wait};
 use std::thread::{Builder, Threads};
 use std::time::{Clock, Duration};
 
-/// The token of what ends a wait, which no place has.
+/// The token of what ends a wait, which no slot has.
 const WAKER: usize = 1 << 40;
 
 /// How many events are taken at a time.
@@ -130,13 +130,12 @@ impl Loop {
             let Some(arrival) = house.take(rt, self.number) else {
                 return;
             };
-            let place = arrival.place;
             let Ok(line) = line_of(rt, alloc, house, terms, arrival, now) else {
-                house.leave(rt, self.number, place);
+                house.leave(rt, self.number);
                 continue;
             };
-            if !lines.begin(self.poll.registry(), place, line, now) {
-                house.leave(rt, self.number, place);
+            if !lines.begin(self.poll.registry(), line, now) {
+                house.leave(rt, self.number);
             }
         }
     }
@@ -155,9 +154,8 @@ impl Loop {
         }
         for _ in 0..lines.count_ready() {
             let piece = self.piece.as_mut_slice();
-            let gone = lines.advance_next(self.poll.registry(), now, is_ending, piece);
-            if let Some(place) = gone {
-                house.leave(rt, self.number, place);
+            if lines.advance_next(self.poll.registry(), now, is_ending, piece) {
+                house.leave(rt, self.number);
             }
         }
     }
@@ -193,9 +191,9 @@ fn sweep<'x, R: Wait + Clock>(
         return;
     }
     lines.begin_look();
-    for place in 0..lines.places() {
-        if lines.drop_late(place, now) {
-            house.leave(rt, number, place);
+    for slot in 0..lines.bound() {
+        if lines.drop_late(slot, now) {
+            house.leave(rt, number);
         }
     }
 }

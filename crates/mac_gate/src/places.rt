@@ -1,53 +1,41 @@
-//! Places, each for one guest.
+//! Places, each for one connection.
 
-ghost use Rattle.std.specs.Prelude.{◌≡◌, ◌<◌, None, length, position, is_none, replicate};
-ghost use Rattle.std.specs.Prelude.{slice_set, IfOk, IfSome};
-ghost use Rattle.mac_gate.specs.Places.{entered};
-
-use std::alloc::{AllocError, Global};
+ghost use Rattle.std.specs.Prelude.{◌≡◌, ◌+◌, ◌-◌, nat_lt, if◌then◌else◌};
 
 /// So many places, some of them taken.
 #[derive(Drop)]
-pub struct Places<T> {
-    guests: Vec<Option<T>>,
+pub struct Places {
+    most: usize,
+    taken: usize,
 }
 
-impl<T: Drop> Places<T> {
+impl Places {
     /// So many free places.
-    pub fn new(alloc: Global, most: usize) -> Result<Places<T>, AllocError>
-        ensures { IfOk result (λ places. places.guests.items ≡ replicate most None) }
+    pub fn new(most: usize) -> Places
+        ensures most { result.most ≡ most }
+        ensures taken { result.taken ≡ 0 }
     {
-        let mut guests = Vec::with_capacity(alloc, most)?;
-        for _place in 0..most {
-            guests.push(None)?;
-        }
-        Ok(Places { guests })
+        Places { most, taken: 0 }
     }
 
-    /// Gives a guest the first place that is free, and tells which. Where none is free the guest is
-    /// let go.
-    pub fn enter(&mut self, guest: T) -> Option<usize>
-        ensures place { result ≡ position is_none self.old.guests.items }
-        ensures guests { self.new.guests.items ≡ entered self.old.guests.items guest result }
+    /// Takes a place, where one is free. Whether that was so.
+    pub fn enter(&mut self) -> bool
+        ensures free { result ≡ nat_lt self.old.taken self.old.most }
+        ensures taken { self.new.taken ≡ (if result then self.old.taken + 1 else self.old.taken) }
+        ensures most { self.new.most ≡ self.old.most }
     {
-        let place = self.first_free()?;
-        self.guests[place] = Some(guest);
-        Some(place)
+        if self.taken < self.most {
+            self.taken += 1;
+            return true;
+        }
+        false
     }
 
     /// Frees a place.
-    pub fn leave(&mut self, place: usize)
-        ensures { self.new.guests.items ≡ slice_set self.old.guests.items place None }
+    pub fn leave(&mut self)
+        ensures taken { self.new.taken ≡ self.old.taken - 1 }
+        ensures most { self.new.most ≡ self.old.most }
     {
-        if place < self.guests.len() {
-            self.guests[place] = None;
-        }
-    }
-
-    fn first_free(&self) -> Option<usize>
-        ensures place { result ≡ position is_none self.now.guests.items }
-        ensures within { IfSome result (λ place. place < length self.now.guests.items) }
-    {
-        self.guests.iter().position(|guest| guest.is_none())
+        self.taken = self.taken.saturating_sub(1);
     }
 }

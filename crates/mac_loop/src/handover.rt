@@ -17,15 +17,6 @@ pub struct Badge {
     pub place: Option<usize>,
 }
 
-impl Badge {
-    /// That of nobody.
-    pub(crate) const NONE: Badge = Badge {
-        number: 0,
-        accepted: 0,
-        place: None,
-    };
-}
-
 /// What a connection has come to.
 #[derive(Clone, Copy, Debug, PartialEq, Eq)]
 pub struct Life {

@@ -9,13 +9,14 @@ mod sweeping;
 use crate::fault::LoopFault;
 use crate::handover::Handover;
 use crate::inbox::{Inbox, Loops};
-use crate::members::{Members, Progress};
+use crate::members::{Member, Note};
 use crate::meter::{Shares, microseconds};
 use crate::port::{SocketPort, Traffic};
 use crate::watch::{PlainFault, Turn, Watch};
 use mac_board::Outlook;
 use mac_decide::SeenTokens;
 use mac_plain::{Client, Course, Round};
+use mac_slots::Slots;
 use mio::{Events, Poll, Token, Waker};
 use std::alloc::Global;
 use std::net::Net;
@@ -41,15 +42,22 @@ const TURN_LONG: u64 = 2_000;
 /// A turn that took less may have more parts.
 const TURN_SHORT: u64 = 500;
 
+/// What a loop keeps of a slot whose client is in a turn.
+#[derive(Clone, Copy)]
+struct Lent {
+    slot: usize,
+    note: Note,
+}
+
 /// A loop, with the clients of its slots.
 #[derive(Drop)]
 pub struct Loop {
     number: usize,
     poll: Poll,
     events: Events,
-    members: Members,
+    members: Slots<Member>,
     // The slots and the clients of a turn.
-    turn: Vec<usize>,
+    turn: Vec<Lent>,
     batch: Vec<Client<SocketPort>>,
     round: Round,
     parts: usize,
@@ -89,7 +97,7 @@ pub fn make_loops<R: Net>(
             number,
             poll,
             events: Events::with_capacity(alloc, EVENTS)?,
-            members: Members::new(alloc),
+            members: Slots::new(alloc),
             turn: Vec::with_capacity(alloc, PARTS_MAX)?,
             batch: Vec::with_capacity(alloc, PARTS_MAX)?,
             round: Round::new(alloc, seen.share()?)?,
@@ -146,9 +154,11 @@ impl Loop {
     fn take_events(&mut self) {
         for event in self.events.iter() {
             let slot = event.token().0;
-            let closes = event.is_read_closed();
-            self.members
-                .wake(slot, event.is_readable(), event.is_writable(), closes);
+            let (reads, writes) = (event.is_readable(), event.is_writable());
+            if let Some(member) = self.members.get_mut(slot) {
+                member.wake(reads, writes, event.is_read_closed());
+            }
+            self.members.list(slot);
         }
     }
 
@@ -193,9 +203,17 @@ impl Loop {
             return;
         }
         self.is_draining = true;
-        for slot in 0..self.members.slots() {
-            self.members.end_reading(slot);
+        for slot in 0..self.members.bound() {
+            self.end_reading(slot);
         }
+    }
+
+    /// Takes nothing more from the client of a slot than what has come.
+    fn end_reading(&mut self, slot: usize) {
+        if let Some(member) = self.members.get_mut(slot) {
+            member.end_reading();
+        }
+        self.members.list(slot);
     }
 
     /// Whether there was memory to take a client in.
@@ -210,20 +228,20 @@ impl Loop {
             since,
             badge,
         } = client;
-        let Ok(slot) = self.members.free_slot() else {
+        let Ok(slot) = self.members.reserve() else {
             return false;
         };
         if port.join(self.poll.registry(), Token(slot)).is_err() {
-            self.members.free(slot);
+            let _ = self.members.release(slot);
             return false;
         }
         let client = Client::new(port, session, rights);
         // Who has to go on wide waits for bytes first.
         let is_ready = client.course() == Course::Open || client.unsent() > 0;
         loops.count_unsent(0, client.unsent());
-        self.members.begin(slot, client, since, badge);
+        let _ = self.members.put(slot, Member::new(client, since, badge));
         if self.is_draining {
-            self.members.end_reading(slot);
+            self.end_reading(slot);
         } else if is_ready {
             self.members.list(slot);
         }
@@ -249,12 +267,14 @@ impl Loop {
         loops.end_turn();
         let mut traffic = Traffic::NONE;
         for _ in rt.forever() {
-            let (Some(client), Some(slot)) = (self.batch.pop(), self.turn.pop()) else {
+            let (Some(client), Some(lent)) = (self.batch.pop(), self.turn.pop()) else {
                 break;
             };
             loops.count_unsent(0, client.unsent());
-            traffic = traffic.plus(self.members.count_traffic(slot, &client));
-            self.look_after(rt, slot, client, loops, outlook, watch);
+            let note = lent.note;
+            let mut member = Member { client, note };
+            traffic = traffic.plus(member.count_traffic());
+            self.look_after(rt, lent.slot, member, loops, outlook, watch);
         }
         watch.count(&Turn {
             requests: self.round.take_counts(),
@@ -269,25 +289,27 @@ impl Loop {
             if parts >= self.parts {
                 return;
             }
-            let Some((slot, more)) = self.members.next_ready(DEEP) else {
+            let Some(slot) = self.members.next_ready() else {
                 return;
             };
-            parts = parts.saturating_add(more);
-            if let Some(client) = self.members.take(slot) {
-                loops.count_unsent(client.unsent(), 0);
-                self.add(slot, client);
+            if let Some(mut member) = self.members.take(slot) {
+                parts = parts.saturating_add(member.begin_turn(DEEP));
+                loops.count_unsent(member.client.unsent(), 0);
+                self.add(slot, member);
             }
         }
     }
 
     /// Adds a client to a turn.
-    fn add(&mut self, slot: usize, client: Client<SocketPort>) {
-        if self.turn.push(slot).is_err() {
-            self.members.put(slot, client);
+    fn add(&mut self, slot: usize, member: Member) {
+        let Member { client, note } = member;
+        if self.turn.push(Lent { slot, note }).is_err() {
+            let _ = self.members.put(slot, Member { client, note });
             return;
         }
         if let Err(refused) = self.batch.push(client) {
-            self.members.put(slot, refused.value);
+            let client = refused.value;
+            let _ = self.members.put(slot, Member { client, note });
             let _ = self.turn.pop();
         }
     }
@@ -297,59 +319,41 @@ impl Loop {
         &mut self,
         rt: &R,
         slot: usize,
-        mut client: Client<SocketPort>,
+        mut member: Member,
         loops: &Loops,
         outlook: &K,
         watch: &W,
     ) {
-        self.tell_exchanges(rt, slot, &client, watch);
-        if client.is_over() {
-            loops.count_unsent(client.unsent(), 0);
-            let life = self.members.life(slot, &client);
-            self.members.end(slot);
-            watch.end(rt, life, PlainFault::of(&client));
+        tell_exchanges(rt, &member, watch);
+        if member.client.is_over() {
+            loops.count_unsent(member.client.unsent(), 0);
+            let _ = self.members.release(slot);
+            watch.end(rt, member.life(), PlainFault::of(&member.client));
             return;
         }
-        if client.course() == Course::Wide {
-            loops.count_unsent(client.unsent(), 0);
-            let client = self.part(slot, client, outlook);
+        if member.client.course() == Course::Wide {
+            loops.count_unsent(member.client.unsent(), 0);
+            let client = self.part(slot, member, outlook);
             watch.widen(rt, client);
             return;
         }
-        watch.see(self.members.life(slot, &client), client.unsent());
-        self.note_turn(slot, &mut client);
-        self.members.put(slot, client);
-    }
-
-    /// Tells the replies that have gone out to a client, where they are logged.
-    fn tell_exchanges<R: Wait + Clock, W: Watch>(
-        &self,
-        rt: &R,
-        slot: usize,
-        client: &Client<SocketPort>,
-        watch: &W,
-    ) {
-        for _ in rt.forever() {
-            let Some(exchange) = client.port().next_exchange() else {
-                return;
-            };
-            watch.tell(rt, self.members.badge(slot), exchange);
-        }
+        watch.see(member.life(), member.client.unsent());
+        self.note_turn(slot, &mut member);
+        let _ = self.members.put(slot, member);
     }
 
     /// A client that leaves its slot and the loop's poll. It takes along how far the tables were
     /// that it was answered under here.
-    fn part<K: Outlook>(&mut self, slot: usize, client: Client<SocketPort>, outlook: &K) -> Handover
-        requires { IsTrue (may_move client.course) }
-        ensures port { result.port ≡ client.port }
-        ensures session { result.session ≡ client.session }
-        ensures rights { result.rights ≡ client.rights }
+    fn part<K: Outlook>(&mut self, slot: usize, mut member: Member, outlook: &K) -> Handover
+        requires { IsTrue (may_move member.client.course) }
+        ensures port { result.port ≡ member.client.port }
+        ensures session { result.session ≡ member.client.session }
+        ensures rights { result.rights ≡ member.client.rights }
         ensures place { result.place ≡ (K.known outlook.now).tables.place }
     {
-        let progress = Progress::of(&client);
-        let since = self.members.note_progress(slot, progress, self.now);
-        let badge = self.members.badge(slot);
-        self.members.end(slot);
+        let _ = self.members.release(slot);
+        let since = member.note_progress(self.now);
+        let Member { client, note } = member;
         let (port, session, rights) = client.into_parts();
         let _ = port.leave(self.poll.registry());
         Handover {
@@ -358,29 +362,26 @@ impl Loop {
             rights,
             place: outlook.place(),
             since,
-            badge,
+            badge: note.badge,
         }
     }
 
     /// Notes what a client waits for after its turn.
-    fn note_turn(&mut self, slot: usize, client: &mut Client<SocketPort>) {
+    fn note_turn(&mut self, slot: usize, member: &mut Member) {
+        let client = &mut member.client;
         let awaits = client.unsent() > 0;
-        let Some(note) = self.members.note(slot) else {
-            return;
-        };
         // A read that ends within a request may have left some of it.
-        if note.is_closing || (client.has_begun() && client.port().has_read()) {
+        if member.note.is_closing || (client.has_begun() && client.port().has_read()) {
             client.wake_reading();
         }
-        note.is_deep = client.is_busy(self.unsent_max);
-        let (is_deep, awaited) = (note.is_deep, note.awaits_room);
-        note.awaits_room = awaits;
-        if awaits != awaited {
+        member.note.is_deep = client.is_busy(self.unsent_max);
+        if awaits != member.note.awaits_room {
+            member.note.awaits_room = awaits;
             let _ = client
                 .port()
                 .await_room(self.poll.registry(), Token(slot), awaits);
         }
-        if is_deep {
+        if member.note.is_deep {
             self.members.list(slot);
         }
     }
@@ -405,5 +406,15 @@ impl Loop {
             loops.look(&mut self.shares, now);
             self.spread(rt, loops, outlook, watch);
         }
+    }
+}
+
+/// Tells the replies that have gone out to a client, where they are logged.
+fn tell_exchanges<R: Wait + Clock, W: Watch>(rt: &R, member: &Member, watch: &W) {
+    for _ in rt.forever() {
+        let Some(exchange) = member.client.port().next_exchange() else {
+            return;
+        };
+        watch.tell(rt, member.note.badge, exchange);
     }
 }

@@ -72,9 +72,9 @@ impl Loop {
         of: usize,
     ) {
         let mut seen = 0usize;
-        for slot in 0..self.members.slots() {
-            let is_active = self.members.note(slot).map_or(false, |note| note.is_active);
-            if is_active && self.members.client(slot).is_some() {
+        for slot in 0..self.members.bound() {
+            let member = self.members.get(slot);
+            if member.map_or(false, |member| member.note.is_active) {
                 seen = seen.saturating_add(1);
                 if seen % of.max(1) == 0 {
                     self.move_to(rt, loops, outlook, watch, number, slot);
@@ -94,15 +94,15 @@ impl Loop {
         number: usize,
         slot: usize,
     ) {
-        let Some(client) = self.members.take(slot) else {
+        let Some(member) = self.members.take(slot) else {
             return;
         };
-        if !client.may_move() {
-            self.members.put(slot, client);
+        if !member.client.may_move() {
+            let _ = self.members.put(slot, member);
             return;
         }
-        loops.count_unsent(client.unsent(), 0);
-        let client = self.part(slot, client, outlook);
+        loops.count_unsent(member.client.unsent(), 0);
+        let client = self.part(slot, member, outlook);
         if let Err(client) = loops.hand(rt, number, client) {
             self.receive(rt, client, loops, outlook, watch);
         }
@@ -110,9 +110,9 @@ impl Loop {
 
     /// Forgets which clients were active.
     fn rest(&mut self) {
-        for slot in 0..self.members.slots() {
-            if let Some(note) = self.members.note(slot) {
-                note.is_active = false;
+        for slot in 0..self.members.bound() {
+            if let Some(member) = self.members.get_mut(slot) {
+                member.note.is_active = false;
             }
         }
     }

@@ -27,13 +27,11 @@ impl Loop {
             return;
         }
         self.swept = self.now;
-        for slot in 0..self.members.slots() {
+        for slot in 0..self.members.bound() {
             if self.is_idle(slot) {
-                if let Some(client) = self.members.take(slot) {
-                    loops.count_unsent(client.unsent(), 0);
-                    let life = self.members.life(slot, &client);
-                    self.members.end(slot);
-                    watch.end(rt, life, Some(PlainFault::Idle));
+                if let Some(member) = self.members.release(slot) {
+                    loops.count_unsent(member.client.unsent(), 0);
+                    watch.end(rt, member.life(), Some(PlainFault::Idle));
                 }
             }
         }
@@ -63,16 +61,16 @@ impl Loop {
     /// the loop is owed to it. A request that has begun has to be whole in that time, also of who
     /// sends a byte for each turn.
     fn is_idle(&mut self, slot: usize) -> bool {
-        let Some(client) = self.members.client(slot) else {
+        let is_listed = self.members.is_listed(slot);
+        let Some(member) = self.members.get_mut(slot) else {
             return false;
         };
-        let progress = Progress::of(client);
-        let patience = self.patience(progress);
-        let has_begun = progress.has_begun;
-        let since = self.members.note_progress(slot, progress, self.now);
-        let is_listed = self.members.note(slot).map_or(false, |note| note.is_listed);
-        let is_owed = is_listed && !has_begun;
-        let waited = self.now.saturating_sub(since);
-        !is_owed && patience.is_some_and(|seconds| waited >= seconds.saturating_mul(SECOND))
+        let waited = self.now.saturating_sub(member.note_progress(self.now));
+        let progress = member.note.progress;
+        let is_owed = is_listed && !progress.has_begun;
+        !is_owed
+            && self
+                .patience(progress)
+                .is_some_and(|seconds| waited >= seconds.saturating_mul(SECOND))
     }
 }
