@@ -6,7 +6,7 @@ use Rattle.std.specs.declared.thread.PromisedHandle.{PromisedHandle}
 use Rattle.mac_board.specs.Noticed.{Noticed}
 use Rattle.mac_decide.specs.declared.job.Job.{Job}
 use Rattle.mac_decide.specs.declared.rights.Rights.{Rights}
-use Rattle.mac_loop.specs.declared.handover.Badge.{Badge}
+use Rattle.mac_host.specs.declared.badge.Badge.{Badge}
 use Rattle.mac_loop.specs.declared.handover.Handover.{Handover}
 use Rattle.mac_pool.specs.Pool.{Slots, IsGiven, with_home}
 use Rattle.mac_mail.specs.Taking.{Taking, fresh_taking}

@@ -5,7 +5,7 @@ ghost use Rattle.mac_daemon.specs.declared.crew.TheConstants.{WIDE_MAX};
 
 use crate::connection::Parting;
 use crate::crew::{Crew, WIDE_MAX, mark_of};
-use crate::notices::Notice;
+use crate::notice::Notice;
 use crate::quay::Quay;
 use mac_board::Followers;
 use mac_loop::{Handover, Loops};

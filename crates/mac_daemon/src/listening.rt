@@ -3,19 +3,18 @@
 use crate::accepting::Limits;
 use crate::descriptors::most_connections;
 use crate::door::{Door, SideSocket};
-use crate::ending::{Call, Ending, Guests};
 use crate::entrance::Entrance;
+use crate::failure::Failure;
 use crate::fault::DaemonFault;
 use crate::fleet::{Fleet, Idlers, Service, Shape, make_seen};
 use crate::holding::Holdings;
-use crate::notices::{Beginning, Notices};
-use crate::numbers::Numbers;
 use crate::place::PlaceFault;
 use crate::quay::Quay;
-use crate::roster::Roster;
+use crate::stop::Stop;
 use crate::surroundings::{Surroundings, heed_signals};
 use mac_board::{Followers, News};
-use mac_decide::{Rights, SeenTokens};
+use mac_decide::Rights;
+use mac_host::{Beginning, Call, Ending, Host, Notices, Numbers, Roster};
 use mac_system::{NotifySocket, State};
 use std::alloc::{AllocError, Global};
 use std::fs::{File, Files};
@@ -53,13 +52,11 @@ pub struct Terms<'a> {
 /// A daemon that serves the connections of a socket, until it is told to end.
 #[derive(Drop)]
 pub struct Daemon {
-    ending: Arc<Ending, Global>,
+    host: Host,
+    stop: Stop,
     quay: Arc<Quay, Global>,
-    notices: Notices,
-    numbers: Numbers,
     manager: Option<NotifySocket>,
     drain: u64,
-    seen: SeenTokens,
 }
 
 /// Starts a daemon, in threads of its own. Nobody can reach it before it is opened. The connections
@@ -90,10 +87,14 @@ where
     let side_path = side.as_ref().map(|side| side.path);
     open_side(rt, alloc, side, &mut doors, holdings)?;
     let entrance = Entrance::open(rt, alloc, doors)?;
-    let ending = Ending::new(alloc, entrance.shutter())?;
-    let notices = Notices::start(*rt, alloc, is_journal, terms.has_requests)?;
+    let ending = Ending::new(alloc)?;
+    let stop = Stop::new(&ending, entrance.shutter())?;
+    let Some(notices) = Notices::start(*rt, alloc, is_journal, terms.has_requests) else {
+        return Err(DaemonFault::NoThread);
+    };
     if let Some(signals) = signals {
-        heed_signals(*rt, signals, &ending, notices.share()?)?;
+        let stop = Stop::new(&ending, entrance.shutter())?;
+        heed_signals(*rt, signals, stop, notices.share()?)?;
     }
     let numbers = Numbers::begin(rt, alloc)?;
     numbers.set_keys(rt, terms.names);
@@ -103,7 +104,8 @@ where
     };
     let paths = socket_paths(alloc, terms.path, side_path)?;
     let roster = Roster::new(rt, alloc, limits.connections, paths)?;
-    let quay = Quay::new(alloc, Some(notices.share()?), numbers.share()?, roster)?;
+    let listed = Arc::try_clone(&roster)?;
+    let quay = Quay::new(alloc, Some(notices.share()?), numbers.share()?, listed)?;
     let seen = make_seen(rt, alloc, terms.shape);
     let service = Service {
         workers: terms.shape.workers,
@@ -112,16 +114,15 @@ where
         limits,
         quay: Arc::try_clone(&quay)?,
     };
-    start_serving(*rt, alloc, service, followers, &ending)?;
-    ending.await_begin(rt)?;
+    let failure = start_serving(*rt, alloc, service, followers, &ending)?;
+    ending.await_begin(rt);
+    failure.take(rt)?;
     Ok(Daemon {
-        ending,
+        host: Host::new(ending, notices, numbers, roster, seen),
+        stop,
         quay,
-        notices,
-        numbers,
         manager,
         drain: terms.drain,
-        seen,
     })
 }
 
@@ -139,42 +140,45 @@ impl Daemon {
     {
         holdings.place_all(rt)?;
         say_listening(rt, terms, side);
-        self.notices.tell_begin(rt, beginning_of(terms, side));
+        self.host
+            .notices()
+            .tell_begin(rt, beginning_of(terms, side));
         self.tell_manager(rt, State::Ready);
         Ok(())
     }
 
     /// Tells a daemon to end, at one of whose paths there is another one's socket.
     pub fn end_replaced<R: Wait + Clock>(&self, rt: &R, path: &str) {
-        self.ending.tell_replaced(rt, &self.notices, path);
+        self.stop.tell_replaced(rt, self.host.notices(), path);
     }
 
     /// Waits until the daemon is told something, for so long at most.
     pub fn await_call<R: Wait + Clock>(&self, rt: &R, patience: Duration) -> Call {
-        self.ending.await_call(rt, patience)
+        self.host.ending().await_call(rt, patience)
     }
 
     /// Tells what came of a look at its key file, if there is anything to be told.
     pub fn tell_keys<R: Wait + Clock>(&self, rt: &R, file: &str, news: News) {
-        self.numbers.note_keys(rt, &news);
-        self.notices.tell_keys(rt, file, news);
+        self.host.numbers().note_keys(rt, &news);
+        self.host.notices().tell_keys(rt, file, news);
     }
 
-    /// Who counts connections that aren't its own, which are seen off with it.
-    pub fn guests(&self) -> Result<Guests, AllocError> {
-        Guests::of(&self.ending, &self.quay, &self.numbers, &self.seen)
+    /// What a further server has of it, whose connections are seen off with it.
+    pub fn host(&self) -> Result<Host, AllocError> {
+        self.host.share()
     }
 
     /// Sees a daemon off that was told to end. It takes no further connection, answers what has
     /// come on those that there are, and closes each once its replies are sent. What isn't done
-    /// after the seconds of its terms, or once it is told to end again, is cut off. Guests have as
-    /// long to leave.
+    /// after the seconds of its terms, or once it is told to end again, is cut off. Connections of
+    /// further servers have as long to leave.
     pub fn see_off<R: Wait + Clock>(self, rt: &R) {
         self.tell_manager(rt, State::Stopping);
-        let has_ended = self.ending.await_end(rt, self.drain);
-        let left = self.quay.live().saturating_add(self.ending.guests(rt));
+        let ending = self.host.ending();
+        let has_ended = ending.await_end(rt, self.drain);
+        let left = self.quay.live().saturating_add(ending.connections(rt));
         let cut = if has_ended { 0 } else { left };
-        self.notices.tell_end(rt, cut);
+        self.host.notices().tell_end(rt, cut);
     }
 
     /// Tells the service manager, if one waits for it, how the daemon stands.
@@ -183,7 +187,8 @@ impl Daemon {
             return;
         };
         if let Err(fault) = manager.tell(state) {
-            self.notices
+            self.host
+                .notices()
                 .tell_system(rt, "the service manager isn't told", fault);
         }
     }
@@ -256,17 +261,20 @@ fn start_serving<R>(
     service: Service,
     followers: Followers,
     ending: &Arc<Ending, Global>,
-) -> Result<(), DaemonFault>
+) -> Result<Arc<Failure, Global>, DaemonFault>
 where
     R: Threads + Wait + Clock + Sync + Copy + Send + 'static,
 {
     let ending = Arc::try_clone(ending)?;
+    let failure = Failure::none(alloc)?;
+    let told = Arc::try_clone(&failure)?;
     let work = move || {
         let outcome = serve_all(&rt, alloc, service, &followers, &ending);
-        ending.finish(&rt, outcome);
+        told.put(&rt, outcome);
+        ending.finish(&rt);
     };
     match Builder::new().stack_size(STACK).spawn(&rt, work) {
-        Ok(_) => Ok(()),
+        Ok(_) => Ok(failure),
         Err(_) => Err(DaemonFault::NoThread),
     }
 }

@@ -1,13 +1,10 @@
 //! What the threads of a daemon tell one another of its connections: how many there are, which of
 //! them ask for a desk, whose berth was left, and what is printed.
 
-use crate::notices::{Notice, Notices};
-use crate::numbers::Numbers;
-use crate::roster::Roster;
+use crate::notice::Notice;
 use crossbeam_queue::SegQueue;
-use mac_loop::{
-    Badge, Exchange, Handover, Life, PlainFault, Transcript, Turn, Watch, microseconds,
-};
+use mac_host::{Badge, Exchange, Life, Notices, Numbers, Roster, microseconds};
+use mac_loop::{Handover, PlainFault, Transcript, Turn, Watch};
 use mac_mail::Bell;
 use std::alloc::{AllocError, Global};
 use std::sync::atomic::Ordering::SeqCst;
@@ -37,7 +34,7 @@ pub struct Quay {
     work: Bell,
     notices: Option<Notices>,
     numbers: Numbers,
-    roster: Roster,
+    roster: Arc<Roster, Global>,
 }
 
 impl Quay {
@@ -46,7 +43,7 @@ impl Quay {
         alloc: Global,
         notices: Option<Notices>,
         numbers: Numbers,
-        roster: Roster,
+        roster: Arc<Roster, Global>,
     ) -> Result<Arc<Quay, Global>, AllocError> {
         let quay = Quay {
             live: AtomicU64::new(0),
@@ -91,28 +88,18 @@ impl Quay {
         }
     }
 
-    /// Whether requests are logged.
-    pub fn has_requests(&self) -> bool {
-        match &self.notices {
-            Some(notices) => notices.has_requests(),
-            None => false,
-        }
-    }
-
     /// What a connection that begins is noted in, where requests are logged.
     pub fn transcript(&self, alloc: Global) -> Option<Transcript> {
-        if self.has_requests() {
-            Some(Transcript::new(alloc))
-        } else {
-            None
+        match &self.notices {
+            Some(notices) if notices.has_requests() => Some(Transcript::new(alloc)),
+            _ => None,
         }
     }
 
-    /// Tells a request, the connection that it came on unless that is a guest, and what it was
-    /// answered.
-    pub fn say_exchange<R: Wait + Clock>(&self, rt: &R, badge: Option<Badge>, exchange: Exchange) {
+    /// Tells a request, the connection that it came on, and what it was answered.
+    pub fn say_exchange<R: Wait + Clock>(&self, rt: &R, badge: Badge, exchange: Exchange) {
         if let Some(notices) = &self.notices {
-            notices.tell_exchange(rt, badge, exchange);
+            notices.tell_exchange(rt, Some(badge), exchange);
         }
     }
 
@@ -131,7 +118,7 @@ impl Quay {
         if let Some(notice) = notice {
             self.faults.fetch_add(1, SeqCst);
             if let Some(notices) = &self.notices {
-                notices.tell_parting(rt, life, notice);
+                notices.tell_parting(rt, life, notice.kind(), &notice);
             }
         }
         self.live.fetch_sub(1, SeqCst);
@@ -141,11 +128,6 @@ impl Quay {
     /// What is counted.
     pub fn numbers(&self) -> &Numbers {
         &self.numbers
-    }
-
-    /// Which connections there are.
-    pub fn roster(&self) -> &Roster {
-        &self.roster
     }
 
     /// Waits until all connections have ended.
@@ -263,11 +245,11 @@ impl Watch for Quay {
     }
 
     fn count(&self, turn: &Turn) {
-        self.numbers.count_turn(turn);
+        self.numbers.count_turn(&turn.requests, turn.traffic);
     }
 
     fn tell<R: Wait + Clock>(&self, rt: &R, badge: Badge, exchange: Exchange) {
-        self.say_exchange(rt, Some(badge), exchange);
+        self.say_exchange(rt, badge, exchange);
     }
 
     fn see(&self, life: Life, unsent: usize) {

@@ -1,7 +1,8 @@
 //! How long a connection is answered wide before it goes back to a loop.
 
 use crate::quay::{Mooring, Quay};
-use mac_loop::{Badge, SocketPort, Transcript, microseconds};
+use mac_host::{Badge, microseconds};
+use mac_loop::{SocketPort, Transcript};
 use std::io;
 use std::io::{ErrorKind, Read};
 use std::os::unix::net::UnixStream;
@@ -80,7 +81,7 @@ impl Stay {
             let Some(exchange) = transcript.next_exchange() else {
                 return;
             };
-            quay.say_exchange(rt, Some(self.badge), exchange);
+            quay.say_exchange(rt, self.badge, exchange);
         }
     }
 }

@@ -1,14 +1,14 @@
 //! What a daemon finds in the environment that it is started in.
 
-use crate::ending::Ending;
 use crate::fault::DaemonFault;
-use crate::notices::Notices;
+use crate::stop::Stop;
+use mac_host::Notices;
 use mac_system::{NotifySocket, Signal, Signals, handed_listener};
 use std::alloc::{Alloc, Global};
 use std::env::Env;
 use std::os::unix::net::UnixListener;
 use std::process::Process;
-use std::sync::{Arc, Wait};
+use std::sync::Wait;
 use std::thread::Threads;
 use std::time::{Clock, Duration};
 use std::{env, thread};
@@ -50,24 +50,23 @@ impl Surroundings {
 pub fn heed_signals<R>(
     rt: R,
     signals: Signals,
-    ending: &Arc<Ending, Global>,
+    stop: Stop,
     notices: Notices,
 ) -> Result<(), DaemonFault>
 where
     R: Threads + Wait + Clock + Copy + Send + 'static,
 {
-    let ending = Arc::try_clone(ending)?;
-    match thread::spawn(&rt, move || heed_each(&rt, signals, &ending, &notices)) {
+    match thread::spawn(&rt, move || heed_each(&rt, signals, &stop, &notices)) {
         Ok(_) => Ok(()),
         Err(_) => Err(DaemonFault::NoThread),
     }
 }
 
-fn heed_each<R: Wait + Clock>(rt: &R, signals: Signals, ending: &Ending, notices: &Notices) {
+fn heed_each<R: Wait + Clock>(rt: &R, signals: Signals, stop: &Stop, notices: &Notices) {
     for _ in rt.forever() {
         match signals.wait() {
-            Ok(Signal::HangUp) => ending.prompt(rt),
-            Ok(Signal::Interrupt | Signal::Terminate) => ending.tell(rt),
+            Ok(Signal::HangUp) => stop.prompt(rt),
+            Ok(Signal::Interrupt | Signal::Terminate) => stop.tell(rt),
             Err(fault) => {
                 notices.tell_system(rt, "signals can't be read", fault);
                 thread::sleep(rt, Duration::from_millis(PAUSE_MILLIS));

@@ -7,7 +7,7 @@ use crate::looping::Loop;
 use crate::terms::Terms;
 use crate::welcoming::start_welcoming;
 use mac_board::Followers;
-use mac_daemon::Guests;
+use mac_host::Host;
 use std::alloc::{AllocError, Global};
 use std::io;
 use std::net::Net;
@@ -49,14 +49,14 @@ pub struct Gate {
     house: Arc<House, Global>,
 }
 
-/// Has the connections that come in through these doors served, by so many loops. The daemon counts
-/// them as guests.
+/// Has the connections that come in through these doors served, by so many loops. The end of their
+/// host waits for them.
 pub fn open_gate<R>(
     rt: &R,
     alloc: Global,
     doors: Doors,
     followers: Followers,
-    guests: Guests,
+    host: Host,
     loops: usize,
     terms: Terms,
 ) -> Result<Gate, GateFault>
@@ -72,7 +72,7 @@ where
             return Err(GateFault::NoMemory);
         }
     }
-    let house = House::new(alloc, terms, rights, guests, waker, wakers)?;
+    let house = House::new(alloc, terms, rights, host, waker, wakers)?;
     house.open(rt);
     if !start_all(rt, alloc, made, entrance, &house, followers, terms) {
         house.close(rt);

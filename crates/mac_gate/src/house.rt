@@ -8,8 +8,8 @@ use crossbeam_queue::SegQueue;
 use http::StatusCode;
 use mac_board::Follower;
 use mac_count::{Number, Request, append_metrics, append_status, append_version};
-use mac_daemon::Guests;
 use mac_decide::{Rights, SeenTokens};
+use mac_host::Host;
 use mac_http::Noted;
 use mio::Waker;
 use std::alloc::{AllocError, Global};
@@ -46,8 +46,8 @@ pub struct House {
     is_ending: AtomicBool,
     // Whether no further connection comes in.
     is_closed: AtomicBool,
-    // The end of the daemon waits for them.
-    guests: Guests,
+    // The daemon, whose end waits for them.
+    host: Host,
     // It wakes who waits for connections.
     waker: Waker,
     version: &'static str,
@@ -61,7 +61,7 @@ impl House {
         alloc: Global,
         terms: Terms,
         rights: Rights,
-        guests: Guests,
+        host: Host,
         waker: Waker,
         wakers: Vec<Waker>,
     ) -> Result<Arc<House, Global>, AllocError> {
@@ -79,7 +79,7 @@ impl House {
             inboxes,
             is_ending: AtomicBool::new(false),
             is_closed: AtomicBool::new(false),
-            guests,
+            host,
             waker,
             version: terms.version,
             alloc,
@@ -99,19 +99,19 @@ impl House {
 
     /// The memory of tokens of its daemon.
     pub fn seen(&self) -> &SeenTokens {
-        self.guests.seen()
+        self.host.seen()
     }
 
     /// Appends the version and the numbers of its daemon, as Prometheus reads them.
     pub fn append_metrics(&self, text: &mut Vec<u8>) -> Result<(), AllocError> {
         append_version_metric(self.version, text)?;
-        append_metrics(self.alloc, &self.guests.counters().snapshot(), text)
+        append_metrics(self.alloc, &self.host.numbers().snapshot(), text)
     }
 
     /// Appends the version and the numbers of its daemon, a line for each.
     pub fn append_status(&self, text: &mut Vec<u8>) -> Result<(), AllocError> {
         append_version(self.version, text)?;
-        append_status(self.alloc, &self.guests.counters().snapshot(), text)
+        append_status(self.alloc, &self.host.numbers().snapshot(), text)
     }
 
     /// Appends a line for each connection of its daemon that isn't over HTTP.
@@ -120,46 +120,42 @@ impl House {
         rt: &R,
         text: &mut Vec<u8>,
     ) -> Result<(), AllocError> {
-        self.guests.append_connections(rt, self.alloc, text)
+        self.host.roster().append_lines(rt, self.alloc, text)
     }
 
     /// Counts a request that was answered.
     pub fn count_request(&self, request: Request) {
-        self.guests.count_request(request);
+        self.host.numbers().count_request(request);
     }
 
     /// Logs a request and the status that it was answered with, where requests are logged. Without
     /// memory for its name it isn't logged.
     pub fn tell_request<R: Wait + Clock>(&self, rt: &R, noted: Noted<'_>, status: StatusCode) {
-        if !self.guests.has_requests() {
+        if !self.host.notices().has_requests() {
             return;
         }
         let Ok(name) = Vec::from_slice(self.alloc, noted.name) else {
             return;
         };
-        self.guests
-            .tell_exchange(rt, exchange_of(noted.asks, name, status));
+        let exchange = exchange_of(noted.asks, name, status);
+        self.host.notices().tell_exchange(rt, None, exchange);
     }
 
     /// Logs that the system gave no connection.
     pub fn tell_refused<R: Wait + Clock>(&self, rt: &R, fault: io::Error) {
         if let Ok(text) = fault.to_string(self.alloc) {
-            self.guests.tell_refused(rt, text.as_str());
+            self.host.notices().tell_refused(rt, text.as_str());
         }
     }
 
     /// Whether the last key file that its daemon read was refused.
     pub fn has_refused_keys(&self) -> bool {
-        self.guests
-            .counters()
-            .snapshot()
-            .number(Number::KeysRefused)
-            > 0
+        self.host.numbers().snapshot().number(Number::KeysRefused) > 0
     }
 
     /// Has the end of the daemon wait until it is closed.
     pub fn open<R: Wait>(&self, rt: &R) {
-        self.guests.open_gate(rt);
+        self.host.open_server(rt);
     }
 
     /// Tells the end of the daemon that no further connection comes in, and has each loop return
@@ -167,7 +163,7 @@ impl House {
     pub fn close<R: Wait>(&self, rt: &R) {
         self.is_closed.store(true, SeqCst);
         self.wake_loops();
-        self.guests.close_gate(rt);
+        self.host.close_server(rt);
     }
 
     /// Whether no further connection comes in.
@@ -209,7 +205,7 @@ impl House {
         let mut places = self.places.lock(rt);
         let places = &mut *places;
         places.leave();
-        self.guests.leave(rt);
+        self.host.leave(rt);
     }
 
     /// Takes no further connection, and ends those that are idle.
@@ -243,7 +239,7 @@ impl House {
         let places = &mut *places;
         let is_given = places.enter();
         if is_given {
-            self.guests.enter(rt);
+            self.host.enter(rt);
         }
         is_given
     }

@@ -2,7 +2,7 @@
 
 use http::StatusCode;
 use mac_count::{Asked, Request, Told};
-use mac_daemon::Exchange;
+use mac_host::Exchange;
 use mac_http::Asks;
 
 /// What a request is counted as, if it is counted: what needs no key isn't.

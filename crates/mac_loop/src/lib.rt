@@ -18,10 +18,9 @@ mod transcript;
 mod watch;
 
 pub use fault::LoopFault;
-pub use handover::{Badge, Handover, Life};
+pub use handover::Handover;
 pub use inbox::Loops;
 pub use looping::{Loop, make_loops};
-pub use meter::microseconds;
-pub use port::{SocketPort, Traffic};
-pub use transcript::{Exchange, Transcript};
+pub use port::SocketPort;
+pub use transcript::Transcript;
 pub use watch::{PlainFault, Turn, Watch};

@@ -1,7 +1,7 @@
 //! A client of a loop, and what the loop knows of it.
 
-use crate::handover::{Badge, Life};
-use crate::port::{SocketPort, Traffic};
+use crate::port::SocketPort;
+use mac_host::{Badge, Life, Traffic};
 use mac_plain::Client;
 
 /// How a client stood when a loop last looked at its progress.

@@ -3,21 +3,9 @@
 use std::alloc::{AllocError, Global};
 use std::sync::atomic::AtomicU64;
 use std::sync::atomic::Ordering::SeqCst;
-use std::time::Clock;
 
 /// How many microseconds a look at all loops spans at least.
 const SPAN: u64 = 10_000;
-
-/// The microseconds of a clock that begins anywhere.
-pub fn microseconds<R: Clock>(rt: &R) -> u64 {
-    match rt.monotonic() {
-        Ok(time) => time
-            .as_secs()
-            .saturating_mul(1_000_000)
-            .saturating_add(u64::from(time.subsec_micros())),
-        Err(_) => 0,
-    }
-}
 
 /// The microseconds that a loop has worked.
 #[derive(Drop)]

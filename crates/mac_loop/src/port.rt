@@ -3,7 +3,8 @@
 ghost use Rattle.std.specs.Prelude.{length};
 ghost use Rattle.mac_plain.specs.Port.{FitsCame, FitsWent};
 
-use crate::transcript::{Exchange, Transcript};
+use crate::transcript::Transcript;
+use mac_host::{Exchange, Traffic};
 use mac_plain::{Came, Port, Went};
 use mio::net::UnixStream;
 use mio::unix::SourceFd;
@@ -14,36 +15,6 @@ use std::io::{ErrorKind, Read, Write};
 use std::net::Shutdown;
 use std::os::fd::AsRawFd;
 use std::os::unix::net;
-
-/// How many bytes came from a peer, and how many went to it.
-#[derive(Clone, Copy, Debug, PartialEq, Eq)]
-pub struct Traffic {
-    /// Those that were read.
-    pub came: u64,
-    /// Those that were written.
-    pub went: u64,
-}
-
-impl Traffic {
-    /// None.
-    pub const NONE: Traffic = Traffic { came: 0, went: 0 };
-
-    /// What has come and gone since an earlier count.
-    pub fn since(self, before: Traffic) -> Traffic {
-        Traffic {
-            came: self.came.saturating_sub(before.came),
-            went: self.went.saturating_sub(before.went),
-        }
-    }
-
-    /// Both together.
-    pub fn plus(self, other: Traffic) -> Traffic {
-        Traffic {
-            came: self.came.saturating_add(other.came),
-            went: self.went.saturating_add(other.went),
-        }
-    }
-}
 
 /// A socket that a loop reads and writes.
 #[derive(Drop)]

@@ -1,6 +1,7 @@
 //! What a connection is asked and answered, read off the bytes of its socket, for who logs that. No
 //! contract speaks of it.
 
+use mac_host::Exchange;
 use mac_wire::{
     Arrival, Cut, FeedFault, FrameReader, ReplyKind, RequestKind, Version, key_name, next_frame,
     reply_kind, request_kind,
@@ -15,19 +16,6 @@ use std::mem;
 struct Asked {
     what: &'static str,
     name: Vec<u8>,
-}
-
-/// A request, and what it was answered.
-#[derive(Drop)]
-pub struct Exchange {
-    /// What it asks for, in a word.
-    pub asks: &'static str,
-    /// The name of the key that it names, empty where it names none.
-    pub name: Vec<u8>,
-    /// What it was answered, in a word.
-    pub verdict: &'static str,
-    /// The number of a refusal.
-    pub code: Option<u16>,
 }
 
 /// What comes and goes on a connection, in requests and their replies. Once memory is refused to

@@ -1,9 +1,9 @@
 //! What loops ask of the daemon around them.
 
-use crate::handover::{Badge, Handover, Life};
-use crate::port::{SocketPort, Traffic};
-use crate::transcript::Exchange;
+use crate::handover::Handover;
+use crate::port::SocketPort;
 use mac_count::REQUESTS;
+use mac_host::{Badge, Exchange, Life, Traffic};
 use mac_plain::{Client, Course, Ended, Fall};
 use std::sync::Wait;
 use std::time::Clock;

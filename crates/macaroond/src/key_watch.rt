@@ -8,11 +8,11 @@ use crate::key_store::{FirstKeys, KeyPlace, look_at};
 use crate::operating::{OperatorsGate, open_status, start_operators, warn_of_no_status};
 use mac_board::Editor;
 use mac_daemon::{
-    Call, Claim, Daemon, DaemonFault, FOLLOWERS_MAX, Holdings, SideSocket, Surroundings, Terms,
-    listen,
+    Claim, Daemon, DaemonFault, FOLLOWERS_MAX, Holdings, SideSocket, Surroundings, Terms, listen,
 };
 use mac_decide::Rights;
 use mac_gate::{Address, DoorFault, Doors, Gate, GateFault, open_gate};
+use mac_host::Call;
 use std::alloc::{Alloc, AllocError, Global};
 use std::env::Env;
 use std::fs::{File, Files};
@@ -240,8 +240,8 @@ where
         return Ok(None);
     }
     let followers = editor.followers()?;
-    let guests = daemon.guests()?;
-    let gate = open_gate(rt, rt.alloc(), doors, followers, guests, loops, terms)?;
+    let host = daemon.host()?;
+    let gate = open_gate(rt, rt.alloc(), doors, followers, host, loops, terms)?;
     Ok(Some(gate))
 }
 

@@ -95,7 +95,7 @@ where
         alloc,
         doors,
         followers,
-        daemon.guests()?,
+        daemon.host()?,
         OPERATORS_LOOPS,
         operators_terms(),
     )?;

@@ -1,12 +1,13 @@
 //! The list of connections that a daemon has, for who asks. No contract speaks of it.
 
+use crate::badge::Life;
+use crate::clock::microseconds;
 use crossbeam_queue::ArrayQueue;
 use mac_log::{Fields, Key};
-use mac_loop::{Life, microseconds};
 use std::alloc::{AllocError, Global};
-use std::sync::Wait;
 use std::sync::atomic::Ordering::SeqCst;
 use std::sync::atomic::{AtomicBool, AtomicU64};
+use std::sync::{Arc, Wait};
 use std::time::Clock;
 
 /// How many connections are listed at most. Further ones are served all the same.
@@ -57,7 +58,7 @@ impl Roster {
         alloc: Global,
         connections: u64,
         sockets: Vec<String>,
-    ) -> Result<Roster, AllocError> {
+    ) -> Result<Arc<Roster, Global>, AllocError> {
         let count = connections.min(LISTED_MAX).max(1) as usize;
         let mut rows = Vec::with_capacity(alloc, count)?;
         let free = ArrayQueue::new(alloc, count)?;
@@ -65,11 +66,12 @@ impl Roster {
             rows.push(Row::free())?;
             let _ = free.push(rt, place);
         }
-        Ok(Roster {
+        let roster = Roster {
             rows,
             free,
             sockets,
-        })
+        };
+        Ok(Arc::new(alloc, roster)?)
     }
 
     /// Gives a connection a place, if there is one.

@@ -1,55 +1,19 @@
 //! What the daemon says on standard error while it runs: which line tells what.
 
-use crate::fault::DaemonFault;
+use crate::badge::{Badge, Life};
+use crate::clock::microseconds;
+use crate::exchange::Exchange;
 use mac_board::{News, Refusal};
 use mac_log::{Fields, Key, Kind, Log, NoMemory, is_told_name, start_log};
-use mac_loop::{Badge, Exchange, Life, PlainFault, microseconds};
-use mac_serve::ServeFault;
 use std::alloc::Global;
+use std::fmt::Display;
 use std::io;
 use std::sync::{Arc, Wait};
 use std::thread::Threads;
 use std::time::Clock;
-use thiserror::Error;
 
 /// How many milliseconds the daemon waits at its end until its last lines are printed.
 const PATIENCE_MILLIS: u64 = 200;
-
-/// Why a connection ended that might have gone on.
-#[derive(Clone, Copy, Debug, Error)]
-pub enum Notice {
-    /// It ended in a fault while a loop answered it.
-    #[error("{0}")]
-    Plain(PlainFault),
-    /// It ended in a fault while it was wide.
-    #[error("{0}")]
-    Wide(ServeFault),
-    /// It asked for a desk, and got none.
-    #[error("no desk, thread or memory for it")]
-    Dropped,
-    /// The system failed as it went from one thread to another.
-    #[error("the system failed")]
-    System,
-    /// There was no memory for it.
-    #[error("memory ran out")]
-    NoMemory,
-}
-
-impl Notice {
-    /// Whether it is a fault, and no rest that was too long.
-    pub fn is_fault(self) -> bool {
-        self.kind() != Kind::ConnectionIdle
-    }
-
-    /// The kind of the line that tells it.
-    fn kind(self) -> Kind {
-        match self {
-            Notice::Plain(PlainFault::Idle) => Kind::ConnectionIdle,
-            Notice::Plain(_) | Notice::Wide(_) => Kind::ConnectionFault,
-            Notice::Dropped | Notice::System | Notice::NoMemory => Kind::ConnectionDropped,
-        }
-    }
-}
 
 /// What a daemon serves, as it is told at its start.
 #[derive(Clone, Copy)]
@@ -77,24 +41,18 @@ pub struct Notices {
 
 impl Notices {
     /// Starts the thread that prints lines, each with its priority where systemd's journal reads
-    /// them. There is one for each request where that is asked for.
-    pub fn start<R>(
-        rt: R,
-        alloc: Global,
-        is_journal: bool,
-        has_requests: bool,
-    ) -> Result<Notices, DaemonFault>
+    /// them. There is one for each request where that is asked for. Without a thread for it there
+    /// is no log.
+    pub fn start<R>(rt: R, alloc: Global, is_journal: bool, has_requests: bool) -> Option<Notices>
     where
         R: Threads + Wait + Clock + Eprint + Copy + Send + 'static,
     {
-        match start_log(rt, alloc, is_journal) {
-            Some(log) => Ok(Notices {
-                alloc,
-                log,
-                has_requests,
-            }),
-            None => Err(DaemonFault::NoThread),
-        }
+        let log = start_log(rt, alloc, is_journal)?;
+        Some(Notices {
+            alloc,
+            log,
+            has_requests,
+        })
     }
 
     /// The same log, for another thread.
@@ -123,10 +81,16 @@ impl Notices {
         self.log.post(rt, Kind::Start, fields);
     }
 
-    /// Tells why a connection ended that might have gone on.
-    pub fn tell_parting<R: Wait + Clock>(&self, rt: &R, life: Life, notice: Notice) {
-        let fields = parting_fields(rt, self.alloc, life, notice);
-        self.log.post(rt, notice.kind(), fields);
+    /// Tells why a connection ended that might have gone on, in a line of this kind.
+    pub fn tell_parting<R: Wait + Clock, W: Display>(
+        &self,
+        rt: &R,
+        life: Life,
+        kind: Kind,
+        why: &W,
+    ) {
+        let fields = parting_fields(rt, self.alloc, life, kind, why);
+        self.log.post(rt, kind, fields);
     }
 
     /// Tells that a connection was closed, since there are as many as there may be.
@@ -197,19 +161,20 @@ fn beginning_fields(alloc: Global, beginning: Beginning<'_>) -> Result<Fields, N
 }
 
 /// Which connection it was, how long it was there, what it was answered, and why it ended.
-fn parting_fields<R: Clock>(
+fn parting_fields<R: Clock, W: Display>(
     rt: &R,
     alloc: Global,
     life: Life,
-    notice: Notice,
+    kind: Kind,
+    why: &W,
 ) -> Result<Fields, NoMemory> {
     let micros = microseconds(rt).saturating_sub(life.badge.accepted);
     let fields = Fields::new(alloc)
         .with_number(alloc, Key::Connection, life.badge.number)?
         .with_number(alloc, Key::Millis, micros / 1_000)?
         .with_number(alloc, Key::Requests, life.answered)?;
-    let why = notice.to_string(alloc)?;
-    match notice.kind() {
+    let why = why.to_string(alloc)?;
+    match kind {
         Kind::ConnectionFault => fields.with_text(Key::Fault, why.as_bytes()),
         Kind::ConnectionDropped => fields.with_text(Key::Cause, why.as_bytes()),
         _ => Ok(fields),

@@ -1,8 +1,8 @@
 //! What a daemon counts, for all its threads. No contract speaks of the counts.
 
+use crate::traffic::Traffic;
 use mac_board::{Moments, News};
-use mac_count::{Counters, Number, Request};
-use mac_loop::Turn;
+use mac_count::{Counters, Number, REQUESTS, Request, Snapshot};
 use mac_system::SystemMoments;
 use std::alloc::{AllocError, Global};
 use std::sync::Arc;
@@ -28,9 +28,9 @@ impl Numbers {
         Ok(Numbers { counters })
     }
 
-    /// What they are counted in.
-    pub fn counters(&self) -> &Counters {
-        &self.counters
+    /// What they show now.
+    pub fn snapshot(&self) -> Snapshot {
+        self.counters.snapshot()
     }
 
     /// A connection was accepted, or was closed since there are as many as there may be.
@@ -53,11 +53,12 @@ impl Numbers {
         }
     }
 
-    /// A turn of a loop has ended.
-    pub fn count_turn(&self, turn: &Turn) {
-        self.counters.add_requests(&turn.requests);
-        self.add_some(Number::BytesIn, turn.traffic.came);
-        self.add_some(Number::BytesOut, turn.traffic.went);
+    /// A turn of a loop has ended, in which so many requests were answered, each kind at its place,
+    /// and this came and went.
+    pub fn count_turn(&self, requests: &[u64; REQUESTS], traffic: Traffic) {
+        self.counters.add_requests(requests);
+        self.add_some(Number::BytesIn, traffic.came);
+        self.add_some(Number::BytesOut, traffic.went);
     }
 
     /// A connection got a desk.
@@ -84,12 +85,12 @@ impl Numbers {
     }
 
     /// A connection over HTTP has begun.
-    pub fn count_guest(&self) {
+    pub fn count_http_begun(&self) {
         self.counters.add(Number::ConnectionsHttp, 1);
     }
 
     /// One has ended.
-    pub fn count_guest_gone(&self) {
+    pub fn count_http_ended(&self) {
         self.counters.take(Number::ConnectionsHttp, 1);
     }
 

@@ -1,0 +1,42 @@
+//! Why a connection of the daemon's own socket ended that might have gone on.
+
+use mac_log::Kind;
+use mac_loop::PlainFault;
+use mac_serve::ServeFault;
+use thiserror::Error;
+
+/// Why a connection ended that might have gone on.
+#[derive(Clone, Copy, Debug, Error)]
+pub enum Notice {
+    /// It ended in a fault while a loop answered it.
+    #[error("{0}")]
+    Plain(PlainFault),
+    /// It ended in a fault while it was wide.
+    #[error("{0}")]
+    Wide(ServeFault),
+    /// It asked for a desk, and got none.
+    #[error("no desk, thread or memory for it")]
+    Dropped,
+    /// The system failed as it went from one thread to another.
+    #[error("the system failed")]
+    System,
+    /// There was no memory for it.
+    #[error("memory ran out")]
+    NoMemory,
+}
+
+impl Notice {
+    /// Whether it is a fault, and no rest that was too long.
+    pub fn is_fault(self) -> bool {
+        self.kind() != Kind::ConnectionIdle
+    }
+
+    /// The kind of the line that tells it.
+    pub fn kind(self) -> Kind {
+        match self {
+            Notice::Plain(PlainFault::Idle) => Kind::ConnectionIdle,
+            Notice::Plain(_) | Notice::Wide(_) => Kind::ConnectionFault,
+            Notice::Dropped | Notice::System | Notice::NoMemory => Kind::ConnectionDropped,
+        }
+    }
+}

@@ -1,0 +1,14 @@
+//! The clock by which connections are timed.
+
+use std::time::Clock;
+
+/// The microseconds of a clock that begins anywhere.
+pub fn microseconds<R: Clock>(rt: &R) -> u64 {
+    match rt.monotonic() {
+        Ok(time) => time
+            .as_secs()
+            .saturating_mul(1_000_000)
+            .saturating_add(u64::from(time.subsec_micros())),
+        Err(_) => 0,
+    }
+}

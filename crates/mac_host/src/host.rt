@@ -1,0 +1,97 @@
+//! A daemon as its servers have it.
+
+use crate::ending::Ending;
+use crate::notices::Notices;
+use crate::numbers::Numbers;
+use crate::roster::Roster;
+use mac_decide::SeenTokens;
+use std::alloc::{AllocError, Global};
+use std::sync::{Arc, Wait};
+
+/// What a server has of its daemon: its end, its log, its numbers, the list of the connections of
+/// its own socket, and the memory of tokens.
+#[derive(Drop)]
+pub struct Host {
+    ending: Arc<Ending, Global>,
+    notices: Notices,
+    numbers: Numbers,
+    roster: Arc<Roster, Global>,
+    seen: SeenTokens,
+}
+
+impl Host {
+    /// That of a daemon with these.
+    pub fn new(
+        ending: Arc<Ending, Global>,
+        notices: Notices,
+        numbers: Numbers,
+        roster: Arc<Roster, Global>,
+        seen: SeenTokens,
+    ) -> Host {
+        Host {
+            ending,
+            notices,
+            numbers,
+            roster,
+            seen,
+        }
+    }
+
+    /// The same, for another server.
+    pub fn share(&self) -> Result<Host, AllocError> {
+        Ok(Host {
+            ending: Arc::try_clone(&self.ending)?,
+            notices: self.notices.share()?,
+            numbers: self.numbers.share()?,
+            roster: Arc::try_clone(&self.roster)?,
+            seen: self.seen.share()?,
+        })
+    }
+
+    /// How far the daemon is.
+    pub fn ending(&self) -> &Ending {
+        &self.ending
+    }
+
+    /// What the daemon logs.
+    pub fn notices(&self) -> &Notices {
+        &self.notices
+    }
+
+    /// What the daemon counts.
+    pub fn numbers(&self) -> &Numbers {
+        &self.numbers
+    }
+
+    /// The connections of the daemon's own socket.
+    pub fn roster(&self) -> &Roster {
+        &self.roster
+    }
+
+    /// The memory of tokens.
+    pub fn seen(&self) -> &SeenTokens {
+        &self.seen
+    }
+
+    /// Counts a further server. The end waits until it takes no connections any more, and has none.
+    pub fn open_server<R: Wait>(&self, rt: &R) {
+        self.ending.open_server(rt);
+    }
+
+    /// Counts a further server less: it takes no connections any more.
+    pub fn close_server<R: Wait>(&self, rt: &R) {
+        self.ending.close_server(rt);
+    }
+
+    /// Counts one more connection of a further server.
+    pub fn enter<R: Wait>(&self, rt: &R) {
+        self.ending.enter(rt);
+        self.numbers.count_http_begun();
+    }
+
+    /// Counts one less.
+    pub fn leave<R: Wait>(&self, rt: &R) {
+        self.numbers.count_http_ended();
+        self.ending.leave(rt);
+    }
+}

@@ -1,0 +1,28 @@
+//! What all servers of one daemon share, whatever they serve: how far the daemon is, what is
+//! counted and logged, its list of connections, and its memory of tokens.
+//!
+//! The server of the daemon's own socket makes these. A further one, as one over HTTP, has them by
+//! a [`Host`]: the daemon's end waits for the connections that it counts there.
+#![tactic(auto)]
+
+mod badge;
+mod clock;
+mod ending;
+mod exchange;
+mod host;
+mod notices;
+mod numbers;
+mod roster;
+mod standing;
+mod traffic;
+
+pub use badge::{Badge, Life};
+pub use clock::microseconds;
+pub use ending::Ending;
+pub use exchange::Exchange;
+pub use host::Host;
+pub use notices::{Beginning, Notices};
+pub use numbers::Numbers;
+pub use roster::Roster;
+pub use standing::Call;
+pub use traffic::Traffic;
