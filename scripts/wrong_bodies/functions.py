@@ -77,5 +77,6 @@ def scope_name(head):
     trait, _, given = trait.partition("<")
     words = re.findall(r"\w+", re.sub(r"<.*>", "", given.removesuffix(">")))
     words = [f"tuple{len(words)}"] * given.startswith("(") + words
+    made = re.sub(r"^&('\w+ )?", "Ref", made)
     names = [re.match(r"\w+", made)[0], trait.split("::")[-1], *words]
     return "".join(it[:1].upper() + it[1:] for it in names)

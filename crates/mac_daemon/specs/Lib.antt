@@ -1,3 +1,4 @@
 pub mod Crew
 pub mod Day
+pub mod Doors
 pub mod Parting

@@ -3,12 +3,13 @@ ghost use Rattle.std.specs.Prelude.{◌≡◌, IfOk};
 ghost use Rattle.mac_daemon.specs.Day.{MeetsCount};
 
 use crate::counting::CountedEntrance;
-use crate::entrance::{Arrived, Entrance};
+use crate::door::Gift;
 use crate::fault::DaemonFault;
 use crate::notice::Notice;
 use crate::quay::Quay;
 use mac_host::{Badge, Life};
 use mac_loop::{Handover, Loops, SocketPort};
+use mac_sockets::{Arrived, Entrance, STACK, Stream};
 use mac_wire::Session;
 use std::alloc::Global;
 use std::io::ErrorKind;
@@ -23,9 +24,6 @@ const PAUSE_MILLIS: u64 = 100;
 /// The loop that a connection begins in. From there it goes to others where that is busy.
 const FIRST_LOOP: usize = 0;
 
-/// The stack of the thread that accepts, in bytes, whatever limit the process was started under.
-const STACK: usize = 1_048_576;
-
 /// What the connections of a socket are held to.
 #[derive(Clone, Copy)]
 pub struct Limits {
@@ -33,6 +31,15 @@ pub struct Limits {
     pub count: Option<u64>,
     /// How many there are at a time.
     pub connections: u64,
+}
+
+/// A connection that there is room for.
+#[derive(Drop)]
+struct Newcomer {
+    stream: Stream,
+    // What its requests may do, where there is memory for that.
+    rights: Option<Gift>,
+    badge: Badge,
 }
 
 /// So many connections are accepted as were asked for.
@@ -53,7 +60,7 @@ pub type Acceptor = PromisedHandle<Result<u64, DaemonFault>, AsAsked>;
 pub fn start_accepting<R>(
     rt: R,
     alloc: Global,
-    entrance: Entrance,
+    entrance: Entrance<Gift>,
     loops: &Arc<Loops, Global>,
     quay: &Arc<Quay, Global>,
     limits: Limits,
@@ -131,11 +138,14 @@ where
         }
         match entrance.accept(rt) {
             Some(Ok(arrived)) => {
+                let Arrived { stream, door } = arrived;
                 if quay.admit(rt, limits.connections) {
-                    let badge = quay.badge(rt, entrance.count(), arrived.door);
-                    welcome(rt, alloc, arrived, badge, loops, quay);
-                } else {
-                    turn_away(arrived);
+                    let newcomer = Newcomer {
+                        stream,
+                        rights: Arc::try_clone(entrance.rights(door)).ok(),
+                        badge: quay.badge(rt, entrance.count(), door),
+                    };
+                    welcome(rt, alloc, newcomer, loops, quay);
                 }
             }
             Some(Err(fault)) if limits.count.is_some() => return Err(DaemonFault::System(fault)),
@@ -155,30 +165,14 @@ fn pause<R: Wait + Clock>(rt: &R, alloc: Global, fault: io::Error, quay: &Quay) 
     thread::sleep(rt, Duration::from_millis(PAUSE_MILLIS));
 }
 
-/// Closes a connection that there is no room for.
-fn turn_away(arrived: Arrived) {
-    let Arrived {
-        stream: _,
-        rights: _,
-        door: _,
-    } = arrived;
-}
-
 /// Hands a connection to a loop. One for which there is no memory is closed, and that is told.
-fn welcome<R: Wait + Clock>(
-    rt: &R,
-    alloc: Global,
-    arrived: Arrived,
-    badge: Badge,
-    loops: &Loops,
-    quay: &Quay,
-) {
-    let life = Life { badge, answered: 0 };
-    let Arrived {
+fn welcome<R: Wait + Clock>(rt: &R, alloc: Global, newcomer: Newcomer, loops: &Loops, quay: &Quay) {
+    let Newcomer {
         stream,
         rights,
-        door: _,
-    } = arrived;
+        badge,
+    } = newcomer;
+    let life = Life { badge, answered: 0 };
     let Ok(port) = SocketPort::new(stream, quay.transcript(alloc)) else {
         quay.end(rt, life, Some(Notice::System));
         return;

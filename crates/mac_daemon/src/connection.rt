@@ -11,21 +11,17 @@ use mac_host::{Badge, Life, microseconds};
 use mac_loop::Handover;
 use mac_pool::Desk;
 use mac_serve::{ServeFault, Served, serve};
+use mac_sockets::{STACK, Stream};
 use mac_system::SystemMoments;
 use mac_wire::{DeviceFault, Ending, NoMemory, ReaderSource, Session, Sink, WriterSink};
 use std::alloc::Global;
-use std::io::Read;
 use std::net::Shutdown;
-use std::os::unix::net::UnixStream;
 use std::snapshot::Snapshot;
 use std::sync::atomic::AtomicBool;
 use std::sync::atomic::Ordering::SeqCst;
 use std::sync::{Arc, Wait};
 use std::thread::{Builder, Promise, PromisedHandle, Threads};
 use std::time::{Clock, Duration};
-
-/// The stack of a connection's thread, in bytes, whatever limit the process was started under.
-const STACK: usize = 1_048_576;
 
 /// How many bytes one read behind an oversize frame drops at most.
 const DROPPED_PIECE: usize = 16_384;
@@ -345,16 +341,15 @@ fn serve_stream<R: Threads + Wait + Clock + Sync>(
 
 /// Ends what is written, then reads what still comes and drops it, so that the peer reads an end
 /// and no reset. It ends after `DROPPED_READS` reads, each of which waits for a moment at most.
-fn drop_rest(stream: &UnixStream) {
-    let _ = stream.shutdown(Shutdown::Write);
+fn drop_rest(stream: &Stream) {
+    stream.shut(Shutdown::Write);
     let moment = Duration::from_millis(DROPPED_MILLIS);
-    if stream.set_read_timeout(Some(moment)).is_err() {
+    if stream.wait_at_most(moment, moment).is_err() {
         return;
     }
-    let mut reader = stream;
     let mut piece = [0u8; DROPPED_PIECE];
     for _ in 0..DROPPED_READS {
-        match reader.read(&mut piece) {
+        match stream.read_past_signals(&mut piece) {
             Ok(count) if count > 0 => {}
             Ok(_) | Err(_) => return,
         }
@@ -368,7 +363,7 @@ struct Outgoing<'a, 'm, 'r, R> {
     rt: &'r R,
     stay: &'a Stay,
     mooring: &'m Mooring,
-    writer: WriterSink<&'a UnixStream>,
+    writer: WriterSink<&'a Stream>,
 }
 
 impl<'a, 'm, 'r, R: Wait + Clock> Outgoing<'a, 'm, 'r, R> {
@@ -403,6 +398,6 @@ impl<'a, 'm, 'r, R: Wait + Clock + Sync> Sink for Outgoing<'a, 'm, 'r, R> {
     }
 
     fn give_up(&self) {
-        let _ = self.stay.stream.shutdown(Shutdown::Both);
+        self.stay.stream.shut(Shutdown::Both);
     }
 }

@@ -1,20 +1,23 @@
 //! An entrance whose connections are counted.
-ghost use Rattle.std.specs.Prelude.{◌≡◌};
+ghost use Rattle.std.specs.Prelude.{◌≡◌, ◌<◌, length};
 ghost use Rattle.mac_daemon.specs.Day.{CountsArrived};
+ghost use Rattle.mac_daemon.specs.Doors.{counted_doors};
+ghost use Rattle.mac_sockets.specs.Entrance.{Gives, IsThroughOneOf};
 
-use crate::entrance::{Entrance, Welcome};
+use crate::door::Gift;
+use mac_sockets::{Entrance, Welcome};
 use std::sync::Wait;
 
 /// An entrance, with how many connections have come in through it.
 #[derive(Drop)]
 pub struct CountedEntrance {
-    entrance: Entrance,
+    entrance: Entrance<Gift>,
     count: u64,
 }
 
 impl CountedEntrance {
     /// One through which no connection has come in.
-    pub fn new(entrance: Entrance) -> CountedEntrance
+    pub fn new(entrance: Entrance<Gift>) -> CountedEntrance
         ensures { result.count ≡ 0 }
     {
         CountedEntrance { entrance, count: 0 }
@@ -29,7 +32,8 @@ impl CountedEntrance {
 
     /// What [`Entrance::accept`] gives, counted where that is a connection.
     pub fn accept<R: Wait>(&mut self, rt: &R) -> Option<Welcome>
-        ensures { CountsArrived result self.old.count self.new.count }
+        ensures counts { CountsArrived result self.old.count self.new.count }
+        ensures through { IsThroughOneOf (counted_doors self.new) result }
     {
         let welcome = self.entrance.accept(rt);
         match &welcome {
@@ -37,6 +41,14 @@ impl CountedEntrance {
             Some(Err(_)) | None => {}
         }
         welcome
+    }
+
+    /// What the requests of those may do who come in through a door.
+    pub fn rights(&self, door: usize) -> &Gift
+        requires { door < length (counted_doors self.now) }
+        ensures { Gives (counted_doors self.now) door result.now }
+    {
+        self.entrance.gift(door)
     }
 
     /// Closes the sockets.

@@ -1,12 +1,14 @@
-//! The sockets that connections come in through, and what each allows.
+//! The doors of a daemon's sockets.
+
+ghost use Rattle.std.specs.Prelude.{OnOk};
+ghost use Rattle.mac_daemon.specs.Doors.{HasAdded};
 
 use crate::fault::DaemonFault;
 use mac_decide::Rights;
+use mac_sockets::Door;
 use std::alloc::Global;
-use std::io;
-use std::io::ErrorKind;
-use std::os::unix::net::{UnixListener, UnixStream};
-use std::sync::{Arc, Wait};
+use std::os::unix::net::UnixListener;
+use std::sync::Arc;
 
 /// A further socket of `listen`, with what it allows.
 #[derive(Drop)]
@@ -19,64 +21,25 @@ pub struct SideSocket<'a> {
     pub rights: Rights,
 }
 
-/// A socket that listens.
-#[derive(Drop)]
-pub struct Door {
+/// What the connections of a door are given: what their requests may do.
+pub type Gift = Arc<Rights, Global>;
+
+/// Adds the door of a socket. The connections that come in through it have these rights. It may be
+/// shared with another process.
+pub fn add_door(
+    doors: &mut Vec<Door<Gift>>,
+    alloc: Global,
     listener: UnixListener,
-    rights: Arc<Rights, Global>,
-    // Whether another process has it too, and goes on with those that wait there.
+    rights: Rights,
     is_shared: bool,
-}
-
-impl Door {
-    /// Adds the door of a socket, which is never waited for. The connections that come in through
-    /// it have these rights. It may be shared with another process.
-    pub fn add(
-        doors: &mut Vec<Door>,
-        alloc: Global,
-        listener: UnixListener,
-        rights: Rights,
-        is_shared: bool,
-    ) -> Result<(), DaemonFault> {
-        listener.set_nonblocking(true)?;
-        let Ok(rights) = Arc::new(alloc, rights) else {
-            return Err(DaemonFault::NoMemory);
-        };
-        match doors.push(Door {
-            listener,
-            rights,
-            is_shared,
-        }) {
-            Ok(()) => Ok(()),
-            Err(_) => Err(DaemonFault::NoMemory),
-        }
-    }
-
-    /// What listens.
-    pub fn listener(&self) -> &UnixListener {
-        &self.listener
-    }
-
-    /// What the requests of its connections may do.
-    pub fn rights(&self) -> &Arc<Rights, Global> {
-        &self.rights
-    }
-
-    /// Whether another process has it too.
-    pub fn is_shared(&self) -> bool {
-        self.is_shared
-    }
-
-    /// The next connection that waits here, or why the system gives none.
-    pub fn accept<R: Wait>(&self, rt: &R) -> Option<io::Result<UnixStream>> {
-        for _ in rt.forever() {
-            match self.listener.accept() {
-                Ok((stream, _)) => return Some(Ok(stream)),
-                Err(fault) if fault.kind() == ErrorKind::WouldBlock => return None,
-                Err(fault) if fault.kind() == ErrorKind::Interrupted => {}
-                Err(fault) => return Some(Err(fault)),
-            }
-        }
-        unreachable!()
+) -> Result<(), DaemonFault>
+    ensures { OnOk result (HasAdded rights is_shared doors.old.items doors.new.items) }
+{
+    let Ok(rights) = Arc::new(alloc, rights) else {
+        return Err(DaemonFault::NoMemory);
+    };
+    match doors.push(Door::unix(listener, rights, is_shared)?) {
+        Ok(()) => Ok(()),
+        Err(_) => Err(DaemonFault::NoMemory),
     }
 }

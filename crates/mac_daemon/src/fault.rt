@@ -1,8 +1,8 @@
 //! Why a daemon can't begin, or can't go on.
 
-use crate::place::PlaceFault;
 use mac_loop::LoopFault;
 use mac_pool::PoolFault;
+use mac_sockets::{EntranceFault, PlaceFault};
 use mac_system::HandedFault;
 use std::alloc::AllocError;
 use std::io;
@@ -60,6 +60,15 @@ impl From<HandedFault> for DaemonFault {
         match refused {
             HandedFault::NoMemory => DaemonFault::NoMemory,
             refused => DaemonFault::Handed(refused),
+        }
+    }
+}
+
+impl From<EntranceFault> for DaemonFault {
+    fn from(refused: EntranceFault) -> DaemonFault {
+        match refused {
+            EntranceFault::NoMemory => DaemonFault::NoMemory,
+            EntranceFault::System(refused) => DaemonFault::System(refused),
         }
     }
 }

@@ -4,14 +4,14 @@ ghost use Rattle.mac_daemon.specs.Day.{MeetsCount};
 
 use crate::accepting::{Acceptor, Limits, start_accepting};
 use crate::crew::Crew;
-use crate::entrance::Entrance;
+use crate::door::Gift;
 use crate::fault::DaemonFault;
 use crate::keeping::keep_desks;
 use crate::quay::Quay;
-use crate::stacks::{STACK, has_roomy_stacks};
 use mac_board::{Follower, Followers, TimedTables};
 use mac_decide::SeenTokens;
 use mac_loop::{Loop, Loops, make_loops};
+use mac_sockets::{Entrance, STACK, has_roomy_stacks};
 use mac_system::SystemMoments;
 use std::alloc::Global;
 use std::hash::RandomState;
@@ -102,7 +102,7 @@ pub struct Service {
     /// The loops that answer all others.
     pub idlers: Idlers,
     /// Where connections come in.
-    pub entrance: Entrance,
+    pub entrance: Entrance<Gift>,
     /// What they are held to.
     pub limits: Limits,
     /// What the threads tell one another.

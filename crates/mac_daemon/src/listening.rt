@@ -2,19 +2,17 @@
 
 use crate::accepting::Limits;
 use crate::descriptors::most_connections;
-use crate::door::{Door, SideSocket};
-use crate::entrance::Entrance;
+use crate::door::{Gift, SideSocket, add_door};
 use crate::failure::Failure;
 use crate::fault::DaemonFault;
 use crate::fleet::{Fleet, Idlers, Service, Shape, make_seen};
-use crate::holding::Holdings;
-use crate::place::PlaceFault;
 use crate::quay::Quay;
 use crate::stop::Stop;
 use crate::surroundings::{Surroundings, heed_signals};
 use mac_board::{Followers, News};
 use mac_decide::Rights;
 use mac_host::{Beginning, Call, Ending, Host, Notices, Numbers, Roster};
+use mac_sockets::{Door, Entrance, Holdings, PlaceFault, STACK};
 use mac_system::{NotifySocket, State};
 use std::alloc::{AllocError, Global};
 use std::fs::{File, Files};
@@ -24,9 +22,6 @@ use std::random::RandomSource;
 use std::sync::{Arc, Wait};
 use std::thread::{Builder, Threads};
 use std::time::{Clock, Duration};
-
-/// The stack of the thread that serves, in bytes, whatever limit the process was started under.
-const STACK: usize = 1_048_576;
 
 /// What `listen` is told of its socket.
 #[derive(Clone, Copy)]
@@ -201,17 +196,17 @@ fn open_first<R>(
     terms: Terms<'_>,
     handed: Option<UnixListener>,
     rights: Rights,
-    doors: &mut Vec<Door>,
+    doors: &mut Vec<Door<Gift>>,
     holdings: &mut Holdings,
 ) -> Result<(), DaemonFault>
 where
     R: Files<File = File> + Net + Clock + Wait,
 {
     match handed {
-        Some(listener) => Door::add(doors, alloc, listener, rights, true),
+        Some(listener) => add_door(doors, alloc, listener, rights, true),
         None => {
             let listener = holdings.bind(rt, terms.path, terms.permissions)?;
-            Door::add(doors, alloc, listener, rights, false)
+            add_door(doors, alloc, listener, rights, false)
         }
     }
 }
@@ -221,7 +216,7 @@ fn open_side<R>(
     rt: &R,
     alloc: Global,
     side: Option<SideSocket<'_>>,
-    doors: &mut Vec<Door>,
+    doors: &mut Vec<Door<Gift>>,
     holdings: &mut Holdings,
 ) -> Result<(), DaemonFault>
 where
@@ -238,7 +233,7 @@ where
         return Ok(());
     };
     match holdings.bind(rt, path, permissions) {
-        Ok(listener) => Door::add(doors, alloc, listener, rights, false),
+        Ok(listener) => add_door(doors, alloc, listener, rights, false),
         Err(PlaceFault::NoMemory) => Err(DaemonFault::NoMemory),
         Err(fault) => Err(DaemonFault::Side(fault)),
     }

@@ -2,15 +2,14 @@
 ghost use Rattle.std.specs.Prelude.{◌≡◌, ◌<◌, IfOk, OnOk};
 
 use crate::accepting::Limits;
-use crate::door::Door;
-use crate::entrance::Entrance;
+use crate::door::add_door;
 use crate::fault::DaemonFault;
 use crate::fleet::{Day, Fleet, Idlers, Service, Shape, make_seen};
-use crate::place::bind_new;
 use crate::quay::Quay;
 use mac_board::Followers;
 use mac_decide::Rights;
 use mac_host::{Numbers, Roster};
+use mac_sockets::{Entrance, bind_new};
 use mac_wire::{Sink, send_all};
 use std::alloc::Global;
 use std::fs::Files;
@@ -40,7 +39,7 @@ where
 {
     let listener = bind_new(rt, path)?;
     let mut doors = Vec::with_capacity(alloc, 1)?;
-    Door::add(&mut doors, alloc, listener, Rights::all(), false)?;
+    add_door(&mut doors, alloc, listener, Rights::all(), false)?;
     let roster = Roster::new(rt, alloc, shape.connections, Vec::new(alloc))?;
     let seen = make_seen(rt, alloc, shape);
     let service = Service {

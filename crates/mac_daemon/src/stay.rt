@@ -3,9 +3,9 @@
 use crate::quay::{Mooring, Quay};
 use mac_host::{Badge, microseconds};
 use mac_loop::{SocketPort, Transcript};
+use mac_sockets::Stream;
 use std::io;
 use std::io::{ErrorKind, Read};
-use std::os::unix::net::UnixStream;
 use std::sync::{Mutex, Wait};
 use std::time::{Clock, Duration};
 
@@ -23,7 +23,7 @@ const TAKE_SECONDS: u64 = 10;
 #[derive(Drop)]
 pub struct Stay {
     /// Its stream.
-    pub stream: UnixStream,
+    pub stream: Stream,
     badge: Badge,
     // Whether there is a transcript.
     is_noted: bool,
@@ -33,7 +33,7 @@ pub struct Stay {
 impl Stay {
     /// That of a connection's port, whose reads and writes wait from now on, for so long.
     pub fn begin(port: SocketPort, badge: Badge) -> io::Result<Stay> {
-        let (stream, transcript) = port.into_stream()?;
+        let (stream, transcript) = port.into_stream();
         limit_waits(&stream)?;
         Ok(Stay {
             stream,
@@ -99,9 +99,12 @@ pub struct StayReader<'a, 'm, 'r, R> {
 }
 
 /// Bounds how long reads and writes of a stream wait.
-fn limit_waits(stream: &UnixStream) -> io::Result<()> {
-    stream.set_read_timeout(Some(Duration::from_millis(PAUSE_MILLIS)))?;
-    stream.set_write_timeout(Some(Duration::from_secs(TAKE_SECONDS)))
+fn limit_waits(stream: &Stream) -> io::Result<()> {
+    let (reads, writes) = (
+        Duration::from_millis(PAUSE_MILLIS),
+        Duration::from_secs(TAKE_SECONDS),
+    );
+    stream.wait_at_most(reads, writes)
 }
 
 impl<'a, 'm, 'r, R: Clock> StayReader<'a, 'm, 'r, R> {
@@ -126,8 +129,7 @@ impl<'a, 'm, 'r, R: Wait + Clock> Read for StayReader<'a, 'm, 'r, R> {
         if microseconds(self.rt) >= self.end {
             return Err(ErrorKind::TimedOut.into());
         }
-        let mut stream = &self.stay.stream;
-        let count = stream.read(buf)?;
+        let count = self.stay.stream.read_past_signals(buf)?;
         self.mooring.quay.numbers().count_came(count);
         self.stay.note_came(self.rt, &buf[..count]);
         Ok(count)

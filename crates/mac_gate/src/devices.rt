@@ -1,8 +1,8 @@
 //! What is read of a stream in a turn, and what is written to it.
 
-use crate::stream::Stream;
+use mac_sockets::Stream;
 use std::io;
-use std::io::{ErrorKind, Read, Write};
+use std::io::{Read, Write};
 
 /// What is read of a stream.
 #[derive(Drop)]
@@ -27,21 +27,15 @@ impl<'a> Heard<'a> {
 
 impl<'a> Read for Heard<'a> {
     fn read(&mut self, buf: &mut [u8]) -> io::Result<usize> {
-        for _ in 0..u64::MAX {
-            match self.stream.read(buf) {
-                Err(fault) if fault.kind() == ErrorKind::Interrupted => {}
-                Err(fault) => {
-                    self.has_more = false;
-                    return Err(fault);
-                }
-                Ok(count) => {
-                    self.has_come = count > 0;
-                    self.has_more = count == buf.len();
-                    return Ok(count);
-                }
+        let outcome = self.stream.read_past_signals(buf);
+        match &outcome {
+            Ok(count) => {
+                self.has_come = *count > 0;
+                self.has_more = *count == buf.len();
             }
+            Err(_) => self.has_more = false,
         }
-        Err(ErrorKind::Interrupted.into())
+        outcome
     }
 }
 
@@ -68,21 +62,15 @@ impl<'a> Spoken<'a> {
 
 impl<'a> Write for Spoken<'a> {
     fn write(&mut self, buf: &[u8]) -> io::Result<usize> {
-        for _ in 0..u64::MAX {
-            match self.stream.write(buf) {
-                Err(fault) if fault.kind() == ErrorKind::Interrupted => {}
-                Err(fault) => {
-                    self.has_room = false;
-                    return Err(fault);
-                }
-                Ok(count) => {
-                    self.has_gone = count > 0;
-                    self.has_room = count == buf.len();
-                    return Ok(count);
-                }
+        let outcome = self.stream.write_past_signals(buf);
+        match &outcome {
+            Ok(count) => {
+                self.has_gone = *count > 0;
+                self.has_room = *count == buf.len();
             }
+            Err(_) => self.has_room = false,
         }
-        Err(ErrorKind::Interrupted.into())
+        outcome
     }
 
     fn flush(&mut self) -> io::Result<()> {

@@ -1,33 +1,21 @@
 //! Sockets that listen.
 
 use crate::address::Address;
-use crate::stream::Stream;
-use mac_daemon::{Holdings, PlaceFault};
 use mac_decide::Rights;
+use mac_sockets::{Door, Holdings, PlaceFault};
 use std::alloc::Global;
 use std::fs::{File, Files};
 use std::io;
 use std::io::ErrorKind;
 use std::net::{Net, SocketAddr, TcpListener, TcpStream};
-use std::os::fd::AsRawFd;
-use std::os::unix::net::UnixListener;
 use std::sync::Wait;
 use std::time::Clock;
 use thiserror::Error;
 
-/// A socket that listens, and is never waited for.
-#[derive(Drop)]
-pub enum Door {
-    /// A Unix socket.
-    Unix(UnixListener),
-    /// A TCP socket.
-    Tcp(TcpListener),
-}
-
 /// Doors that were opened one after another, and what is allowed at each of them.
 #[derive(Drop)]
 pub struct Doors {
-    pub(crate) doors: Vec<Door>,
+    pub(crate) doors: Vec<Door<()>>,
     pub(crate) rights: Rights,
 }
 
@@ -70,42 +58,6 @@ impl From<io::Error> for DoorFault {
             ErrorKind::PermissionDenied => DoorFault::Forbidden,
             ErrorKind::AddrNotAvailable => DoorFault::NotHere,
             _ => DoorFault::System(refused),
-        }
-    }
-}
-
-impl Door {
-    /// The next connection that waits here, or why the system gives none.
-    pub fn accept<R: Wait>(&self, rt: &R) -> Option<io::Result<Stream>> {
-        for _ in rt.forever() {
-            match self.try_accept() {
-                Ok(stream) => return Some(Ok(stream)),
-                Err(fault) if fault.kind() == ErrorKind::WouldBlock => return None,
-                Err(fault) if fault.kind() == ErrorKind::Interrupted => {}
-                Err(fault) => return Some(Err(fault)),
-            }
-        }
-        unreachable!()
-    }
-
-    /// The number that the system knows it by.
-    pub fn descriptor(&self) -> i32 {
-        match self {
-            Door::Unix(listener) => listener.as_raw_fd(),
-            Door::Tcp(listener) => listener.as_raw_fd(),
-        }
-    }
-
-    fn try_accept(&self) -> io::Result<Stream> {
-        match self {
-            Door::Unix(listener) => {
-                let (stream, _) = listener.accept()?;
-                Ok(Stream::Unix(stream))
-            }
-            Door::Tcp(listener) => {
-                let (stream, _) = listener.accept()?;
-                Ok(Stream::Tcp(stream))
-            }
         }
     }
 }
@@ -159,8 +111,7 @@ impl Doors {
         R: Files<File = File> + Net + Clock + Wait,
     {
         let listener = holdings.bind(rt, path, permissions)?;
-        listener.set_nonblocking(true)?;
-        self.keep(Door::Unix(listener))
+        self.keep(Door::unix(listener, (), false)?)
     }
 
     fn open_tcp<R>(&mut self, rt: &R, address: SocketAddr) -> Result<(), DoorFault>
@@ -168,11 +119,10 @@ impl Doors {
         R: Net<Listener = TcpListener, Stream = TcpStream>,
     {
         let listener = TcpListener::bind(rt, address)?;
-        listener.set_nonblocking(true)?;
-        self.keep(Door::Tcp(listener))
+        self.keep(Door::tcp(listener, ())?)
     }
 
-    fn keep(&mut self, door: Door) -> Result<(), DoorFault> {
+    fn keep(&mut self, door: Door<()>) -> Result<(), DoorFault> {
         match self.doors.push(door) {
             Ok(()) => Ok(()),
             Err(_) => Err(DoorFault::NoMemory),

@@ -1,13 +1,13 @@
 //! The gate: what a daemon has of its sockets over HTTP.
 
 use crate::door::Doors;
-use crate::entrance::Entrance;
 use crate::house::House;
 use crate::looping::Loop;
 use crate::terms::Terms;
 use crate::welcoming::start_welcoming;
 use mac_board::Followers;
 use mac_host::Host;
+use mac_sockets::{Entrance, EntranceFault};
 use std::alloc::{AllocError, Global};
 use std::io;
 use std::net::Net;
@@ -43,6 +43,15 @@ impl From<io::Error> for GateFault {
     }
 }
 
+impl From<EntranceFault> for GateFault {
+    fn from(refused: EntranceFault) -> GateFault {
+        match refused {
+            EntranceFault::NoMemory => GateFault::NoMemory,
+            EntranceFault::System(refused) => GateFault::System(refused),
+        }
+    }
+}
+
 /// Connections over HTTP are accepted in a thread of its own, and served in loops.
 #[derive(Drop)]
 pub struct Gate {
@@ -64,7 +73,7 @@ where
     R: Net + Threads + Wait + Clock + RandomSource + Sync + Copy + Send + 'static,
 {
     let Doors { doors, rights } = doors;
-    let (entrance, waker) = Entrance::open(rt, alloc, doors)?;
+    let entrance = Entrance::open(rt, alloc, doors)?;
     let (mut made, mut wakers) = (Vec::new(alloc), Vec::new(alloc));
     for number in 0..loops {
         let (own, waker) = Loop::new(rt, alloc, number)?;
@@ -72,7 +81,8 @@ where
             return Err(GateFault::NoMemory);
         }
     }
-    let house = House::new(alloc, terms, rights, host, waker, wakers)?;
+    let shutter = Arc::try_clone(entrance.shutter())?;
+    let house = House::new(alloc, terms, rights, host, shutter, wakers)?;
     house.open(rt);
     if !start_all(rt, alloc, made, entrance, &house, followers, terms) {
         house.close(rt);
@@ -86,7 +96,7 @@ fn start_all<R>(
     rt: &R,
     alloc: Global,
     loops: Vec<Loop>,
-    entrance: Entrance,
+    entrance: Entrance<()>,
     house: &Arc<House, Global>,
     followers: Followers,
     terms: Terms,

@@ -2,15 +2,14 @@
 
 use crate::noting::exchange_of;
 use crate::places::Places;
-use crate::stream::Stream;
 use crate::terms::Terms;
-use crossbeam_queue::SegQueue;
 use http::StatusCode;
 use mac_board::Follower;
 use mac_count::{Number, Request, append_metrics, append_status, append_version};
 use mac_decide::{Rights, SeenTokens};
 use mac_host::Host;
 use mac_http::Noted;
+use mac_sockets::{Inbox, Shutter, Stream};
 use mio::Waker;
 use std::alloc::{AllocError, Global};
 use std::io;
@@ -26,12 +25,10 @@ pub struct Arrival {
     pub keys: Follower,
 }
 
-/// Where a loop gets connections from.
+/// A loop, as others see it.
 #[derive(Drop)]
-struct Inbox {
-    queue: SegQueue<Arrival>,
-    // It wakes the loop.
-    waker: Waker,
+struct LoopSide {
+    inbox: Inbox<Arrival>,
     // How many connections the loop has.
     count: AtomicUsize,
 }
@@ -42,45 +39,42 @@ pub struct House {
     // What is allowed at its doors.
     rights: Rights,
     places: Mutex<Places>,
-    inboxes: Vec<Inbox>,
-    is_ending: AtomicBool,
+    sides: Vec<LoopSide>,
+    // It shuts where they come in.
+    shutter: Arc<Shutter, Global>,
     // Whether no further connection comes in.
     is_closed: AtomicBool,
     // The daemon, whose end waits for them.
     host: Host,
-    // It wakes who waits for connections.
-    waker: Waker,
     version: &'static str,
     alloc: Global,
 }
 
 impl House {
     /// A house with as many places for connections as its terms say, and a loop for each of these
-    /// wakers. The other one wakes who waits for connections.
+    /// wakers. They come in until the shutter is shut.
     pub fn new(
         alloc: Global,
         terms: Terms,
         rights: Rights,
         host: Host,
-        waker: Waker,
+        shutter: Arc<Shutter, Global>,
         wakers: Vec<Waker>,
     ) -> Result<Arc<House, Global>, AllocError> {
-        let mut inboxes = Vec::with_capacity(alloc, wakers.len())?;
+        let mut sides = Vec::with_capacity(alloc, wakers.len())?;
         for waker in wakers {
-            inboxes.push(Inbox {
-                queue: SegQueue::new(alloc)?,
-                waker,
+            sides.push(LoopSide {
+                inbox: Inbox::new(alloc, waker)?,
                 count: AtomicUsize::new(0),
             })?;
         }
         let house = House {
             rights,
             places: Mutex::new(Places::new(terms.connections)),
-            inboxes,
-            is_ending: AtomicBool::new(false),
+            sides,
+            shutter,
             is_closed: AtomicBool::new(false),
             host,
-            waker,
             version: terms.version,
             alloc,
         };
@@ -94,7 +88,7 @@ impl House {
 
     /// Whether its connections are to end.
     pub fn is_ending(&self) -> bool {
-        self.is_ending.load(SeqCst)
+        self.shutter.is_shut()
     }
 
     /// The memory of tokens of its daemon.
@@ -175,32 +169,30 @@ impl House {
     /// it, or no memory.
     pub fn enter<R: Wait>(&self, rt: &R, stream: Stream, keys: Follower) {
         let number = self.idlest();
-        let Some(inbox) = self.inboxes.get(number) else {
+        let Some(side) = self.sides.get(number) else {
             return;
         };
         if !self.give_place(rt) {
             return;
         }
-        inbox.count.fetch_add(1, SeqCst);
-        if inbox.queue.push(rt, Arrival { stream, keys }).is_err() {
+        side.count.fetch_add(1, SeqCst);
+        if side.inbox.push(rt, Arrival { stream, keys }).is_err() {
             self.leave(rt, number);
-            return;
         }
-        let _ = inbox.waker.wake();
     }
 
     /// The next connection that was handed to a loop.
     pub fn take<R: Wait>(&self, rt: &R, number: usize) -> Option<Arrival> {
-        match self.inboxes.get(number) {
-            Some(inbox) => inbox.queue.pop(rt),
+        match self.sides.get(number) {
+            Some(side) => side.inbox.pop(rt),
             None => None,
         }
     }
 
     /// Frees the place of a connection that has ended in a loop.
     pub fn leave<R: Wait>(&self, rt: &R, number: usize) {
-        if let Some(inbox) = self.inboxes.get(number) {
-            inbox.count.fetch_sub(1, SeqCst);
+        if let Some(side) = self.sides.get(number) {
+            side.count.fetch_sub(1, SeqCst);
         }
         let mut places = self.places.lock(rt);
         let places = &mut *places;
@@ -210,22 +202,21 @@ impl House {
 
     /// Takes no further connection, and ends those that are idle.
     pub fn end(&self) {
-        self.is_ending.store(true, SeqCst);
-        let _ = self.waker.wake();
+        self.shutter.shut();
         self.wake_loops();
     }
 
     fn wake_loops(&self) {
-        for inbox in self.inboxes.iter() {
-            let _ = inbox.waker.wake();
+        for side in self.sides.iter() {
+            side.inbox.wake();
         }
     }
 
     /// The loop that has the fewest connections.
     fn idlest(&self) -> usize {
         let (mut idlest, mut fewest) = (0, usize::MAX);
-        for (number, inbox) in self.inboxes.iter().enumerate() {
-            let count = inbox.count.load(SeqCst);
+        for (number, side) in self.sides.iter().enumerate() {
+            let count = side.count.load(SeqCst);
             if count < fewest {
                 (idlest, fewest) = (number, count);
             }

@@ -9,7 +9,6 @@
 mod address;
 mod devices;
 mod door;
-mod entrance;
 mod gate;
 mod house;
 mod line;
@@ -18,11 +17,10 @@ mod looping;
 mod noting;
 mod places;
 mod steward;
-mod stream;
 mod terms;
 mod welcoming;
 
 pub use address::{Address, AddressFault, ListFault, Reach, read_address, read_addresses};
-pub use door::{Door, DoorFault, Doors};
+pub use door::{DoorFault, Doors};
 pub use gate::{Gate, GateFault, open_gate};
 pub use terms::Terms;

@@ -5,9 +5,9 @@ ghost use Rattle.mac_gate.specs.Patience.{IsLeft};
 ghost use Rattle.mac_http.specs.Turn.{IsTurn};
 
 use crate::devices::{Heard, Spoken};
-use crate::stream::Stream;
 use http_server::{Connection, Service};
 use mac_http::take_turn;
+use mac_sockets::Stream;
 use mio::unix::SourceFd;
 use mio::{Interest, Registry, Token};
 use std::io;
@@ -170,13 +170,12 @@ impl<S: Service> Line<S> {
 
     /// Drops what has come behind the last response. It ends after `DROPPED_READS` reads.
     fn drop_piece(&mut self, left: usize, now: Duration, piece: &mut [u8]) -> bool {
-        match self.stream.read(piece) {
+        match self.stream.read_past_signals(piece) {
             Ok(count) if count > 0 && left > 0 => {
                 self.parting = Some(left.saturating_sub(1));
                 self.since = now;
                 true
             }
-            Err(fault) if fault.kind() == ErrorKind::Interrupted => true,
             Err(fault) if fault.kind() == ErrorKind::WouldBlock => {
                 self.has_more = false;
                 true

@@ -7,7 +7,8 @@ use crate::steward::Speaker;
 use crate::terms::Terms;
 use http_server::Connection;
 use mac_board::Follower;
-use mac_http::{CONFIG, Face};
+use mac_http::{CONFIG, Face, Way};
+use mac_sockets::{STACK, Stream};
 use mac_system::SystemMoments;
 use mio::{Events, Poll, Token, Waker};
 use std::alloc::Global;
@@ -24,9 +25,6 @@ const WAKER: usize = 1 << 40;
 
 /// How many events are taken at a time.
 const EVENTS: usize = 256;
-
-/// The stack of a loop's thread, in bytes, whatever limit the process was started under.
-const STACK: usize = 1_048_576;
 
 /// What answers a connection of a loop.
 type OwnFace<'x, R> = Face<'x, Follower, SystemMoments<'x, R>, Speaker<'x, R>>;
@@ -173,10 +171,18 @@ fn line_of<'x, R: Wait + Clock + RandomSource>(
     let secrets = RandomState::new(rt)?;
     let speaker = Speaker { rt, house };
     let moments = SystemMoments::new(rt);
-    let rules = terms.rules(house.rights(), arrival.stream.way());
+    let rules = terms.rules(house.rights(), way_of(&arrival.stream));
     let face = Face::new(alloc, arrival.keys, rules, moments, speaker);
     let connection = Connection::new(alloc, secrets, CONFIG);
     Ok(Line::new(arrival.stream, connection, face, now))
+}
+
+/// The way by which a stream's peer comes.
+fn way_of(stream: &Stream) -> Way {
+    match stream {
+        Stream::Unix(_) => Way::Socket,
+        Stream::Tcp(_) => Way::Port,
+    }
 }
 
 /// Lets those connections go whose peers have taken too long.

@@ -1,8 +1,8 @@
 //! The thread that accepts the connections of a gate.
 
-use crate::entrance::Entrance;
 use crate::house::House;
 use mac_board::Followers;
+use mac_sockets::{Arrived, Entrance, STACK};
 use std::alloc::Global;
 use std::sync::{Arc, Wait};
 use std::thread;
@@ -12,14 +12,11 @@ use std::time::{Clock, Duration};
 /// How many milliseconds to wait where the system accepts no connection, for want of descriptors.
 const PAUSE_MILLIS: u64 = 100;
 
-/// The stack of the thread that accepts, in bytes, whatever limit the process was started under.
-const STACK: usize = 1_048_576;
-
 /// Starts the thread that accepts connections, and closes the house behind the last one. Whether
 /// there is such a thread.
 pub fn start_welcoming<R>(
     rt: R,
-    entrance: Entrance,
+    entrance: Entrance<()>,
     house: Arc<House, Global>,
     followers: Followers,
 ) -> bool
@@ -39,13 +36,14 @@ where
 /// pause.
 fn welcome_each<R: Wait + Clock>(
     rt: &R,
-    entrance: &mut Entrance,
+    entrance: &mut Entrance<()>,
     house: &Arc<House, Global>,
     followers: &Followers,
 ) {
     for _ in rt.forever() {
-        match entrance.accept(rt, house) {
-            Some(Ok(stream)) => {
+        match entrance.accept(rt) {
+            Some(Ok(arrived)) => {
+                let Arrived { stream, door: _ } = arrived;
                 if let Ok(keys) = followers.follower() {
                     house.enter(rt, stream, keys);
                 }

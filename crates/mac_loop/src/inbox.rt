@@ -2,9 +2,8 @@
 
 use crate::handover::Handover;
 use crate::meter::{Meter, Shares};
-use crossbeam_queue::SegQueue;
 use mac_plain::UNSENT_MAX;
-use mio::Waker;
+use mac_sockets::Inbox;
 use std::alloc::{AllocError, Global};
 use std::sync::Wait;
 use std::sync::atomic::Ordering::SeqCst;
@@ -16,29 +15,17 @@ const UNSENT_ALL: u64 = 67_108_864;
 /// How much may be unsent on a client then.
 const UNSENT_LITTLE: usize = 65_536;
 
-/// Where a loop gets clients from.
+/// A loop, as others see it.
 #[derive(Drop)]
-pub struct Inbox {
-    queue: SegQueue<Handover>,
-    waker: Waker,
+struct LoopSide {
+    inbox: Inbox<Handover>,
     meter: Meter,
-}
-
-impl Inbox {
-    /// An empty inbox, whose loop is woken so.
-    pub fn new(alloc: Global, waker: Waker) -> Result<Inbox, AllocError> {
-        Ok(Inbox {
-            queue: SegQueue::new(alloc)?,
-            waker,
-            meter: Meter::new(),
-        })
-    }
 }
 
 /// The loops of a daemon, as others see them.
 #[derive(Drop)]
 pub struct Loops {
-    inboxes: Vec<Inbox>,
+    sides: Vec<LoopSide>,
     // Whether a turn may be answered by several threads.
     may_share: bool,
     // How many loops are in a turn.
@@ -52,7 +39,7 @@ impl Loops {
     /// No loops yet, whose turns may be answered by several threads, or not.
     pub fn new(alloc: Global, may_share: bool) -> Loops {
         Loops {
-            inboxes: Vec::new(alloc),
+            sides: Vec::new(alloc),
             may_share,
             busy: AtomicUsize::new(0),
             unsent: AtomicU64::new(0),
@@ -61,31 +48,32 @@ impl Loops {
         }
     }
 
-    /// The inbox of one loop more.
-    pub fn push(&mut self, inbox: Inbox) -> Result<(), AllocError> {
-        self.inboxes.push(inbox)?;
+    /// One loop more, which gets clients from this inbox.
+    pub fn push(&mut self, inbox: Inbox<Handover>) -> Result<(), AllocError> {
+        self.sides.push(LoopSide {
+            inbox,
+            meter: Meter::new(),
+        })?;
         Ok(())
     }
 
     /// How many loops there are.
     pub fn len(&self) -> usize {
-        self.inboxes.len()
+        self.sides.len()
     }
 
     /// Hands a client to a loop. Without memory it comes back.
     pub fn hand<R: Wait>(&self, rt: &R, number: usize, client: Handover) -> Result<(), Handover> {
-        let Some(inbox) = self.inboxes.get(number) else {
-            return Err(client);
-        };
-        inbox.queue.push(rt, client)?;
-        let _ = inbox.waker.wake();
-        Ok(())
+        match self.sides.get(number) {
+            Some(side) => side.inbox.push(rt, client),
+            None => Err(client),
+        }
     }
 
     /// The next client that was handed to a loop.
     pub fn take<R: Wait>(&self, rt: &R, number: usize) -> Option<Handover> {
-        match self.inboxes.get(number) {
-            Some(inbox) => inbox.queue.pop(rt),
+        match self.sides.get(number) {
+            Some(side) => side.inbox.pop(rt),
             None => None,
         }
     }
@@ -108,15 +96,15 @@ impl Loops {
 
     /// Adds what a turn of a loop took.
     pub fn add_work(&self, number: usize, microseconds: u64) {
-        if let Some(inbox) = self.inboxes.get(number) {
-            inbox.meter.add(microseconds);
+        if let Some(side) = self.sides.get(number) {
+            side.meter.add(microseconds);
         }
     }
 
     /// Takes a look at how busy all loops are.
     pub fn look(&self, shares: &mut Shares, now: u64) {
-        for (number, inbox) in self.inboxes.iter().enumerate() {
-            shares.look(now, number, inbox.meter.worked());
+        for (number, side) in self.sides.iter().enumerate() {
+            shares.look(now, number, side.meter.worked());
         }
         shares.finish(now);
     }
@@ -158,8 +146,8 @@ impl Loops {
     }
 
     fn wake_all(&self) {
-        for inbox in self.inboxes.iter() {
-            let _ = inbox.waker.wake();
+        for side in self.sides.iter() {
+            side.inbox.wake();
         }
     }
 

@@ -8,7 +8,7 @@ mod sweeping;
 
 use crate::fault::LoopFault;
 use crate::handover::Handover;
-use crate::inbox::{Inbox, Loops};
+use crate::inbox::Loops;
 use crate::members::{Member, Note};
 use crate::meter::Shares;
 use crate::port::SocketPort;
@@ -18,6 +18,8 @@ use mac_decide::SeenTokens;
 use mac_host::{Traffic, microseconds};
 use mac_plain::{Client, Course, Round};
 use mac_slots::Slots;
+use mac_sockets::Inbox;
+use mac_sockets::Inbox;
 use mio::{Events, Poll, Token, Waker};
 use std::alloc::Global;
 use std::net::Net;

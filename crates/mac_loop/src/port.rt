@@ -6,20 +6,18 @@ ghost use Rattle.mac_plain.specs.Port.{FitsCame, FitsWent};
 use crate::transcript::Transcript;
 use mac_host::{Exchange, Traffic};
 use mac_plain::{Came, Port, Went};
-use mio::net::UnixStream;
+use mac_sockets::Stream;
 use mio::unix::SourceFd;
 use mio::{Interest, Registry, Token};
 use std::cell::RefCell;
 use std::io;
-use std::io::{ErrorKind, Read, Write};
+use std::io::ErrorKind;
 use std::net::Shutdown;
-use std::os::fd::AsRawFd;
-use std::os::unix::net;
 
 /// A socket that a loop reads and writes.
 #[derive(Drop)]
 pub struct SocketPort {
-    stream: UnixStream,
+    stream: Stream,
     // Whether the last read gave bytes.
     has_read: bool,
     traffic: Traffic,
@@ -30,28 +28,26 @@ pub struct SocketPort {
 impl SocketPort {
     /// A port at a stream, whose reads and writes wait no more, and which goes on with a transcript
     /// where there is one.
-    pub fn new(stream: net::UnixStream, transcript: Option<Transcript>) -> io::Result<SocketPort> {
-        stream.set_nonblocking(true)?;
+    pub fn new(stream: Stream, transcript: Option<Transcript>) -> io::Result<SocketPort> {
+        stream.hurry()?;
         Ok(SocketPort {
-            stream: UnixStream::from_std(stream),
+            stream,
             has_read: false,
             traffic: Traffic::NONE,
             transcript: transcript.and_then(|transcript| transcript.apart()),
         })
     }
 
-    /// The stream, whose reads and writes wait again, and the transcript.
-    pub fn into_stream(self) -> io::Result<(net::UnixStream, Option<Transcript>)> {
+    /// The stream, whose reads and writes still don't wait, and the transcript.
+    pub fn into_stream(self) -> (Stream, Option<Transcript>) {
         let SocketPort {
             stream,
             has_read: _,
             traffic: _,
             transcript,
         } = self;
-        let stream = net::UnixStream::from(stream);
-        stream.set_nonblocking(false)?;
         let transcript = transcript.map(|apart| Box::into_inner(apart).into_inner());
-        Ok((stream, transcript))
+        (stream, transcript)
     }
 
     /// The next request whose reply has gone out whole, where that is logged.
@@ -84,13 +80,13 @@ impl SocketPort {
 
     /// Takes nothing more from the peer: behind what has come its stream ends.
     pub fn end_reading(&self) {
-        let _ = self.stream.shutdown(Shutdown::Read);
+        self.stream.shut(Shutdown::Read);
     }
 
     /// Has a poll tell of what comes, under this token.
     pub fn join(&self, registry: &Registry, token: Token) -> io::Result<()> {
         registry.register(
-            &mut SourceFd(&self.stream.as_raw_fd()),
+            &mut SourceFd(&self.stream.descriptor()),
             token,
             Interest::READABLE,
         )
@@ -103,12 +99,12 @@ impl SocketPort {
         } else {
             Interest::READABLE
         };
-        registry.reregister(&mut SourceFd(&self.stream.as_raw_fd()), token, interest)
+        registry.reregister(&mut SourceFd(&self.stream.descriptor()), token, interest)
     }
 
     /// Has a poll tell of nothing more.
     pub fn leave(&self, registry: &Registry) -> io::Result<()> {
-        registry.deregister(&mut SourceFd(&self.stream.as_raw_fd()))
+        registry.deregister(&mut SourceFd(&self.stream.descriptor()))
     }
 }
 
@@ -122,7 +118,7 @@ impl Port for SocketPort {
     ghost written = { λ _. [] };
 
     fn read(&mut self, buf: &mut [u8]) -> Came {
-        let came = read_past_signals(&mut self.stream, buf);
+        let came = read(&self.stream, buf);
         self.has_read = matches!(came, Came::Bytes(_));
         if let Came::Bytes(count) = came {
             self.traffic.came = self.traffic.came.saturating_add(count as u64);
@@ -132,7 +128,7 @@ impl Port for SocketPort {
     }
 
     fn write(&mut self, buf: &[u8]) -> Went {
-        let went = write_past_signals(&mut self.stream, buf);
+        let went = write(&self.stream, buf);
         if let Went::Bytes(count) = went {
             self.traffic.went = self.traffic.went.saturating_add(count as u64);
             self.note(&[], buf.get(..count).unwrap_or(&[]));
@@ -141,33 +137,25 @@ impl Port for SocketPort {
     }
 }
 
-/// Reads, and reads again where a signal broke that off.
-fn read_past_signals(stream: &mut UnixStream, buf: &mut [u8]) -> Came
+/// What a read comes to.
+fn read(stream: &Stream, buf: &mut [u8]) -> Came
     ensures { FitsCame result (length buf.new) }
 {
-    for _ in 0..u64::MAX {
-        match stream.read(buf) {
-            Ok(0) => return Came::End,
-            Ok(count) => return Came::Bytes(count),
-            Err(fault) if fault.kind() == ErrorKind::WouldBlock => return Came::Later,
-            Err(fault) if fault.kind() == ErrorKind::Interrupted => {}
-            Err(_) => return Came::Fault,
-        }
+    match stream.read_past_signals(buf) {
+        Ok(0) => Came::End,
+        Ok(count) => Came::Bytes(count),
+        Err(fault) if fault.kind() == ErrorKind::WouldBlock => Came::Later,
+        Err(_) => Came::Fault,
     }
-    Came::Fault
 }
 
-/// Writes, and writes again where a signal broke that off.
-fn write_past_signals(stream: &mut UnixStream, buf: &[u8]) -> Went
+/// What a write comes to.
+fn write(stream: &Stream, buf: &[u8]) -> Went
     ensures { FitsWent result (length buf.now) }
 {
-    for _ in 0..u64::MAX {
-        match stream.write(buf) {
-            Ok(count) => return Went::Bytes(count),
-            Err(fault) if fault.kind() == ErrorKind::WouldBlock => return Went::Later,
-            Err(fault) if fault.kind() == ErrorKind::Interrupted => {}
-            Err(_) => return Went::Fault,
-        }
+    match stream.write_past_signals(buf) {
+        Ok(count) => Went::Bytes(count),
+        Err(fault) if fault.kind() == ErrorKind::WouldBlock => Went::Later,
+        Err(_) => Went::Fault,
     }
-    Went::Fault
 }

@@ -7,12 +7,11 @@ use crate::http::{HttpPlan, open_doors};
 use crate::key_store::{FirstKeys, KeyPlace, look_at};
 use crate::operating::{OperatorsGate, open_status, start_operators, warn_of_no_status};
 use mac_board::Editor;
-use mac_daemon::{
-    Claim, Daemon, DaemonFault, FOLLOWERS_MAX, Holdings, SideSocket, Surroundings, Terms, listen,
-};
+use mac_daemon::{Daemon, DaemonFault, FOLLOWERS_MAX, SideSocket, Surroundings, Terms, listen};
 use mac_decide::Rights;
 use mac_gate::{Address, DoorFault, Doors, Gate, GateFault, open_gate};
 use mac_host::Call;
+use mac_sockets::{Claim, Holdings};
 use std::alloc::{Alloc, AllocError, Global};
 use std::env::Env;
 use std::fs::{File, Files};

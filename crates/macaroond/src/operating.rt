@@ -3,10 +3,11 @@
 use crate::commands::VERSION;
 use crate::key_watch::ListenFault;
 use mac_board::Publisher;
-use mac_daemon::{Daemon, DaemonFault, Holdings};
+use mac_daemon::{Daemon, DaemonFault};
 use mac_gate::{DoorFault, Doors, Gate, Terms, open_gate};
 use mac_http::{Calls, Granted, Pages, Sources};
 use mac_keys::KeyTable;
+use mac_sockets::Holdings;
 use std::alloc::{Alloc, AllocError, Global};
 use std::fs::{File, Files};
 use std::net::{Net, TcpListener, TcpStream};

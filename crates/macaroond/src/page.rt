@@ -12,6 +12,7 @@ use mac_gate::{Address, AddressFault, DoorFault, Reach, read_address};
 use mac_http::Watch;
 use mac_keys::KeyTable;
 use mac_page::{PageFace, Secret, Secrets, Site, Texts, attend_page};
+use mac_sockets::STACK;
 use std::alloc::{Alloc, AllocError, Global};
 use std::fs::{File, Files};
 use std::hash::RandomState;
@@ -33,9 +34,6 @@ const PATIENCE: u64 = 30;
 
 /// How many milliseconds to wait where the system accepts no connection, for want of descriptors.
 const PAUSE_MILLIS: u64 = 100;
-
-/// The stack of a connection's thread, in bytes, whatever limit the process was started under.
-const STACK: usize = 1_048_576;
 
 /// What the threads share: what is served, and the connections.
 #[derive(Drop)]

@@ -3,7 +3,7 @@
 use libc::types::rlimit;
 use libc::{RLIMIT_STACK, getrlimit};
 
-/// The stack of a loop's thread, in bytes, whatever limit the process was started under.
+/// The stack of a server's thread, in bytes, whatever limit the process was started under.
 pub const STACK: usize = 1_048_576;
 
 /// Whether a thread for which no stack is asked has as much: it has what the process was started

@@ -1,15 +1,16 @@
 //! Where connections come in: sockets that listen, until it is shut.
 
+ghost use Rattle.std.specs.Prelude.{◌≡◌, ◌<◌, [], IfOk, IsTrue, length};
+ghost use Rattle.mac_sockets.specs.Entrance.{CountsDown, doors_of, Gives, IsThroughOneOf, IsThroughOwn};
+
 use crate::door::Door;
-use crate::fault::DaemonFault;
-use mac_decide::Rights;
+use crate::fault::EntranceFault;
+use crate::stream::Stream;
 use mio::unix::SourceFd;
 use mio::{Events, Interest, Poll, Token, Waker};
 use std::alloc::Global;
 use std::io;
 use std::net::Net;
-use std::os::fd::AsRawFd;
-use std::os::unix::net::UnixStream;
 use std::sync::atomic::AtomicBool;
 use std::sync::atomic::Ordering::SeqCst;
 use std::sync::{Arc, Wait};
@@ -18,7 +19,7 @@ use std::sync::{Arc, Wait};
 const SHUTTER: usize = 1 << 40;
 
 /// How many events are taken at a time.
-const EVENTS: usize = 3;
+const EVENTS: usize = 8;
 
 /// How many connections are taken once it is shut, of those that wait already: as many as the
 /// system lets wait at a socket.
@@ -26,9 +27,9 @@ const WAITING_MAX: usize = 4_096;
 
 /// Sockets that listen, and what the waits for their connections end by.
 #[derive(Drop)]
-pub struct Entrance {
+pub struct Entrance<G> {
     // There are none once no more connections are taken.
-    doors: Vec<Door>,
+    doors: Vec<Door<G>>,
     // The door that is looked at first.
     next: usize,
     poll: Poll,
@@ -48,9 +49,7 @@ pub struct Shutter {
 /// A connection that has come in. It can't be dropped, only taken apart.
 pub struct Arrived {
     /// Its stream.
-    pub stream: UnixStream,
-    /// What its requests may do, where there is memory for that.
-    pub rights: Option<Arc<Rights, Global>>,
+    pub stream: Stream,
     /// The number of its door.
     pub door: usize,
 }
@@ -65,20 +64,26 @@ impl Shutter {
         let _ = self.waker.wake();
     }
 
-    fn is_shut(&self) -> bool {
+    /// Whether it was told to.
+    pub fn is_shut(&self) -> bool {
         self.is_shut.load(SeqCst)
     }
 }
 
-impl Entrance {
+impl<G: Drop> Entrance<G> {
     /// The entrance through these doors.
-    pub fn open<R: Net>(rt: &R, alloc: Global, doors: Vec<Door>) -> Result<Entrance, DaemonFault> {
+    pub fn open<R: Net>(
+        rt: &R,
+        alloc: Global,
+        doors: Vec<Door<G>>,
+    ) -> Result<Entrance<G>, EntranceFault>
+        ensures { IfOk result (λ entrance. doors_of entrance ≡ doors.items) }
+    {
         let poll = Poll::new(rt)?;
         let registry = poll.registry();
         for (number, door) in doors.iter().enumerate() {
-            let descriptor = door.listener().as_raw_fd();
             registry.register(
-                &mut SourceFd(&descriptor),
+                &mut SourceFd(&door.descriptor()),
                 Token(number),
                 Interest::READABLE,
             )?;
@@ -88,7 +93,7 @@ impl Entrance {
             is_shut: AtomicBool::new(false),
         };
         let Ok(shutter) = Arc::new(alloc, shutter) else {
-            return Err(DaemonFault::NoMemory);
+            return Err(EntranceFault::NoMemory);
         };
         Ok(Entrance {
             doors,
@@ -105,10 +110,21 @@ impl Entrance {
         &self.shutter
     }
 
+    /// What a door gives to its connections.
+    pub fn gift(&self, door: usize) -> &G
+        requires { door < length (doors_of self.now) }
+        ensures { Gives (doors_of self.now) door result.now }
+    {
+        self.doors[door].gift()
+    }
+
     /// The next connection, or why the system gives none. Once the entrance is shut, there are only
     /// those that wait already, up to the first fault, and none at a door that another process has
     /// too.
-    pub fn accept<R: Wait>(&mut self, rt: &R) -> Option<Welcome> {
+    pub fn accept<R: Wait>(&mut self, rt: &R) -> Option<Welcome>
+        ensures doors { doors_of self.new ≡ doors_of self.old }
+        ensures through { IsThroughOneOf (doors_of self.old) result }
+    {
         for _ in rt.forever() {
             if self.doors.is_empty() {
                 return None;
@@ -127,7 +143,11 @@ impl Entrance {
     }
 
     /// The next connection that waits, while it may be taken. Behind a fault none is.
-    fn take_waiting<R: Wait>(&mut self, rt: &R) -> Option<Welcome> {
+    fn take_waiting<R: Wait>(&mut self, rt: &R) -> Option<Welcome>
+        ensures doors { doors_of self.new ≡ doors_of self.old }
+        ensures through { IsThroughOwn (doors_of self.old) result }
+        ensures waiting { CountsDown result self.old.waiting self.new.waiting }
+    {
         self.waiting = self.waiting.checked_sub(1)?;
         let welcome = self.try_doors(rt, true)?;
         if welcome.is_err() {
@@ -138,7 +158,12 @@ impl Entrance {
 
     /// What waits at the first door that has something, from the next one on. So no door keeps
     /// another from its turn. Doors of its own alone are looked at where that is asked for.
-    fn try_doors<R: Wait>(&mut self, rt: &R, is_own: bool) -> Option<Welcome> {
+    fn try_doors<R: Wait>(&mut self, rt: &R, is_own: bool) -> Option<Welcome>
+        ensures doors { doors_of self.new ≡ doors_of self.old }
+        ensures through { IsThroughOneOf (doors_of self.old) result }
+        ensures own { IsTrue is_own → IsThroughOwn (doors_of self.old) result }
+        ensures waiting { self.new.waiting ≡ self.old.waiting }
+    {
         for _ in 0..self.doors.len() {
             let number = if self.next < self.doors.len() {
                 self.next
@@ -156,7 +181,6 @@ impl Entrance {
                 Some(Ok(stream)) => {
                     return Some(Ok(Arrived {
                         stream,
-                        rights: Arc::try_clone(door.rights()).ok(),
                         door: number,
                     }));
                 }
@@ -167,7 +191,9 @@ impl Entrance {
 
     /// Closes the sockets. Whoever waits there is refused, unless another process listens there
     /// too.
-    pub fn close(&mut self) {
+    pub fn close(&mut self)
+        ensures { doors_of self.new ≡ [] }
+    {
         self.doors.clear();
     }
 }

@@ -1,0 +1,42 @@
+-- The doors of an entrance, and which of them a connection came in through.
+use Rattle.std.specs.Prelude.{◌≡◌, ◌+◌, ◌<◌, ◌≤◌, ℕ, Bool, false, List, Option, Some, None, Result, Ok, Err, MatchOption, length, slice_get}
+use Rattle.mac_sockets.specs.declared.door.Door.{Door}
+use Rattle.mac_sockets.specs.declared.entrance.Arrived.{Arrived}
+use Rattle.mac_sockets.specs.declared.entrance.Entrance.{Entrance}
+
+module _ {G : Type 0} where
+  -- what the connections of a door are given
+  abbrev pub gift_of : Door G → G
+  gift_of door = door.gift
+
+  -- whether another process has a door too
+  abbrev pub shared_of : Door G → Bool
+  shared_of door = door.is_shared
+
+  -- the doors of an entrance, in the order of their numbers
+  abbrev pub doors_of : Entrance G → List (Door G)
+  doors_of entrance = entrance.doors.items
+
+  -- the door of this number gives this
+  abbrev pub Gives : List (Door G) → ℕ → G → Type 0
+  Gives doors number gift = MatchOption (slice_get doors number) ⊥ (λ door. door.gift ≡ gift)
+
+  -- a connection came in through one of the doors, if one came
+  abbrev pub IsThroughOneOf : {E : Type 0} → List (Door G) → Option (Result Arrived E) → Type 0
+  IsThroughOneOf doors None = Unit {0}
+  IsThroughOneOf doors (Some (Err fault)) = Unit {0}
+  IsThroughOneOf doors (Some (Ok arrived)) = arrived.door < length doors
+
+  -- a connection came in through one of the doors that no other process has, if one came
+  abbrev pub IsThroughOwn : {E : Type 0} → List (Door G) → Option (Result Arrived E) → Type 0
+  IsThroughOwn doors None = Unit {0}
+  IsThroughOwn doors (Some (Err fault)) = Unit {0}
+  IsThroughOwn doors (Some (Ok arrived)) =
+      MatchOption (slice_get doors arrived.door) ⊥ (λ door. door.is_shared ≡ false)
+
+-- of the connections that an entrance still takes once it is shut: one less where one came, and none
+-- behind a fault
+abbrev pub CountsDown : {E : Type 0} → Option (Result Arrived E) → ℕ → ℕ → Type 0
+CountsDown None before after = after ≤ before
+CountsDown (Some (Err fault)) before after = after ≡ 0
+CountsDown (Some (Ok arrived)) before after = after + 1 ≡ before

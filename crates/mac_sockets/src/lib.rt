@@ -1,0 +1,28 @@
+//! The sockets of a server: where it listens, the paths that it listens at, and the streams of those
+//! who connect there.
+//!
+//! [`Holdings`] make sockets at paths that nobody else has. Each that listens is a [`Door`], and an
+//! [`Entrance`] waits at all of them, until its [`Shutter`] shuts it. What comes in is a [`Stream`],
+//! over a Unix socket or over TCP, which goes to a thread by that one's [`Inbox`]. Nothing here knows
+//! what is said on a stream.
+#![tactic(auto)]
+
+mod door;
+mod entrance;
+mod fault;
+mod holding;
+mod inbox;
+mod lock;
+mod place;
+mod stacks;
+mod stream;
+
+pub use door::Door;
+pub use entrance::{Arrived, Entrance, Shutter, Welcome};
+pub use fault::EntranceFault;
+pub use holding::Holdings;
+pub use inbox::Inbox;
+pub use lock::Claim;
+pub use place::{PlaceFault, bind_new};
+pub use stacks::{STACK, has_roomy_stacks};
+pub use stream::Stream;
