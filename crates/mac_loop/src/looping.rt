@@ -19,7 +19,6 @@ use mac_host::{Traffic, microseconds};
 use mac_plain::{Client, Course, Round};
 use mac_slots::Slots;
 use mac_sockets::Inbox;
-use mac_sockets::Inbox;
 use mio::{Events, Poll, Token, Waker};
 use std::alloc::Global;
 use std::net::Net;
