@@ -9,7 +9,7 @@ mod sweeping;
 use crate::fault::LoopFault;
 use crate::handover::Handover;
 use crate::inbox::Loops;
-use crate::members::{Member, Note};
+use crate::members::{Lent, Member};
 use crate::meter::Shares;
 use crate::port::SocketPort;
 use crate::watch::{PlainFault, Turn, Watch};
@@ -43,13 +43,6 @@ const TURN_LONG: u64 = 2_000;
 
 /// A turn that took less may have more parts.
 const TURN_SHORT: u64 = 500;
-
-/// What a loop keeps of a slot whose client is in a turn.
-#[derive(Clone, Copy)]
-struct Lent {
-    slot: usize,
-    note: Note,
-}
 
 /// A loop, with the clients of its slots.
 #[derive(Drop)]
@@ -269,14 +262,14 @@ impl Loop {
         loops.end_turn();
         let mut traffic = Traffic::NONE;
         for _ in rt.forever() {
-            let (Some(client), Some(lent)) = (self.batch.pop(), self.turn.pop()) else {
+            let (Some(client), Some(Lent { slot, note })) = (self.batch.pop(), self.turn.pop())
+            else {
                 break;
             };
             loops.count_unsent(0, client.unsent());
-            let note = lent.note;
             let mut member = Member { client, note };
             traffic = traffic.plus(member.count_traffic());
-            self.look_after(rt, lent.slot, member, loops, outlook, watch);
+            self.look_after(rt, slot, member, loops, outlook, watch);
         }
         watch.count(&Turn {
             requests: self.round.take_counts(),
@@ -326,7 +319,7 @@ impl Loop {
         outlook: &K,
         watch: &W,
     ) {
-        tell_exchanges(rt, &member, watch);
+        member.tell_exchanges(rt, watch);
         if member.client.is_over() {
             loops.count_unsent(member.client.unsent(), 0);
             let _ = self.members.release(slot);
@@ -408,15 +401,5 @@ impl Loop {
             loops.look(&mut self.shares, now);
             self.spread(rt, loops, outlook, watch);
         }
-    }
-}
-
-/// Tells the replies that have gone out to a client, where they are logged.
-fn tell_exchanges<R: Wait + Clock, W: Watch>(rt: &R, member: &Member, watch: &W) {
-    for _ in rt.forever() {
-        let Some(exchange) = member.client.port().next_exchange() else {
-            return;
-        };
-        watch.tell(rt, member.note.badge, exchange);
     }
 }

@@ -1,8 +1,11 @@
 //! A client of a loop, and what the loop knows of it.
 
 use crate::port::SocketPort;
+use crate::watch::Watch;
 use mac_host::{Badge, Life, Traffic};
 use mac_plain::Client;
+use std::sync::Wait;
+use std::time::Clock;
 
 /// How a client stood when a loop last looked at its progress.
 #[derive(Clone, Copy, PartialEq, Eq)]
@@ -37,6 +40,13 @@ pub struct Note {
 #[derive(Drop)]
 pub struct Member {
     pub client: Client<SocketPort>,
+    pub note: Note,
+}
+
+/// What a loop keeps of a slot whose client is in a turn.
+#[derive(Clone, Copy)]
+pub struct Lent {
+    pub slot: usize,
     pub note: Note,
 }
 
@@ -108,6 +118,16 @@ impl Member {
     pub fn end_reading(&mut self) {
         self.client.port().end_reading();
         self.client.wake_reading();
+    }
+
+    /// Tells the replies that have gone out to it, where they are logged.
+    pub fn tell_exchanges<R: Wait + Clock, W: Watch>(&self, rt: &R, watch: &W) {
+        for _ in rt.forever() {
+            let Some(exchange) = self.client.port().next_exchange() else {
+                return;
+            };
+            watch.tell(rt, self.note.badge, exchange);
+        }
     }
 
     /// It begins a turn. How many parts of the turn it takes: one, or `deep` of them where it has
