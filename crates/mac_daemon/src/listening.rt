@@ -84,9 +84,7 @@ where
     let entrance = Entrance::open(rt, alloc, doors)?;
     let ending = Ending::new(alloc)?;
     let stop = Stop::new(&ending, entrance.shutter())?;
-    let Some(notices) = Notices::start(*rt, alloc, is_journal, terms.has_requests) else {
-        return Err(DaemonFault::NoThread);
-    };
+    let notices = start_notices(*rt, alloc, is_journal, terms.has_requests)?;
     if let Some(signals) = signals {
         let stop = Stop::new(&ending, entrance.shutter())?;
         heed_signals(*rt, signals, stop, notices.share()?)?;
@@ -99,8 +97,12 @@ where
     };
     let paths = socket_paths(alloc, terms.path, side_path)?;
     let roster = Roster::new(rt, alloc, limits.connections, paths)?;
-    let listed = Arc::try_clone(&roster)?;
-    let quay = Quay::new(alloc, Some(notices.share()?), numbers.share()?, listed)?;
+    let quay = Quay::new(
+        alloc,
+        Some(notices.share()?),
+        numbers.share()?,
+        Arc::try_clone(&roster)?,
+    )?;
     let seen = make_seen(rt, alloc, terms.shape);
     let service = Service {
         workers: terms.shape.workers,
@@ -236,6 +238,22 @@ where
         Ok(listener) => add_door(doors, alloc, listener, rights, false),
         Err(PlaceFault::NoMemory) => Err(DaemonFault::NoMemory),
         Err(fault) => Err(DaemonFault::Side(fault)),
+    }
+}
+
+/// Starts the log of a daemon.
+fn start_notices<R>(
+    rt: R,
+    alloc: Global,
+    is_journal: bool,
+    has_requests: bool,
+) -> Result<Notices, DaemonFault>
+where
+    R: Threads + Wait + Clock + Eprint + Copy + Send + 'static,
+{
+    match Notices::start(rt, alloc, is_journal, has_requests) {
+        Some(notices) => Ok(notices),
+        None => Err(DaemonFault::NoThread),
     }
 }
 
