@@ -2,7 +2,7 @@
 ghost use Rattle.std.specs.Prelude.{◌≡◌, ◌<◌, length};
 ghost use Rattle.mac_daemon.specs.Day.{CountsArrived};
 ghost use Rattle.mac_daemon.specs.Doors.{counted_doors};
-ghost use Rattle.mac_sockets.specs.Entrance.{Gives, IsThroughOneOf};
+ghost use Rattle.mac_sockets.specs.Entrance.{IsGiftAt, IsThroughOneOf};
 
 use crate::door::Gift;
 use mac_sockets::{Entrance, Welcome};
@@ -46,7 +46,7 @@ impl CountedEntrance {
     /// What the requests of those may do who come in through a door.
     pub fn rights(&self, door: usize) -> &Gift
         requires { door < length (counted_doors self.now) }
-        ensures { Gives (counted_doors self.now) door result.now }
+        ensures { IsGiftAt (counted_doors self.now) door result.now }
     {
         self.entrance.gift(door)
     }

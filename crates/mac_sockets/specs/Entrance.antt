@@ -18,8 +18,8 @@ module _ {G : Type 0} where
   doors_of entrance = entrance.doors.items
 
   -- the door of this number gives this
-  abbrev pub Gives : List (Door G) → ℕ → G → Type 0
-  Gives doors number gift = MatchOption (slice_get doors number) ⊥ (λ door. door.gift ≡ gift)
+  abbrev pub IsGiftAt : List (Door G) → ℕ → G → Type 0
+  IsGiftAt doors number gift = MatchOption (slice_get doors number) ⊥ (λ door. door.gift ≡ gift)
 
   -- a connection came in through one of the doors, if one came
   abbrev pub IsThroughOneOf : {E : Type 0} → List (Door G) → Option (Result Arrived E) → Type 0

@@ -1,7 +1,7 @@
 //! Where connections come in: sockets that listen, until it is shut.
 
 ghost use Rattle.std.specs.Prelude.{◌≡◌, ◌<◌, [], IfOk, IsTrue, length};
-ghost use Rattle.mac_sockets.specs.Entrance.{CountsDown, doors_of, Gives, IsThroughOneOf, IsThroughOwn};
+ghost use Rattle.mac_sockets.specs.Entrance.{CountsDown, doors_of, IsGiftAt, IsThroughOneOf, IsThroughOwn};
 
 use crate::door::Door;
 use crate::fault::EntranceFault;
@@ -113,7 +113,7 @@ impl<G: Drop> Entrance<G> {
     /// What a door gives to its connections.
     pub fn gift(&self, door: usize) -> &G
         requires { door < length (doors_of self.now) }
-        ensures { Gives (doors_of self.now) door result.now }
+        ensures { IsGiftAt (doors_of self.now) door result.now }
     {
         self.doors[door].gift()
     }
