@@ -1,5 +1,7 @@
 //! A client of a loop, and what the loop knows of it.
 
+ghost use Rattle.std.specs.Prelude.{◌≡◌};
+
 use crate::port::SocketPort;
 use crate::watch::Watch;
 use mac_host::{Badge, Life, Traffic};
@@ -94,7 +96,9 @@ impl Member {
     }
 
     /// Notes how it stands now. When it was last seen to make progress, in microseconds.
-    pub fn note_progress(&mut self, now: u64) -> u64 {
+    pub fn note_progress(&mut self, now: u64) -> u64
+        ensures { self.new.client ≡ self.old.client }
+    {
         let progress = Progress::of(&self.client);
         if self.note.progress != progress {
             self.note.progress = progress;
