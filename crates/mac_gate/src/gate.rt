@@ -76,7 +76,7 @@ where
     let entrance = Entrance::open(rt, alloc, doors)?;
     let (mut made, mut wakers) = (Vec::new(alloc), Vec::new(alloc));
     for number in 0..loops {
-        let (own, waker) = Loop::new(rt, alloc, number)?;
+        let (own, waker) = Loop::new(rt, alloc, number, terms.patience)?;
         if made.push(own).is_err() || wakers.push(waker).is_err() {
             return Err(GateFault::NoMemory);
         }
@@ -105,16 +105,16 @@ where
     R: Threads + Wait + Clock + RandomSource + Sync + Copy + Send + 'static,
 {
     for own in loops {
-        let is_started = match Arc::try_clone(house) {
-            Ok(house) => own.start(*rt, alloc, house, terms),
-            Err(_) => false,
+        let is_started = match (Arc::try_clone(house), followers.follower()) {
+            (Ok(house), Ok(keys)) => own.start(*rt, alloc, house, keys, terms),
+            _ => false,
         };
         if !is_started {
             return false;
         }
     }
     match Arc::try_clone(house) {
-        Ok(house) => start_welcoming(*rt, entrance, house, followers),
+        Ok(house) => start_welcoming(*rt, entrance, house),
         Err(_) => false,
     }
 }

@@ -4,7 +4,6 @@ use crate::noting::exchange_of;
 use crate::places::Places;
 use crate::terms::Terms;
 use http::StatusCode;
-use mac_board::Follower;
 use mac_count::{Number, Request, append_metrics, append_status, append_version};
 use mac_decide::{Rights, SeenTokens};
 use mac_host::Host;
@@ -18,17 +17,10 @@ use std::sync::atomic::{AtomicBool, AtomicUsize};
 use std::sync::{Arc, Mutex, Wait};
 use std::time::Clock;
 
-/// A connection on its way to a loop.
-#[derive(Drop)]
-pub struct Arrival {
-    pub stream: Stream,
-    pub keys: Follower,
-}
-
 /// A loop, as others see it.
 #[derive(Drop)]
 struct LoopSide {
-    inbox: Inbox<Arrival>,
+    inbox: Inbox<Stream>,
     // How many connections the loop has.
     count: AtomicUsize,
 }
@@ -167,7 +159,7 @@ impl House {
 
     /// Hands a connection to the loop that has the fewest. It is closed where there is no place for
     /// it, or no memory.
-    pub fn enter<R: Wait>(&self, rt: &R, stream: Stream, keys: Follower) {
+    pub fn enter<R: Wait>(&self, rt: &R, stream: Stream) {
         let number = self.idlest();
         let Some(side) = self.sides.get(number) else {
             return;
@@ -176,13 +168,13 @@ impl House {
             return;
         }
         side.count.fetch_add(1, SeqCst);
-        if side.inbox.push(rt, Arrival { stream, keys }).is_err() {
+        if side.inbox.push(rt, stream).is_err() {
             self.leave(rt, number);
         }
     }
 
     /// The next connection that was handed to a loop.
-    pub fn take<R: Wait>(&self, rt: &R, number: usize) -> Option<Arrival> {
+    pub fn take<R: Wait>(&self, rt: &R, number: usize) -> Option<Stream> {
         match self.sides.get(number) {
             Some(side) => side.inbox.pop(rt),
             None => None,

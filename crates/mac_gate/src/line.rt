@@ -6,8 +6,8 @@ ghost use Rattle.mac_http.specs.Turn.{IsTurn};
 
 use crate::devices::{Heard, Spoken};
 use http_server::{Connection, Service};
-use mac_http::take_turn;
-use mac_sockets::Stream;
+use mac_http::{Way, take_turn};
+use mac_sockets::{Readiness, Stream, Wakes};
 use mio::unix::SourceFd;
 use mio::{Interest, Registry, Token};
 use std::io;
@@ -24,12 +24,11 @@ const DROPPED_READS: usize = 64;
 /// How many milliseconds pass before each of them at most.
 const DROPPED_MILLIS: u64 = 100;
 
-/// A connection, and what answers it.
+/// A connection of a loop.
 #[derive(Drop)]
-pub struct Line<S> {
+pub struct Line {
     stream: Stream,
     connection: Connection,
-    service: S,
     // When something was written last, or it began.
     since: Duration,
     // Whether nothing has come since then.
@@ -45,13 +44,12 @@ pub struct Line<S> {
     parting: Option<usize>,
 }
 
-impl<S: Service> Line<S> {
+impl Line {
     /// A connection that begins now.
-    pub fn new(stream: Stream, connection: Connection, service: S, now: Duration) -> Line<S> {
+    pub fn new(stream: Stream, connection: Connection, now: Duration) -> Line {
         Line {
             stream,
             connection,
-            service,
             since: now,
             is_idle: true,
             has_more: true,
@@ -87,11 +85,17 @@ impl<S: Service> Line<S> {
         registry.reregister(&mut SourceFd(&self.stream.descriptor()), token, interest)
     }
 
-    /// A poll has told of it.
-    pub fn wake(&mut self, reads: bool, writes: bool, closes: bool) {
-        self.has_more = self.has_more || reads || closes;
-        self.has_room = self.has_room || writes;
-        self.is_closing = self.is_closing || closes;
+    /// The way by which its peer comes.
+    pub fn way(&self) -> Way {
+        match &self.stream {
+            Stream::Unix(_) => Way::Socket,
+            Stream::Tcp(_) => Way::Port,
+        }
+    }
+
+    /// Whether it is owed something: a response, or to be read on in a request that has begun.
+    pub fn is_owed(&self) -> bool {
+        self.connection.wants_write() || !self.is_idle
     }
 
     /// Whether a turn may do something.
@@ -121,25 +125,20 @@ impl<S: Service> Line<S> {
         left_of(limit, now.saturating_sub(self.since))
     }
 
-    /// Does what can be done without waiting; what is dropped is read into the piece. Whether the
-    /// connection goes on.
-    pub fn advance(&mut self, now: Duration, piece: &mut [u8]) -> bool {
+    /// Does what can be done without waiting, by this service; what is dropped is read into the
+    /// piece. Whether the connection goes on.
+    pub fn advance<S: Service>(&mut self, service: &mut S, now: Duration, piece: &mut [u8]) -> bool {
         match self.parting {
             Some(left) => self.drop_piece(left, now, piece),
-            None => self.answer(now),
+            None => self.answer(service, now),
         }
     }
 
     /// Takes a turn. A fault ends the connection.
-    fn answer(&mut self, now: Duration) -> bool {
+    fn answer<S: Service>(&mut self, service: &mut S, now: Duration) -> bool {
         let mut heard = Heard::new(&self.stream, self.has_more);
         let mut spoken = Spoken::new(&self.stream, self.has_room);
-        let turned = answer_turn(
-            &mut self.connection,
-            &mut self.service,
-            &mut heard,
-            &mut spoken,
-        );
+        let turned = answer_turn(&mut self.connection, service, &mut heard, &mut spoken);
         let (has_come, has_gone) = (heard.has_come, spoken.has_gone);
         self.has_more = heard.has_more || (has_come && self.is_closing);
         self.has_room = spoken.has_room;
@@ -182,6 +181,15 @@ impl<S: Service> Line<S> {
             }
             Ok(_) | Err(_) => false,
         }
+    }
+}
+
+impl Wakes for Line {
+    fn wake(&mut self, told: Readiness) -> bool {
+        self.has_more = self.has_more || told.reads || told.closes;
+        self.has_room = self.has_room || told.writes;
+        self.is_closing = self.is_closing || told.closes;
+        self.is_ready()
     }
 }
 

@@ -2,70 +2,82 @@
 
 use crate::line::Line;
 use http_server::Service;
-use mac_slots::Slots;
-use mio::{Registry, Token};
+use mac_http::Way;
+use mac_sockets::{Connections, Readiness};
+use mio::{Token, Waker};
 use std::alloc::Global;
-use std::time::Duration;
+use std::io;
+use std::net::Net;
+use std::time::{Clock, Duration};
+
+/// How many seconds pass at most until one that is owed something is looked at again, though no
+/// event told of it.
+const OWED_SECONDS: u64 = 1;
 
 /// The connections of a loop, each in its slot.
 #[derive(Drop)]
-pub struct Lines<S> {
-    slots: Slots<Line<S>>,
+pub struct Lines {
+    connections: Connections<Line>,
     patience: Duration,
-    // No peer has taken too long before then.
+    // Nobody has to be looked at before then of whom no event tells.
     due: Option<Duration>,
 }
 
-impl<S: Service + Drop> Lines<S> {
-    /// No connections, whose peers may each take so long.
-    pub fn new(alloc: Global, patience: Duration) -> Lines<S> {
-        Lines {
-            slots: Slots::new(alloc),
+impl Lines {
+    /// No connections, whose peers may each take so long, and what ends the waits for them.
+    pub fn new<R: Net>(rt: &R, alloc: Global, patience: Duration) -> io::Result<(Lines, Waker)> {
+        let (connections, waker) = Connections::new(rt, alloc)?;
+        let lines = Lines {
+            connections,
             patience,
             due: None,
-        }
+        };
+        Ok((lines, waker))
     }
 
     /// Whether there are none.
     pub fn is_empty(&self) -> bool {
-        self.slots.count() == 0
-    }
-
-    /// Whether one is ready.
-    pub fn has_ready(&self) -> bool {
-        self.slots.has_ready()
+        self.connections.slots.count() == 0
     }
 
     /// How many are ready.
     pub fn count_ready(&self) -> usize {
-        self.slots.count_ready()
+        self.connections.slots.count_ready()
     }
 
-    /// How long it is until a peer may have taken too long, if there is one.
-    pub fn wait(&self, now: Duration) -> Option<Duration> {
-        match self.due {
+    /// When the last wait ended.
+    pub fn now(&self) -> Duration {
+        self.connections.now()
+    }
+
+    /// Waits until some are ready, and no longer than until one has to be looked at.
+    pub fn wait<R: Clock>(&mut self, rt: &R) {
+        let now = self.now();
+        let patience = match self.due {
             Some(due) => Some(due.saturating_sub(now)),
             None => None,
-        }
+        };
+        self.connections.wait(rt, patience);
     }
 
     /// Takes a connection in, and has the poll tell of it. Whether that could be.
-    pub fn begin(&mut self, registry: &Registry, line: Line<S>, now: Duration) -> bool {
-        let Ok(slot) = self.slots.reserve() else {
+    pub fn begin(&mut self, line: Line) -> bool {
+        let Ok(slot) = self.connections.slots.reserve() else {
             return false;
         };
-        if line.join(registry, Token(slot)).is_err() {
-            let _ = self.slots.release(slot);
+        if line.join(self.connections.registry(), Token(slot)).is_err() {
+            let _ = self.connections.slots.release(slot);
             return false;
         }
-        let _ = self.slots.put(slot, line);
-        self.expect(now.saturating_add(self.patience));
+        let _ = self.connections.slots.put(slot, line);
+        self.expect(self.patience);
         self.list(slot);
         true
     }
 
-    /// Some peer may have taken too long then.
-    fn expect(&mut self, then: Duration) {
+    /// Somebody has to be looked at so long from now.
+    fn expect(&mut self, left: Duration) {
+        let then = self.now().saturating_add(left);
         let is_sooner = match self.due {
             Some(due) => then < due,
             None => true,
@@ -75,98 +87,108 @@ impl<S: Service + Drop> Lines<S> {
         }
     }
 
-    /// A poll has told of a slot.
-    pub fn wake(&mut self, slot: usize, reads: bool, writes: bool, closes: bool) {
-        if let Some(line) = self.slots.get_mut(slot) {
-            line.wake(reads, writes, closes);
-        }
-        self.list(slot);
-    }
-
     /// Lists a slot as ready, where its connection is.
     fn list(&mut self, slot: usize) {
-        if self.slots.get(slot).is_some_and(|line| line.is_ready()) {
-            self.slots.list(slot);
+        let line = self.connections.slots.get(slot);
+        if line.is_some_and(|line| line.is_ready()) {
+            self.connections.slots.list(slot);
         }
     }
 
     /// Takes nothing more from those that are idle than what has come.
     pub fn end_idle(&mut self) {
-        for slot in 0..self.slots.bound() {
+        for slot in 0..self.bound() {
             self.end_if_idle(slot);
         }
     }
 
     /// The same of one of them.
     fn end_if_idle(&mut self, slot: usize) {
-        if let Some(line) = self.slots.get_mut(slot) {
+        if let Some(line) = self.connections.slots.get_mut(slot) {
             line.end_if_idle();
         }
         self.list(slot);
     }
 
-    /// The next one that is ready does what it can; what it drops is read into the piece. Whether
-    /// one has ended.
-    pub fn advance_next(
+    /// The next slot that is ready, with the way by which the peer of its connection comes.
+    pub fn next_ready(&mut self) -> Option<(usize, Way)> {
+        let slot = self.connections.slots.next_ready()?;
+        let line = self.connections.slots.get(slot)?;
+        Some((slot, line.way()))
+    }
+
+    /// Has the connection of a slot do what it can, by this service; what it drops is read into the
+    /// piece. Whether it has ended.
+    pub fn advance<S: Service>(
         &mut self,
-        registry: &Registry,
-        now: Duration,
+        slot: usize,
+        service: &mut S,
         is_ending: bool,
         piece: &mut [u8],
     ) -> bool {
-        let Some(slot) = self.slots.next_ready() else {
+        let now = self.now();
+        let Some(mut line) = self.connections.slots.take(slot) else {
             return false;
         };
-        let Some(line) = self.slots.get_mut(slot) else {
-            return false;
-        };
-        if line.advance(now, piece) && line.update(registry, Token(slot)).is_ok() {
-            self.stay(slot, now, is_ending);
-            return false;
+        let goes_on = line.advance(service, now, piece)
+            && line.update(self.connections.registry(), Token(slot)).is_ok();
+        if !goes_on {
+            let _ = self.connections.slots.release(slot);
+            return true;
         }
-        let _ = self.slots.release(slot);
-        true
-    }
-
-    /// Notes what one that goes on waits for.
-    fn stay(&mut self, slot: usize, now: Duration, is_ending: bool) {
+        let _ = self.connections.slots.put(slot, line);
         if is_ending {
             self.end_if_idle(slot);
         }
-        if let Some(line) = self.slots.get(slot) {
-            if let Some(left) = line.left(self.patience, now) {
-                self.expect(now.saturating_add(left));
-            }
+        self.stay(slot);
+        false
+    }
+
+    /// Notes until when one that goes on has to be looked at.
+    fn stay(&mut self, slot: usize) {
+        let Some(line) = self.connections.slots.get(slot) else {
+            return;
+        };
+        let (left, is_owed) = (line.left(self.patience, self.now()), line.is_owed());
+        if let Some(left) = left {
+            self.expect(left);
+        }
+        if is_owed {
+            self.expect(Duration::from_secs(OWED_SECONDS));
         }
         self.list(slot);
     }
 
-    /// Whether it is time to look for peers that have taken too long.
-    pub fn is_due(&self, now: Duration) -> bool {
-        self.due.is_some_and(|due| due <= now)
+    /// Whether it is time to look at all of them, which begins then.
+    pub fn begins_look(&mut self) -> bool {
+        let now = self.now();
+        let is_due = self.due.is_some_and(|due| due <= now);
+        if is_due {
+            self.due = None;
+        }
+        is_due
     }
 
     /// How many slots a look at all of them goes through.
     pub fn bound(&self) -> usize {
-        self.slots.bound()
+        self.connections.slots.bound()
     }
 
-    /// Lets the connection of a slot go, where its peer has taken too long. Whether that was so.
-    pub fn drop_late(&mut self, slot: usize, now: Duration) -> bool {
-        let Some(line) = self.slots.get(slot) else {
+    /// Lets the connection of a slot go, where its peer has taken too long, and looks again at one
+    /// that is owed something. So an event that was missed delays it, and no more. Whether one was
+    /// let go.
+    pub fn look(&mut self, slot: usize) -> bool {
+        let Some(line) = self.connections.slots.get(slot) else {
             return false;
         };
-        match line.left(self.patience, now) {
-            Some(left) => {
-                self.expect(now.saturating_add(left));
-                false
-            }
-            None => self.slots.release(slot).is_some(),
+        let (left, is_owed) = (line.left(self.patience, self.now()), line.is_owed());
+        if left.is_none() {
+            return self.connections.slots.release(slot).is_some();
         }
-    }
-
-    /// Begins a look at all of them.
-    pub fn begin_look(&mut self) {
-        self.due = None;
+        if is_owed {
+            self.connections.wake(slot, Readiness::UNTOLD);
+        }
+        self.stay(slot);
+        false
     }
 }

@@ -1,7 +1,6 @@
 //! The thread that accepts the connections of a gate.
 
 use crate::house::House;
-use mac_board::Followers;
 use mac_sockets::{Arrived, Entrance, STACK};
 use std::alloc::Global;
 use std::sync::{Arc, Wait};
@@ -18,14 +17,13 @@ pub fn start_welcoming<R>(
     rt: R,
     entrance: Entrance<()>,
     house: Arc<House, Global>,
-    followers: Followers,
 ) -> bool
 where
     R: Threads + Wait + Clock + Sync + Copy + Send + 'static,
 {
     let work = move || {
         let mut entrance = entrance;
-        welcome_each(&rt, &mut entrance, &house, &followers);
+        welcome_each(&rt, &mut entrance, &house);
         house.close(&rt);
     };
     Builder::new().stack_size(STACK).spawn(&rt, work).is_ok()
@@ -38,15 +36,12 @@ fn welcome_each<R: Wait + Clock>(
     rt: &R,
     entrance: &mut Entrance<()>,
     house: &Arc<House, Global>,
-    followers: &Followers,
 ) {
     for _ in rt.forever() {
         match entrance.accept(rt) {
             Some(Ok(arrived)) => {
                 let Arrived { stream, door: _ } = arrived;
-                if let Ok(keys) = followers.follower() {
-                    house.enter(rt, stream, keys);
-                }
+                house.enter(rt, stream);
             }
             Some(Err(fault)) => {
                 house.tell_refused(rt, fault);

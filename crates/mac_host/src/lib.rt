@@ -17,7 +17,7 @@ mod standing;
 mod traffic;
 
 pub use badge::{Badge, Life};
-pub use clock::microseconds;
+pub use clock::{microseconds, microseconds_of};
 pub use ending::Ending;
 pub use exchange::Exchange;
 pub use host::Host;

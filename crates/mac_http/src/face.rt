@@ -1,4 +1,4 @@
-//! The service of one connection.
+//! The service of connections.
 
 ghost use Rattle.std.specs.Prelude.{◌≡◌};
 ghost use Rattle.http_server.specs.Response.{IsBlank};
@@ -8,7 +8,7 @@ ghost use Rattle.mac_http.specs.Turn.{AnswersOnce};
 use crate::calling::{call_in, respond_to_call};
 use crate::noted::{note_of_call, note_of_path};
 use crate::page::{Steward, announce_close, page_in, tell_page};
-use crate::rules::Rules;
+use crate::rules::{Rules, Way};
 use crate::saying::respond;
 use bytes::Bytes;
 use http::Request;
@@ -17,7 +17,7 @@ use mac_board::{Moments, Tables};
 use mac_keys::KeyTable;
 use std::alloc::{AllocError, Global};
 
-/// Answers the requests of one connection, each under the table that is up and at a moment that its
+/// Answers the requests of connections, each under the table that is up and at a moment that its
 /// clock tells once the request is there.
 #[derive(Drop)]
 pub struct Face<'a, K, M, S> {
@@ -47,6 +47,15 @@ impl<'a, K, M, S> Face<'a, K, M, S> {
             moments,
             steward,
         }
+    }
+
+    /// Has the requests from now on come by this way.
+    pub fn come_by(&mut self, way: Way)
+        ensures rules { self.new.rules ≡ record self.old.rules { way = way } }
+        ensures keys { self.new.keys ≡ self.old.keys }
+        ensures moments { self.new.moments ≡ self.old.moments }
+    {
+        self.rules.way = way;
     }
 }
 

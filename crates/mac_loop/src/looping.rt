@@ -15,22 +15,15 @@ use crate::port::SocketPort;
 use crate::watch::{PlainFault, Turn, Watch};
 use mac_board::Outlook;
 use mac_decide::SeenTokens;
-use mac_host::{Traffic, microseconds};
+use mac_host::{Traffic, microseconds, microseconds_of};
 use mac_plain::{Client, Course, Round};
-use mac_slots::Slots;
-use mac_sockets::Inbox;
-use mio::{Events, Poll, Token, Waker};
+use mac_sockets::{Connections, Inbox};
+use mio::Token;
 use std::alloc::Global;
 use std::net::Net;
 use std::sync::{Arc, Wait};
 use std::thread::Threads;
 use std::time::{Clock, Duration};
-
-/// The token of a loop's inbox, which no slot has.
-const INBOX: usize = 1 << 40;
-
-/// How many events are taken at a time.
-const EVENTS: usize = 256;
 
 /// How many parts a turn has at most: one for each client.
 const PARTS_MAX: usize = 256;
@@ -48,9 +41,7 @@ const TURN_SHORT: u64 = 500;
 #[derive(Drop)]
 pub struct Loop {
     number: usize,
-    poll: Poll,
-    events: Events,
-    members: Slots<Member>,
+    members: Connections<Member>,
     // The slots and the clients of a turn.
     turn: Vec<Lent>,
     batch: Vec<Client<SocketPort>>,
@@ -59,12 +50,17 @@ pub struct Loop {
     shares: Shares,
     // How many bytes may be unsent in this turn on a client that is read.
     unsent_max: usize,
-    // At how many looks in a row it has worked nearly all of the time.
+    // How many looks at all loops there were.
+    looks: u64,
+    // At how many in a row it had worked nearly all of the time.
     late: u8,
     // The seconds after which a client that makes no progress is ended, where they were asked for.
     idle: Option<u64>,
     // Whether its clients are read no further than what has come.
     is_draining: bool,
+    // Whether a client may be owed something.
+    is_owing: bool,
+    // When it last looked over all clients, in microseconds.
     swept: u64,
     // When the turn began, in microseconds.
     now: u64,
@@ -85,23 +81,22 @@ pub fn make_loops<R: Net>(
     let mut loops = Loops::new(alloc, may_share);
     let mut made = Vec::with_capacity(alloc, count)?;
     for number in 0..count {
-        let poll = Poll::new(rt)?;
-        let waker = Waker::new(poll.registry(), Token(INBOX))?;
+        let (members, waker) = Connections::new(rt, alloc)?;
         loops.push(Inbox::new(alloc, waker)?)?;
         made.push(Loop {
             number,
-            poll,
-            events: Events::with_capacity(alloc, EVENTS)?,
-            members: Slots::new(alloc),
+            members,
             turn: Vec::with_capacity(alloc, PARTS_MAX)?,
             batch: Vec::with_capacity(alloc, PARTS_MAX)?,
             round: Round::new(alloc, seen.share()?)?,
             parts: PARTS_MAX,
             shares: Shares::new(alloc, count)?,
             unsent_max: 0,
+            looks: 0,
             late: 0,
             idle,
             is_draining: false,
+            is_owing: false,
             swept: 0,
             now: 0,
         })?;
@@ -119,42 +114,26 @@ impl Loop {
         W: Watch,
     {
         for _ in rt.forever() {
-            self.wait();
-            self.now = microseconds(rt);
-            self.take_events();
+            let patience = self.patience();
+            self.members.wait(rt, patience);
+            self.now = microseconds_of(self.members.now());
             self.welcome(rt, loops, outlook, watch);
             self.drain(loops);
             self.serve_ready(rt, loops, outlook, watch);
             self.sweep(rt, loops, watch);
             self.keep_time(rt, loops, outlook, watch);
-            if self.members.count() == 0 && loops.is_closed() {
+            if self.members.slots.count() == 0 && loops.is_closed() {
                 return;
             }
         }
     }
 
-    /// Waits for events; where clients are ready still, only looks for them.
-    fn wait(&mut self) {
-        let patience = if self.members.has_ready() {
-            Some(Duration::from_millis(0))
-        } else if self.members.count() > 0 {
-            Some(Duration::from_micros(self.sweep_span()))
-        } else {
-            None
-        };
-        let _ = self.poll.poll(&mut self.events, patience);
-    }
-
-    /// Wakes the clients that events tell of.
-    fn take_events(&mut self) {
-        for event in self.events.iter() {
-            let slot = event.token().0;
-            let (reads, writes) = (event.is_readable(), event.is_writable());
-            if let Some(member) = self.members.get_mut(slot) {
-                member.wake(reads, writes, event.is_read_closed());
-            }
-            self.members.list(slot);
+    /// For how long it waits at most where no client is ready.
+    fn patience(&self) -> Option<Duration> {
+        if self.members.slots.count() == 0 {
+            return None;
         }
+        Some(Duration::from_micros(self.sweep_span()))
     }
 
     /// Takes in the clients that were handed over.
@@ -198,17 +177,17 @@ impl Loop {
             return;
         }
         self.is_draining = true;
-        for slot in 0..self.members.bound() {
+        for slot in 0..self.members.slots.bound() {
             self.end_reading(slot);
         }
     }
 
     /// Takes nothing more from the client of a slot than what has come.
     fn end_reading(&mut self, slot: usize) {
-        if let Some(member) = self.members.get_mut(slot) {
+        if let Some(member) = self.members.slots.get_mut(slot) {
             member.end_reading();
         }
-        self.members.list(slot);
+        self.members.slots.list(slot);
     }
 
     /// Whether there was memory to take a client in.
@@ -223,22 +202,22 @@ impl Loop {
             since,
             badge,
         } = client;
-        let Ok(slot) = self.members.reserve() else {
+        let Ok(slot) = self.members.slots.reserve() else {
             return false;
         };
-        if port.join(self.poll.registry(), Token(slot)).is_err() {
-            let _ = self.members.release(slot);
+        if port.join(self.members.registry(), Token(slot)).is_err() {
+            let _ = self.members.slots.release(slot);
             return false;
         }
         let client = Client::new(port, session, rights);
         // Who has to go on wide waits for bytes first.
         let is_ready = client.course() == Course::Open || client.unsent() > 0;
         loops.count_unsent(0, client.unsent());
-        let _ = self.members.put(slot, Member::new(client, since, badge));
+        let _ = self.members.slots.put(slot, Member::new(client, since, badge, self.looks));
         if self.is_draining {
             self.end_reading(slot);
         } else if is_ready {
-            self.members.list(slot);
+            self.members.slots.list(slot);
         }
         true
     }
@@ -284,11 +263,11 @@ impl Loop {
             if parts >= self.parts {
                 return;
             }
-            let Some(slot) = self.members.next_ready() else {
+            let Some(slot) = self.members.slots.next_ready() else {
                 return;
             };
-            if let Some(mut member) = self.members.take(slot) {
-                parts = parts.saturating_add(member.begin_turn(DEEP));
+            if let Some(mut member) = self.members.slots.take(slot) {
+                parts = parts.saturating_add(member.begin_turn(DEEP, self.looks));
                 loops.count_unsent(member.client.unsent(), 0);
                 self.add(slot, member);
             }
@@ -299,12 +278,12 @@ impl Loop {
     fn add(&mut self, slot: usize, member: Member) {
         let Member { client, note } = member;
         if self.turn.push(Lent { slot, note }).is_err() {
-            let _ = self.members.put(slot, Member { client, note });
+            let _ = self.members.slots.put(slot, Member { client, note });
             return;
         }
         if let Err(refused) = self.batch.push(client) {
             let client = refused.value;
-            let _ = self.members.put(slot, Member { client, note });
+            let _ = self.members.slots.put(slot, Member { client, note });
             let _ = self.turn.pop();
         }
     }
@@ -322,7 +301,7 @@ impl Loop {
         member.tell_exchanges(rt, watch);
         if member.client.is_over() {
             loops.count_unsent(member.client.unsent(), 0);
-            let _ = self.members.release(slot);
+            let _ = self.members.slots.release(slot);
             watch.end(rt, member.life(), PlainFault::of(&member.client));
             return;
         }
@@ -334,7 +313,7 @@ impl Loop {
         }
         watch.see(member.life(), member.client.unsent());
         self.note_turn(slot, &mut member);
-        let _ = self.members.put(slot, member);
+        let _ = self.members.slots.put(slot, member);
     }
 
     /// A client that leaves its slot and the loop's poll. It takes along how far the tables were
@@ -346,11 +325,11 @@ impl Loop {
         ensures rights { result.rights ≡ member.client.rights }
         ensures place { result.place ≡ (K.known outlook.now).tables.place }
     {
-        let _ = self.members.release(slot);
+        let _ = self.members.slots.release(slot);
         let since = member.note_progress(self.now);
         let Member { client, note } = member;
         let (port, session, rights) = client.into_parts();
-        let _ = port.leave(self.poll.registry());
+        let _ = port.leave(self.members.registry());
         Handover {
             port,
             session,
@@ -374,11 +353,12 @@ impl Loop {
             member.note.awaits_room = awaits;
             let _ = client
                 .port()
-                .await_room(self.poll.registry(), Token(slot), awaits);
+                .await_room(self.members.registry(), Token(slot), awaits);
         }
         if member.note.is_deep {
-            self.members.list(slot);
+            self.members.slots.list(slot);
         }
+        self.is_owing = self.is_owing || member.is_owed();
     }
 
     /// Counts what a turn took, fits the next one to it, and shares clients with other loops.

@@ -6,6 +6,7 @@ use crate::port::SocketPort;
 use crate::watch::Watch;
 use mac_host::{Badge, Life, Traffic};
 use mac_plain::Client;
+use mac_sockets::{Readiness, Wakes};
 use std::sync::Wait;
 use std::time::Clock;
 
@@ -26,8 +27,8 @@ pub struct Note {
     pub awaits_room: bool,
     /// Its last read was full, or it wasn't read in its last turn.
     pub is_deep: bool,
-    /// It had a turn since the loop last looked whether it is busy.
-    pub is_active: bool,
+    /// How many looks at how busy loops are there were before its last turn.
+    pub look: u64,
     /// How it stood when its progress was last looked at.
     pub progress: Progress,
     /// When it was last seen to have made any, in microseconds.
@@ -64,13 +65,14 @@ impl Progress {
 }
 
 impl Member {
-    /// A client that begins, and made its last progress then.
-    pub fn new(client: Client<SocketPort>, since: u64, badge: Badge) -> Member {
+    /// A client that begins behind so many looks at how busy loops are, and made its last progress
+    /// then.
+    pub fn new(client: Client<SocketPort>, since: u64, badge: Badge, look: u64) -> Member {
         let note = Note {
             is_closing: false,
             awaits_room: false,
             is_deep: false,
-            is_active: true,
+            look,
             progress: Progress::of(&client),
             since,
             badge,
@@ -107,15 +109,9 @@ impl Member {
         self.note.since
     }
 
-    /// A poll has told of it.
-    pub fn wake(&mut self, reads: bool, writes: bool, closes: bool) {
-        if reads {
-            self.client.wake_reading();
-        }
-        if writes {
-            self.client.wake_writing();
-        }
-        self.note.is_closing = self.note.is_closing || closes;
+    /// Whether it is owed something: replies, or to be read on in a request that has begun.
+    pub fn is_owed(&self) -> bool {
+        self.client.unsent() > 0 || self.client.has_begun()
     }
 
     /// Takes nothing more from it than what has come.
@@ -134,10 +130,28 @@ impl Member {
         }
     }
 
-    /// It begins a turn. How many parts of the turn it takes: one, or `deep` of them where it has
-    /// more to be read than a turn takes.
-    pub fn begin_turn(&mut self, deep: usize) -> usize {
-        self.note.is_active = true;
+    /// Whether it had a turn, or came, since the last of so many looks.
+    pub fn is_active(&self, looks: u64) -> bool {
+        self.note.look == looks
+    }
+
+    /// It begins a turn behind so many looks. How many parts of the turn it takes: one, or `deep` of
+    /// them where it has more to be read than a turn takes.
+    pub fn begin_turn(&mut self, deep: usize, looks: u64) -> usize {
+        self.note.look = looks;
         if self.note.is_deep { deep } else { 1 }
+    }
+}
+
+impl Wakes for Member {
+    fn wake(&mut self, told: Readiness) -> bool {
+        if told.reads {
+            self.client.wake_reading();
+        }
+        if told.writes {
+            self.client.wake_writing();
+        }
+        self.note.is_closing = self.note.is_closing || told.closes;
+        true
     }
 }

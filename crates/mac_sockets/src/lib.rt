@@ -3,10 +3,12 @@
 //!
 //! [`Holdings`] make sockets at paths that nobody else has. Each that listens is a [`Door`], and an
 //! [`Entrance`] waits at all of them, until its [`Shutter`] shuts it. What comes in is a [`Stream`],
-//! over a Unix socket or over TCP, which goes to a thread by that one's [`Inbox`]. Nothing here knows
-//! what is said on a stream.
+//! over a Unix socket or over TCP, which goes to a thread by that one's [`Inbox`]. That thread has its
+//! [`Connections`] in slots, waits for what a poll tells of them, and takes turns over those that are
+//! ready. Nothing here knows what is said on a stream.
 #![tactic(auto)]
 
+mod connections;
 mod door;
 mod entrance;
 mod fault;
@@ -17,6 +19,7 @@ mod place;
 mod stacks;
 mod stream;
 
+pub use connections::{Connections, Readiness, Wakes};
 pub use door::Door;
 pub use entrance::{Arrived, Entrance, Shutter, Welcome};
 pub use fault::EntranceFault;

@@ -44,7 +44,8 @@ impl Loop {
                 }
             }
         }
-        self.rest();
+        // From here on nobody is active.
+        self.looks = self.looks.wrapping_add(1);
     }
 
     /// Notes a look at which it worked this share of the time.
@@ -58,7 +59,7 @@ impl Loop {
 
     /// Whether it can't keep up.
     fn is_late(&self) -> bool {
-        self.late >= LOOKS || (self.late > 0 && self.members.has_ready())
+        self.late >= LOOKS || (self.late > 0 && self.members.slots.has_ready())
     }
 
     /// Gives one of so many active clients to another loop.
@@ -72,9 +73,9 @@ impl Loop {
         of: usize,
     ) {
         let mut seen = 0usize;
-        for slot in 0..self.members.bound() {
-            let member = self.members.get(slot);
-            if member.map_or(false, |member| member.note.is_active) {
+        for slot in 0..self.members.slots.bound() {
+            let member = self.members.slots.get(slot);
+            if member.is_some_and(|member| member.is_active(self.looks)) {
                 seen = seen.saturating_add(1);
                 if seen % of.max(1) == 0 {
                     self.move_to(rt, loops, outlook, watch, number, slot);
@@ -94,26 +95,17 @@ impl Loop {
         number: usize,
         slot: usize,
     ) {
-        let Some(member) = self.members.take(slot) else {
+        let Some(member) = self.members.slots.take(slot) else {
             return;
         };
         if !member.client.may_move() {
-            let _ = self.members.put(slot, member);
+            let _ = self.members.slots.put(slot, member);
             return;
         }
         loops.count_unsent(member.client.unsent(), 0);
         let client = self.part(slot, member, outlook);
         if let Err(client) = loops.hand(rt, number, client) {
             self.receive(rt, client, loops, outlook, watch);
-        }
-    }
-
-    /// Forgets which clients were active.
-    fn rest(&mut self) {
-        for slot in 0..self.members.bound() {
-            if let Some(member) = self.members.get_mut(slot) {
-                member.note.is_active = false;
-            }
         }
     }
 }

@@ -1,17 +1,19 @@
-//! Clients that make no progress: a loop looks for them from time to time, and ends them.
+//! Clients that make no progress: a loop looks for them from time to time, and ends them. One that is
+//! owed something is looked at again, whether or not an event told of it.
 
 use crate::inbox::Loops;
 use crate::looping::Loop;
 use crate::members::Progress;
 use crate::watch::{PlainFault, Watch};
+use mac_sockets::Readiness;
 use std::sync::Wait;
 use std::time::Clock;
 
 /// How many microseconds pass between two looks at who makes progress, where seconds were asked
-/// for.
+/// for, or a client is owed something.
 const SWEEP: u64 = 1_000_000;
 
-/// How many pass where none were.
+/// How many pass where neither is so.
 const SWEEP_SELDOM: u64 = 10_000_000;
 
 /// After how many seconds a client is ended then that has sent nothing whole.
@@ -21,25 +23,30 @@ const QUIET: u64 = 300;
 const SECOND: u64 = 1_000_000;
 
 impl Loop {
-    /// Ends the clients that have made no progress for as long as they may.
+    /// Ends the clients that have made no progress for as long as they may, and looks again at those
+    /// that are owed something. So an event that was missed delays them, and no more.
     pub(super) fn sweep<R: Wait + Clock, W: Watch>(&mut self, rt: &R, loops: &Loops, watch: &W) {
         if self.now.saturating_sub(self.swept) < self.sweep_span() {
             return;
         }
         self.swept = self.now;
-        for slot in 0..self.members.bound() {
+        self.is_owing = false;
+        for slot in 0..self.members.slots.bound() {
             if self.is_idle(slot) {
-                if let Some(member) = self.members.release(slot) {
+                if let Some(member) = self.members.slots.release(slot) {
                     loops.count_unsent(member.client.unsent(), 0);
                     watch.end(rt, member.life(), Some(PlainFault::Idle));
                 }
+            } else if self.is_owed(slot) {
+                self.is_owing = true;
+                self.members.wake(slot, Readiness::UNTOLD);
             }
         }
     }
 
     /// How many microseconds pass between two looks at who makes progress.
     pub(super) fn sweep_span(&self) -> u64 {
-        if self.idle.is_some() {
+        if self.idle.is_some() || self.is_owing {
             SWEEP
         } else {
             SWEEP_SELDOM
@@ -48,7 +55,7 @@ impl Loop {
 
     /// How many seconds a client may make no progress. Where none were asked for, one may rest that
     /// was answered and has begun nothing since, and one that is owed replies.
-    fn patience(&self, progress: Progress) -> Option<u64> {
+    fn patience_with(&self, progress: Progress) -> Option<u64> {
         let is_quiet = progress.answered == 0 || progress.has_begun;
         match self.idle {
             Some(idle) => Some(idle),
@@ -57,20 +64,26 @@ impl Loop {
         }
     }
 
+    /// Whether the client of a slot is owed something.
+    fn is_owed(&self, slot: usize) -> bool {
+        let member = self.members.slots.get(slot);
+        member.is_some_and(|member| member.is_owed())
+    }
+
     /// Notes a client's progress. Whether it has made none for as long as it may, and no turn of
-    /// the loop is owed to it. A request that has begun has to be whole in that time, also of who
+    /// the loop is due to it. A request that has begun has to be whole in that time, also of who
     /// sends a byte for each turn.
     fn is_idle(&mut self, slot: usize) -> bool {
-        let is_listed = self.members.is_listed(slot);
-        let Some(member) = self.members.get_mut(slot) else {
+        let is_listed = self.members.slots.is_listed(slot);
+        let Some(member) = self.members.slots.get_mut(slot) else {
             return false;
         };
         let waited = self.now.saturating_sub(member.note_progress(self.now));
         let progress = member.note.progress;
-        let is_owed = is_listed && !progress.has_begun;
-        !is_owed
+        let is_due = is_listed && !progress.has_begun;
+        !is_due
             && self
-                .patience(progress)
+                .patience_with(progress)
                 .is_some_and(|seconds| waited >= seconds.saturating_mul(SECOND))
     }
 }
