@@ -73,15 +73,6 @@ pub struct HttpPlan<'a> {
 }
 
 impl<'a> AddressGroup<'a> {
-    /// How many connections there may be at a time: none where there is no address.
-    fn connections(&self, terms: &Terms) -> usize {
-        if self.addresses.is_empty() {
-            0
-        } else {
-            terms.connections
-        }
-    }
-
     /// How many descriptors its sockets may need where so many loops serve them.
     fn descriptors(&self, terms: &Terms, loops: usize) -> u64 {
         if self.addresses.is_empty() {
@@ -93,13 +84,6 @@ impl<'a> AddressGroup<'a> {
 }
 
 impl<'a> HttpPlan<'a> {
-    /// How many connections of gateways and of callers there may be at a time.
-    pub fn connections(&self) -> usize {
-        self.gateways
-            .connections(&self.terms)
-            .saturating_add(self.callers.connections(&self.terms))
-    }
-
     /// How many descriptors its sockets may need where so many loops serve those of gateways, and
     /// as many those of callers.
     pub fn descriptors(&self, loops: usize) -> u64 {

@@ -1,8 +1,7 @@
 //! The daemon whose keys follow its key file.
-ghost use Rattle.std.specs.Prelude.{◌<◌, ◌^◌};
 ghost use Rattle.macaroond.specs.Watching.{Watches};
 
-use crate::commands::HTTP_CONNECTIONS_MAX;
+use crate::commands::LOOPS_MAX;
 use crate::http::{HttpPlan, open_doors};
 use crate::key_store::{FirstKeys, KeyPlace, look_at};
 use crate::operating::{OperatorsGate, open_status, start_operators, warn_of_no_status};
@@ -22,8 +21,9 @@ use std::sync::Wait;
 use std::thread::Threads;
 use std::time::{Clock, Duration};
 
-/// The most connections over HTTP that options name, of gateways and of callers.
-const HTTP_MOST: usize = 2 * HTTP_CONNECTIONS_MAX as usize;
+/// How many followers of the key tables there are at most: the daemon's own, and one for each loop
+/// of gateways and of callers.
+const FOLLOWERS: usize = FOLLOWERS_MAX + 2 * LOOPS_MAX as usize;
 
 /// How many milliseconds pass between two looks at the key file.
 const PAUSE_MILLIS: u64 = 500;
@@ -112,8 +112,7 @@ where
         before,
         after,
     } = first;
-    let room = followers_of(sockets.http.connections());
-    let editor = Editor::new(rt.alloc(), *rt, read.table, room, before, after)?;
+    let editor = Editor::new(rt.alloc(), *rt, read.table, FOLLOWERS, before, after)?;
     let side_path = sockets.side.as_ref().map(|side| side.path);
     let started = start_all(rt, terms, sockets, &editor, surroundings, holdings)?;
     started.daemon.open(rt, terms, side_path, holdings)?;
@@ -208,17 +207,6 @@ fn end_all<R: Wait + Clock + Drop>(rt: &R, started: Started<R>) {
         operators.end();
     }
     daemon.see_off(rt);
-}
-
-/// How many followers of the key tables there are at most, with so many connections over HTTP.
-fn followers_of(connections: usize) -> usize
-    ensures { (0 < result) × (result < 2 ^ 32) }
-{
-    if connections < HTTP_MOST {
-        FOLLOWERS_MAX + connections
-    } else {
-        FOLLOWERS_MAX + HTTP_MOST
-    }
 }
 
 /// Has the connections that come in through these doors served by so many loops, where there are

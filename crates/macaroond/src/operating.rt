@@ -89,7 +89,7 @@ where
     let Ok(no_keys) = KeyTable::read(alloc, b"") else {
         return Err(ListenFault::Daemon(DaemonFault::NoMemory));
     };
-    let publisher = Publisher::new(alloc, *rt, no_keys, OPERATORS_MAX)?;
+    let publisher = Publisher::new(alloc, *rt, no_keys, OPERATORS_LOOPS)?;
     let followers = publisher.followers()?;
     let gate = open_gate(
         rt,
