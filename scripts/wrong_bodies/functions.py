@@ -22,17 +22,18 @@ class Function:
         module = "::".join(self.path.split("::")[: 1 + len(module_of(self.file))])
         closures = f"{module}::fn{self.path.removeprefix(module)}::"
         # what an impl gives its type stands behind it: Type+A+B::name
-        if re.sub(r"\+[^:]*(?=::)", "", path) in self.names():
+        if self.is_named(re.sub(r"\+[^:]*(?=::)", "", path)):
             return True
         return path.startswith((f"{self.path}+", closures))
 
-    def names(self):
-        """Its path, and those that it may have as a method whose type stands in a module above."""
+    def is_named(self, path):
+        """Whether this is its path. A method's has the module in which its type stands, whichever that is."""
         crate, *rest = self.path.split("::")
-        modules = module_of(self.file)
-        own = rest[len(modules) :]
-        above = modules if len(own) > 1 else []
-        return {self.path, *("::".join([crate, *modules[:at], *own]) for at in range(len(above)))}
+        own = rest[len(module_of(self.file)) :]
+        if len(own) == 1:
+            return path == self.path
+        there, *other = path.split("::")
+        return there == crate and other[-len(own) :] == own
 
 
 def module_of(file):
