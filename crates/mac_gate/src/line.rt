@@ -127,7 +127,12 @@ impl Line {
 
     /// Does what can be done without waiting, by this service; what is dropped is read into the
     /// piece. Whether the connection goes on.
-    pub fn advance<S: Service>(&mut self, service: &mut S, now: Duration, piece: &mut [u8]) -> bool {
+    pub fn advance<S: Service>(
+        &mut self,
+        service: &mut S,
+        now: Duration,
+        piece: &mut [u8],
+    ) -> bool {
         match self.parting {
             Some(left) => self.drop_piece(left, now, piece),
             None => self.answer(service, now),

@@ -131,7 +131,9 @@ impl Lines {
             return false;
         };
         let goes_on = line.advance(service, now, piece)
-            && line.update(self.connections.registry(), Token(slot)).is_ok();
+            && line
+                .update(self.connections.registry(), Token(slot))
+                .is_ok();
         if !goes_on {
             let _ = self.connections.slots.release(slot);
             return true;

@@ -13,11 +13,7 @@ const PAUSE_MILLIS: u64 = 100;
 
 /// Starts the thread that accepts connections, and closes the house behind the last one. Whether
 /// there is such a thread.
-pub fn start_welcoming<R>(
-    rt: R,
-    entrance: Entrance<()>,
-    house: Arc<House, Global>,
-) -> bool
+pub fn start_welcoming<R>(rt: R, entrance: Entrance<()>, house: Arc<House, Global>) -> bool
 where
     R: Threads + Wait + Clock + Sync + Copy + Send + 'static,
 {
@@ -32,11 +28,7 @@ where
 /// Accepts connections until the house ends, and hands each to a loop. One for which there is no
 /// memory is closed. Where the system gives none that is logged, and it is asked again after a
 /// pause.
-fn welcome_each<R: Wait + Clock>(
-    rt: &R,
-    entrance: &mut Entrance<()>,
-    house: &Arc<House, Global>,
-) {
+fn welcome_each<R: Wait + Clock>(rt: &R, entrance: &mut Entrance<()>, house: &Arc<House, Global>) {
     for _ in rt.forever() {
         match entrance.accept(rt) {
             Some(Ok(arrived)) => {

@@ -213,7 +213,10 @@ impl Loop {
         // Who has to go on wide waits for bytes first.
         let is_ready = client.course() == Course::Open || client.unsent() > 0;
         loops.count_unsent(0, client.unsent());
-        let _ = self.members.slots.put(slot, Member::new(client, since, badge, self.looks));
+        let _ = self
+            .members
+            .slots
+            .put(slot, Member::new(client, since, badge, self.looks));
         if self.is_draining {
             self.end_reading(slot);
         } else if is_ready {
