@@ -1,7 +1,7 @@
 //! How a daemon is told to end.
 
-use crate::entrance::Shutter;
 use mac_host::{Ending, Notices};
+use mac_sockets::Shutter;
 use std::alloc::{AllocError, Global};
 use std::sync::{Arc, Wait};
 use std::time::Clock;

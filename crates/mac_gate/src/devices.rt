@@ -8,6 +8,8 @@ use std::io::{Read, Write};
 #[derive(Drop)]
 pub struct Heard<'a> {
     stream: &'a Stream,
+    /// Whether it was read.
+    pub was_read: bool,
     /// Whether bytes came.
     pub has_come: bool,
     /// Whether there may be more to be read.
@@ -19,6 +21,7 @@ impl<'a> Heard<'a> {
     pub fn new(stream: &'a Stream, has_more: bool) -> Heard<'a> {
         Heard {
             stream,
+            was_read: false,
             has_come: false,
             has_more,
         }
@@ -28,6 +31,7 @@ impl<'a> Heard<'a> {
 impl<'a> Read for Heard<'a> {
     fn read(&mut self, buf: &mut [u8]) -> io::Result<usize> {
         let outcome = self.stream.read_past_signals(buf);
+        self.was_read = true;
         match &outcome {
             Ok(count) => {
                 self.has_come = *count > 0;

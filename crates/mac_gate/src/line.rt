@@ -33,6 +33,8 @@ pub struct Line {
     since: Duration,
     // Whether nothing has come since then.
     is_idle: bool,
+    // Whether the last read gave some bytes.
+    has_come: bool,
     // Whether there may be something to be read, and room to write.
     has_more: bool,
     has_room: bool,
@@ -52,6 +54,7 @@ impl Line {
             connection,
             since: now,
             is_idle: true,
+            has_come: false,
             has_more: true,
             has_room: true,
             is_closing: false,
@@ -93,9 +96,10 @@ impl Line {
         }
     }
 
-    /// Whether it is owed something: a response, or to be read on in a request that has begun.
+    /// Whether it may be owed something: a response, or to be read on in a request that has begun,
+    /// or since its last read gave some bytes.
     pub fn is_owed(&self) -> bool {
-        self.connection.wants_write() || !self.is_idle
+        self.connection.wants_write() || !self.is_idle || self.has_come
     }
 
     /// Whether a turn may do something.
@@ -147,6 +151,9 @@ impl Line {
         let (has_come, has_gone) = (heard.has_come, spoken.has_gone);
         self.has_more = heard.has_more || (has_come && self.is_closing);
         self.has_room = spoken.has_room;
+        if heard.was_read {
+            self.has_come = has_come;
+        }
         if has_come {
             self.is_idle = false;
         }

@@ -109,9 +109,10 @@ impl Member {
         self.note.since
     }
 
-    /// Whether it is owed something: replies, or to be read on in a request that has begun.
+    /// Whether it may be owed something: replies, or to be read on in a request that has begun, or
+    /// since its last read gave some bytes.
     pub fn is_owed(&self) -> bool {
-        self.client.unsent() > 0 || self.client.has_begun()
+        self.client.unsent() > 0 || self.client.has_begun() || self.client.port().has_read()
     }
 
     /// Takes nothing more from it than what has come.
