@@ -2,10 +2,10 @@
    is the same for the same number FLAKY: what the n-th call of a kind meets is told by that number, the kind and n.
 
    Broken off by a signal (EINTR) are reads and writes of files, pipes and the signals' descriptor, opens, locks, and of
-   sockets accepts, reads, writes and waits. Cut short are reads and writes of files and pipes. A part of the signals'
-   descriptor can't be read: there the system refuses such a read (EINVAL). Reads and writes of sockets are held up, and
-   not cut short: the system tells a loop once that more has come, and a short count is how the loop learns that it has
-   all. An eventfd, which wakes a loop, is left alone: it waits for nobody, and so is never broken off.
+   sockets accepts, reads, writes and waits. Cut short are reads and writes of files, pipes and sockets. A part of the
+   signals' descriptor can't be read: there the system refuses such a read (EINVAL). A read of a socket that is cut short
+   is an event that is missed: the system tells a loop once that more has come, and a short count is how the loop learns
+   that it has all. An eventfd, which wakes a loop, is left alone: it waits for nobody, and so is never broken off.
 
    The file that WATCH names is shared with who watches the program: four numbers of eight bytes, how many calls were
    broken off, cut short and held up, and how many of each of those were the signals'. */
@@ -25,7 +25,7 @@
 #include <time.h>
 #include <unistd.h>
 
-enum kind { SIGNALS, PLAIN, SOCKET, OTHER, KINDS };
+enum kind { SIGNALS, PLAIN, STREAM, SOCKET, OTHER, KINDS };
 enum hap { STRAIGHT, BROKEN_OFF, CUT_SHORT, HELD_UP };
 
 /* What is told to who watches. */
@@ -79,7 +79,7 @@ static enum hap next_of(enum kind kind) {
 
     if (!is_flaky || kind == OTHER) return STRAIGHT;
     if (kind == SIGNALS && place >= 3 && turn >= 4 && turn < 8) return STRAIGHT;
-    if (turn < 4 || (kind == SOCKET && turn == 4)) {
+    if (turn < 4) {
         add(&told->broken_off);
         if (kind == SIGNALS) add(&told->of_signals);
         errno = EINTR;
@@ -99,7 +99,7 @@ static enum kind kind_of(int file) {
 
     if (file == signals) return SIGNALS;
     if (!is_flaky || fstat(file, &found)) return OTHER;
-    if (S_ISSOCK(found.st_mode)) return SOCKET;
+    if (S_ISSOCK(found.st_mode)) return STREAM;
     return S_ISREG(found.st_mode) || S_ISFIFO(found.st_mode) ? PLAIN : OTHER;
 }
 
@@ -107,8 +107,9 @@ static enum kind kind_of(int file) {
     static result(*next) parameters;             \
     if (!next) next = (result(*) parameters)dlsym(RTLD_NEXT, #name)
 
-/* How many bytes a call that is cut short moves: at least one, and not all where that can be. */
-static size_t part_of(size_t size) { return size > 1 ? size - size / 2 : size; }
+/* How many bytes a call that is cut short moves at most: one at least, and few where there is room for many, so that
+   what waits in a socket is cut too. */
+static size_t part_of(size_t size) { return size > 64 ? 33 : size > 1 ? size - size / 2 : size; }
 
 ssize_t read(int file, void *bytes, size_t size) {
     NEXT(ssize_t, read, (int, void *, size_t));
@@ -142,8 +143,18 @@ int flock(int file, int how) {
         return next_of(SOCKET) == BROKEN_OFF ? -1 : next passed; \
     }
 
-OF_SOCKET(ssize_t, recv, (int file, void *bytes, size_t size, int how), (file, bytes, size, how))
-OF_SOCKET(ssize_t, send, (int file, const void *bytes, size_t size, int how), (file, bytes, size, how))
+ssize_t recv(int file, void *bytes, size_t size, int how) {
+    NEXT(ssize_t, recv, (int, void *, size_t, int));
+    enum hap hap = next_of(STREAM);
+    return hap == BROKEN_OFF ? -1 : next(file, bytes, hap == CUT_SHORT ? part_of(size) : size, how);
+}
+
+ssize_t send(int file, const void *bytes, size_t size, int how) {
+    NEXT(ssize_t, send, (int, const void *, size_t, int));
+    enum hap hap = next_of(STREAM);
+    return hap == BROKEN_OFF ? -1 : next(file, bytes, hap == CUT_SHORT ? part_of(size) : size, how);
+}
+
 OF_SOCKET(ssize_t, sendto,
           (int file, const void *bytes, size_t size, int how, __CONST_SOCKADDR_ARG to, socklen_t length),
           (file, bytes, size, how, to, length))
