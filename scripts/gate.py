@@ -5,6 +5,7 @@ Its last line counts what passed, failed and was skipped in all of it; it ends w
 something failed. With `--all` nothing may be skipped; with `--anew` nothing is taken over that was
 proved on this machine before.
 """
+import os
 import pathlib
 import re
 import shutil
@@ -15,8 +16,22 @@ import time
 TOP = pathlib.Path(__file__).resolve().parent.parent
 # The line in which a step counts.
 COUNTS = re.compile(r"(?:[\w. -]+: )?(\d+) passed, (\d+) failed(?:, (\d+) skipped)?")
-PROOFS = ["rt", "ci", *(["--anew"] if "--anew" in sys.argv else [])]
-PROGRAMS, OUTSIDE = ["make", "--silent", "taken"], ["scripts/outside.py"]
+PROOFS, PROGRAMS, OUTSIDE = ["rt", "ci"], ["make", "--silent", "taken"], ["scripts/outside.py"]
+# The memory that a check takes, in KiB. Left to itself `rt ci` plans up to three times that, and leaves processors idle.
+OF_CHECK = 3_000_000
+
+
+def lanes():
+    """How many checks run side by side: one a processor, where there is memory for each."""
+    free = re.search(r"MemAvailable:\s+(\d+)", pathlib.Path("/proc/meminfo").read_text())[1]
+    return max(1, min(len(os.sched_getaffinity(0)), int(free) // OF_CHECK))
+
+
+def proofs():
+    """The command that proves all. A kit that takes over what it proved before has a word against that."""
+    told = subprocess.run(["rt", "help"], capture_output=True, text=True) if shutil.which("rt") else None
+    is_told = "--anew" in sys.argv and told is not None and "--anew" in told.stdout + told.stderr
+    return [*PROOFS, *["--anew"] * is_told]
 
 
 def followed(command):
@@ -29,7 +44,8 @@ def followed(command):
     if "/" not in command[0] and shutil.which(command[0]) is None:
         print(f"gate: there is no command `{command[0]}`")
         return 127, None
-    how = {"cwd": TOP, "stdout": subprocess.PIPE, "text": True, "errors": "replace"}
+    environment = {"RT_JOBS": str(lanes()), **os.environ}
+    how = {"cwd": TOP, "env": environment, "stdout": subprocess.PIPE, "text": True, "errors": "replace"}
     with subprocess.Popen(command, **how) as run:
         for line in run.stdout:
             told = COUNTS.fullmatch(line.rstrip("\n"))
@@ -50,9 +66,9 @@ def judged(status, counts, what):
 
 def steps():
     """The counts of each step, up to one that the others stand on and that failed."""
-    proofs = judged(*followed(PROOFS), "rt ci")
-    yield proofs
-    if proofs[1]:
+    proved = judged(*followed(proofs()), "rt ci")
+    yield proved
+    if proved[1]:
         print("gate: the programs aren't tried, since not all was proved")
         return
     status, _ = followed(PROGRAMS)

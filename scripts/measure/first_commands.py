@@ -4,9 +4,12 @@
     first_commands.py [--cores N] [COMMAND ..]
 
 Each command is `demo`, `build` or `test`, by `make`, one after the other in a clone of what is checked out, on so many
-processors. `test` and `build` prove anew what this machine has proved before. Without a command all three are run.
+processors. `test` takes over nothing that this machine has proved before. Without a command all three are run. What a
+command prints goes to standard error, and its last line into the table.
 """
 import argparse
+import contextlib
+import ctypes
 import os
 import pathlib
 import resource
@@ -18,26 +21,40 @@ import time
 sys.path.insert(0, str(pathlib.Path(__file__).resolve().parents[1]))
 from common import TOP
 
-# What each runs. The toolchain takes over what it proved on this machine, unless it is told to begin anew.
+# What each runs. A kit may take over what it proved on this machine, unless the gate is told to begin anew.
 COMMANDS = {
     "demo": ["make", "--silent", "demo"],
     "build": ["make", "--silent", "build"],
     "test": ["scripts/gate.py", "--anew"],
 }
+# Of `prctl`: whoever of the processes below has lost its parent becomes this one's child.
+PR_SET_CHILD_SUBREAPER = 36
+# How many seconds what a command left behind has to end, so that it is counted.
+PATIENCE = 10
 
 
 def processor_seconds():
+    """What all that has ended below this process has used."""
+    end = time.monotonic() + PATIENCE
+    with contextlib.suppress(ChildProcessError):
+        while time.monotonic() < end:
+            if os.waitpid(-1, os.WNOHANG)[0] == 0:
+                time.sleep(0.1)
     used = resource.getrusage(resource.RUSAGE_CHILDREN)
     return used.ru_utime + used.ru_stime
 
 
 def measured(command, clone, cores):
-    """The command's status, and its minutes by the clock and of processor time."""
+    """How the command ended, and its minutes by the clock and of processor time."""
     words = ["taskset", "--cpu-list", f"0-{cores - 1}", *COMMANDS[command]]
-    environment = {**os.environ, "RT_JOBS": str(cores)}
-    begin, before = time.monotonic(), processor_seconds()
-    run = subprocess.run(words, cwd=clone, env=environment, stdout=subprocess.DEVNULL, stderr=subprocess.DEVNULL)
-    return run.returncode, (time.monotonic() - begin) / 60, (processor_seconds() - before) / 60
+    how = {"cwd": clone, "stdout": subprocess.PIPE, "stderr": subprocess.STDOUT, "text": True, "errors": "replace"}
+    begin, before, last = time.monotonic(), processor_seconds(), ""
+    with subprocess.Popen(words, **how) as run:
+        for line in run.stdout:
+            sys.stderr.write(line)
+            last = line.strip() or last
+    taken = (time.monotonic() - begin) / 60, (processor_seconds() - before) / 60
+    return f"{last} (status {run.returncode})", *taken
 
 
 def main():
@@ -46,14 +63,14 @@ def main():
     words.add_argument("--cores", type=int, default=os.cpu_count())
     words.add_argument("commands", nargs="*", metavar="COMMAND", choices=[[], *COMMANDS])
     given = words.parse_args()
-    print(f"| on {given.cores} cores | minutes | processor minutes |\n|---|---|---|")
+    ctypes.CDLL(None).prctl(PR_SET_CHILD_SUBREAPER, 1, 0, 0, 0)
+    print(f"| on {given.cores} cores | minutes | processor minutes | its end |\n|---|---|---|---|", flush=True)
     with tempfile.TemporaryDirectory() as folder:
         clone = pathlib.Path(folder) / "clone"
         subprocess.run(["git", "clone", "--quiet", TOP, clone], check=True)
         for command in given.commands or COMMANDS:
-            status, clock, processor = measured(command, clone, given.cores)
-            ended = "" if status == 0 else f" (status {status})"
-            print(f"| `make {command}`{ended} | {clock:.0f} | {processor:.0f} |", flush=True)
+            ended, clock, processor = measured(command, clone, given.cores)
+            print(f"| `make {command}` | {clock:.1f} | {processor:.1f} | {ended} |", flush=True)
 
 
 if __name__ == "__main__":
