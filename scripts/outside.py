@@ -76,15 +76,15 @@ class Outcome(typing.NamedTuple):
 
 
 def over_pipe():
-    """The parts whose cases are answered by runs of the pipe, all made at once."""
+    """The parts whose cases are answered by runs of the pipe, all made at once, with the first of these parts."""
     others, missing = peers.installed_peers()
     asked = [case_files.cases(), statuses.cases(), words.cases(), peers.cases(others)]
-    made = runs.of_cases({name: case for cases in asked for name, case in cases.items()})
-    yield "cases", lambda: (case_files.faults(made), case_files.answers())
-    yield "endings", lambda: (statuses.faults(made), len(statuses.ENDINGS))
-    yield "words", lambda: (words.faults(made), len(words.USES))
+    made = functools.cache(lambda: runs.of_cases({name: it for cases in asked for name, it in cases.items()}))
+    yield "cases", lambda: (case_files.faults(made()), case_files.answers())
+    yield "endings", lambda: (statuses.faults(made()), len(statuses.ENDINGS))
+    yield "words", lambda: (words.faults(made()), len(words.USES))
     for peer in others:
-        yield peer.name, functools.partial(peers.outcome, peer, made)
+        yield peer.name, functools.partial(lambda it: peers.outcome(it, made()), peer)
     for name in missing:
         yield name, skipping("it isn't installed (scripts/install_peers.sh)")
 
