@@ -60,6 +60,8 @@ do_step() {
     printf '    $ %s\n' "$command"
     eval "$command" > "$1.came" 2>&1 || :
     sed 's/^/    /' "$1.came"
+    # The commands that it runs set these.
+    # shellcheck disable=SC2154
     case $command in
         token=*) echo "    $token" ;;
         narrow=*) echo "    $narrow" ;;

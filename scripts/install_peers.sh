@@ -14,6 +14,8 @@ golang-gopkg-macaroon.v2-dev    scripts/check/peers.py exchanges tokens with it,
 gcc                             builds what refuses memory, fails devices and counts (scripts/faults/watch.c)
 libc6-dev                       the headers for that
 python3-pip                     scripts/check/clients.py installs clients/python with it
+python3-pyflakes                scripts/check/linting.py asks it what is wrong with a script
+shellcheck                      scripts/check/linting.py asks it the same of a shell's
 groff-base                      scripts/check/man_page.py looks for its warnings
 valgrind                        scripts/measure/instructions.py counts with it
 dpkg-dev                        scripts/build/packaging.py makes the package with it
@@ -58,16 +60,17 @@ if [ -z "$wanted" ]; then
     exit 0
 fi
 if [ "$(id -u)" != 0 ]; then
-    echo "install_peers: not root; missing are:" $wanted >&2
+    echo "install_peers: not root; missing are: ${wanted//$'\n'/ }" >&2
     exit 1
 fi
 export DEBIAN_FRONTEND=noninteractive
 # An update fails for a server of other packages too, so the install says whether it sufficed.
 patiently apt-get -qq update || echo "install_peers: the lists of packages are old" >&2
-patiently apt-get -qq install -y --no-install-recommends $wanted > /dev/null
+mapfile -t packages <<< "$wanted"
+patiently apt-get -qq install -y --no-install-recommends "${packages[@]}" > /dev/null
 left=$(missing)
 if [ -n "$left" ]; then
-    echo "install_peers: not installed:" $left >&2
+    echo "install_peers: not installed: ${left//$'\n'/ }" >&2
     exit 1
 fi
-echo "install_peers: installed" $wanted
+echo "install_peers: installed ${packages[*]}"

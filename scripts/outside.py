@@ -1,8 +1,9 @@
 #!/usr/bin/env python3
 """Compares the program with its pages, with cases made elsewhere and with the macaroons of others.
 
-    outside.py           all parts
-    outside.py PART ..   these parts alone, by the names under which they are told
+    outside.py               all parts
+    outside.py PART ..       these parts alone, by the names under which they are told
+    outside.py --of CRATE    those that cover the crate, as scripts/covers.txt says; may be given often
 
 Each part tells how many checks it made, what was wrong, and what it left out; the last line counts
 all of them. A part that breaks off counts as one that failed, and the others are made all the same.
@@ -21,6 +22,7 @@ from check import (
     changing_keys,
     clients,
     clocks,
+    covering,
     daemon_rows,
     draw,
     edges,
@@ -33,6 +35,7 @@ from check import (
     key_lines,
     lasting,
     life_cycle,
+    linting,
     linked_keys,
     log_lines,
     man_page,
@@ -142,6 +145,10 @@ OF_TEXTS = {
     "building": building.faults,
     "unused": unused.faults,
     "newcomer": newcomer.faults,
+    "lint of Python": linting.python_faults,
+    "lint of shells": linting.shell_faults,
+    "lint of Go": linting.go_faults,
+    "covering": lambda: covering.faults([name for name, _ in parts()]),
     "wrong bodies apply": wrong_bodies.faults,
     "wrong runs": wrong_runs.faults,
 }
@@ -190,21 +197,24 @@ def told(name, part):
     return passed, failed, len(came.skipped)
 
 
-def wanted():
-    """The names of the parts that the command line asks for; none asks for all."""
+def wanted(names):
+    """Those of these parts that the command line asks for; it asks for all where it names none."""
     raw = argparse.RawDescriptionHelpFormatter
     words = argparse.ArgumentParser(description=__doc__, formatter_class=raw)
     words.add_argument("parts", nargs="*", metavar="PART")
-    return words.parse_args().parts
+    words.add_argument("--of", action="append", default=[], metavar="CRATE")
+    given = words.parse_args()
+    if unknown := [*({*given.parts} - {*names}), *({*given.of} - {*covering.crates()})]:
+        sys.exit(f"there is no part or crate {', '.join(sorted(unknown))}")
+    covers = {name for crate in given.of for name in covering.parts_of(crate)}
+    return names if not given.parts and not given.of else [it for it in names if it in {*given.parts} | covers]
 
 
 def main():
     peers.run_by_debian_python()
-    names = wanted()
-    chosen = [(name, part) for name, part in parts() if not names or name in names]
-    if unknown := set(names) - {name for name, _ in chosen}:
-        sys.exit(f"there is no part {', '.join(sorted(unknown))}")
-    passed, failed, skipped = map(sum, zip(*(told(*it) for it in chosen)))
+    made = dict(parts())
+    chosen = [told(name, made[name]) for name in wanted([*made])]
+    passed, failed, skipped = map(sum, zip((0, 0, 0), *chosen))
     print(f"{passed} passed, {failed} failed, {skipped} skipped")
     sys.exit(1 if failed else 0)
 

@@ -3,4 +3,4 @@
 set -eu
 cd "$(dirname "$0")"
 mkdir -p ../../bin
-GO111MODULE=off GOFLAGS= GOPATH=/usr/share/gocode go build -o ../../bin/go_http .
+GO111MODULE=off GOFLAGS='' GOPATH=/usr/share/gocode go build -o ../../bin/go_http .

@@ -8,7 +8,6 @@ import contextlib
 import hashlib
 import hmac
 import itertools
-import os
 import pathlib
 import subprocess
 import sys
@@ -18,7 +17,7 @@ import time
 from concurrent.futures import ThreadPoolExecutor
 
 sys.path.insert(0, str(pathlib.Path(__file__).resolve().parents[1]))
-from check.daemon_rows import HELLO, placed
+from check.daemon_rows import HELLO
 from common import logged
 from common.daemon import PROGRAM, connected, frame, received
 

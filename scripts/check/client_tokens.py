@@ -6,7 +6,7 @@ is attenuated by both, into every form.
 import base64
 import random
 
-import common  # puts the Python client on the path
+import common  # noqa: F401  so that the Python client is found
 
 import macaroond
 from macaroond import BadToken, Client, Form

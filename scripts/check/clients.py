@@ -40,6 +40,10 @@ def has_go():
     return shutil.which("go") is not None
 
 
+def has_go_macaroon():
+    return has_go() and (GO_LIBRARIES / "src" / "gopkg.in" / "macaroon.v2").is_dir()
+
+
 def run(command, **how):
     """Runs the command and gives how it ended, with what it printed."""
     return subprocess.run(command, stdout=subprocess.PIPE, stderr=subprocess.STDOUT, text=True, timeout=900, **how)
@@ -156,15 +160,20 @@ def services_faults(folder):
     return found + others, asked + more
 
 
-def go_client(folder):
-    """The program in go_client, or what is wrong with it."""
-    # go-macaroon is no module at Debian's, so the client is found beside it in the older way.
+def go_surroundings(folder):
+    """What `go` is run with for a program that has no module of its own: go-macaroon is none at Debian's, so that both
+    libraries are found in the older way."""
     sources = pathlib.Path(folder) / "gopath" / "src"
     sources.mkdir(parents=True)
     (sources / "macaroond").symlink_to(GO)
-    env = {**os.environ, "GO111MODULE": "off", "GOFLAGS": "", "GOPATH": f"{sources.parent}:{GO_LIBRARIES}"}
+    return {**os.environ, "GO111MODULE": "off", "GOFLAGS": "", "GOPATH": f"{sources.parent}:{GO_LIBRARIES}"}
+
+
+def go_client(folder):
+    """The program in go_client, or what is wrong with it."""
     program = os.path.join(folder, "go_client")
-    built = run(["go", "build", "-o", program, "."], cwd=TOP / "scripts" / "check" / "go_client", env=env)
+    how = {"cwd": TOP / "scripts" / "check" / "go_client", "env": go_surroundings(folder)}
+    built = run(["go", "build", "-o", program, "."], **how)
     return (program, None) if built.returncode == 0 else (None, built.stdout)
 
 
@@ -191,7 +200,7 @@ def mixed_faults(folder, count):
         faults, checks = client_cases.faults(os.path.join(folder, "socket"), count, found)
     if len(found) < 2:
         skipped.append("libmacaroons or pymacaroons isn't installed (scripts/install_peers.sh)")
-    if has_go() and (GO_LIBRARIES / "src" / "gopkg.in" / "macaroon.v2").is_dir():
+    if has_go_macaroon():
         others, more = go_mixed_faults(folder, count)
         faults, checks = faults + others, checks + more
     else:

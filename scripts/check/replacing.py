@@ -15,7 +15,7 @@ import time
 sys.path.insert(0, str(pathlib.Path(__file__).resolve().parents[1]))
 from check.daemon_rows import MINT, NO_REQUEST, TOKEN
 from check.ending import Asking, ended, started
-from common import KEYS, logged
+from common import KEYS
 from common.daemon import PROGRAM, connected, frame, received
 
 # How many requests are answered over all replacements at least, by how many clients, and how many replacements.

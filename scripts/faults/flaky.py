@@ -5,7 +5,6 @@ path, gives it to one that replaces it, and ends at a signal within its time.
 """
 import collections
 import contextlib
-import os
 import pathlib
 import signal
 import subprocess

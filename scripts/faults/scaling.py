@@ -22,6 +22,7 @@ import tempfile
 import time
 
 sys.path.insert(0, str(pathlib.Path(__file__).resolve().parents[1]))
+from check.clients import has_go
 from common.daemon import PATIENCE, frame
 from faults import scaling_asking, scaling_cluster, scaling_go
 from faults.scaling_asking import LIFE, REPLY_WITHIN
@@ -75,7 +76,7 @@ class Load:
         self.start("Python, frames", stack, [*asking, "frames", front, CLIENTS])
         self.start("Python, TLS", stack, [*asking, "frames", tls, CLIENTS])
         self.start("Python, HTTP", stack, [*asking, "http", f"{folder}/front.http", front, CLIENTS])
-        if not scaling_go.has_go():
+        if not has_go():
             self.skipped.append("the client for Go doesn't ask (scripts/install_peers.sh)")
             return
         program = scaling_go.built(folder)

@@ -4,7 +4,7 @@ import subprocess
 import sys
 
 sys.path.insert(0, str(pathlib.Path(__file__).resolve().parents[1]))
-from check.clients import GO, GO_ALONE, has_go  # noqa: F401  callers ask `has_go` here
+from check.clients import GO, GO_ALONE
 
 MODULE = f"""module scaling
 
