@@ -18,7 +18,9 @@ type backoff struct {
 	until time.Time
 }
 
-func (b *backoff) failed() {
+func (b *backoff) failed() { b.failedAt(time.Now()) }
+
+func (b *backoff) failedAt(now time.Time) {
 	b.pause *= 2
 	if b.pause < firstPause {
 		b.pause = firstPause
@@ -26,7 +28,7 @@ func (b *backoff) failed() {
 	if b.pause > longestPause {
 		b.pause = longestPause
 	}
-	b.until = time.Now().Add(b.pause/2 + time.Duration(rand.Int63n(int64(b.pause/2))))
+	b.until = now.Add(b.pause/2 + time.Duration(rand.Int63n(int64(b.pause/2))))
 }
 
 func (b *backoff) succeeded() { *b = backoff{} }

@@ -96,3 +96,18 @@ func (e *RefusedError) Is(class error) bool {
 func disconnected(format string, values ...any) error {
 	return fmt.Errorf("%w: %s", ErrDisconnected, fmt.Sprintf(format, values...))
 }
+
+// unconnectedError is the end of a context that came before a connection did. It is an
+// ErrDisconnected too.
+type unconnectedError struct {
+	path  string
+	cause error
+}
+
+func (e *unconnectedError) Error() string {
+	return fmt.Sprintf("macaroond: there is no connection to %s: %v", e.path, e.cause)
+}
+
+func (e *unconnectedError) Unwrap() error { return e.cause }
+
+func (e *unconnectedError) Is(class error) bool { return class == ErrDisconnected }

@@ -26,7 +26,18 @@ func RequestFacts(r *http.Request) ([]string, error) {
 	if err != nil {
 		return nil, err
 	}
-	return append([]string{"method = " + r.Method}, facts...), nil
+	return append(methodFacts(r.Method), facts...), nil
+}
+
+// methodFacts gives `method = GET`, and `method is safe` where it asks for no change
+// (RFC 9110, section 9.2.1); methods are told apart by case.
+func methodFacts(method string) []string {
+	facts := []string{"method = " + method}
+	switch method {
+	case "GET", "HEAD", "OPTIONS", "TRACE":
+		return append(facts, "method is safe")
+	}
+	return facts
 }
 
 // PathFacts gives `path = /a/b`, and `path under ..` for each step of the path: `/`, `/a` and

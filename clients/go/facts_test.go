@@ -43,8 +43,25 @@ func TestPathFacts(t *testing.T) {
 		}
 	}
 	facts, err := RequestFacts(&http.Request{Method: "GET", URL: &url.URL{Path: "/ä"}})
-	if err != nil || facts[1] != "path = /%C3%A4" {
+	if err != nil || facts[2] != "path = /%C3%A4" {
 		t.Errorf("%q, %v", facts, err)
+	}
+}
+
+func TestMethodFacts(t *testing.T) {
+	var rows map[string][]string
+	content, err := os.ReadFile("../cases/methods.json")
+	if err == nil {
+		err = json.Unmarshal(content, &rows)
+	}
+	if err != nil || len(rows) == 0 {
+		t.Fatal(len(rows), err)
+	}
+	for method, due := range rows {
+		facts, err := RequestFacts(&http.Request{Method: method, RequestURI: "/a", URL: &url.URL{Path: "/a"}})
+		if err != nil || !reflect.DeepEqual(facts, append(due, "path = /a", "path under /", "path under /a")) {
+			t.Errorf("of %s the facts are %q, %v", method, facts, err)
+		}
 	}
 }
 

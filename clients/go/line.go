@@ -3,7 +3,6 @@ package macaroond
 import (
 	"context"
 	"errors"
-	"fmt"
 	"math"
 	"sync/atomic"
 	"time"
@@ -118,7 +117,7 @@ func (c *Client) reconnected(ctx context.Context) (*connection, error) {
 	defer cancel()
 	made, err := c.dialled(inTime, c.lines[0])
 	if err != nil && ctx.Err() != nil {
-		return nil, fmt.Errorf("macaroond: there is no connection to %s: %w", c.path, ctx.Err())
+		return nil, &unconnectedError{c.path, ctx.Err()}
 	}
 	return made, err
 }

@@ -2,21 +2,46 @@ package macaroond
 
 import (
 	"context"
-	"errors"
+	"log"
 	"net/http"
 	"strings"
+	"time"
 )
+
+// How long a guard waits for a verdict where nothing else is said.
+const guardTimeout = time.Second
 
 type identifierKey struct{}
 
+// GuardOption is a wish about a guard.
+type GuardOption func(*guard)
+
+// GuardTimeout says how long a verdict is waited for at most: a second where it isn't said,
+// and never longer than the client waits.
+func GuardTimeout(timeout time.Duration) GuardOption {
+	return func(g *guard) { g.timeout = timeout }
+}
+
+// GuardLog says where each refusal is logged: nowhere where it isn't said.
+func GuardLog(logger *log.Logger) GuardOption {
+	return func(g *guard) { g.logger = logger }
+}
+
+// GuardHook says what is called with each request, and with what became of it.
+func GuardHook(hook func(*http.Request, Judgement)) GuardOption {
+	return func(g *guard) { g.hook = hook }
+}
+
 // RequireMacaroon is Guard with facts that can be told of each request; facts may be nil.
-func RequireMacaroon(client *Client, key string, facts func(*http.Request) []string) func(http.Handler) http.Handler {
+func RequireMacaroon(
+	client *Client, key string, facts func(*http.Request) []string, options ...GuardOption,
+) func(http.Handler) http.Handler {
 	return Guard(client, key, func(r *http.Request) ([]string, error) {
 		if facts == nil {
 			return nil, nil
 		}
 		return facts(r), nil
-	})
+	}, options...)
 }
 
 // Guard gives a guard that lets those requests through to a handler whose token is
@@ -25,47 +50,71 @@ func RequireMacaroon(client *Client, key string, facts func(*http.Request) []str
 // token's identifier by Identifier.
 //
 // A request without a token, with two or with a bad one is answered 401, one that a caveat
-// forbids or whose facts are an ErrNotPlain 403, one whose facts no request can tell 400,
-// and each one 503 while there is no verdict.
+// forbids or whose facts are an ErrNotPlain 403 with Macaroon-Reason, one whose facts no
+// request can tell 400, and each one 503 while there is no verdict. While the daemon is known
+// to be away, requests are refused at once.
 func Guard(
-	client *Client, key string, facts func(*http.Request) ([]string, error),
+	client *Client, key string, facts func(*http.Request) ([]string, error), options ...GuardOption,
 ) func(http.Handler) http.Handler {
+	made := &guard{client: client, key: key, facts: facts, timeout: guardTimeout}
+	for _, option := range options {
+		option(made)
+	}
+	made.breaker = newBreaker(made.timeout)
 	return func(next http.Handler) http.Handler {
-		return http.HandlerFunc(func(w http.ResponseWriter, r *http.Request) {
-			brought, isThere := credentialsIn(r.Header.Values("Authorization"))
-			if !isThere {
-				refuse(w, http.StatusUnauthorized, "Macaroon")
-				return
-			}
-			verdict, err := judged(client, key, brought.token, r, facts)
-			switch {
-			case errors.Is(err, ErrNotPlain):
-				refuse(w, http.StatusForbidden, "")
-			case errors.Is(err, ErrBadRequest):
-				refuse(w, http.StatusBadRequest, "")
-			case err != nil:
-				refuse(w, http.StatusServiceUnavailable, "")
-			case verdict.Granted():
-				known := context.WithValue(r.Context(), identifierKey{}, verdict.Identifier())
-				next.ServeHTTP(w, r.WithContext(known))
-			case verdict.Code == codeUnsatisfied:
-				refuse(w, http.StatusForbidden, brought.scheme+` error="insufficient_scope"`)
-			default:
-				refuse(w, http.StatusUnauthorized, brought.scheme+` error="invalid_token"`)
-			}
-		})
+		return http.HandlerFunc(func(w http.ResponseWriter, r *http.Request) { made.serve(next, w, r) })
 	}
 }
 
-// judged gives the verdict on a request's token with the request's facts.
-func judged(
-	client *Client, key, token string, r *http.Request, facts func(*http.Request) ([]string, error),
-) (Verdict, error) {
-	told, err := facts(r)
-	if err != nil {
-		return Verdict{}, err
+// guard is what one Guard knows.
+type guard struct {
+	client  *Client
+	key     string
+	facts   func(*http.Request) ([]string, error)
+	timeout time.Duration
+	logger  *log.Logger
+	hook    func(*http.Request, Judgement)
+	breaker *breaker
+}
+
+// serve lets a request through, or refuses it.
+func (g *guard) serve(next http.Handler, w http.ResponseWriter, r *http.Request) {
+	found := g.judge(r)
+	if g.logger != nil && !found.Granted() {
+		g.logger.Printf("macaroon refused: %v", found)
 	}
-	return client.Verify(r.Context(), key, token, told...)
+	if g.hook != nil {
+		g.hook(r, found)
+	}
+	if !found.Granted() {
+		found.refuse(w)
+		return
+	}
+	known := context.WithValue(r.Context(), identifierKey{}, found.Identifier)
+	next.ServeHTTP(w, r.WithContext(known))
+}
+
+// judge gives what becomes of a request.
+func (g *guard) judge(r *http.Request) Judgement {
+	brought, isThere := credentialsIn(r.Header.Values("Authorization"))
+	if !isThere {
+		return withoutToken()
+	}
+	told, err := g.facts(r)
+	if err != nil {
+		return failed(err)
+	}
+	if !g.breaker.allows() {
+		return withoutVerdict(http.StatusServiceUnavailable, reasonAway)
+	}
+	within, end := context.WithTimeout(r.Context(), g.timeout)
+	defer end()
+	verdict, err := g.client.Verify(within, g.key, brought.token, told...)
+	g.breaker.note(err, r.Context())
+	if err != nil {
+		return failed(err)
+	}
+	return judged(verdict, brought.scheme)
 }
 
 // Identifier gives the identifier of the token by which a request was let through.
@@ -93,12 +142,4 @@ func credentialsIn(fields []string) (credentials, bool) {
 		}
 	}
 	return credentials{}, false
-}
-
-// refuse answers with a status and, where there is one, a challenge (RFC 6750, section 3).
-func refuse(w http.ResponseWriter, status int, challenge string) {
-	if challenge != "" {
-		w.Header().Set("WWW-Authenticate", challenge)
-	}
-	http.Error(w, http.StatusText(status), status)
 }

@@ -6,7 +6,7 @@ import collections
 import os
 from typing import Any, AsyncIterable, AsyncIterator, Callable, Deque, Iterable, List, NamedTuple, Optional, Union, overload
 
-from .backoff import Backoff, Deadline
+from .backoff import Backoff, Deadline, shorter
 from .calls import BATCHES_OUT, Asked, Call, Run, attenuate_call, batches, mint_call, raw_call, verify_call
 from .client import BinaryForm, TextForm
 from .errors import Disconnected, TimedOut
@@ -144,12 +144,14 @@ class AsyncClient:
         """The token with these caveats behind its own, in its own form where none is given."""
         return await self._made(attenuate_call(token, caveats, form))
 
-    async def verify(self, key: Text, token: Text, facts: Iterable[Text] = (), at: Optional[float] = None) -> Verdict:
+    async def verify(
+        self, key: Text, token: Text, facts: Iterable[Text] = (), at: Optional[float] = None, *, timeout: Optional[float] = None
+    ) -> Verdict:
         """Whether the daemon's key grants the token, given these facts, at a moment in seconds since 1970.
 
-        Without a moment it is that of the daemon's clock.
+        Without a moment it is that of the daemon's clock. A `timeout` of its own shortens the client's.
         """
-        made: Verdict = await self._made(verify_call(key, token, facts, at))
+        made: Verdict = await self._made(verify_call(key, token, facts, at), timeout)
         return made
 
     def verify_many(
@@ -171,8 +173,8 @@ class AsyncClient:
         """The replies' payloads, in order, as `verify_many` gives verdicts."""
         return self._many(payloads, raw_call)
 
-    async def _made(self, call: Call) -> Any:
-        replies = await self._replies(await self._sent([call]))
+    async def _made(self, call: Call, timeout: Optional[float] = None) -> Any:
+        replies = await self._replies(await self._sent([call], Deadline(shorter(self.timeout, timeout))))
         return call.meaning(replies[0])
 
     async def _many(self, asked: Any, call_of: Callable[[Any], Call]) -> AsyncIterator[Any]:
@@ -186,7 +188,7 @@ class AsyncClient:
         """Sends in batches, and gives each once as many are out as may be."""
         out: Deque[Sent] = collections.deque()
         async for run in runs_of(asked, call_of):
-            out.append(await self._sent(run))
+            out.append(await self._sent(run, Deadline(self.timeout)))
             if len(out) == BATCHES_OUT:
                 yield out.popleft()
         while out:
@@ -199,13 +201,13 @@ class AsyncClient:
         except Disconnected:
             if self._is_closed or not self.retry or not all(call.may_repeat for call in sent.calls):
                 raise
-        return await answers(await self._sent(sent.calls))
+        return await answers(await self._sent(sent.calls, sent.deadline))
 
-    async def _sent(self, calls: List[Call]) -> Sent:
+    async def _sent(self, calls: List[Call], deadline: Deadline) -> Sent:
         """Sends the calls, over a new connection where the last one has ended."""
         answered: asyncio.Future[None] = asyncio.get_running_loop().create_future()
         batch = Batch(len(calls), lambda: finish(answered))
-        sent = Sent(calls, batch, answered, Deadline(self.timeout))
+        sent = Sent(calls, batch, answered, deadline)
         frames = calls[0].frame if len(calls) == 1 else b"".join([call.frame for call in calls])
         while True:
             connection = await self._connected(sent.deadline)

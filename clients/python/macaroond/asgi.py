@@ -1,12 +1,28 @@
 """A guard for an ASGI application (its specification's version 3)."""
 from __future__ import annotations
 
-from typing import Any, Awaitable, Callable, Dict, Iterable, List, Union
+import logging
+from typing import Any, Awaitable, Callable, Dict, Iterable, List, Optional
 
 from .aio import AsyncClient
+from .breaker import Breaker
 from .errors import MacaroondError
 from .facts import path_facts
-from .guard import IDENTIFIER, NO_TOKEN, Refusal, credentials, failed, refused, sent
+from .guard import (
+    DAEMON_AWAY,
+    GUARD_TIMEOUT,
+    IDENTIFIER,
+    LOGGER,
+    WITHOUT_TOKEN,
+    Credentials,
+    Judgement,
+    credentials,
+    failed,
+    judged,
+    method_facts,
+    note,
+    sent,
+)
 from .text import Text
 
 Scope = Dict[str, Any]
@@ -23,45 +39,71 @@ def request_facts(scope: Scope) -> List[Text]:
     A WebSocket's method is GET.
     """
     target = scope.get("raw_path") or sent(scope["path"].encode("utf-8", "surrogateescape"))
-    return [f"method = {scope.get('method', 'GET')}", *path_facts(target)]
+    return [*method_facts(scope.get("method", "GET")), *path_facts(target)]
 
 
 class RequireMacaroon:
     """Lets those requests and WebSockets through to an application whose token is granted.
 
-    It answers as `macaroond.wsgi.RequireMacaroon` does. The application finds the token's identifier
-    in `scope["macaroond.identifier"]`. A WebSocket that isn't let through is closed before it opens.
+    It answers, waits, logs and tells its hook as `macaroond.wsgi.RequireMacaroon` does; the hook gets the
+    scope, and is no coroutine. The application finds the token's identifier in
+    `scope["macaroond.identifier"]`. A WebSocket that isn't let through is closed before it opens.
     """
 
     def __init__(
-        self, application: Application, client: AsyncClient, key: Text, facts: Callable[[Scope], Iterable[Text]] = no_facts
+        self,
+        application: Application,
+        client: AsyncClient,
+        key: Text,
+        facts: Callable[[Scope], Iterable[Text]] = no_facts,
+        *,
+        timeout: float = GUARD_TIMEOUT,
+        logger: logging.Logger = LOGGER,
+        hook: Optional[Callable[[Scope, Judgement], None]] = None,
     ) -> None:
         self.application = application
         self.client = client
         self.key = key
         self.facts = facts
+        self.timeout = timeout
+        self.logger = logger
+        self.hook = hook
+        self.breaker = Breaker(timeout)
 
     async def __call__(self, scope: Scope, receive: Callable[..., Any], send: Callable[..., Any]) -> None:
         if scope["type"] == "lifespan":
             return await self.application(scope, receive, send)
-        judged = await self.judge(scope)
-        if not isinstance(judged, Refusal):
-            await self.application({**scope, IDENTIFIER: judged}, receive, send)
+        found = await self.judge(scope)
+        found.log(self.logger)
+        if self.hook is not None:
+            self.hook(scope, found)
+        if found:
+            await self.application({**scope, IDENTIFIER: found.identifier}, receive, send)
         elif scope["type"] == "http":
-            headers = [(name.lower().encode(), value.encode()) for name, value in judged.headers().items()]
-            await send({"type": "http.response.start", "status": judged.status.value, "headers": headers})
-            await send({"type": "http.response.body", "body": judged.body()})
+            headers = [(name.lower().encode(), value.encode()) for name, value in found.headers().items()]
+            await send({"type": "http.response.start", "status": found.status.value, "headers": headers})
+            await send({"type": "http.response.body", "body": found.body()})
         else:
             await send({"type": "websocket.close", "code": 1008})
 
-    async def judge(self, scope: Scope) -> Union[str, Refusal]:
-        """The identifier of the request's token, or why it isn't let through."""
+    async def judge(self, scope: Scope) -> Judgement:
+        """What becomes of a request: it is let through, or why not."""
         given = [value for name, value in scope["headers"] if name.lower() == b"authorization"]
         brought = credentials(given)
         if brought is None:
-            return NO_TOKEN
+            return WITHOUT_TOKEN
         try:
-            verdict = await self.client.verify(self.key, brought.token, self.facts(scope))
+            facts = list(self.facts(scope))
+            return await self.asked(brought, facts) if self.breaker.allows() else DAEMON_AWAY
         except MacaroondError as error:
             return failed(error)
-        return verdict.identifier or "" if verdict else refused(verdict, brought.scheme)
+
+    async def asked(self, brought: Credentials, facts: List[Text]) -> Judgement:
+        """What the daemon says of the token, and whether it says anything."""
+        try:
+            verdict = await self.client.verify(self.key, brought.token, facts, timeout=self.timeout)
+        except MacaroondError as error:
+            note(self.breaker, error)
+            raise
+        self.breaker.succeeded()
+        return judged(verdict, brought.scheme)

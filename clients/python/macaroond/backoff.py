@@ -41,3 +41,8 @@ class Deadline:
         """Whether so many seconds are left."""
         left = self.left()
         return left is None or left > seconds
+
+
+def shorter(one: float | None, other: float | None) -> float | None:
+    """The shorter one of two timeouts, of which None is the longest."""
+    return min((given for given in (one, other) if given is not None), default=None)

@@ -8,7 +8,7 @@ import time
 import weakref
 from typing import Any, Deque, Iterable, Iterator, List, Literal, NamedTuple, Optional, Union, overload
 
-from .backoff import Backoff, Deadline
+from .backoff import Backoff, Deadline, shorter
 from .calls import BATCHES_OUT, Asked, Call, attenuate_call, batches, mint_call, raw_call, verify_call
 from .connection import Connection, NotSent
 from .errors import Disconnected, TimedOut
@@ -106,12 +106,14 @@ class Client:
         """The token with these caveats behind its own, in its own form where none is given."""
         return self._made(attenuate_call(token, caveats, form))
 
-    def verify(self, key: Text, token: Text, facts: Iterable[Text] = (), at: Optional[float] = None) -> Verdict:
+    def verify(
+        self, key: Text, token: Text, facts: Iterable[Text] = (), at: Optional[float] = None, *, timeout: Optional[float] = None
+    ) -> Verdict:
         """Whether the daemon's key grants the token, given these facts, at a moment in seconds since 1970.
 
-        Without a moment it is that of the daemon's clock.
+        Without a moment it is that of the daemon's clock. A `timeout` of its own shortens the client's.
         """
-        made: Verdict = self._made(verify_call(key, token, facts, at))
+        made: Verdict = self._made(verify_call(key, token, facts, at), timeout)
         return made
 
     def verify_many(self, key: Text, asked: Iterable[Asked], at: Optional[float] = None) -> Iterator[Verdict]:
@@ -131,8 +133,8 @@ class Client:
         """The replies' payloads, in order, as `verify_many` gives verdicts."""
         return self._many(map(raw_call, payloads))
 
-    def _made(self, call: Call) -> Any:
-        return call.meaning(self._replies(self._sent([call]))[0])
+    def _made(self, call: Call, timeout: Optional[float] = None) -> Any:
+        return call.meaning(self._replies(self._sent([call], Deadline(shorter(self.timeout, timeout))))[0])
 
     def _many(self, calls: Iterable[Call]) -> Iterator[Any]:
         for sent in self._in_turn(calls):
@@ -145,7 +147,7 @@ class Client:
         """Sends in batches, and gives each once as many are out as may be."""
         out: Deque[Sent] = collections.deque()
         for run in batches(calls):
-            out.append(self._sent(run))
+            out.append(self._sent(run, Deadline(self.timeout)))
             if len(out) == BATCHES_OUT:
                 yield out.popleft()
         while out:
@@ -158,13 +160,13 @@ class Client:
         except Disconnected:
             if self._is_closed or not self.retry or not all(call.may_repeat for call in sent.calls):
                 raise
-        return answers(self._sent(sent.calls))
+        return answers(self._sent(sent.calls, sent.deadline))
 
-    def _sent(self, calls: List[Call]) -> Sent:
+    def _sent(self, calls: List[Call], deadline: Deadline) -> Sent:
         """Sends the calls, over a new connection where the last one has ended."""
         answered = threading.Lock()
         answered.acquire()
-        sent = Sent(calls, Batch(len(calls), answered.release), answered, Deadline(self.timeout))
+        sent = Sent(calls, Batch(len(calls), answered.release), answered, deadline)
         frames = calls[0].frame if len(calls) == 1 else b"".join([call.frame for call in calls])
         while True:
             try:

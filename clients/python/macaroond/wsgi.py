@@ -1,12 +1,29 @@
 """A guard for a WSGI application (PEP 3333)."""
 from __future__ import annotations
 
-from typing import Any, Callable, Dict, Iterable, List, Union
+import logging
+from typing import Any, Callable, Dict, Iterable, List, Optional
 
+from .breaker import Breaker
 from .client import Client
 from .errors import MacaroondError
 from .facts import path_facts
-from .guard import IDENTIFIER, NO_TOKEN, SCHEMES, Refusal, credentials, failed, refused, sent
+from .guard import (
+    DAEMON_AWAY,
+    GUARD_TIMEOUT,
+    IDENTIFIER,
+    LOGGER,
+    SCHEMES,
+    WITHOUT_TOKEN,
+    Credentials,
+    Judgement,
+    credentials,
+    failed,
+    judged,
+    method_facts,
+    note,
+    sent,
+)
 from .text import Text
 
 Environ = Dict[str, Any]
@@ -19,7 +36,7 @@ def no_facts(environ: Environ) -> Iterable[Text]:
 
 def request_facts(environ: Environ) -> List[Text]:
     """The method and the path of a request, for `facts`; `NotPlain` where the path isn't plain."""
-    return [f"method = {environ['REQUEST_METHOD']}", *path_facts(target(environ))]
+    return [*method_facts(environ["REQUEST_METHOD"]), *path_facts(target(environ))]
 
 
 def target(environ: Environ) -> bytes:
@@ -51,32 +68,61 @@ class RequireMacaroon:
     `facts` tells what is known of a request; the token's caveats are looked at against that and the
     daemon's clock. The application finds the token's identifier in `environ["macaroond.identifier"]`.
     A request without a token, with two or with a bad one is answered 401, one that a caveat forbids or
-    whose `facts` raise `NotPlain` 403, one whose facts no request can tell 400, and each one 503 while
-    the daemon gives no verdict.
+    whose `facts` raise `NotPlain` 403 with `Macaroon-Reason`, one whose facts no request can tell 400,
+    and each one 503 while the daemon gives no verdict.
+
+    A verdict is waited for `timeout` seconds at most, or as long as the client waits if that is less.
+    While the daemon is known to be away, requests are refused at once. Each refusal is logged to
+    `logger`, and `hook` is called with each request's environ and `Judgement`.
     """
 
     def __init__(
-        self, application: Application, client: Client, key: Text, facts: Callable[[Environ], Iterable[Text]] = no_facts
+        self,
+        application: Application,
+        client: Client,
+        key: Text,
+        facts: Callable[[Environ], Iterable[Text]] = no_facts,
+        *,
+        timeout: float = GUARD_TIMEOUT,
+        logger: logging.Logger = LOGGER,
+        hook: Optional[Callable[[Environ, Judgement], None]] = None,
     ) -> None:
         self.application = application
         self.client = client
         self.key = key
         self.facts = facts
+        self.timeout = timeout
+        self.logger = logger
+        self.hook = hook
+        self.breaker = Breaker(timeout)
 
     def __call__(self, environ: Environ, start_response: Callable[..., Any]) -> Iterable[bytes]:
-        judged = self.judge(environ)
-        if isinstance(judged, Refusal):
-            start_response(f"{judged.status.value} {judged.status.phrase}", list(judged.headers().items()))
-            return [judged.body()]
-        return self.application({**environ, IDENTIFIER: judged}, start_response)
+        found = self.judge(environ)
+        found.log(self.logger)
+        if self.hook is not None:
+            self.hook(environ, found)
+        if found:
+            return self.application({**environ, IDENTIFIER: found.identifier}, start_response)
+        start_response(f"{found.status.value} {found.status.phrase}", list(found.headers().items()))
+        return [found.body()]
 
-    def judge(self, environ: Environ) -> Union[str, Refusal]:
-        """The identifier of the request's token, or why it isn't let through."""
+    def judge(self, environ: Environ) -> Judgement:
+        """What becomes of a request: it is let through, or why not."""
         brought = credentials(authorizations(environ))
         if brought is None:
-            return NO_TOKEN
+            return WITHOUT_TOKEN
         try:
-            verdict = self.client.verify(self.key, brought.token, self.facts(environ))
+            facts = list(self.facts(environ))
+            return self.asked(brought, facts) if self.breaker.allows() else DAEMON_AWAY
         except MacaroondError as error:
             return failed(error)
-        return verdict.identifier or "" if verdict else refused(verdict, brought.scheme)
+
+    def asked(self, brought: Credentials, facts: List[Text]) -> Judgement:
+        """What the daemon says of the token, and whether it says anything."""
+        try:
+            verdict = self.client.verify(self.key, brought.token, facts, timeout=self.timeout)
+        except MacaroondError as error:
+            note(self.breaker, error)
+            raise
+        self.breaker.succeeded()
+        return judged(verdict, brought.scheme)
