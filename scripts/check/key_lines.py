@@ -1,3 +1,4 @@
+#!/usr/bin/env python3
 """Key files that `macaroond keygen` writes and `macaroond check` reads.
 
 A row gives the file as it is before, the words, and how the run ends; and what the file is then. A
@@ -10,9 +11,11 @@ import pathlib
 import re
 import stat
 import subprocess
+import sys
 import tempfile
 import typing
 
+sys.path.insert(0, str(pathlib.Path(__file__).resolve().parents[1]))
 from check import statuses
 from check.statuses import Ending, bad
 from common import runs

@@ -80,6 +80,13 @@ def judged(command, status, printed):
         yield f"`{' '.join(command.words)}` ends with status {status} and prints\n{printed[-1000:]}"
 
 
+def unrunnable(clone):
+    """The scripts that say what runs them, and can't be run by their own names."""
+    for path in sorted(clone.top.glob("scripts/*/*")):
+        if path.is_file() and path.read_bytes().startswith(b"#!") and not os.access(path, os.X_OK):
+            yield f"{path.relative_to(clone.top)} is no program, though it says what runs it"
+
+
 def without_toolchain():
     """A path on which there is no `rt`."""
     folders = os.environ["PATH"].split(os.pathsep)
@@ -115,11 +122,11 @@ def faults():
     skipped = [] if shutil.which("rt") else ["the toolchain's command `rt` isn't there, by which make demo runs"]
     with tempfile.TemporaryDirectory() as folder:
         clone = Clone(folder)
-        found = [fault for it in UNBUILT for fault in judged(it, *clone.run(it.words))]
+        found = [fault for it in UNBUILT for fault in judged(it, *clone.run(it.words))] + list(unrunnable(clone))
         path = without_toolchain()
         found += [fault for it in UNPROVED for fault in judged(it, *clone.run(it.words, PATH=path))]
         wrong, checks = ([], 0) if skipped else demo_faults(clone)
-    return found + wrong, len(UNBUILT) + len(UNPROVED) + checks, skipped
+    return found + wrong, len(UNBUILT) + len(UNPROVED) + 1 + checks, skipped
 
 
 if __name__ == "__main__":

@@ -1,3 +1,4 @@
+#!/usr/bin/env python3
 """Tells functions that no product crate calls, and lemmas and definitions that nothing names.
 
 A call is looked for in the crate itself and in the product crates that crates.txt has above it: all
@@ -5,8 +6,11 @@ but those that try or time the others. It is found by its name and form alone, `
 or `name`, so a function may hide behind another one's name; what is told is called by nobody.
 """
 import collections
+import pathlib
 import re
+import sys
 
+sys.path.insert(0, str(pathlib.Path(__file__).resolve().parents[1]))
 from common import TOP
 from wrong_bodies.functions import HEADER, SCOPE, functions_of
 
