@@ -9,10 +9,11 @@
 
 FORM is v1-text, v2-binary, v2-json or v2-text. NAME is 1 to 64 letters, digits, dots, underscores
 or dashes. MOMENT is in seconds since 1970-01-01T00:00:00Z, or `now` for that of the daemon's clock,
-which is also meant where there is none and which `owner` asks for. Each other field is its bytes as they are
-given, or `hex:` and its bytes in hexadecimal, as the pipe prints a binary token. A key's secret is all
-that FILE holds, a line feed at its end too, or without FILE standard input: no word of a command is
-secret, since every user of the machine can list them.
+which is also meant where there is none and which `owner` asks for. TOKEN is `-` where it is the first line of
+standard input, with the word `token` in front, as the pipe prints it, or without. Each other field is its
+bytes as they are given, or `hex:` and its bytes in hexadecimal, as the pipe prints a binary token. A
+key's secret is all that FILE holds, a line feed at its end too, or without FILE standard input: no word
+of a command is secret, since every user of the machine can list them.
 """
 import os
 import re
@@ -109,17 +110,25 @@ def at_the_clock(kind, name, token, facts):
     return bytes([kind]) + fields + listed(facts, "fact")
 
 
+def token_of(word):
+    """The token that a word gives: itself, or one that comes on standard input."""
+    if word != "-":
+        return word
+    line = os.fsdecode(sys.stdin.buffer.readline())
+    return line.rstrip("\n").removeprefix("token ")
+
+
 def payload(words):
     """The request that these words ask for, or None where they ask for none."""
     match words:
         case ["mint", _, _, _, _, *_]:
             return mint(*words[1:])
-        case ["attenuate", _, _, *_]:
-            return attenuate(*words[1:])
-        case ["verify", _, _, *_]:
-            return verify(*words[1:])
-        case ["owner", _, _, *_]:
-            return owner(*words[1:])
+        case ["attenuate", form, token, *caveats]:
+            return attenuate(form, token_of(token), *caveats)
+        case ["verify", name, token, *rest]:
+            return verify(name, token_of(token), *rest)
+        case ["owner", name, token, *facts]:
+            return owner(name, token_of(token), *facts)
     return None
 
 

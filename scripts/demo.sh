@@ -28,8 +28,8 @@ words() {
         *" listen "*) echo "The same by a daemon, which answers over a Unix socket:" ;;
         while*) echo "It prints a line once clients can connect. A script waits for that:" ;;
         "service()"*) echo "A client, in Python:" ;;
-        token=*) echo "The daemon mints a token for alice:" ;;
-        narrow=*) echo "It narrows it for her:" ;;
+        "service mint"*) echo "The daemon mints a token for alice:" ;;
+        "service attenuate"*) echo "It narrows it for her:" ;;
         *" owner "*) echo "Whose it is, is told in hexadecimal: alice, at http://mybank/:" ;;
         *" verify "*read*)
             echo "The narrow token is brought to read. A verify tells the moment too:" ;;
@@ -53,7 +53,7 @@ cut_steps() {
         { print > (file ".due") }' "$top/README.md"
 }
 
-# Does a step, and shows it with what it prints; of a variable that it sets, the value.
+# Does a step, and shows it with what it prints; of a token that it puts into a file, the file.
 do_step() {
     command=$(cat "$1")
     tell "$(words "$command")"
@@ -63,8 +63,6 @@ do_step() {
     # The commands that it runs set these.
     # shellcheck disable=SC2154
     case $command in
-        token=*) echo "    $token" ;;
-        narrow=*) echo "    $narrow" ;;
         *"> token") sed 's/^/    /' token ;;
         *"> narrow") sed 's/^/    /' narrow ;;
     esac
