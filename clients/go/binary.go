@@ -16,7 +16,7 @@ const (
 	fieldSignature  = 6
 )
 
-// Ten groups of seven bits are enough for any number of 64 bits.
+// Ten groups of seven bits are enough for any number of 64 bits; of the tenth one bit is left.
 const varintBytesMax = 10
 
 // fieldReader reads fields one after the other; once something is wrong, all that it gives is nothing.
@@ -73,7 +73,8 @@ func (r *fieldReader) varint() (number uint64) {
 		byte := r.byte()
 		number |= uint64(byte&0x7f) << (7 * group)
 		if byte < 0x80 {
-			r.demand(byte != 0 || group == 0)
+			isLost := group == varintBytesMax-1 && byte > 1
+			r.demand((byte != 0 || group == 0) && !isLost)
 			return number
 		}
 	}

@@ -103,6 +103,19 @@ func TestInspect(t *testing.T) {
 	}
 }
 
+// Numbers that 64 bits don't hold were read without the bits above: rows of vectors/ found it.
+func TestLongNumbers(t *testing.T) {
+	for short, long := range map[string]string{
+		"\x16we":   "\x96\x80\x80\x80\x80\x80\x80\x80\x80\x02we",
+		"\x02\x16": "\x82\x80\x80\x80\x80\x80\x80\x80\x80\x02\x16",
+		"\x06\x20": "\x06\xa0\x80\x80\x80\x80\x80\x80\x80\x80\x40",
+	} {
+		if code := fault(strings.Replace(binaryToken, short, long, 1)); code != codeMalformed {
+			t.Errorf("%q is %d", long, code)
+		}
+	}
+}
+
 // What the daemon's reader takes and doesn't, where one of Go's might say otherwise; 0 is taken.
 func TestFaults(t *testing.T) {
 	deep := strings.Repeat("[", 126) + strings.Repeat("]", 126)
