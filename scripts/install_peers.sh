@@ -31,6 +31,7 @@ caddy                           scripts/check/gateways.py has it ask macaroond o
 haproxy                         scripts/check/gateways.py has it ask macaroond over HTTP
 apache2-bin                     scripts/check/gateways.py has it ask macaroond over HTTP
 chromium                        scripts/check/page.py drives the page in it
+prometheus                      scripts/check/monitoring.py asks its promtool about alert rules
 lua-socket                      by it Apache asks macaroond (examples/gateways/apache.lua)
 END
 }
