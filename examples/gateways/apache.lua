@@ -54,5 +54,8 @@ function check(r)
         return apache2.OK
     end
     r.err_headers_out["WWW-Authenticate"] = found["www-authenticate"]
+    -- Why it was refused, for the log and for the client; who wants the log alone drops the second line.
+    r.notes["macaroon-reason"] = found["macaroon-reason"]
+    r.err_headers_out["Macaroon-Reason"] = found["macaroon-reason"]
     return (status == 401 or status == 403) and status or 503
 end

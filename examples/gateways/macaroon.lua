@@ -24,6 +24,8 @@ core.register_action("macaroon", { "http-req" }, function(txn)
         txn:set_var("txn.macaroon_identifier", answer.headers["macaroon-identifier"][0])
         txn:set_var("txn.macaroon", "granted")
     elseif answer.status == 401 or answer.status == 403 then
+        -- Why it was refused, for the log; the client is told it by the field below.
+        txn:set_var("txn.macaroon_reason", (answer.headers["macaroon-reason"] or {})[0] or "-")
         local reply = txn:reply { status = answer.status, body = answer.body }
         for _, name in ipairs { "www-authenticate", "macaroon-reason", "content-type" } do
             for _, value in pairs(answer.headers[name] or {}) do

@@ -42,6 +42,8 @@ class Gateway(typing.NamedTuple):
     words: typing.Sequence[str]
     # The file that says how long, how it says that, and the same for a machine that is busy.
     waits: typing.Tuple[str, str, str]
+    # The file in which its log is.
+    log: str = "access.log"
     # What is needed besides the program.
     needs: str = ""
 
@@ -67,6 +69,7 @@ GATEWAYS = {
         port=18082,
         words=["-f", "haproxy.cfg"],
         waits=("macaroon.lua", "timeout = 500", "timeout = 100000"),
+        log="said",
     ),
     "apache": Gateway(
         program="apache2",

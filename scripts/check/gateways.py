@@ -86,6 +86,28 @@ def on_one_connection(scene):
     yield "and the service saw two, and their host", hosts, ["127.0.0.1"] * 2
 
 
+def as_reasons_are_told(name, scene):
+    """The client is told why, and the log has it and nothing of a token."""
+    narrow, tokens = narrowed("a = b"), [ALICE]
+    for what, token, target, reason in (
+        ("a caveat that isn't satisfied", narrow, HELLO, "24 0"),
+        ("a path that isn't plain", ALICE, "/guarded/a//b", "path"),
+        ("a grant", ALICE, HELLO, None),
+    ):
+        _, fields = asked(scene.port, head(target, f"Authorization: Macaroon {token}"))
+        yield f"the client's reason of {what}", fields.get("macaroon-reason") or None, reason
+        tokens.append(token)
+    log, until = scene.daemon.folder / GATEWAYS[name].log, time.monotonic() + PATIENCE
+    while '"24 0"' not in log.read_text() or '"path"' not in log.read_text():
+        if time.monotonic() > until:
+            break
+        time.sleep(0.05)
+    text = log.read_text()
+    yield "the log has both reasons", ['"24 0"' in text, '"path"' in text], [True, True]
+    yield "and no token", [token for token in tokens if token in text], []
+    yield "and the service saw the grant alone", len(scene.service.taken()), 1
+
+
 def by_an_old_client(scene):
     """HTTP/1.0 without a host, which tells no fact about it."""
     for token, due in ((narrowed("method = GET"), 200), (narrowed(HOST), 403)):
@@ -187,6 +209,7 @@ def of_gateway(name):
     with guarded(name) as scene:
         yield from rows(name, scene)
         yield from on_one_connection(scene)
+        yield from as_reasons_are_told(name, scene)
         yield from by_an_old_client(scene)
         yield from as_connections_stay(name, scene)
         yield from while_it_is_gone(name, scene)
