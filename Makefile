@@ -1,10 +1,12 @@
 .PHONY: help test wrong-bodies wrong-runs demo build build-runs install uninstall deb tarball reproduce completions
-.PHONY: clients faults bench load soak soak-all pages taken
+.PHONY: clients faults bench load soak soak-all pages taken check try fmt hook
 
 # What there is to make, for whoever types `make` alone.
 help:
 	@echo "make demo          what README's sessions show, told step by step, before or after a build"
 	@echo "make test          the gate: every proof from nothing, and every test"
+	@echo "make try           the daemon as the sources are now, with no proof, in two minutes"
+	@echo "make check CRATE   proves a crate after an edit, and what the edit reaches"
 	@echo "make build         proves and builds bin/macaroond"
 	@echo "sudo make install  puts what was built under /usr/local, or another PREFIX="
 	@echo "make deb tarball   the packages, of what was built"
@@ -24,9 +26,26 @@ wrong-bodies:
 wrong-runs:
 	scripts/wrong_bodies/wrong_runs.py
 
-CRATES = $(filter-out wrong-bodies,$(MAKECMDGOALS))
+# A crate after an edit, and what stands on it as far as the edit reaches: make check mac_keys.
+check:
+	scripts/build/check.py $(CRATES)
+
+CRATES = $(filter-out wrong-bodies check,$(MAKECMDGOALS))
 $(notdir $(wildcard crates/*)):
 	@:
+
+# The daemon as the sources are now, with no proof, at ./socket with the keys of examples/, until it is interrupted;
+# WORDS= are further words of `macaroond listen`.
+try:
+	@scripts/try.sh $(WORDS)
+
+# Lays out the sources of all crates, and the programs in Go.
+fmt:
+	scripts/fmt.sh
+
+# Has Git look at each commit first: the layout of its crates, the pages that are made, and what linters say.
+hook:
+	ln -sf "$$(realpath --relative-to="$$(git rev-parse --git-path hooks)" scripts/pre-commit.sh)" "$$(git rev-parse --git-path hooks)/pre-commit"
 
 # What README's sessions show, in words: by the proved program where there is one, else by an unproved run.
 demo:
@@ -36,20 +55,9 @@ demo:
 # libexec/macaroond/; built/macaroond, which bin/macaroond calls, starts the one that fits. And bin/time_blocks. What `make install`,
 # `make deb` and `make tarball` take is what this has left.
 build:
-	rm -f built/macaroond bin/time_blocks
+	rm -f built/macaroond
 	scripts/build/build.py
 	$(MAKE) --silent built/macaroond
-	$(call proved,time_blocks,0)
-
-# Proves a program, runs it with these words, and leaves it in bin/. A run of the toolchain that is killed leaves an
-# earlier program in out/: it writes the stamp beside a program of this text alone.
-define proved
-@command -v rt > /dev/null || { echo "the toolchain's command rt isn't on the path (README, What is trusted)"; exit 1; }
-cd crates/$(1) && rt run -- $(2) > /dev/null
-@test -e crates/$(1)/out/$(1).stamp || { echo "crates/$(1)/out/$(1) is not of this text: make build again"; exit 1; }
-cp crates/$(1)/out/$(1) bin/
-
-endef
 
 built/macaroond: packaging/launcher.c
 	mkdir -p built
@@ -86,9 +94,7 @@ pages:
 # The same for the programs that try the libraries; scripts/programs.txt says what each is for.
 TRIALS = $(shell awk '$$1 == "build-runs" { print $$2 }' scripts/programs.txt)
 build-runs:
-	mkdir -p bin
-	rm -f $(TRIALS:%=bin/%)
-	$(foreach it,$(TRIALS),$(call proved,$(it),$(if $(wildcard crates/$(it)/stdin),< stdin)))
+	scripts/build/build.py --runs
 
 # The programs that `rt ci` left where it built them, as make build and make build-runs would leave them.
 taken:

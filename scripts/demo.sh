@@ -8,6 +8,7 @@ top=$(cd "$(dirname "$0")/.." && pwd)
 folder=$(mktemp -d)
 trap 'kill ${!:-} 2> /dev/null || :; rm -rf "$folder"' EXIT
 input=$top/crates/macaroond/stdin
+. "$top/scripts/common/unproved.sh"
 
 tell() {
     printf '\n%s\n\n' "$*"
@@ -83,19 +84,15 @@ stand_in() {
     chmod 600 keys
     mkdir bin cases
     cp "$input" cases/1
-    echo pipe > cases/1.args
-    : > cases/2
-    printf '%s\n' listen --socket "$folder/socket" --keys "$folder/keys" > cases/2.args
+    unproved_case "$folder" 1 pipe
+    unproved_case "$folder" 2 listen --socket "$folder/socket" --keys "$folder/keys"
     cat > bin/macaroond <<END
 #!/bin/sh
-# What the daemon prints comes once it has ended, so its socket says that clients can connect.
-cd "$top/crates/macaroond"
-rt try --steps 1 --seconds 600 --cases "$folder/cases" > "$folder/piped" 2> "$folder/said" &
-trap 'kill \$!; wait; exit' TERM
-while [ ! -S "$folder/socket" ]; do
-    kill -0 \$! || exit 1
-    sleep 0.1
-done
+. "$top/scripts/common/unproved.sh"
+run_unproved "$folder" "$top" &
+running=\$!
+trap 'kill \$running; wait; exit' TERM
+await_socket "\$running" "$folder/socket" || exit 1
 echo "listening at ./socket:"
 wait
 END
@@ -116,6 +113,7 @@ if [ -x "$top/built/macaroond" ]; then
     bin/macaroond pipe < "$input" > piped
 elif command -v rt > /dev/null; then
     stand_in
+    ln -s printed piped
 else
     echo "macaroond isn't built, and the toolchain's command \`rt\` is not on the path: without"
     echo "either there is nothing to run. README says which toolchain it is (What is trusted)."

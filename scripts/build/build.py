@@ -1,23 +1,29 @@
 #!/usr/bin/env python3
-"""Puts the proved macaroond where bin/macaroond, its launcher, finds it: libexec/macaroond/, a program
-for each processor that it is built for.
+"""Proves the programs, and builds them: macaroond for each kind of processor, where bin/macaroond, its
+launcher, finds it, libexec/macaroond/, and the others in bin/.
 
-    build.py           proves and builds them by `rt run`
-    build.py --taken   takes the one that `rt ci` left where it built it
+    build.py           those that `make build` makes, by scripts/programs.txt
+    build.py --runs    those that `make build-runs` makes, which try the libraries
+    build.py --taken   takes the macaroond that `rt ci` left where it built it
 
-x86-64-v2 runs on all x86-64 processors since about 2009, x86-64-v3 on those since about 2013; the
-second one is built where this machine can run it. A build that breaks off leaves no program behind.
-Where nothing that it stands on has changed since the last build, none is made.
+Crates that don't wait for one another are proved side by side. x86-64-v2 runs on all x86-64 processors
+since about 2009, x86-64-v3 on those since about 2013; the second one is built where this machine can run
+it, beside the first one, from the same proof. A build that breaks off leaves no program behind. Where
+nothing that macaroond stands on has changed since the last build, none is made.
 """
 import hashlib
+import os
 import pathlib
 import re
-import shutil
 import subprocess
 import sys
+import time
 import typing
 
-TOP = pathlib.Path(__file__).resolve().parents[2]
+sys.path.insert(0, str(pathlib.Path(__file__).resolve().parents[1]))
+from build import lanes, proving, rooms
+from common import TOP, crates, programs
+
 CRATE = TOP / "crates" / "macaroond"
 PROGRAMS = TOP / "libexec" / "macaroond"
 OLDER, NEWER = "x86-64-v2", "x86-64-v3"
@@ -67,23 +73,11 @@ def commit():
     return digits if digits and not changed else NO_COMMIT
 
 
-def stands_on():
-    """The crates that macaroond is made of, itself among them."""
-    lines = (TOP / "crates.txt").read_text().splitlines()
-    below = {name: words.split() for name, _, words in (line.partition(":") for line in lines)}
-    found, new = set(), {"macaroond"}
-    while new:
-        found |= new
-        new = {it for name in new for it in below[name] if it in below} - found
-    return sorted(found)
-
-
 def sources():
     """A sum of all that the programs are made from, and of the toolchain's name."""
     digest = hashlib.sha256(answer("rt", "version").encode())
-    folders = [TOP / "crates" / name / part for name in stands_on() for part in ("src", "specs", "proofs")]
-    files = [path for folder in folders for path in folder.rglob("*") if path.is_file()]
-    for path in sorted([TOP / "crates.txt", TOP / "VERSION", *files]):
+    files = [path for name in ("macaroond", *crates.below("macaroond")) for path in crates.files(name)]
+    for path in sorted([crates.LIST, TOP / "VERSION", *files]):
         content = path.read_bytes()
         digest.update(f"{path.relative_to(TOP)} {len(content)}\n".encode() + content)
     return digest.hexdigest()
@@ -96,21 +90,28 @@ def runs_newer():
 
 
 def levels():
-    """The processors that programs are built for here, the older ones last: the toolchain's folder
-    keeps what was built last."""
-    return [NEWER] * runs_newer() + [OLDER]
+    """The processors that macaroond is built for here."""
+    return [OLDER] + [NEWER] * runs_newer()
 
 
-def proved(level):
-    """The program for these processors, proved and built. A run of the toolchain that is killed leaves
-    an earlier program in silence, so that is removed first."""
-    built = CRATE / "out" / "macaroond"
-    built.unlink(missing_ok=True)
+def built(name, words=(), level=OLDER):
+    """A program, built over what is proved of it and run once with these words; and, of the older processors, what the
+    toolchain says by it that this program is of this text."""
     flags = [] if level == OLDER else [f"--cpu={level}"]
-    run = subprocess.run(["rt", "run", *flags, "--", "--help"], cwd=CRATE, stdout=subprocess.DEVNULL)
-    if run.returncode != 0 or not built.exists():
-        raise SystemExit(f"build: no program for {level}: rt ended with status {run.returncode}")
-    return built.read_bytes()
+    begin, stamp = time.monotonic(), f"{name}.stamp"
+    with rooms.room(name, is_shared=True) as room:
+        if name != "macaroond":
+            room.take(name, stamp)
+        given = TOP / "crates" / name / "stdin"
+        with open(given if given.exists() and not words else os.devnull, "rb") as feed:
+            status, said = room.rt("run", "--jobs", "1", *flags, "--", *words, feed=feed)
+        made, is_stamped = room.crate / "out" / name, (room.crate / "out" / stamp).exists()
+        if status != 0 or not made.exists() or (level == OLDER and not is_stamped) or rooms.ENDING.is_set():
+            raise SystemExit(f"{said}\nbuild: no {name} for {level}: rt ended with status {status}")
+        if level == OLDER:
+            room.bring_back(name, stamp)
+        proving.told(f"built {name} for {level}", begin)
+        return made.read_bytes()
 
 
 def taken():
@@ -136,11 +137,28 @@ def clear(*levels):
         path.unlink(missing_ok=True)
 
 
-def build(wanted):
-    """Proves and builds the programs."""
-    clear(OLDER, NEWER)
-    for level in levels():
-        place(level, proved(level), NO_COMMIT, wanted.commit)
+def building(name, words=(), level=OLDER):
+    """The task to build a program, once it or what it stands on is proved."""
+    waits = {name} if name == "macaroond" else crates.below(name)
+    return lanes.Task(waits, crates.lines(name), lambda _: built(name, words, level))
+
+
+def build(wanted, others):
+    """Proves and builds macaroond, where it is wanted, and these others with their words."""
+    tasks = {(name, OLDER): building(name, words) for name, words in others.items()}
+    proofs = {below for name in others for below in crates.below(name)}
+    if wanted:
+        clear(OLDER, NEWER)
+        tasks |= {("macaroond", level): building("macaroond", ["--help"], level) for level in levels()}
+        proofs.add("macaroond")
+    for name in others:
+        (TOP / "bin" / name).unlink(missing_ok=True)
+    came = proving.prove_all(proofs, tasks)
+    for name in others:
+        programs.path_of(name).write_bytes(came[name, OLDER])
+        programs.path_of(name).chmod(0o755)
+    for level in levels() if wanted else []:
+        place(level, came["macaroond", level], NO_COMMIT, wanted.commit)
 
 
 def take(wanted, kept):
@@ -164,18 +182,31 @@ def renew(wanted, kept):
         place(level, (PROGRAMS / level).read_bytes(), kept.commit, wanted.commit)
 
 
+def made_by(target):
+    """What `make` builds by this word but macaroond, each with its words: time_blocks has to be told how often it is to time."""
+    names = [name for name, it in programs.makers().items() if it == target and name != "macaroond"]
+    return {name: ["0"] if name == "time_blocks" else [] for name in names}
+
+
 def main(words):
-    if shutil.which("rt") is None:
-        raise SystemExit("build: the toolchain's command `rt` isn't on the path (README, *What is trusted*)")
+    programs.stop_without_toolchain()
     PROGRAMS.mkdir(parents=True, exist_ok=True)
+    (TOP / "bin").mkdir(exist_ok=True)
+    if words == ["--runs"]:
+        with proving.at_work():
+            build(None, made_by("build-runs"))
+        return
     kept, wanted = Record.kept(), Record(sources(), commit())
     if words == ["--taken"]:
         take(wanted, kept)
     elif is_whole(wanted, kept):
-        print("build: nothing that the programs stand on has changed since the last build")
+        print("build: nothing that macaroond stands on has changed since the last build")
         renew(wanted, kept)
+        with proving.at_work():
+            build(None, made_by("build"))
     else:
-        build(wanted)
+        with proving.at_work():
+            build(wanted, made_by("build"))
     if sources() != wanted.sources:
         clear(OLDER, NEWER)
         raise SystemExit("build: the sources were changed while they were built")

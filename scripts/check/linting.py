@@ -35,10 +35,10 @@ def named(ending):
 
 
 def shell_scripts():
-    """Those whose first line names a shell."""
+    """Those whose first line names a shell, and those that others read in."""
     for path in tracked():
         with open(path, "rb") as file:
-            if SHELL.match(file.readline(200).decode(errors="replace")):
+            if path.suffix == ".sh" or SHELL.match(file.readline(200).decode(errors="replace")):
                 yield path
 
 
@@ -73,7 +73,7 @@ def shell_faults():
     if shutil.which("shellcheck") is None:
         return missing("shellcheck")
     files = list(shell_scripts())
-    return said(["shellcheck", "--format=gcc", *files]), len(files), []
+    return said(["shellcheck", "--format=gcc", "--exclude=SC1091", *files]), len(files), []
 
 
 def go_faults():
