@@ -44,7 +44,7 @@ UNBUILT = [
     Command(["scripts/check/sessions.py"]),
 ]
 # Those that prove, where the toolchain isn't there.
-UNPROVED = [Command(["make", name], "rt") for name in ["build", "build-runs", "test", "wrong-bodies", "wrong-runs", "demo"]]
+UNPROVED = [Command(["make", name], "rt") for name in ["build", "build-runs", "test", "check", "try", "fmt", "wrong-bodies", "wrong-runs", "demo"]]
 
 
 class Clone:
