@@ -25,6 +25,7 @@ type Client struct {
 	path    string
 	timeout time.Duration
 	retry   bool
+	warn    func(string)
 
 	// Its first line connects anew where there is no connection, the others where all have much
 	// to do.
@@ -92,6 +93,7 @@ func (c *Client) isClosed() bool { return c.lifetime.Err() != nil }
 
 // Mint gives a new token.
 func (c *Client) Mint(ctx context.Context, mint Mint) (string, error) {
+	c.warnOf(mint.Caveats)
 	return c.token(ctx, mint.appendPayload, false)
 }
 
@@ -104,6 +106,7 @@ func (c *Client) Attenuate(ctx context.Context, token string, caveats ...string)
 func (c *Client) AttenuateTo(
 	ctx context.Context, form Form, token string, caveats ...string,
 ) (string, error) {
+	c.warnOf(caveats)
 	return c.token(ctx, attenuation{form, token, caveats}.appendPayload, true)
 }
 

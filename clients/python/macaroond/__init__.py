@@ -5,6 +5,7 @@
 """
 from .aio import AsyncClient
 from .client import Client
+from .doubts import CaveatWarning, doubts
 from .errors import BadRequest, BadToken, Disconnected, MacaroondError, NoClock, NotAllowed, NotPlain, Refused, TimedOut, UnknownKey
 from .facts import path_facts
 from .forms import Form
@@ -15,6 +16,7 @@ __all__ = [
     "AsyncClient",
     "BadRequest",
     "BadToken",
+    "CaveatWarning",
     "Client",
     "Disconnected",
     "Form",
@@ -28,6 +30,7 @@ __all__ = [
     "UnknownKey",
     "Verdict",
     "attenuate",
+    "doubts",
     "inspect",
     "path_facts",
 ]

@@ -3,6 +3,7 @@ from __future__ import annotations
 
 from typing import Any, Callable, Iterable, Iterator, List, NamedTuple, Optional, Tuple
 
+from .doubts import warn_of
 from .errors import Refused, refusal
 from .forms import Form
 from .text import Text
@@ -26,13 +27,17 @@ class Call(NamedTuple):
 
 
 def mint_call(key: Text, identifier: Text, location: Text, caveats: Iterable[Text], form: Form) -> Call:
+    caveats = list(caveats)
     payload = mint_request(key, identifier, location, caveats, form)
+    warn_of(caveats)
     return Call(framed(payload), lambda reply: token_of(reply, form), False)
 
 
 def attenuate_call(token: Text, caveats: Iterable[Text], form: Optional[Form]) -> Call:
-    written = form_of(token) if form is None else form
-    return Call(framed(attenuate_request(token, caveats, written)), lambda reply: token_of(reply, written), True)
+    written, caveats = form_of(token) if form is None else form, list(caveats)
+    payload = attenuate_request(token, caveats, written)
+    warn_of(caveats)
+    return Call(framed(payload), lambda reply: token_of(reply, written), True)
 
 
 def verify_call(key: Text, token: Text, facts: Iterable[Text], at: Optional[float]) -> Call:

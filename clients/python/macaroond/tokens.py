@@ -7,6 +7,7 @@ from typing import NamedTuple, Optional, Tuple, Union
 
 from . import binary, jsontext, packets
 from .base64text import decoded, encoded
+from .doubts import warn_of
 from .errors import BadToken
 from .forms import Form
 from .parts import Caveat, NoToken, Parts
@@ -53,7 +54,10 @@ def attenuate(token: Text, *caveats: Text, form: Optional[Form] = None) -> Union
     narrowed = parts._replace(caveats=(*parts.caveats, *added), signature=signature)
     if not is_within_limits(narrowed):
         raise BadToken(LIMIT)
-    return given(write(narrowed, own if form is None else form), own if form is None else form)
+    form = own if form is None else form
+    content = write(narrowed, form)
+    warn_of(caveats, [caveat.identifier for caveat in parts.caveats], level=3)
+    return given(content, form)
 
 
 def given(content: bytes, form: int) -> Union[str, bytes]:
