@@ -4,10 +4,12 @@
 Each change is made as docs/OPERATING.md says, by a new file that is moved over the old one, but for
 those that are there to show what comes of other ways.
 """
+import base64
 import contextlib
 import hashlib
 import hmac
 import itertools
+import json
 import pathlib
 import subprocess
 import sys
@@ -33,7 +35,7 @@ GRANTED, NO_NAME, BAD_SIGNATURE = 0, 18, 23
 REPLY = 4 + 8 + 1
 # How many requests go on while a key changes, at least, and how many are sent at once.
 REQUESTS, PLAIN_BATCH, WIDE_BATCH = 100_000, 500, 20
-# Facts that make a request longer than a loop answers, with a token that is dear to verify.
+# Facts that make a request longer than a loop answers, with a token in JSON that is dear to verify.
 WIDE_FACTS = ["a" * 250] * 20
 DEAR_CAVEATS = [f"caveat {number}" for number in range(20)]
 # How many faulty files stand in a row, before how many daemons.
@@ -57,13 +59,23 @@ def hashed(key, text):
 
 def token(secret, *caveats):
     """A token of format one in binary, made here: the chain of HMACs is not the program's."""
-    root = hashed(b"macaroons-key-generator", SECRETS[secret])
-    signature = hashed(root, b"alice")
     packets = [packet(b"location", b"here"), packet(b"identifier", b"alice")]
+    packets += [packet(b"cid", caveat.encode()) for caveat in caveats]
+    return "hex:" + b"".join([*packets, packet(b"signature", signature_of(secret, caveats))]).hex()
+
+
+def json_token(secret, *caveats):
+    """The same in JSON."""
+    signature = base64.urlsafe_b64encode(signature_of(secret, caveats)).rstrip(b"=").decode()
+    told = {"v": 2, "l": "here", "i": "alice", "c": [{"i": caveat} for caveat in caveats], "s64": signature}
+    return json.dumps(told)
+
+
+def signature_of(secret, caveats):
+    signature = hashed(hashed(b"macaroons-key-generator", SECRETS[secret]), b"alice")
     for caveat in caveats:
         signature = hashed(signature, caveat.encode())
-        packets.append(packet(b"cid", caveat.encode()))
-    return "hex:" + b"".join([*packets, packet(b"signature", signature)]).hex()
+    return signature
 
 
 def packet(key, content):
@@ -76,7 +88,7 @@ def verify(name, secret):
 
 
 def dear_verify(name, secret):
-    return frame(request.verify(name, token(secret, *DEAR_CAVEATS), 0, *DEAR_CAVEATS, *WIDE_FACTS))
+    return frame(request.verify(name, json_token(secret, *DEAR_CAVEATS), 0, *DEAR_CAVEATS, *WIDE_FACTS))
 
 
 class Listener:

@@ -8,7 +8,7 @@ import tempfile
 import time
 
 sys.path.insert(0, str(pathlib.Path(__file__).resolve().parents[1]))
-from check.daemon_rows import TOKEN
+from check.daemon_rows import JSON_MAX, TOKEN, in_json
 from common import KEYS
 from common.daemon import PATIENCE, PROGRAM, connected, frame, listening, received
 
@@ -20,8 +20,8 @@ UNKNOWN_KEY, BAD_SIGNATURE, NO_CLOCK = b"\x12", b"\x17", b"\x1c"
 CLOCK = pathlib.Path(__file__).resolve().parents[1] / "faults" / "clock.c"
 # Whose TOKEN is.
 IDENTIFIER, LOCATION = b"we used our secret key", b"http://mybank/"
-# A fact that has its connection go on wide: nothing of more than 4,096 bytes is answered in a loop.
-LONG = "f" * 5_000
+# A fact that has its connection go on wide, beside a token in JSON.
+LONG = "f" * JSON_MAX
 # How many seconds a token lives that runs out while its connection stays.
 LIFE = 3
 # How many tokens of different owners are asked about at once: more than a run of 32.
@@ -39,9 +39,10 @@ def replies(stream, payloads):
     return [received(stream, int.from_bytes(received(stream, 4), "big")) for _ in payloads]
 
 
-def minted(stream, identifier, *caveats):
-    """A new token under `bank`."""
-    return replies(stream, [request.mint("v2-text", "bank", "here", identifier, *caveats)])[0][1:].decode()
+def minted(stream, facts, identifier, *caveats):
+    """A new token under `bank`, in JSON where it is to go wide with these facts."""
+    form = "v2-json" if facts else "v2-text"
+    return replies(stream, [request.mint(form, "bank", "here", identifier, *caveats)])[0][1:].decode()
 
 
 def stamp(second):
@@ -57,9 +58,10 @@ def kinds(path, facts):
         ("nobody", TOKEN, UNKNOWN_KEY, UNKNOWN_KEY),
         ("bank", b"!", b"\x13", b"\x13"),
     ):
+        sent = in_json(token) if facts and token != b"!" else token
         with connected(path) as stream:
-            asked = [request.verify(name, token.decode(), moment, *facts) for moment in ("now", int(time.time()))]
-            asked.append(request.owner(name, token.decode(), *facts))
+            asked = [request.verify(name, sent.decode(), moment, *facts) for moment in ("now", int(time.time()))]
+            asked.append(request.owner(name, sent.decode(), *facts))
             yield f"{token[-4:]} under {name}", replies(stream, asked), [due, due, told]
 
 
@@ -67,8 +69,8 @@ def running_out(path, facts):
     """On one connection a time limit is kept, and then it is over; a lower bound is not there yet, and then it is."""
     with connected(path) as stream:
         end = int(time.time()) + LIFE
-        limited = minted(stream, "alice", f"time < {stamp(end)}")
-        later = minted(stream, "bob", f"time >= {stamp(end)}")
+        limited = minted(stream, facts, "alice", f"time < {stamp(end)}")
+        later = minted(stream, facts, "bob", f"time >= {stamp(end)}")
         asked = [make(limited) for make in (request_now(facts), request_owner(facts))]
         asked += [make(later) for make in (request_now(facts), request_owner(facts))]
         yield "before", replies(stream, asked), [GRANTED, owned(b"alice", b"here"), UNSATISFIED, UNSATISFIED]
@@ -88,7 +90,7 @@ def owners(path, facts):
     """Each reply tells the owner of its own token, whatever stands beside it."""
     with connected(path) as stream:
         names = [f"owner {number}" for number in range(OWNERS)]
-        tokens = [minted(stream, name) for name in names]
+        tokens = [minted(stream, facts, name) for name in names]
         asked = [request_owner(facts if number % 10 == 0 else ())(token) for number, token in enumerate(tokens)]
         yield "owners", replies(stream, asked), [owned(name.encode(), b"here") for name in names]
 

@@ -1,5 +1,7 @@
 """Runs of `macaroond serve` and `macaroond listen` over a socket: what comes back, and how they end."""
+import base64
 import contextlib
+import json
 import os
 import pathlib
 import select
@@ -20,6 +22,8 @@ TOKEN = (
     b"MDAxY2xvY2F0aW9uIGh0dHA6Ly9teWJhbmsvCjAwMjZpZGVudGlmaWVyIHdlIHVzZWQgb3VyIHNlY3JldCBrZXkK"
     b"MDAyZnNpZ25hdHVyZSDj2eApCFJsTAA5rhURQRXZf91ovyujebNCqvD2F9BVLwo"
 )
+# The longest request with a token in JSON that a loop answers. A longer one goes wide.
+JSON_MAX = 4_096
 NO_REQUEST = bytes([0, 0, 0, 1, 16])
 MALFORMED = bytes([0, 0, 0, 1, 20])
 # JSON that takes milliseconds to read, and is no token.
@@ -34,6 +38,18 @@ HELLO = b"\x02"
 END_FIRST = "end that process first, or give another path"
 EXISTS = "there is something already; remove that, or give another path"
 NO_SOCKET = "there is something that is no socket; remove that, or give another path"
+
+
+def in_json(text):
+    """A token without caveats in JSON, of its base64 text of format one: in a long request it goes wide."""
+    packets, fields = base64.urlsafe_b64decode(text + b"=" * (-len(text) % 4)), {}
+    while packets:
+        length = int(packets[:4], 16)
+        key, _, value = packets[4 : length - 1].partition(b" ")
+        fields[key], packets = value, packets[length:]
+    signature = base64.urlsafe_b64encode(fields[b"signature"]).rstrip(b"=").decode()
+    told = {"v": 2, "l": fields[b"location"].decode(), "i": fields[b"identifier"].decode(), "s64": signature}
+    return json.dumps(told).encode()
 
 
 def placed(*replies):

@@ -19,8 +19,8 @@ import request
 PAGE = TOP / "docs" / "OPERATING.md"
 LINE = re.compile(r'macaroond_([a-z_]+)(\{[^}]*\})? (\d+)')
 TYPE = re.compile(r"# TYPE macaroond_([a-z_]+) (counter|gauge)")
-# A request that a loop doesn't answer: it is longer than 4,096 bytes.
-WIDE_FACTS = ["a" * 250] * 20
+# A request that a loop doesn't answer: its token begins as JSON, and it is longer than 4,096 bytes.
+WIDE = request.verify("bank", "{", 0, *["a" * 250] * 20)
 
 
 def numbers(daemon):
@@ -96,17 +96,16 @@ def requests_and_bytes(daemon):
 
 
 def wide(daemon):
-    """A request that is long is counted beside the others."""
+    """A request that is dear is counted beside the others."""
     before = numbers(daemon)
-    payload = request.verify("bank", "hex:00", 0, *WIDE_FACTS)
     with connected(daemon) as stream:
-        replies = [ask(stream, payload) for _ in range(3)]
-    yield "its replies", replies, [b"\x13"] * 3
+        replies = [ask(stream, WIDE) for _ in range(3)]
+    yield "its replies", replies, [b"\x14"] * 3
     yield "requests_wide_total", await_number(daemon, "requests_wide_total", before["requests_wide_total"] + 3), 3
     yield "connections_wide", await_number(daemon, "connections_wide", 0), 0
     after = numbers(daemon)
-    yield "bytes in", after["bytes_in_total"] - before["bytes_in_total"], 3 * len(frame(payload))
-    yield "bytes out", after["bytes_out_total"] - before["bytes_out_total"], 3 * len(frame(b"\x13"))
+    yield "bytes in", after["bytes_in_total"] - before["bytes_in_total"], 3 * len(frame(WIDE))
+    yield "bytes out", after["bytes_out_total"] - before["bytes_out_total"], 3 * len(frame(b"\x14"))
 
 
 def connections(daemon):

@@ -14,7 +14,7 @@ import time
 sys.path.insert(0, str(pathlib.Path(__file__).resolve().parents[1]))
 from check.http_rows import README
 from check.http_sockets import asking, bearing, free_port, listening, response
-from check.numbers import WIDE_FACTS, ask, connected
+from check.numbers import WIDE, ask, connected
 from common import KEYS, daemon, logged
 from common.daemon import PATIENCE, PROGRAM
 
@@ -96,7 +96,7 @@ def connections(served):
     with connected(served) as one, connected(served) as wide:
         ask(one, b"")
         ask(one, b"")
-        ask(wide, request.verify("bank", "hex:00", 0, *WIDE_FACTS))
+        ask(wide, WIDE)
         rows = await_listed(path, "1", "2")
         yield "both", asked_of(rows), ["1", "2"]
         yield "their socket", {row["socket"] for row in rows}, {path}

@@ -10,7 +10,7 @@ import sys
 import tempfile
 
 sys.path.insert(0, str(pathlib.Path(__file__).resolve().parents[1]))
-from check.daemon_rows import MINT, TOKEN
+from check.daemon_rows import JSON_MAX, MINT, TOKEN, in_json
 from common.daemon import PATIENCE, PROGRAM, connected, frame, received
 
 import request
@@ -25,8 +25,8 @@ NOT_ALLOWED, UNKNOWN_KEY, BAD_SIGNATURE = b"\x1b", b"\x12", b"\x17"
 SECRET = "this is our super secret key; only we should know it"
 # How many requests are made at random, how many are out at a time, and the seed of the dice.
 RANDOM, WINDOW, SEED = 100_000, 200, 46
-# A request that a loop hands on: its connection goes on wide.
-WIDE = 5_000
+# Beside a token in JSON it makes a request that a loop hands on: its connection goes on wide.
+WIDE = "f" * JSON_MAX
 
 
 @contextlib.contextmanager
@@ -63,12 +63,12 @@ def requests_of(name):
         "mint": request.mint("v1-text", name, "http://mybank/", "we used our secret key"),
         "attenuate": request.attenuate("v1-text", TOKEN.decode(), "user = 7"),
         "verify": request.verify(name, TOKEN.decode(), 0),
-        "wide mint": request.mint("v1-text", name, "http://mybank/", "we used our secret key", "c" * 4000, "d" * 1000),
-        "wide verify": request.verify(name, TOKEN.decode(), 0, "f" * WIDE),
+        "wide mint": request.mint("v2-json", name, "http://mybank/", "we used our secret key", "c" * 4000, "d" * 1000),
+        "wide verify": request.verify(name, in_json(TOKEN).decode(), 0, WIDE),
         "verify now": request.verify(name, TOKEN.decode()),
-        "wide verify now": request.verify(name, TOKEN.decode(), "now", "f" * WIDE),
+        "wide verify now": request.verify(name, in_json(TOKEN).decode(), "now", WIDE),
         "owner": request.owner(name, TOKEN.decode()),
-        "wide owner": request.owner(name, TOKEN.decode(), "f" * WIDE),
+        "wide owner": request.owner(name, in_json(TOKEN).decode(), WIDE),
         "no request": b"\x01\x09",
     }
 

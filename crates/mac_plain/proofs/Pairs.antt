@@ -1,7 +1,7 @@
 -- Clients at their places, step by step.
 use Rattle.std.proofs.Common.{◌≡◌, ◌≢◌, ℕ, zero, suc, ◌+◌, ◌-◌, ◌≤◌, ◌<◌, List, [], ◌∷◌, ◌++◌, length, map, take, drop, set, get_or, refl, sym, ap, subst, ◌∙◌, append_assoc, arith, inl, inr}
 use Rattle.std.proofs.Math.Seq.{take-add}
-use Rattle.std.specs.Prelude.{IfSome, Bool, Option, Some, None, ◌==◌, slice_get}
+use Rattle.std.specs.Prelude.{IfSome, Bool, false, Option, Some, None, ◌==◌, slice_get}
 use Rattle.std.specs.Arc.{arc_value}
 use Rattle.std.specs.List.{filter, AllByRecursion}
 use Rattle.std.proofs.lemmas.Option.{slice_get-get_or}
@@ -16,6 +16,7 @@ use Rattle.mac_decide.specs.Terms.{Terms}
 use Rattle.mac_decide.specs.World.{job_under}
 use Rattle.mac_decide.specs.declared.rights.Rights.{Rights}
 use Rattle.mac_decide.specs.declared.job.Job.{Job}
+use Rattle.mac_plain.specs.Dear.{is_dear}
 use Rattle.mac_plain.specs.Client.{Serves, jobs_of, terms_for}
 use Rattle.mac_plain.specs.Goes.{AreAnswered, AreRead, Goes, OwesSo}
 use Rattle.mac_plain.specs.Requests.{Adds, AreOwned, AreWithin, asked_of, job_at, jobs_at, payload_at}
@@ -76,6 +77,8 @@ owes_more {P} tells taken written current a b c first second x y = record {
   came = x.came ++ y.came;
   gone = x.gone ++ y.gone;
   rights_kept = y.rights_kept ∙ x.rights_kept;
+  cheap = All-append (λ (p : List ℕ). is_dear p ≡ false) first second x.cheap y.cheap;
+  widens = λ wide. y.widens (x.widens wide);
   took = λ told. y.took told ∙ ap (λ (l : List ℕ). l ++ y.came) (x.took told) ∙ append_assoc (taken a.port) x.came y.came;
   wrote = λ told. y.wrote told ∙ ap (λ (l : List ℕ). l ++ y.gone) (x.wrote told) ∙ append_assoc (written a.port) x.gone y.gone;
   goes_on = λ read sent done owed o. joined read sent done owed
@@ -93,6 +96,8 @@ answers_more {P} tells taken written current a b c first second x y = record {
   came = x.came ++ y.came;
   gone = x.gone ++ y.gone;
   rights_kept = y.rights_kept ∙ x.rights_kept;
+  cheap = x.cheap;
+  widens = λ wide. y.widens (x.widens wide);
   took = λ told. y.took told ∙ ap (λ (l : List ℕ). l ++ y.came) (x.took told) ∙ append_assoc (taken a.port) x.came y.came;
   wrote = λ told. y.wrote told ∙ ap (λ (l : List ℕ). l ++ y.gone) (x.wrote told) ∙ append_assoc (written a.port) x.gone y.gone;
   goes_on = λ read sent done owed o. joined read sent done owed
@@ -113,6 +118,8 @@ pub serves : {P : Type 0} (tells : Bool) (taken written : P → List ℕ) (curre
 serves {P} tells taken written current a b c d payloads x y z = record {
   rights_kept = z.rights_kept ∙ (y.rights_kept ∙ x.rights_kept);
   payloads = payloads;
+  cheap = x.cheap;
+  widens = λ wide. z.widens (y.widens (x.widens wide));
   answers = record {
     came = x.came ++ (y.came ++ z.came);
     gone = x.gone ++ (y.gone ++ z.gone);
@@ -197,7 +204,12 @@ each_set R Q xs ys i now next are there step others k x z first last = elim (cas
 -- nothing is done, and nothing owed
 pub nothing_goes : {P : Type 0} (tells : Bool) (taken written : P → List ℕ) (current : Current) (x : Client P) → Goes tells taken written current x x [] []
 nothing_goes tells taken written current x =
-    goes_still tells taken written current x x [] refl refl (λ read sent done owed o. none_done x.course x.session read sent done owed o)
+    goes_still tells taken written current x x [] refl refl (λ read sent done owed o. none_done x.course x.session read sent done owed o) (λ wide. wide)
+
+-- of no client anything
+pub nobody_goes : {P : Type 0} (tells : Bool) (taken written : P → List ℕ) (current : Current) (xs : List (Client P)) → EachPair (λ _ (b a : Client P). Goes tells taken written current b a [] []) xs xs
+nobody_goes {P} tells taken written current xs =
+    each_same (λ _ (b a : Client P). Goes tells taken written current b a [] []) xs (λ k x there. nothing_goes tells taken written current x)
 
 pub still_read : {P : Type 0} (tells : Bool) (taken written : P → List ℕ) (current : Current) (arena : List ℕ) (requests : List Request) (xs : List (Client P)) → requests ≡ []
     → AreRead tells taken written current (λ k. asked_of k arena requests) xs xs

@@ -8,11 +8,13 @@ use Rattle.mac_wire.specs.declared.arrival.Arrival.TheVariants as arrival
 use Rattle.mac_wire.specs.declared.session.Session.{Session}
 use Rattle.mac_wire.specs.declared.version.Version.{Version}
 use Rattle.mac_wire.specs.Reply.{reply_text, payloads_from}
+use Rattle.mac_wire.specs.Frame.{IsUnfinished}
 use Rattle.mac_wire.specs.Session.{HasCome}
 use Rattle.mac_wire.specs.Steps.{told_after, frames_after}
 use Rattle.mac_wire.specs.Stream.{version_or_one}
 use Rattle.mac_wire.proofs.Sessions.{come_more, come_cut, come_fronts}
 use Rattle.mac_decide.specs.declared.job.Job.{Job}
+use Rattle.mac_plain.specs.Dear.{GoesWide}
 use Rattle.mac_plain.specs.Client.{HasFallen, arrivals, replies}
 use Rattle.mac_plain.specs.Goes.{Owes, OwesSo, asked}
 use Rattle.mac_plain.specs.Requests.{Adds, payload_at}
@@ -60,6 +62,31 @@ leaves_so course.Open session read sent done owed leaves o = (o, leaves)
 leaves_so course.Wide session read sent done owed leaves o = o
 leaves_so (course.Ended why) session read sent done owed leaves o = absurd leaves
 leaves_so (course.Fallen why) session read sent done owed leaves o = absurd leaves
+
+-- what a rest that is left so goes wide for
+pub wide_leaves : (goes : Course) (rest : List ℕ) → Leaves goes rest → goes ≡ course.Wide → GoesWide rest
+wide_leaves course.Open rest leaves e = absurd cc
+wide_leaves course.Wide rest leaves e = leaves
+wide_leaves (course.Ended why) rest leaves e = absurd cc
+wide_leaves (course.Fallen why) rest leaves e = absurd cc
+
+-- a piece came behind what is carried, and there is no whole frame yet
+pub waits_more : (before after : Session) (piece : List ℕ) → after.version ≡ told_after before.version piece → after.unsent ≡ before.unsent → after.answered ≡ before.answered
+    → after.carried.items ≡ before.carried.items ++ frames_after before.version piece → IsUnfinished (before.carried.items ++ frames_after before.version piece)
+    → (read sent : List ℕ) (done : List Job) (owed : List (List ℕ)) → Owes before read sent done owed
+    → OwesSo course.Open after (read ++ piece) sent done (owed ++ [])
+waits_more before after piece version_is unsent_is answered_is carried_is unfinished read sent done owed o =
+    let come = come_more before.version read before.carried.items piece (arrivals done ++ asked owed) o.came in
+    subst (λ (l : List (List ℕ)). OwesSo course.Open after (read ++ piece) sent done l) (sym (append-nil owed)) (
+      record {
+        came = subst (λ (l : List ℕ). HasCome after.version (read ++ piece) (arrivals done ++ asked owed) l) (sym carried_is)
+            (subst (λ (w : Option Version). HasCome w (read ++ piece) (arrivals done ++ asked owed) (before.carried.items ++ frames_after before.version piece)) (sym version_is) come);
+        went = ap (λ (u : List ℕ). sent ++ u) unsent_is ∙ text_after before piece read sent done owed o
+            ∙ ap (λ (w : Option Version). reply_text (version_or_one w) (replies done)) (sym version_is);
+        counted = answered_is ∙ o.counted;
+      },
+      subst IsUnfinished (sym carried_is) unfinished,
+    )
 
 -- a piece was taken in: the requests that were cut off are owed, and the rest is carried
 pub takes_piece : (before after : Session) (piece arena : List ℕ) (from at owner : ℕ) (requests requests' : List Request) (goes : Course)

@@ -1,5 +1,6 @@
 -- Requests, where they lie, and whose they are.
 use Rattle.std.proofs.Common.{◌≡◌, ℕ, ◌+◌, ◌-◌, ◌≤◌, List, [], ◌∷◌, ◌++◌, length, map, take, drop, refl, sym, ap, subst, ◌∙◌, append_assoc, arith}
+use Rattle.std.specs.Prelude.{false}
 use Rattle.std.proofs.lemmas.List.{append-nil, length-drop, length-take, drop-drop, map-append}
 use Rattle.std.proofs.lemmas.List.Elements.{All-append, All-nil}
 use Rattle.mac_wire.specs.declared.arrival.Arrival.{Arrival}
@@ -11,7 +12,8 @@ use Rattle.mac_plain.specs.Goes.{asked}
 use Rattle.mac_plain.specs.Requests.{AreOwned, AreWithin, payload_at}
 use Rattle.mac_plain.specs.Receiving.{CutsTo}
 use Rattle.mac_plain.specs.declared.request.Request.{Request}
-use Rattle.mac_plain.specs.declared.client.TheConstants.{PLAIN_MAX}
+use Rattle.mac_wire.specs.declared.arrival.TheConstants.{FRAME_MAX}
+use Rattle.mac_plain.specs.Dear.{AreCheap, is_dear}
 
 -- ---- cutting
 
@@ -22,6 +24,9 @@ owned-append owner (r ∷ a) b x y = (x.0, owned-append owner a b x.1 y)
 within_one : (room : ℕ) (r : Request) → r.start ≤ r.end → r.end ≤ room → AreWithin room (r ∷ [])
 within_one room r a b = λ k d below. rw (let zero_is : k ≡ 0 = omega arith in zero_is) (a, b)
 
+one_cheap : (p : List ℕ) → is_dear p ≡ false → AreCheap (p ∷ [])
+one_cheap p kept = λ k d below. rw (let zero_is : k ≡ 0 = omega arith in zero_is) kept
+
 pub cuts_begin : (arena : List ℕ) (from owner : ℕ) (requests : List Request) → from ≤ length arena → CutsTo arena from from owner requests requests
 cuts_begin arena from owner requests inside = record {
   own = [];
@@ -29,14 +34,15 @@ cuts_begin arena from owner requests inside = record {
   ahead = omega arith;
   inside = inside;
   arrive = λ more. refl;
+  cheap = All-nil (λ (p : List ℕ). is_dear p ≡ false);
 }
 
 -- one more request was cut off
 pub cuts_next : (arena : List ℕ) (from at end start owner : ℕ) (before after : List Request) (payload rest : List ℕ)
-    → CutsTo arena from at owner before after → IsFront PLAIN_MAX (drop at arena) payload rest
+    → CutsTo arena from at owner before after → IsFront FRAME_MAX (drop at arena) payload rest → is_dear payload ≡ false
     → end ≡ length arena - length rest → start ≡ end - length payload
     → CutsTo arena from end owner before (after ++ record { owner = owner; start = start; end = end } ∷ [])
-cuts_next arena from at end start owner before after payload rest c f end_is start_is =
+cuts_next arena from at end start owner before after payload rest c f kept end_is start_is =
     let r : Request = record { owner = owner; start = start; end = end } in
     let told : ℕ = told_length (drop at arena) in
     let size : length (drop at arena) ≡ length arena - at = length-drop at arena in
@@ -59,10 +65,12 @@ cuts_next arena from at end start owner before after payload rest c f end_is sta
       };
       ahead = omega (arith, c.ahead, ends);
       inside = omega (arith, end_is);
+      cheap = subst AreCheap (sym (map-append (payload_at arena) c.own (r ∷ [])))
+          (All-append (λ (p : List ℕ). is_dear p ≡ false) (map (payload_at arena) c.own) (payload_at arena r ∷ []) c.cheap (one_cheap (payload_at arena r) (ap is_dear lies ∙ kept)));
       arrive = subst (λ (l : List Arrival). Arrive (drop from arena) l (drop end arena))
           (ap (λ (p : List ℕ). asked (map (payload_at arena) c.own) ++ arrival.Payload p ∷ []) (sym lies)
           ∙ sym (map-append (λ (p : List ℕ). arrival.Payload p) (map (payload_at arena) c.own) (payload_at arena r ∷ []))
           ∙ ap asked (sym (map-append (payload_at arena) c.own (r ∷ []))))
           (arrive_both (drop from arena) (drop at arena) (drop end arena) (asked (map (payload_at arena) c.own)) (arrival.Payload payload ∷ []) c.arrive
-          (subst (Arrive (drop at arena) (arrival.Payload payload ∷ [])) left (front_arrives PLAIN_MAX (drop at arena) payload rest (omega arith) f)));
+          (subst (Arrive (drop at arena) (arrival.Payload payload ∷ [])) left (front_arrives FRAME_MAX (drop at arena) payload rest (omega arith) f)));
     }

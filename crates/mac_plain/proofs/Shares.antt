@@ -1,6 +1,6 @@
 -- What several threads answered of the jobs of a round, put together.
-use Rattle.std.proofs.Common.{◌≡◌, ℕ, zero, suc, ◌+◌, ◌*◌, ◌/◌, ◌%◌, ◌≤◌, ◌<◌, List, [], ◌∷◌, ◌++◌, Result, Ok, Err, IfOk, map, length, take, drop, get_or, refl, sym, ap, subst, ◌∙◌, append_assoc, arith}
-use Rattle.std.specs.Prelude.{All, min}
+use Rattle.std.proofs.Common.{◌≡◌, ℕ, suc, ◌+◌, ◌*◌, ◌/◌, ◌%◌, ◌≤◌, ◌<◌, List, [], ◌∷◌, ◌++◌, Result, Ok, IfOk, map, length, take, drop, get_or, refl, sym, ap, subst, ◌∙◌, append_assoc, arith}
+use Rattle.std.specs.Prelude.{min}
 use Rattle.std.specs.Global.{Vec}
 use Rattle.std.proofs.Math.Nat.{div-add-mod, mod-lt, suc-mul, zero-mul}
 use Rattle.std.proofs.lemmas.List.{append-nil, drop-drop, drop-map, length-drop, map-append, take-append-drop, take-map}

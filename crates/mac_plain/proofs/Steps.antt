@@ -1,8 +1,9 @@
 -- What each step of a round does to a session.
 use Rattle.std.proofs.Common.{◌≡◌, ℕ, ◌+◌, List, [], ◌∷◌, ◌++◌, length, take, drop, refl, sym, ap, subst, ◌∙◌, append_assoc, arith}
-use Rattle.std.specs.Prelude.{Bool}
+use Rattle.std.specs.Prelude.{Bool, false}
 use Rattle.std.proofs.lemmas.List.{append-nil, length-append, map-append, length-map, take-append-drop}
 use Rattle.std.proofs.lemmas.List.Concat.{flat_map-append}
+use Rattle.std.proofs.lemmas.List.Elements.{All-nil}
 use Rattle.mac_board.specs.Noticed.{Current}
 use Rattle.mac_wire.specs.declared.arrival.Arrival.{Arrival}
 use Rattle.mac_wire.specs.declared.arrival.Arrival.TheVariants as arrival
@@ -19,7 +20,8 @@ use Rattle.mac_decide.specs.declared.job.Job.{Job}
 use Rattle.mac_decide.specs.Prepared.{reply_to_job}
 use Rattle.mac_decide.specs.Terms.{Terms}
 use Rattle.mac_decide.specs.World.{job_under}
-use Rattle.mac_plain.specs.Client.{HasFallen, Passed, StandsSo, answer_under, arrivals, jobs_of, replies, terms_for}
+use Rattle.mac_plain.specs.Dear.{AreCheap, is_dear}
+use Rattle.mac_plain.specs.Client.{HasFallen, IsRightlyWide, Passed, StandsSo, answer_under, arrivals, jobs_of, replies, terms_for}
 use Rattle.mac_plain.specs.Goes.{Goes, Owes, OwesSo, after_reply, asked}
 use Rattle.mac_plain.specs.declared.client.Client.{Client}
 use Rattle.mac_plain.specs.declared.course.Course.{Course}
@@ -166,12 +168,18 @@ falls_so course.Wide why s read sent done more owed rest o = owes_falls s read s
 falls_so (course.Ended w) why s read sent done more owed rest o = owes_falls s read sent done more owed o.0
 falls_so (course.Fallen w) why s read sent done more owed rest o = fallen_more s read sent done more o
 
+-- of nothing that is owed besides nothing is too dear
+pub none_dear : AreCheap []
+none_dear = All-nil (λ (p : List ℕ). is_dear p ≡ false)
+
 -- a step of which nothing came and nothing went
 pub goes_still : {P : Type 0} (tells : Bool) (taken written : P → List ℕ) (current : Current) (before after : Client P) (answered : List (List ℕ)) → after.port ≡ before.port → after.rights ≡ before.rights
     → ((read sent : List ℕ) (done : List Job) (owed : List (List ℕ)) → OwesSo before.course before.session read sent done (answered ++ owed)
     → OwesSo after.course after.session read sent (done ++ jobs_of (terms_for current before) answered) owed)
-    → Goes tells taken written current before after answered []
-goes_still tells taken written current before after answered same kept step = record {
+    → (IsRightlyWide before → IsRightlyWide after) → Goes tells taken written current before after answered []
+goes_still tells taken written current before after answered same kept step widens = record {
+  cheap = none_dear;
+  widens = widens;
   came = [];
   gone = [];
   rights_kept = kept;

@@ -13,6 +13,7 @@ use Rattle.mac_decide.specs.declared.job.Job.{Job}
 use Rattle.mac_decide.specs.Prepared.{reply_to_job}
 use Rattle.mac_decide.specs.Terms.{Terms}
 use Rattle.mac_decide.specs.World.{job_under}
+use Rattle.mac_plain.specs.Dear.{AreCheap, GoesWide}
 use Rattle.mac_plain.specs.declared.client.Client.{Client}
 use Rattle.mac_plain.specs.declared.course.Course.{Course}
 use Rattle.mac_plain.specs.declared.course.Course.TheVariants as course
@@ -89,12 +90,18 @@ pub record Answers {P : Type 0} (tells : Bool) (taken written : P → List ℕ)
   pub goes_on : (read sent : List ℕ) (done : List Job) → HasAnswered before read sent done
       → HasAnswered after (read ++ came) (sent ++ gone) (done ++ jobs)
 
--- from the one to the other, some requests were answered, each under this table, at this moment and
--- under the client's rights, which stay
+-- where a client goes on wide, what it carries is what one goes wide for
+abbrev pub IsRightlyWide : {P : Type 0} → Client P → Type 0
+IsRightlyWide client = client.course ≡ course.Wide → GoesWide client.session.carried.items
+
+-- From the one to the other, some requests were answered, none too dear for a loop, each under this
+-- table, at this moment and under the client's rights, which stay. It goes wide for no other.
 pub record Serves {P : Type 0} (tells : Bool) (taken written : P → List ℕ) (current : Current)
     (before after : Client P) : Type 0 where
   pub rights_kept : after.rights ≡ before.rights
   pub payloads : List (List ℕ)
+  pub cheap : AreCheap payloads
+  pub widens : IsRightlyWide before → IsRightlyWide after
   pub answers : Answers tells taken written before after
       (jobs_of (terms_for current before) payloads)
 

@@ -11,7 +11,8 @@ use Rattle.mac_wire.specs.Reply.{reply_text, reply_frame}
 use Rattle.mac_wire.specs.Session.{HasCome}
 use Rattle.mac_decide.specs.declared.job.Job.{Job}
 use Rattle.mac_plain.specs.Pairs.{EachPair}
-use Rattle.mac_plain.specs.Client.{HasFallen, Passed, arrivals, jobs_of, replies, terms_for}
+use Rattle.mac_plain.specs.Dear.{AreCheap}
+use Rattle.mac_plain.specs.Client.{HasFallen, IsRightlyWide, Passed, arrivals, jobs_of, replies, terms_for}
 use Rattle.mac_plain.specs.declared.client.Client.{Client}
 use Rattle.mac_plain.specs.declared.course.Course.{Course}
 use Rattle.mac_plain.specs.declared.course.Course.TheVariants as course
@@ -47,7 +48,7 @@ after_reply session reply = record session {
 
 -- from the one to the other, of the payloads that were owed these were answered, the first ones,
 -- under this table, at this moment and under the client's rights, which stay, and these are owed
--- besides
+-- besides, none of them too dear for a loop
 pub record Goes {P : Type 0} (tells : Bool) (taken written : P → List ℕ) (current : Current)
     (before after : Client P) (answered more : List (List ℕ)) : Type 0 where
   pub came : List ℕ
@@ -55,6 +56,8 @@ pub record Goes {P : Type 0} (tells : Bool) (taken written : P → List ℕ) (cu
   pub took : Passed tells (taken before.port) (taken after.port) came
   pub wrote : Passed tells (written before.port) (written after.port) gone
   pub rights_kept : after.rights ≡ before.rights
+  pub cheap : AreCheap more
+  pub widens : IsRightlyWide before → IsRightlyWide after
   pub goes_on : (read sent : List ℕ) (done : List Job) (owed : List (List ℕ))
       → OwesSo before.course before.session read sent done (answered ++ owed)
       → OwesSo after.course after.session (read ++ came) (sent ++ gone)

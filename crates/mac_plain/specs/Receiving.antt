@@ -4,6 +4,7 @@ use Rattle.mac_board.specs.Noticed.{Current}
 use Rattle.mac_wire.specs.declared.session.Session.{Session}
 use Rattle.mac_wire.specs.Frame.{Arrive, IsUnfinished}
 use Rattle.mac_decide.specs.declared.job.Job.{Job}
+use Rattle.mac_plain.specs.Dear.{AreCheap, GoesWide}
 use Rattle.mac_plain.specs.Goes.{Goes, OwesSo, asked}
 use Rattle.mac_plain.specs.Requests.{Adds, payload_at}
 use Rattle.mac_plain.specs.declared.client.Client.{Client}
@@ -20,20 +21,22 @@ abbrev pub Joins : {E : Type 0} → List ℕ → List ℕ → List ℕ → Resul
 Joins before first second (Ok x) after = after ≡ before ++ (first ++ second)
 Joins before first second (Err e) after = Joined before first second after
 
--- how a connection goes on with such a rest: an open one has less than a whole frame
+-- how a connection goes on with such a rest: an open one has less than a whole frame, and a wide
+-- one what it goes wide for
 abbrev pub Leaves : Course → List ℕ → Type 0
 Leaves course.Open rest = IsUnfinished rest
-Leaves course.Wide rest = Unit {0}
+Leaves course.Wide rest = GoesWide rest
 Leaves (course.Ended why) rest = ⊥
 Leaves (course.Fallen why) rest = ⊥
 
--- requests were cut off what lies from one place to another
+-- requests were cut off what lies from one place to another, none of them too dear for a loop
 pub record CutsTo (arena : List ℕ) (from at owner : ℕ) (before after : List Request) : Type 0 where
   pub own : List Request
   pub adds : Adds owner (length arena) before after own
   pub ahead : from ≤ at
   pub inside : at ≤ length arena
   pub arrive : Arrive (drop from arena) (asked (map (payload_at arena) own)) (drop at arena)
+  pub cheap : AreCheap (map (payload_at arena) own)
 
 -- as many as there are, or some where memory ran out
 abbrev pub Cuts : {E : Type 0} → List ℕ → ℕ → ℕ → List Request → List Request
@@ -42,6 +45,7 @@ Cuts arena from owner before after (Ok x) =
     CutsTo arena from x.0 owner before after × Leaves x.1 (drop x.0 arena)
 Cuts arena from owner before after (Err e) =
     (own : List Request) × Adds owner (length arena) before after own
+    × AreCheap (map (payload_at arena) own)
 
 -- a piece came on a session: with it these requests are owed besides
 pub record TakesIn (owner : ℕ) (piece : List ℕ) (before after : Session) (arena arena' : List ℕ)
@@ -50,6 +54,8 @@ pub record TakesIn (owner : ℕ) (piece : List ℕ) (before after : Session) (ar
   pub arena_is : arena' ≡ arena ++ part
   pub own : List Request
   pub adds : Adds owner (length arena') requests requests' own
+  pub cheap : AreCheap (map (payload_at arena') own)
+  pub widens : goes ≡ course.Wide → GoesWide after.carried.items
   pub goes_on : (read sent : List ℕ) (done : List Job) (owed : List (List ℕ))
       → OwesSo course.Open before read sent done owed
       → OwesSo goes after (read ++ piece) sent done

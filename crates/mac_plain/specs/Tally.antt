@@ -1,5 +1,5 @@
 -- Which of the daemon's numbers an answered request is counted in (this project's own).
-use Rattle.std.specs.Prelude.{ℕ, List, [], ◌∷◌, ◌==◌, ◌&&◌, nat_le, if◌then◌else◌}
+use Rattle.std.specs.Prelude.{ℕ, [], ◌∷◌, ◌==◌, ◌&&◌, nat_le, if◌then◌else◌}
 use Rattle.mac_count.specs.declared.number.Asked.{Asked}
 use Rattle.mac_count.specs.declared.number.Asked.TheVariants as asked
 use Rattle.mac_count.specs.declared.number.Told.{Told}

@@ -13,16 +13,13 @@ ghost use Rattle.mac_wire.specs.Stream.{version_or_one as version_so_far};
 use crate::course::{Course, Fall};
 use crate::port::{Port, Went};
 use mac_decide::Rights;
-use mac_wire::{Cut, Reply, Session, Version, next_frame};
+use mac_wire::{Cut, FRAME_MAX, Reply, Session, Version, next_frame};
 use std::alloc::Global;
 use std::sync::Arc;
 
 /// How many bytes of replies a connection may have unsent and still be read: what 1 MiB of the
 /// smallest mints is answered.
 pub const UNSENT_MAX: usize = 10_485_760;
-
-/// The greatest payload that is answered in a loop, in bytes.
-pub const PLAIN_MAX: usize = 4_096;
 
 /// A connection in a loop: its device, and how it stands.
 #[derive(Drop)]
@@ -42,14 +39,14 @@ pub struct Client<P> {
 
 impl<P: Port> Client<P> {
     /// A connection that goes on from a session, with these rights. Where more than the beginning
-    /// of a small request is carried it goes on wide.
+    /// of a request is carried it goes on wide.
     pub fn new(port: P, session: Session, rights: Arc<Rights, Global>) -> Client<P>
         ensures rights { result.rights ≡ rights }
         ensures stands { (read written : List ℕ) (done : List Job)
             → Stands session read written (arrivals done) (replies done)
             → HasAnswered result read written done }
     {
-        let course = match next_frame(session.carried.as_slice(), PLAIN_MAX) {
+        let course = match next_frame(session.carried.as_slice(), FRAME_MAX) {
             Cut::Unfinished => Course::Open,
             Cut::Whole(_, _) | Cut::TooLong(_) => Course::Wide,
         };

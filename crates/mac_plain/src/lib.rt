@@ -8,6 +8,7 @@
 mod answering;
 mod client;
 mod course;
+mod dear;
 pub mod laws;
 mod port;
 mod receiving;
@@ -16,7 +17,7 @@ mod round;
 mod sharing;
 mod tally;
 
-pub use client::{Client, PLAIN_MAX, UNSENT_MAX};
+pub use client::{Client, UNSENT_MAX};
 pub use course::{Course, Ended, Fall};
 pub use port::{Came, Port, Went};
 pub use round::{PIECE, ROUND_MAX, Round};

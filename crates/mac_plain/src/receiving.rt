@@ -1,16 +1,18 @@
 //! What comes on a plain connection.
 
-ghost use Rattle.std.specs.Prelude.{◌≡◌, ◌≤◌, ℕ, List, length, IfOk};
+ghost use Rattle.std.specs.Prelude.{◌≡◌, ◌≤◌, ◌++◌, ℕ, List, length, IfOk, IsTrue};
 ghost use Rattle.mac_board.specs.Noticed.{Current};
+ghost use Rattle.mac_wire.specs.Frame.{IsUnfinished};
 ghost use Rattle.mac_plain.specs.Receiving.{Cuts, Joins, Receives, TakesIn};
 ghost use Rattle.mac_plain.specs.Requests.{AreWithin};
 
 use crate::NoMemory;
-use crate::client::{Client, PLAIN_MAX};
+use crate::client::Client;
 use crate::course::{Course, Ended, Fall};
+use crate::dear::is_dear;
 use crate::port::{Came, Port};
 use crate::request::Request;
-use mac_wire::{Cut, Session, next_frame, opened};
+use mac_wire::{Cut, FRAME_MAX, Session, next_frame, opened};
 
 /// Reads a client once, where it is open, and cuts what has come into requests.
 pub fn receive<P: Port>(
@@ -55,6 +57,12 @@ fn take_in(
 {
     let (version, frames) = opened(session.version, piece);
     session.version = version;
+    if is_unfinished_with(session.carried.as_slice(), frames) {
+        return match session.carried.extend_from_slice(frames) {
+            Ok(()) => Course::Open,
+            Err(_) => Course::Fallen(Fall::NoMemory),
+        };
+    }
     let start = arena.len();
     if let Err(_) = join(arena, session.carried.as_slice(), frames) {
         return Course::Fallen(Fall::NoMemory);
@@ -65,6 +73,20 @@ fn take_in(
             Err(_) => Course::Fallen(Fall::NoMemory),
         },
         Err(_) => Course::Fallen(Fall::NoMemory),
+    }
+}
+
+/// Whether what is carried is less than a whole frame with these bytes too, as its length tells.
+/// So a long request that comes in pieces is copied once.
+fn is_unfinished_with(carried: &[u8], frames: &[u8]) -> bool
+    ensures { IsTrue result → IsUnfinished (carried.now ++ frames.now) }
+{
+    match carried.split_first_chunk::<4>() {
+        Some((told, _)) => {
+            let told = u32::from_be_bytes(*told) as usize;
+            told <= FRAME_MAX && frames.len() < (4 + told).saturating_sub(carried.len())
+        }
+        None => false,
     }
 }
 
@@ -87,8 +109,8 @@ fn carry(carried: &mut Vec<u8>, bytes: &[u8]) -> Result<(), NoMemory>
     carried.extend_from_slice(bytes)
 }
 
-/// Cuts what lies behind a place into requests of this owner, as long as they aren't too great for
-/// a loop. It gives the place of the rest, and how the connection goes on.
+/// Cuts what lies behind a place into requests of this owner, as long as they aren't too dear for a
+/// loop. It gives the place of the rest, and how the connection goes on.
 fn cut_requests(
     arena: &[u8],
     from: usize,
@@ -100,8 +122,11 @@ fn cut_requests(
 {
     let mut at = from;
     loop {
-        match next_frame(&arena[at..], PLAIN_MAX) {
+        match next_frame(&arena[at..], FRAME_MAX) {
             Cut::Whole(payload, rest) => {
+                if is_dear(payload) {
+                    return Ok((at, Course::Wide));
+                }
                 let end = arena.len() - rest.len();
                 let start = end - payload.len();
                 requests.push(Request { owner, start, end })?;

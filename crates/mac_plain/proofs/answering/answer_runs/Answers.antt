@@ -3,8 +3,11 @@ use Rattle.mac_board.specs.Noticed.{lent_current}
 use Rattle.mac_plain.specs.Goes.{AreAnswered}
 use Rattle.mac_plain.specs.Requests.{asked_of}
 use Rattle.mac_plain.specs.declared.request.Request.{Request}
-use Rattle.mac_plain.proofs.Pairs.{more_answered, run_more}
+use Rattle.mac_plain.proofs.Pairs.{more_answered, nobody_goes, run_more}
 use Rattle.mac_plain.proofs.answering.answer_runs.Goals as goal
+
+pub loop-at-init : goal.loop-at-init
+loop-at-init g c = record { inside = omega arith; answered = nobody_goes g.P.Port.tells g.P.Port.taken g.P.Port.written (lent_current c.args.current) c.args.clients.now }
 
 pub loop-at-preserved : goal.loop-at-preserved
 loop-at-preserved g c =

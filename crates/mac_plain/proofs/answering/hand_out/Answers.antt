@@ -5,8 +5,11 @@ use Rattle.mac_wire.specs.declared.reply.Reply.{Reply}
 use Rattle.mac_plain.specs.Goes.{AreAnswered}
 use Rattle.mac_plain.specs.Requests.{asked_of, job_at}
 use Rattle.mac_plain.specs.declared.request.Request.{Request}
-use Rattle.mac_plain.proofs.Pairs.{answered_at, job_kept, more_answered, run_more, run_one, some_then}
+use Rattle.mac_plain.proofs.Pairs.{answered_at, job_kept, more_answered, nobody_goes, run_more, run_one, some_then}
 use Rattle.mac_plain.proofs.answering.hand_out.Goals as goal
+
+pub loop-index-init : goal.loop-index-init
+loop-index-init g c current arena are = nobody_goes g.P.Port.tells g.P.Port.taken g.P.Port.written current c.args.clients.now
 
 pub loop-index-preserved : goal.loop-index-preserved
 loop-index-preserved g c current arena are =

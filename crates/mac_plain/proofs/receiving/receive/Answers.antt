@@ -5,7 +5,7 @@ use Rattle.mac_plain.specs.Requests.{payload_at}
 use Rattle.mac_plain.specs.declared.course.Course.{Course}
 use Rattle.mac_plain.specs.declared.course.Course.TheVariants as course
 use Rattle.mac_plain.specs.declared.course.Ended.TheVariants as ended
-use Rattle.mac_plain.proofs.Steps.{goes_still, none_done, still, steps_still}
+use Rattle.mac_plain.proofs.Steps.{goes_still, none_dear, none_done, still, steps_still}
 use Rattle.mac_plain.proofs.Pairs.{within_added}
 use Rattle.mac_plain.proofs.Pieces.{came_so, none_added}
 use Rattle.mac_plain.proofs.receiving.receive.Goals as goal
@@ -18,7 +18,7 @@ returns-in_default-clause-receives g c current =
       arena_is = sym (append-nil c.args.arena.now.items);
       own = [];
       adds = none_added c.args.owner (length c.args.arena.now.items) c.args.requests.now.items;
-      goes = goes_still g.P.Port.tells g.P.Port.taken g.P.Port.written current me me [] refl refl (λ read sent done owed o. none_done me.course me.session read sent done owed o);
+      goes = goes_still g.P.Port.tells g.P.Port.taken g.P.Port.written current me me [] refl refl (λ read sent done owed o. none_done me.course me.session read sent done owed o) (λ wide. wide);
     }
 
 pub returns-in-Later-clause-receives : goal.returns-in-Later-clause-receives
@@ -33,6 +33,8 @@ returns-in-Later-clause-receives g c current =
         came = [];
         gone = [];
         rights_kept = refl;
+        cheap = none_dear;
+        widens = λ wide. wide;
         took = λ told. c.in-Later.ensures.taken told;
         wrote = λ told. still g.P.Port.tells (g.P.Port.written me.port) (g.P.Port.written c.read.new.self) (c.in-Later.ensures.written told) told;
         goes_on = λ read sent done owed.
@@ -52,6 +54,8 @@ returns-in-End-clause-receives g c current =
         came = [];
         gone = [];
         rights_kept = refl;
+        cheap = none_dear;
+        widens = λ wide e. absurd cc;
         took = λ told. c.in-End.ensures.taken told;
         wrote = λ told. still g.P.Port.tells (g.P.Port.written me.port) (g.P.Port.written c.read.new.self) (c.in-End.ensures.written told) told;
         goes_on = λ read sent done owed.
@@ -72,6 +76,8 @@ returns-in-Fault-clause-receives g c current =
         came = [];
         gone = [];
         rights_kept = refl;
+        cheap = none_dear;
+        widens = λ wide e. absurd cc;
         took = λ told. c.in-Fault.ensures.taken told;
         wrote = λ told. still g.P.Port.tells (g.P.Port.written me.port) (g.P.Port.written c.read.new.self) (c.in-Fault.ensures.written told) told;
         goes_on = λ read sent done owed.
@@ -95,6 +101,8 @@ returns-in-Bytes-clause-receives g c current =
         came = came;
         gone = [];
         rights_kept = refl;
+        cheap = t.cheap;
+        widens = λ wide e. t.widens e;
         took = λ told. c.in-Bytes.ensures.taken told;
         wrote = λ told. still g.P.Port.tells (g.P.Port.written me.port) (g.P.Port.written c.read.new.self) (c.in-Bytes.ensures.written told) told;
         goes_on = λ read sent done owed o.

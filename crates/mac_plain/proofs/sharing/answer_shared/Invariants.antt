@@ -1,4 +1,4 @@
-use Rattle.std.proofs.Common.{◌≡◌, ◌++◌, map}
+use Rattle.std.proofs.Common.{map}
 use Rattle.std.specs.Vec.Iter.{into_iter_items}
 use Rattle.mac_decide.specs.Viewed.{viewed}
 use Rattle.mac_plain.proofs.Shares.{Joins}
