@@ -1,5 +1,5 @@
 .PHONY: help test wrong-bodies wrong-runs demo build build-runs install uninstall deb tarball reproduce completions
-.PHONY: clients faults bench load soak soak-all pages taken check try fmt hook
+.PHONY: vectors clients faults bench load soak soak-all pages taken check try fmt hook
 
 # What there is to make, for whoever types `make` alone.
 help:
@@ -90,6 +90,12 @@ completions:
 pages:
 	scripts/check/promises.py
 	scripts/check/draw.py
+
+# The vectors, from what try_cases answers to their rows, and the scoreboard, from what each library does with them.
+# After make build-runs, and with what scripts/install_peers.sh installs.
+vectors:
+	scripts/vectors/make.py
+	scripts/vectors/board.py
 
 # The same for the programs that try the libraries; scripts/programs.txt says what each is for.
 TRIALS = $(shell awk '$$1 == "build-runs" { print $$2 }' scripts/programs.txt)

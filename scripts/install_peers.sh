@@ -16,6 +16,7 @@ libc6-dev                       the headers for that
 python3-pip                     scripts/check/clients.py installs clients/python with it
 python3-pyflakes                scripts/check/linting.py asks it what is wrong with a script
 shellcheck                      scripts/check/linting.py asks it the same of a shell's
+python3-jsonschema              scripts/vectors/checking.py holds vectors/ against their schema with it
 groff-base                      scripts/check/man_page.py looks for its warnings
 valgrind                        scripts/measure/instructions.py counts with it
 dpkg-dev                        scripts/build/packaging.py makes the package with it

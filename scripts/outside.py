@@ -65,6 +65,7 @@ from check import (
 from common import runs
 from faults import faults, hostile, moving, refusing
 from measure import allocations
+from vectors import checking
 from wrong_bodies import wrong_bodies, wrong_runs
 
 # How long hostile clients use the daemon.
@@ -126,6 +127,7 @@ OF_PROGRAM = {
     "clients": clients.daemon_faults,
 }
 OF_CLIENTS = {"Python client": clients.python_faults, "Go client": clients.go_faults}
+OF_VECTORS = checking.PARTS
 OF_COMPILER = {
     "allocations": allocations.faults,
     "clockless": clocks.clockless_faults,
@@ -171,6 +173,7 @@ def parts():
         why = unbuilt or uncompiled
         yield name, skipping(why) if why else part
     yield from OF_CLIENTS.items()
+    yield from OF_VECTORS.items()
     yield from OF_TEXTS.items()
 
 

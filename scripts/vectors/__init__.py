@@ -1,0 +1,1 @@
+"""The vectors: rows that any macaroon library can be held against."""

@@ -1,0 +1,1 @@
+../go_macaroon/rows.go
