@@ -1,2 +1,5 @@
 pub mod Slots
 pub mod Moves
+pub mod Parcels
+pub mod Posts
+pub mod Claims

@@ -5,9 +5,9 @@ use Rattle.atomic_table.specs.Seated.{TableId}
 use Rattle.mac_mail.specs.declared.receipt.Delivery.{Delivery}
 use Rattle.mac_queue.specs.Pass.{Pass}
 use Rattle.mac_queue.specs.declared.queue.tally.Tally.{Tally}
-use Rattle.mac_worker.specs.Parcel.{Pairwise, IsAnswered}
-use Rattle.mac_worker.specs.Working.{HasWorked}
-use Rattle.mac_worker.specs.declared.work.Worked.{Worked}
+use Rattle.mac_pool.specs.Parcel.{Pairwise, IsAnswered}
+use Rattle.mac_pool.specs.Working.{HasWorked}
+use Rattle.mac_pool.specs.declared.work.Worked.{Worked}
 use Rattle.mac_pool.specs.Pool.{Slots, at_home, IsGiven, IsStarted, IsStopped, IsFinished, AreWorkers, AreIdle, HasAnswered, HaveAnswered, passes_of, with_home}
 use Rattle.mac_queue.specs.declared.queue.TheConstants.{PASSES}
 use Rattle.mac_pool.proofs.Slots.{get_map, get_set_other, out_more, all_of_queue, map_push, set_back}

@@ -1,1 +1,3 @@
 pub mod Pool
+pub mod Parcel
+pub mod Working

@@ -6,8 +6,8 @@ use Rattle.mac_queue.specs.Pass.{Pass, pass_code, IsFresh}
 use Rattle.mac_queue.specs.Tally.{IsTally}
 use Rattle.mac_queue.specs.declared.queue.TheConstants.{PASSES}
 use Rattle.mac_queue.specs.declared.queue.tally.Tally.{Tally}
-use Rattle.mac_worker.specs.Parcel.{Pairwise, IsAnswered}
-use Rattle.mac_worker.specs.declared.work.Worked.{Worked}
+use Rattle.mac_pool.specs.Parcel.{Pairwise, IsAnswered}
+use Rattle.mac_pool.specs.declared.work.Worked.{Worked}
 use Rattle.mac_pool.specs.declared.pool.TheConstants.{WORKERS_MAX}
 
 -- a pool: its queue, the number of its workers, and its passes by their numbers, None where one is

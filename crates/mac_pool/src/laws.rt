@@ -3,6 +3,7 @@
 ghost use Rattle.std.specs.Prelude.{◌≡◌, ◌+◌, ◌*◌};
 
 use crate::pool::{DESKS_MAX, WORKERS_MAX};
+use crate::work::TURN_MAX;
 use mac_mail::MAIL_MAX;
 use mac_queue::{PASSES, QUEUE_MAX};
 
@@ -13,4 +14,9 @@ pub fn each_has_a_pass_and_each_post_a_ticket()
     ensures desks { DESKS_MAX ≡ 64 }
     ensures passes { PASSES ≡ WORKERS_MAX + DESKS_MAX }
     ensures tickets { QUEUE_MAX ≡ DESKS_MAX * MAIL_MAX }
+{}
+
+/// A worker takes up to 32 tickets at a time.
+pub fn a_turn_has_32_tickets()
+    ensures { TURN_MAX ≡ 32 }
 {}

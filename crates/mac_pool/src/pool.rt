@@ -6,14 +6,14 @@ ghost use Rattle.std.specs.Arc.{arc_value};
 ghost use Rattle.std.specs.Vec.{vec_capacity};
 ghost use Rattle.mac_mail.specs.Taking.{fresh_taking};
 ghost use Rattle.mac_queue.specs.Putting.{pass_of};
-ghost use Rattle.mac_worker.specs.Working.{HasWorked};
+ghost use Rattle.mac_pool.specs.Working.{HasWorked};
 
 use crate::fault::{DeskFault, PoolFault};
 use crate::passes::{Slots, bring_home, first_home, home_count, slots_of, take_out};
+use crate::work::{Worked, worker};
 use mac_mail::History;
 use mac_order::{NoMemory, Service};
 use mac_queue::{Desk, PASSES, Queue, QueuePass, Tally};
-use mac_worker::{Worked, worker};
 use std::alloc::Global;
 use std::marker::Model;
 use std::snapshot::Snapshot;
@@ -34,7 +34,7 @@ const STACK: usize = 1_048_576;
 pub struct FromPass<S: Service>(Snapshot<QueuePass<S>>);
 
 impl<S: Service> Promise<Worked<S>> for FromPass<S> {
-    ghost use Rattle.mac_worker.specs.Working.{HasWorked};
+    ghost use Rattle.mac_pool.specs.Working.{HasWorked};
 
     ghost kept_by = { λ p worked.
         HasWorked p.0.value worked.claimed worked.pass worked.deliveries };

@@ -7,3 +7,6 @@ pub mod ToldMoments
 pub mod ReceivingLemmas
 pub mod SendingLemmas
 pub mod ServingLemmas
+pub mod Homes
+pub mod Seats
+pub mod Books

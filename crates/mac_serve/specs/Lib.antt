@@ -5,3 +5,6 @@ pub mod Receiving
 pub mod Room
 pub mod Sending
 pub mod Serving
+pub mod Caller
+pub mod Seating
+pub mod Whole

@@ -1,7 +1,9 @@
-//! Serving a connection: requests are read in one thread and replies sent from another, and the
-//! workers of a pool answer between them.
+//! Serving connections over any devices: requests are read in one thread and replies sent from
+//! another, and the workers of a pool answer between them. [`serve`] serves one; [`serve_all`]
+//! starts the workers, serves many at once, and ends the workers.
 #![tactic(auto)]
 
+mod caller;
 mod connection;
 mod fault;
 mod inbound;
@@ -10,6 +12,9 @@ pub mod laws;
 mod outbound;
 mod outstanding;
 mod signals;
+mod whole;
 
+pub use caller::{Caller, Told};
 pub use connection::{Served, serve};
-pub use fault::ServeFault;
+pub use fault::{ServeFault, WholeFault};
+pub use whole::serve_all;

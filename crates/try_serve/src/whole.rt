@@ -9,7 +9,7 @@ use mac_board::{FixedTables, TimedTables};
 use mac_decide::Rights;
 use mac_keys::KeyTable;
 use mac_pool::Tally;
-use mac_whole::{Caller, serve_all};
+use mac_serve::{Caller, serve_all};
 use mac_wire::{MemSink, MemSource, Version};
 use std::alloc::Global;
 use std::sync::Wait;

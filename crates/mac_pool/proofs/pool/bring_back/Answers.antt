@@ -1,6 +1,6 @@
 use Rattle.std.proofs.Common.{◌≡◌, ◌+◌, [], ◌∷◌, ◌++◌, length, arith, ap, refl, sym, ◌∙◌, append-nil, length-append, List, map, subst}
 use Rattle.std.specs.declared.thread.PromisedHandle.{PromisedHandle}
-use Rattle.mac_worker.specs.declared.work.Worked.{Worked}
+use Rattle.mac_pool.specs.declared.work.Worked.{Worked}
 use Rattle.mac_pool.specs.declared.pool.FromPass.{FromPass}
 use Rattle.mac_queue.specs.Pass.{Pass}
 use Rattle.mac_pool.specs.Pool.{AreIdle, IsWorkers, HasAnswered, HaveAnswered, passes_of}

@@ -4,7 +4,7 @@ use Rattle.std.specs.Arc.{arc_value}
 use Rattle.std.specs.declared.thread.PromisedHandle.{PromisedHandle}
 use Rattle.mac_queue.specs.Line.{Line}
 use Rattle.mac_queue.specs.Pass.{Pass}
-use Rattle.mac_worker.specs.declared.work.Worked.{Worked}
+use Rattle.mac_pool.specs.declared.work.Worked.{Worked}
 use Rattle.mac_pool.specs.declared.pool.FromPass.{FromPass}
 use Rattle.mac_pool.specs.Pool.{Slots, IsStarted, IsWorkers}
 use Rattle.mac_pool.proofs.Slots.{unset_homes, each_push}

@@ -1,3 +1,0 @@
-pub mod Caller
-pub mod Seating
-pub mod Whole

@@ -1,3 +1,0 @@
-pub mod Parcels
-pub mod Posts
-pub mod Claims

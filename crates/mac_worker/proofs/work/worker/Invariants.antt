@@ -1,5 +1,0 @@
-use Rattle.mac_worker.specs.Working.{HasWorked}
-use Rattle.mac_worker.proofs.work.worker.Given as goal
-
-abbrev pub invariant-loop : goal.invariant-loop
-invariant-loop g l = HasWorked l.fn.pass l.claimed l.pass l.deliveries

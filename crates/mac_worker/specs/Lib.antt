@@ -1,2 +1,0 @@
-pub mod Parcel
-pub mod Working
