@@ -3,17 +3,12 @@ use Rattle.std.specs.Prelude.{◌≡◌, ◌++◌, ◌∷◌, [], Bool, List}
 use Rattle.std.specs.declared.alloc.Global.{Global}
 use Rattle.std.specs.declared.sync.Arc.{Arc}
 use Rattle.mac_decide.specs.declared.rights.Rights.{Rights}
-use Rattle.mac_daemon.specs.declared.counting.CountedEntrance.{CountedEntrance}
-use Rattle.mac_sockets.specs.Entrance.{doors_of, gift_of, shared_of}
+use Rattle.mac_sockets.specs.Entrance.{gift_of, shared_of}
 use Rattle.mac_sockets.specs.declared.door.Door.{Door}
 
 -- a door of a daemon, whose connections are given their rights
 abbrev pub RightsDoor : Type 0
 RightsDoor = Door (Arc Rights Global)
-
--- the doors of an entrance whose connections are counted
-abbrev pub counted_doors : CountedEntrance → List RightsDoor
-counted_doors counted = doors_of counted.entrance
 
 -- one door was added behind the others, with these rights; it is another process's too, or not
 pub record HasAdded (rights : Rights) (is_shared : Bool) (before after : List RightsDoor) : Type 0 where

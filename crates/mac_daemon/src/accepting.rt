@@ -1,8 +1,8 @@
 //! The loop that accepts the connections of sockets: so many of them, or until it is shut.
 ghost use Rattle.std.specs.Prelude.{◌≡◌, IfOk};
 ghost use Rattle.mac_daemon.specs.Day.{MeetsCount};
+ghost use Rattle.mac_sockets.specs.Entrance.{taken_of};
 
-use crate::counting::CountedEntrance;
 use crate::door::Gift;
 use crate::fault::DaemonFault;
 use crate::notice::Notice;
@@ -44,7 +44,7 @@ struct Newcomer {
 
 /// So many connections are accepted as were asked for.
 #[derive(Drop)]
-pub struct AsAsked(Option<u64>);
+pub struct AsAsked(pub Option<u64>);
 
 impl Promise<Result<u64, DaemonFault>> for AsAsked {
     ghost use Rattle.std.specs.Prelude.{IfOk};
@@ -74,7 +74,7 @@ where
     let work = move || -> Result<u64, DaemonFault>
         ensures { IfOk result (λ served. MeetsCount limits.count served) }
     {
-        let mut entrance = CountedEntrance::new(entrance);
+        let mut entrance = entrance;
         accept_to_end(&rt, alloc, &mut entrance, &loops, &quay, limits)
     };
     match Builder::new()
@@ -92,7 +92,7 @@ where
 fn accept_to_end<R>(
     rt: &R,
     alloc: Global,
-    entrance: &mut CountedEntrance,
+    entrance: &mut Entrance<Gift>,
     loops: &Loops,
     quay: &Quay,
     limits: Limits,
@@ -100,7 +100,7 @@ fn accept_to_end<R>(
 where
     R: Wait + Clock,
     ensures { IfOk result (λ served. MeetsCount limits.count served
-        × (served ≡ entrance.new.count)) }
+        × (served ≡ taken_of entrance.new)) }
 {
     let served = accept_each(rt, alloc, entrance, loops, quay, limits);
     entrance.close();
@@ -120,7 +120,7 @@ where
 fn accept_each<R>(
     rt: &R,
     alloc: Global,
-    entrance: &mut CountedEntrance,
+    entrance: &mut Entrance<Gift>,
     loops: &Loops,
     quay: &Quay,
     limits: Limits,
@@ -128,10 +128,10 @@ fn accept_each<R>(
 where
     R: Wait + Clock,
     ensures { IfOk result (λ served. MeetsCount limits.count served
-        × (served ≡ entrance.new.count)) }
+        × (served ≡ taken_of entrance.new)) }
 {
     for _ in rt.forever() {
-        let served = entrance.count();
+        let served = entrance.taken();
         match limits.count {
             Some(count) if count == served => return Ok(served),
             _ => {}
@@ -142,8 +142,8 @@ where
                 if quay.admit(rt, limits.connections) {
                     let newcomer = Newcomer {
                         stream,
-                        rights: Arc::try_clone(entrance.rights(door)).ok(),
-                        badge: quay.badge(rt, entrance.count(), door),
+                        rights: Arc::try_clone(entrance.gift(door)).ok(),
+                        badge: quay.badge(rt, entrance.taken(), door),
                     };
                     welcome(rt, alloc, newcomer, loops, quay);
                 }

@@ -40,7 +40,7 @@ pub struct Shape {
     pub remembered: u64,
 }
 
-/// What a run did.
+/// What a daemon did.
 #[derive(Clone, Copy, Debug, PartialEq, Eq)]
 pub struct Day {
     /// The connections that were accepted.

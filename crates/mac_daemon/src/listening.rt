@@ -1,35 +1,37 @@
-//! The daemon that stays up until it is told to end.
+//! The daemon: its assembly, from its sockets to its end.
 
-use crate::accepting::Limits;
+ghost use Rattle.std.specs.Prelude.{◌≡◌, IfOk};
+ghost use Rattle.mac_daemon.specs.Day.{MeetsCount, count_of};
+
+use crate::accepting::{AsAsked, Limits};
 use crate::descriptors::most_connections;
-use crate::door::{Gift, SideSocket, add_door};
-use crate::failure::Failure;
+use crate::door::Doors;
 use crate::fault::DaemonFault;
-use crate::fleet::{Fleet, Idlers, Service, Shape, make_seen};
+use crate::fleet::{Day, Fleet, Idlers, Service, Shape, make_seen};
 use crate::quay::Quay;
 use crate::stop::Stop;
 use crate::surroundings::{Surroundings, heed_signals};
 use mac_board::{Followers, News};
-use mac_decide::Rights;
 use mac_host::{Beginning, Call, Ending, Host, Notices, Numbers, Roster};
-use mac_sockets::{Door, Entrance, Holdings, PlaceFault, STACK};
+use mac_sockets::{Entrance, Holdings, STACK};
 use mac_system::{NotifySocket, State};
 use std::alloc::{AllocError, Global};
-use std::fs::{File, Files};
+use std::fs::Files;
 use std::net::Net;
-use std::os::unix::net::UnixListener;
 use std::random::RandomSource;
 use std::sync::{Arc, Wait};
-use std::thread::{Builder, Threads};
+use std::thread::{Builder, Promise, PromisedHandle, Threads};
 use std::time::{Clock, Duration};
 
-/// What `listen` is told of its socket.
+/// What a daemon is told of what it serves.
 #[derive(Clone, Copy)]
 pub struct Terms<'a> {
-    /// The path of the socket.
+    /// The path of its socket.
     pub path: &'a str,
     /// The permissions of the socket's file.
     pub permissions: u32,
+    /// The path of its second socket, where it has one.
+    pub side: Option<&'a str>,
     /// How many key names there are, which is told.
     pub names: usize,
     /// The version of the program, which is told.
@@ -42,9 +44,11 @@ pub struct Terms<'a> {
     pub reserved: u64,
     /// Whether each request is logged.
     pub has_requests: bool,
+    /// After how many connections it ends, where so many are asked for. It logs nothing then.
+    pub accept: Option<u64>,
 }
 
-/// A daemon that serves the connections of a socket, until it is told to end.
+/// A daemon that serves connections, so many or until it is told to end.
 #[derive(Drop)]
 pub struct Daemon {
     host: Host,
@@ -52,39 +56,42 @@ pub struct Daemon {
     quay: Arc<Quay, Global>,
     manager: Option<NotifySocket>,
     drain: u64,
+    serving: Serving,
 }
 
-/// Starts a daemon, in threads of its own. Nobody can reach it before it is opened. The connections
-/// of its socket have these rights, and those of the side socket the ones that it tells. The
-/// sockets that it makes are among those that are held.
+impl Promise<Result<Day, DaemonFault>> for AsAsked {
+    ghost use Rattle.std.specs.Prelude.{IfOk};
+    ghost use Rattle.mac_daemon.specs.Day.{MeetsCount};
+
+    ghost kept_by = { λ p outcome. IfOk outcome (λ day. MeetsCount p.0 day.served) };
+}
+
+/// The thread that serves, to the end of the last connection.
+type Serving = PromisedHandle<Result<Day, DaemonFault>, AsAsked>;
+
+/// Starts a daemon that serves the connections of these doors, in threads of its own.
 pub fn listen<R>(
     rt: &R,
     alloc: Global,
     terms: Terms<'_>,
-    rights: Rights,
-    side: Option<SideSocket<'_>>,
+    doors: Doors,
     followers: Followers,
     surroundings: Surroundings,
-    holdings: &mut Holdings,
 ) -> Result<Daemon, DaemonFault>
 where
-    R: Files<File = File> + Net + Threads + Wait + Clock + RandomSource + Eprint,
+    R: Net + Threads + Wait + Clock + RandomSource + Eprint,
     R: Sync + Copy + Send + 'static,
+    ensures { IfOk result (λ daemon. count_of daemon ≡ terms.accept) }
 {
     let Surroundings {
-        listener,
         signals,
         manager,
         is_journal,
     } = surroundings;
-    let mut doors = Vec::with_capacity(alloc, 2)?;
-    open_first(rt, alloc, terms, listener, rights, &mut doors, holdings)?;
-    let side_path = side.as_ref().map(|side| side.path);
-    open_side(rt, alloc, side, &mut doors, holdings)?;
-    let entrance = Entrance::open(rt, alloc, doors)?;
+    let entrance = Entrance::open(rt, alloc, doors.doors)?;
     let ending = Ending::new(alloc)?;
     let stop = Stop::new(&ending, entrance.shutter())?;
-    let notices = start_notices(*rt, alloc, is_journal, terms.has_requests)?;
+    let notices = start_notices(*rt, alloc, is_journal, terms)?;
     if let Some(signals) = signals {
         let stop = Stop::new(&ending, entrance.shutter())?;
         heed_signals(*rt, signals, stop, notices.share()?)?;
@@ -92,14 +99,13 @@ where
     let numbers = Numbers::begin(rt, alloc)?;
     numbers.set_keys(rt, terms.names);
     let limits = Limits {
-        count: None,
+        count: terms.accept,
         connections: allow_connections(rt, terms, &notices),
     };
-    let paths = socket_paths(alloc, terms.path, side_path)?;
-    let roster = Roster::new(rt, alloc, limits.connections, paths)?;
+    let roster = Roster::new(rt, alloc, limits.connections, socket_paths(alloc, terms)?)?;
     let quay = Quay::new(
         alloc,
-        Some(notices.share()?),
+        notices.share()?,
         numbers.share()?,
         Arc::try_clone(&roster)?,
     )?;
@@ -111,15 +117,18 @@ where
         limits,
         quay: Arc::try_clone(&quay)?,
     };
-    let failure = start_serving(*rt, alloc, service, followers, &ending)?;
-    ending.await_begin(rt);
-    failure.take(rt)?;
+    let serving = start_serving(*rt, alloc, service, followers, &ending)?;
+    if !ending.await_begin(rt) {
+        let fault = serving.join(rt).err();
+        return Err(fault.unwrap_or(DaemonFault::NoThread));
+    }
     Ok(Daemon {
         host: Host::new(ending, notices, numbers, roster, seen),
         stop,
         quay,
         manager,
         drain: terms.drain,
+        serving,
     })
 }
 
@@ -129,19 +138,24 @@ impl Daemon {
         &self,
         rt: &R,
         terms: Terms<'_>,
-        side: Option<&str>,
         holdings: &mut Holdings,
     ) -> Result<(), DaemonFault>
     where
         R: Files + Print + Eprint + Wait + Clock,
     {
         holdings.place_all(rt)?;
-        say_listening(rt, terms, side);
-        self.host
-            .notices()
-            .tell_begin(rt, beginning_of(terms, side));
+        say_listening(rt, terms);
+        self.host.notices().tell_begin(rt, beginning_of(terms));
         self.tell_manager(rt, State::Ready);
         Ok(())
+    }
+
+    /// Waits until all connections have ended of a daemon that ends by itself, and tells what it
+    /// did.
+    pub fn await_day<R: Threads>(self, rt: &R) -> Result<Day, DaemonFault>
+        ensures { IfOk result (λ day. MeetsCount (count_of self) day.served) }
+    {
+        self.serving.join(rt)
     }
 
     /// Tells a daemon to end, at one of whose paths there is another one's socket.
@@ -191,103 +205,62 @@ impl Daemon {
     }
 }
 
-/// Adds the door of the socket that was handed over, or of one that is made.
-fn open_first<R>(
-    rt: &R,
-    alloc: Global,
-    terms: Terms<'_>,
-    handed: Option<UnixListener>,
-    rights: Rights,
-    doors: &mut Vec<Door<Gift>>,
-    holdings: &mut Holdings,
-) -> Result<(), DaemonFault>
-where
-    R: Files<File = File> + Net + Clock + Wait,
-{
-    match handed {
-        Some(listener) => add_door(doors, alloc, listener, rights, true),
-        None => {
-            let listener = holdings.bind(rt, terms.path, terms.permissions)?;
-            add_door(doors, alloc, listener, rights, false)
-        }
-    }
-}
-
-/// Makes the side socket, where there is one, and adds its door.
-fn open_side<R>(
-    rt: &R,
-    alloc: Global,
-    side: Option<SideSocket<'_>>,
-    doors: &mut Vec<Door<Gift>>,
-    holdings: &mut Holdings,
-) -> Result<(), DaemonFault>
-where
-    R: Files<File = File> + Net + Clock + Wait,
-{
-    let Some(
-        SideSocket {
-            path,
-            permissions,
-            rights,
-        },
-    ) = side
-    else {
-        return Ok(());
-    };
-    match holdings.bind(rt, path, permissions) {
-        Ok(listener) => add_door(doors, alloc, listener, rights, false),
-        Err(PlaceFault::NoMemory) => Err(DaemonFault::NoMemory),
-        Err(fault) => Err(DaemonFault::Side(fault)),
-    }
-}
-
-/// Starts the log of a daemon.
+/// Starts the log of a daemon, where it has one.
 fn start_notices<R>(
     rt: R,
     alloc: Global,
     is_journal: bool,
-    has_requests: bool,
+    terms: Terms<'_>,
 ) -> Result<Notices, DaemonFault>
 where
     R: Threads + Wait + Clock + Eprint + Copy + Send + 'static,
 {
-    match Notices::start(rt, alloc, is_journal, has_requests) {
+    if terms.accept.is_some() {
+        return Ok(Notices::none(alloc));
+    }
+    match Notices::start(rt, alloc, is_journal, terms.has_requests) {
         Some(notices) => Ok(notices),
         None => Err(DaemonFault::NoThread),
     }
 }
 
 /// The paths of the sockets, in the order of their doors.
-fn socket_paths(alloc: Global, path: &str, side: Option<&str>) -> Result<Vec<String>, AllocError> {
+fn socket_paths(alloc: Global, terms: Terms<'_>) -> Result<Vec<String>, AllocError> {
     let mut paths = Vec::with_capacity(alloc, 2)?;
-    paths.push(String::from_str(alloc, path)?)?;
-    if let Some(side) = side {
+    paths.push(String::from_str(alloc, terms.path)?)?;
+    if let Some(side) = terms.side {
         paths.push(String::from_str(alloc, side)?)?;
     }
     Ok(paths)
 }
 
-/// Starts the thread that serves the connections that come in, to their ends.
+/// Starts the thread that serves the connections that come in, to their ends: so many, where so many
+/// are asked for.
 fn start_serving<R>(
     rt: R,
     alloc: Global,
     service: Service,
     followers: Followers,
     ending: &Arc<Ending, Global>,
-) -> Result<Arc<Failure, Global>, DaemonFault>
+) -> Result<Serving, DaemonFault>
 where
     R: Threads + Wait + Clock + Sync + Copy + Send + 'static,
+    ensures { IfOk result (λ serving. serving.promise.0 ≡ service.limits.count) }
 {
     let ending = Arc::try_clone(ending)?;
-    let failure = Failure::none(alloc)?;
-    let told = Arc::try_clone(&failure)?;
-    let work = move || {
+    let count = service.limits.count;
+    let work = move || -> Result<Day, DaemonFault>
+        ensures { IfOk result (λ day. MeetsCount count day.served) }
+    {
         let outcome = serve_all(&rt, alloc, service, &followers, &ending);
-        told.put(&rt, outcome);
         ending.finish(&rt);
+        outcome
     };
-    match Builder::new().stack_size(STACK).spawn(&rt, work) {
-        Ok(_) => Ok(failure),
+    match Builder::new()
+        .stack_size(STACK)
+        .spawn_with(&rt, AsAsked(count), work)
+    {
+        Ok(serving) => Ok(serving),
         Err(_) => Err(DaemonFault::NoThread),
     }
 }
@@ -299,26 +272,28 @@ fn serve_all<R>(
     service: Service,
     followers: &Followers,
     ending: &Ending,
-) -> Result<(), DaemonFault>
+) -> Result<Day, DaemonFault>
 where
     R: Threads + Wait + Clock + Sync + Copy + Send + 'static,
+    ensures { IfOk result (λ day. MeetsCount service.limits.count day.served) }
 {
     let fleet = Fleet::start(rt, alloc, service, followers)?;
     ending.begin(rt);
-    fleet.run(rt, alloc, followers)?;
-    Ok(())
+    fleet.run(rt, alloc, followers)
 }
 
 /// How many connections there may be at a time: as many as were asked for, or as the system's limit
-/// of descriptors allows beside those that are reserved, which is told then.
+/// of descriptors allows beside those that are reserved, which is told then. A daemon that ends after
+/// so many looks at no limit: it ends where the system gives none.
 fn allow_connections<R: Wait + Clock>(rt: &R, terms: Terms<'_>, notices: &Notices) -> u64 {
     let Terms {
         shape,
         reserved,
+        accept,
         ..
     } = terms;
     let most = most_connections(shape.loops, reserved);
-    if most >= shape.connections {
+    if accept.is_some() || most >= shape.connections {
         return shape.connections;
     }
     notices.tell_low(rt, most);
@@ -326,11 +301,11 @@ fn allow_connections<R: Wait + Clock>(rt: &R, terms: Terms<'_>, notices: &Notice
 }
 
 /// What is told of a daemon at its start.
-fn beginning_of<'a>(terms: Terms<'a>, side: Option<&'a str>) -> Beginning<'a> {
+fn beginning_of(terms: Terms<'_>) -> Beginning<'_> {
     Beginning {
         version: terms.version,
         socket: terms.path,
-        side,
+        side: terms.side,
         names: terms.names,
         workers: terms.shape.workers,
     }
@@ -339,9 +314,10 @@ fn beginning_of<'a>(terms: Terms<'a>, side: Option<&'a str>) -> Beginning<'a> {
 /// Prints the line that tells that clients can connect, and at which sockets. Where it can't be
 /// printed that is told, and no more: clients can connect, and a daemon that had the place before
 /// goes.
-fn say_listening<R: Print + Eprint>(rt: &R, terms: Terms<'_>, side: Option<&str>) {
+fn say_listening<R: Print + Eprint>(rt: &R, terms: Terms<'_>) {
     let Terms {
         path,
+        side,
         names,
         version,
         shape,

@@ -32,7 +32,7 @@ pub struct Quay {
     is_closed: AtomicBool,
     /// The keeper sleeps here.
     work: Bell,
-    notices: Option<Notices>,
+    notices: Notices,
     numbers: Numbers,
     roster: Arc<Roster, Global>,
 }
@@ -41,7 +41,7 @@ impl Quay {
     /// A quay without connections.
     pub fn new(
         alloc: Global,
-        notices: Option<Notices>,
+        notices: Notices,
         numbers: Numbers,
         roster: Arc<Roster, Global>,
     ) -> Result<Arc<Quay, Global>, AllocError> {
@@ -70,9 +70,7 @@ impl Quay {
             return true;
         }
         self.faults.fetch_add(1, SeqCst);
-        if let Some(notices) = &self.notices {
-            notices.tell_full(rt, most);
-        }
+        self.notices.tell_full(rt, most);
         false
     }
 
@@ -90,24 +88,21 @@ impl Quay {
 
     /// What a connection that begins is noted in, where requests are logged.
     pub fn transcript(&self, alloc: Global) -> Option<Transcript> {
-        match &self.notices {
-            Some(notices) if notices.has_requests() => Some(Transcript::new(alloc)),
-            _ => None,
+        if self.notices.has_requests() {
+            Some(Transcript::new(alloc))
+        } else {
+            None
         }
     }
 
     /// Tells a request, the connection that it came on, and what it was answered.
     pub fn say_exchange<R: Wait + Clock>(&self, rt: &R, badge: Badge, exchange: Exchange) {
-        if let Some(notices) = &self.notices {
-            notices.tell_exchange(rt, Some(badge), exchange);
-        }
+        self.notices.tell_exchange(rt, Some(badge), exchange);
     }
 
     /// Tells that the system gave no connection.
     pub fn say_refused<R: Wait + Clock>(&self, rt: &R, fault: &str) {
-        if let Some(notices) = &self.notices {
-            notices.tell_refused(rt, fault);
-        }
+        self.notices.tell_refused(rt, fault);
     }
 
     /// Notes that a connection has ended, with what is to be told of that.
@@ -117,9 +112,7 @@ impl Quay {
             .count_ended(notice.is_some_and(Notice::is_fault));
         if let Some(notice) = notice {
             self.faults.fetch_add(1, SeqCst);
-            if let Some(notices) = &self.notices {
-                notices.tell_parting(rt, life, notice.kind(), &notice);
-            }
+            self.notices.tell_parting(rt, life, notice.kind(), &notice);
         }
         self.live.fetch_sub(1, SeqCst);
         self.ends.ring();
@@ -149,9 +142,7 @@ impl Quay {
 
     /// Tells that the daemon was told to end, and how many connections there are.
     pub fn say_left<R: Wait + Clock>(&self, rt: &R) {
-        if let Some(notices) = &self.notices {
-            notices.tell_drain(rt, self.live());
-        }
+        self.notices.tell_drain(rt, self.live());
     }
 
     /// How many connections have ended in a fault, or were not served.

@@ -3,11 +3,9 @@
 use crate::fault::DaemonFault;
 use crate::stop::Stop;
 use mac_host::Notices;
-use mac_system::{NotifySocket, Signal, Signals, handed_listener};
+use mac_system::{NotifySocket, Signal, Signals};
 use std::alloc::{Alloc, Global};
 use std::env::Env;
-use std::os::unix::net::UnixListener;
-use std::process::Process;
 use std::sync::Wait;
 use std::thread::Threads;
 use std::time::{Clock, Duration};
@@ -19,8 +17,6 @@ const PAUSE_MILLIS: u64 = 1_000;
 /// What a daemon is given by who starts it.
 #[derive(Drop)]
 pub struct Surroundings {
-    /// The socket that was opened for it.
-    pub listener: Option<UnixListener>,
     /// Where signals are read that were held back for it.
     pub signals: Option<Signals>,
     /// The service manager that waits to be told.
@@ -30,18 +26,22 @@ pub struct Surroundings {
 }
 
 impl Surroundings {
-    /// What the environment of this process names. A socket that was handed over and can't be
-    /// served is an error.
-    pub fn find<R: Env + Alloc<A = Global>>(
-        rt: &R,
-        process: Process,
-    ) -> Result<Surroundings, DaemonFault> {
-        Ok(Surroundings {
-            listener: handed_listener(rt, process)?,
+    /// What the environment of this process names.
+    pub fn find<R: Env + Alloc<A = Global>>(rt: &R) -> Surroundings {
+        Surroundings {
             signals: Signals::of_environment(rt),
             manager: NotifySocket::of_environment(rt),
             is_journal: env::var(rt, "JOURNAL_STREAM").is_ok(),
-        })
+        }
+    }
+
+    /// Nothing at all.
+    pub fn none() -> Surroundings {
+        Surroundings {
+            signals: None,
+            manager: None,
+            is_journal: false,
+        }
     }
 }
 

@@ -74,11 +74,12 @@ impl Ending {
         self.change.notify_all();
     }
 
-    /// Waits until the daemon has begun, or has ended.
-    pub fn await_begin<R: Wait>(&self, rt: &R) {
+    /// Waits until the daemon has begun, or has ended. Whether it has begun.
+    pub fn await_begin<R: Wait>(&self, rt: &R) -> bool {
         let standing = self.standing.lock(rt);
         let waits = |standing: &mut Standing| !standing.has_begun && !standing.is_over;
-        let _ = self.change.wait_while(rt, standing, waits);
+        let standing = self.change.wait_while(rt, standing, waits);
+        standing.has_begun
     }
 
     /// Waits until the daemon is told something, for so long at most. One that has ended by itself

@@ -34,7 +34,8 @@ pub struct Beginning<'a> {
 #[derive(Drop)]
 pub struct Notices {
     alloc: Global,
-    log: Arc<Log, Global>,
+    // None prints nothing.
+    log: Option<Arc<Log, Global>>,
     // Whether each request is told.
     has_requests: bool,
 }
@@ -50,18 +51,37 @@ impl Notices {
         let log = start_log(rt, alloc, is_journal)?;
         Some(Notices {
             alloc,
-            log,
+            log: Some(log),
             has_requests,
         })
     }
 
+    /// A log that prints nothing.
+    pub fn none(alloc: Global) -> Notices {
+        Notices {
+            alloc,
+            log: None,
+            has_requests: false,
+        }
+    }
+
     /// The same log, for another thread.
     pub fn share(&self) -> Result<Notices, NoMemory> {
+        let log = match &self.log {
+            Some(log) => Some(Arc::try_clone(log)?),
+            None => None,
+        };
         Ok(Notices {
             alloc: self.alloc,
-            log: Arc::try_clone(&self.log)?,
+            log,
             has_requests: self.has_requests,
         })
+    }
+
+    fn post<R: Wait + Clock>(&self, rt: &R, kind: Kind, fields: Result<Fields, NoMemory>) {
+        if let Some(log) = &self.log {
+            log.post(rt, kind, fields);
+        }
     }
 
     /// Whether each request is told.
@@ -72,13 +92,13 @@ impl Notices {
     /// Tells a request, the connection that it came on, and what it was answered.
     pub fn tell_exchange<R: Wait + Clock>(&self, rt: &R, badge: Option<Badge>, exchange: Exchange) {
         let fields = exchange_fields(self.alloc, badge, exchange);
-        self.log.post(rt, Kind::Request, fields);
+        self.post(rt, Kind::Request, fields);
     }
 
     /// Tells that the daemon serves.
     pub fn tell_begin<R: Wait + Clock>(&self, rt: &R, beginning: Beginning<'_>) {
         let fields = beginning_fields(self.alloc, beginning);
-        self.log.post(rt, Kind::Start, fields);
+        self.post(rt, Kind::Start, fields);
     }
 
     /// Tells why a connection ended that might have gone on, in a line of this kind.
@@ -90,31 +110,31 @@ impl Notices {
         why: &W,
     ) {
         let fields = parting_fields(rt, self.alloc, life, kind, why);
-        self.log.post(rt, kind, fields);
+        self.post(rt, kind, fields);
     }
 
     /// Tells that a connection was closed, since there are as many as there may be.
     pub fn tell_full<R: Wait + Clock>(&self, rt: &R, most: u64) {
         let fields = limit_fields(self.alloc, "connections", most);
-        self.log.post(rt, Kind::LimitReached, fields);
+        self.post(rt, Kind::LimitReached, fields);
     }
 
     /// Tells that the limit of descriptors allows no more connections than so many.
     pub fn tell_low<R: Wait + Clock>(&self, rt: &R, most: u64) {
         let fields = limit_fields(self.alloc, "descriptors", most);
-        self.log.post(rt, Kind::LimitLow, fields);
+        self.post(rt, Kind::LimitLow, fields);
     }
 
     /// Tells that the system gave no connection.
     pub fn tell_refused<R: Wait + Clock>(&self, rt: &R, fault: &str) {
         let fields = Fields::new(self.alloc).with_text(Key::Fault, fault.as_bytes());
-        self.log.post(rt, Kind::AcceptFault, fields);
+        self.post(rt, Kind::AcceptFault, fields);
     }
 
     /// Tells a step that the system refused, and that is made again or left out.
     pub fn tell_system<R: Wait + Clock>(&self, rt: &R, step: &str, fault: io::Error) {
         let fields = system_fields(self.alloc, step, fault);
-        self.log.post(rt, Kind::SystemFault, fields);
+        self.post(rt, Kind::SystemFault, fields);
     }
 
     /// Tells what came of a look at the key file, if there is anything to be told.
@@ -124,27 +144,29 @@ impl Notices {
             News::Taken(names) => (Kind::KeysRead, taken_fields(self.alloc, file, names)),
             News::Refused(why) => (Kind::KeysRefused, refused_fields(self.alloc, file, why)),
         };
-        self.log.post(rt, kind, fields);
+        self.post(rt, kind, fields);
     }
 
     /// Tells that another daemon's socket is in the place of this one's.
     pub fn tell_replaced<R: Wait + Clock>(&self, rt: &R, path: &str) {
         let fields = Fields::new(self.alloc).with_text(Key::Socket, path.as_bytes());
-        self.log.post(rt, Kind::Replaced, fields);
+        self.post(rt, Kind::Replaced, fields);
     }
 
     /// Tells that the daemon was told to end, and how many connections there are.
     pub fn tell_drain<R: Wait + Clock>(&self, rt: &R, left: u64) {
         let fields = Fields::new(self.alloc).with_number(self.alloc, Key::Connections, left);
-        self.log.post(rt, Kind::Drain, fields);
+        self.post(rt, Kind::Drain, fields);
     }
 
     /// Tells that the daemon ends, and how many connections are cut off. Waits for a moment at most
     /// until all lines are printed.
     pub fn tell_end<R: Wait + Clock>(&self, rt: &R, cut: u64) {
         let fields = Fields::new(self.alloc).with_number(self.alloc, Key::Connections, cut);
-        self.log.post(rt, Kind::End, fields);
-        self.log.flush(rt, PATIENCE_MILLIS);
+        self.post(rt, Kind::End, fields);
+        if let Some(log) = &self.log {
+            log.flush(rt, PATIENCE_MILLIS);
+        }
     }
 }
 

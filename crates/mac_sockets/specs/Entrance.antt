@@ -1,5 +1,5 @@
 -- The doors of an entrance, and which of them a connection came in through.
-use Rattle.std.specs.Prelude.{◌≡◌, ◌+◌, ◌<◌, ◌≤◌, ℕ, Bool, false, List, Option, Some, None, Result, Ok, Err, MatchOption, length, slice_get}
+use Rattle.std.specs.Prelude.{◌≡◌, ◌+◌, ◌-◌, ◌^◌, ◌<◌, ◌≤◌, ℕ, Bool, false, List, Option, Some, None, Result, Ok, Err, MatchOption, length, min, slice_get}
 use Rattle.mac_sockets.specs.declared.door.Door.{Door}
 use Rattle.mac_sockets.specs.declared.entrance.Arrived.{Arrived}
 use Rattle.mac_sockets.specs.declared.entrance.Entrance.{Entrance}
@@ -16,6 +16,10 @@ module _ {G : Type 0} where
   -- the doors of an entrance, in the order of their numbers
   abbrev pub doors_of : Entrance G → List (Door G)
   doors_of entrance = entrance.doors.items
+
+  -- how many connections have come in through an entrance
+  abbrev pub taken_of : Entrance G → ℕ
+  taken_of entrance = entrance.taken
 
   -- the door of this number gives this
   abbrev pub IsGiftAt : List (Door G) → ℕ → G → Type 0
@@ -40,3 +44,9 @@ abbrev pub CountsDown : {E : Type 0} → Option (Result Arrived E) → ℕ → �
 CountsDown None before after = after ≤ before
 CountsDown (Some (Err fault)) before after = after ≡ 0
 CountsDown (Some (Ok arrived)) before after = after + 1 ≡ before
+
+-- one more was counted where a connection came in, as far as 64 bits go, and else none
+abbrev pub CountsArrived : {E : Type 0} → Option (Result Arrived E) → ℕ → ℕ → Type 0
+CountsArrived None before after = after ≡ before
+CountsArrived (Some (Err fault)) before after = after ≡ before
+CountsArrived (Some (Ok arrived)) before after = after ≡ min (before + 1) (2 ^ 64 - 1)

@@ -1,7 +1,8 @@
 //! Where connections come in: sockets that listen, until it is shut.
 
 ghost use Rattle.std.specs.Prelude.{◌≡◌, ◌<◌, [], IfOk, IsTrue, length};
-ghost use Rattle.mac_sockets.specs.Entrance.{CountsDown, doors_of, IsGiftAt, IsThroughOneOf, IsThroughOwn};
+ghost use Rattle.mac_sockets.specs.Entrance.{CountsArrived, CountsDown, doors_of, IsGiftAt, IsThroughOneOf};
+ghost use Rattle.mac_sockets.specs.Entrance.{IsThroughOwn, taken_of};
 
 use crate::door::Door;
 use crate::fault::EntranceFault;
@@ -37,6 +38,8 @@ pub struct Entrance<G> {
     shutter: Arc<Shutter, Global>,
     // How many connections it still takes once it is shut.
     waiting: usize,
+    // How many have come in.
+    taken: u64,
 }
 
 /// Shuts an entrance, from any thread.
@@ -77,7 +80,8 @@ impl<G: Drop> Entrance<G> {
         alloc: Global,
         doors: Vec<Door<G>>,
     ) -> Result<Entrance<G>, EntranceFault>
-        ensures { IfOk result (λ entrance. doors_of entrance ≡ doors.items) }
+        ensures doors { IfOk result (λ entrance. doors_of entrance ≡ doors.items) }
+        ensures taken { IfOk result (λ entrance. taken_of entrance ≡ 0) }
     {
         let poll = Poll::new(rt)?;
         let registry = poll.registry();
@@ -102,6 +106,7 @@ impl<G: Drop> Entrance<G> {
             events: Events::with_capacity(alloc, EVENTS)?,
             shutter,
             waiting: WAITING_MAX,
+            taken: 0,
         })
     }
 
@@ -118,12 +123,34 @@ impl<G: Drop> Entrance<G> {
         self.doors[door].gift()
     }
 
+    /// How many connections have come in.
+    pub fn taken(&self) -> u64
+        ensures { result ≡ taken_of self.now }
+    {
+        self.taken
+    }
+
     /// The next connection, or why the system gives none. Once the entrance is shut, there are only
     /// those that wait already, up to the first fault, and none at a door that another process has
     /// too.
     pub fn accept<R: Wait>(&mut self, rt: &R) -> Option<Welcome>
         ensures doors { doors_of self.new ≡ doors_of self.old }
         ensures through { IsThroughOneOf (doors_of self.old) result }
+        ensures counts { CountsArrived result (taken_of self.old) (taken_of self.new) }
+    {
+        let welcome = self.await_next(rt);
+        match &welcome {
+            Some(Ok(_)) => self.taken = self.taken.saturating_add(1),
+            Some(Err(_)) | None => {}
+        }
+        welcome
+    }
+
+    /// The same, before it is counted.
+    fn await_next<R: Wait>(&mut self, rt: &R) -> Option<Welcome>
+        ensures doors { doors_of self.new ≡ doors_of self.old }
+        ensures through { IsThroughOneOf (doors_of self.old) result }
+        ensures taken { self.new.taken ≡ self.old.taken }
     {
         for _ in rt.forever() {
             if self.doors.is_empty() {
@@ -147,6 +174,7 @@ impl<G: Drop> Entrance<G> {
         ensures doors { doors_of self.new ≡ doors_of self.old }
         ensures through { IsThroughOwn (doors_of self.old) result }
         ensures waiting { CountsDown result self.old.waiting self.new.waiting }
+        ensures taken { self.new.taken ≡ self.old.taken }
     {
         self.waiting = self.waiting.checked_sub(1)?;
         let welcome = self.try_doors(rt, true)?;
@@ -163,6 +191,7 @@ impl<G: Drop> Entrance<G> {
         ensures through { IsThroughOneOf (doors_of self.old) result }
         ensures own { IsTrue is_own → IsThroughOwn (doors_of self.old) result }
         ensures waiting { self.new.waiting ≡ self.old.waiting }
+        ensures taken { self.new.taken ≡ self.old.taken }
     {
         for _ in 0..self.doors.len() {
             let number = if self.next < self.doors.len() {
@@ -192,7 +221,8 @@ impl<G: Drop> Entrance<G> {
     /// Closes the sockets. Whoever waits there is refused, unless another process listens there
     /// too.
     pub fn close(&mut self)
-        ensures { doors_of self.new ≡ [] }
+        ensures doors { doors_of self.new ≡ [] }
+        ensures taken { taken_of self.new ≡ taken_of self.old }
     {
         self.doors.clear();
     }

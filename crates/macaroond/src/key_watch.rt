@@ -11,10 +11,12 @@ use mac_decide::Rights;
 use mac_gate::{Address, DoorFault, Doors, Gate, GateFault, open_gate};
 use mac_host::Call;
 use mac_sockets::{Claim, Holdings};
+use mac_system::handed_listener;
 use std::alloc::{Alloc, AllocError, Global};
 use std::env::Env;
 use std::fs::{File, Files};
 use std::net::{Net, TcpListener, TcpStream};
+use std::os::unix::net::UnixListener;
 use std::process::Process;
 use std::random::RandomSource;
 use std::sync::Wait;
@@ -85,9 +87,9 @@ where
     R: Net<Listener = TcpListener, Stream = TcpStream>,
     R: Threads + Wait + Sync + Copy + Send + 'static,
 {
-    let surroundings = Surroundings::find(rt, process)?;
+    let handed = handed_listener(rt, process).map_err(DaemonFault::from)?;
     let mut holdings = Holdings::new(rt.alloc(), claim, process);
-    let outcome = listen_holding(rt, terms, sockets, keys, first, surroundings, &mut holdings);
+    let outcome = listen_holding(rt, terms, sockets, keys, first, handed, &mut holdings);
     holdings.clear(rt);
     outcome
 }
@@ -99,7 +101,7 @@ fn listen_holding<'a, R>(
     sockets: Sockets<'a>,
     keys: KeyPlace<'_>,
     first: FirstKeys,
-    surroundings: Surroundings,
+    handed: Option<UnixListener>,
     holdings: &mut Holdings,
 ) -> Result<(), ListenFault<'a>>
 where
@@ -113,9 +115,8 @@ where
         after,
     } = first;
     let editor = Editor::new(rt.alloc(), *rt, read.table, FOLLOWERS, before, after)?;
-    let side_path = sockets.side.as_ref().map(|side| side.path);
-    let started = start_all(rt, terms, sockets, &editor, surroundings, holdings)?;
-    started.daemon.open(rt, terms, side_path, holdings)?;
+    let started = start_all(rt, terms, sockets, &editor, handed, holdings)?;
+    started.daemon.open(rt, terms, holdings)?;
     let watched = Watched {
         keys,
         socket: terms.path,
@@ -141,11 +142,11 @@ fn start_all<'a, R>(
     terms: Terms<'_>,
     sockets: Sockets<'a>,
     editor: &Editor<R>,
-    surroundings: Surroundings,
+    handed: Option<UnixListener>,
     holdings: &mut Holdings,
 ) -> Result<Started<R>, ListenFault<'a>>
 where
-    R: Alloc<A = Global> + Eprint + Files<File = File> + Clock + RandomSource,
+    R: Env + Alloc<A = Global> + Eprint + Files<File = File> + Clock + RandomSource,
     R: Net<Listener = TcpListener, Stream = TcpStream>,
     R: Threads + Wait + Sync + Copy + Send + 'static,
 {
@@ -163,17 +164,9 @@ where
     let for_callers = open_doors(rt, callers, holdings)?;
     let mut for_operators = open_doors(rt, operators, holdings)?;
     let status = open_status(rt, alloc, terms.path, &mut for_operators, holdings);
+    let own = open_own(rt, terms, rights, side, handed, holdings)?;
     let followers = editor.followers()?;
-    let daemon = listen(
-        rt,
-        alloc,
-        terms,
-        rights,
-        side,
-        followers,
-        surroundings,
-        holdings,
-    )?;
+    let daemon = listen(rt, alloc, terms, own, followers, Surroundings::find(rt))?;
     if let Err(fault) = status {
         warn_of_no_status(rt, terms.path, &fault);
     }
@@ -187,6 +180,41 @@ where
         callers,
         operators,
     })
+}
+
+/// The doors of a daemon's own sockets: of the one that was handed over or else is made, and of the
+/// second one, where there is one.
+fn open_own<'a, R>(
+    rt: &R,
+    terms: Terms<'_>,
+    rights: Rights,
+    side: Option<SideSocket<'_>>,
+    handed: Option<UnixListener>,
+    holdings: &mut Holdings,
+) -> Result<mac_daemon::Doors, DaemonFault>
+where
+    R: Alloc<A = Global> + Files<File = File> + Net + Clock + Wait,
+{
+    let mut doors = mac_daemon::Doors::new(rt.alloc());
+    match handed {
+        Some(listener) => doors.add(rt.alloc(), listener, rights, true)?,
+        None => doors.open(rt, terms.path, terms.permissions, rights, holdings)?,
+    }
+    let Some(
+        SideSocket {
+            path,
+            permissions,
+            rights,
+        },
+    ) = side
+    else {
+        return Ok(doors);
+    };
+    match doors.open(rt, path, permissions, rights, holdings) {
+        Ok(()) => Ok(doors),
+        Err(DaemonFault::Place(fault)) => Err(DaemonFault::Side(fault)),
+        Err(fault) => Err(fault),
+    }
 }
 
 /// Sees a daemon off with its gates.

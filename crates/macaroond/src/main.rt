@@ -4,7 +4,7 @@
 //! [`choose`] and [`pipe`].
 #![tactic(auto)]
 
-ghost use Rattle.std.specs.Prelude.{◌≡◌, ◌≤◌, if◌then◌else◌, IfErr};
+ghost use Rattle.std.specs.Prelude.{◌≡◌, ◌≤◌, if◌then◌else◌, IfErr, IfOk, None, Some};
 ghost use Rattle.mac_pool.specs.declared.pool.TheConstants.{WORKERS_MAX};
 ghost use Rattle.macaroond.specs.CommandLine.{permissions};
 ghost use Rattle.macaroond.specs.Shape.{HasCount, connections_of, drain_of, remember_of};
@@ -55,9 +55,11 @@ use key_store::{KeyPlace, read_first};
 use key_watch::{Sockets, listen_and_watch};
 use logging::read_log;
 use mac_board::Publisher;
-use mac_daemon::{DaemonFault, FOLLOWERS_MAX, Shape, Terms, accept_all};
+use mac_daemon::{DaemonFault, Day, Doors, FOLLOWERS_MAX, Shape, Surroundings, Terms, listen};
+use mac_decide::Rights;
+use mac_keys::KeyTable;
 use mac_pool::WORKERS_MAX;
-use mac_sockets::Claim;
+use mac_sockets::{Claim, bind_new};
 use mac_system::SystemMoments;
 use mac_wire::{ReaderSource, WriterSink};
 use page::run_page;
@@ -185,7 +187,6 @@ where
     R: Alloc<A = Global> + Print + Eprint + Files<File = File> + Net + Clock + RandomSource,
     R: Threads + Wait + Sync + Copy + Send + 'static,
 {
-    let path = options.socket.as_str();
     if let Err(refused) = open_standard(rt) {
         return tell_nowhere(rt, &refused);
     }
@@ -197,24 +198,59 @@ where
     if !admit_keys(rt, keys, &read, options.keys_of_others) {
         return Status::DeviceFault;
     }
-    let Ok(publisher) = Publisher::new(rt.alloc(), *rt, read.table, FOLLOWERS_MAX) else {
-        return tell_daemon(rt, path, &DaemonFault::NoMemory);
-    };
-    let Ok(followers) = publisher.followers() else {
-        return tell_daemon(rt, path, &DaemonFault::NoMemory);
-    };
-    let accept = options.accept;
-    let shape = Shape {
-        loops: count_loops(rt, None),
-        workers: count_workers(rt, Some(options.workers)),
-        connections: ACCEPT_MAX,
-        idle: None,
-        remembered: REMEMBER,
-    };
-    let mut out = WriterSink::new(io::writer(rt));
-    match accept_all(rt, rt.alloc(), path, &followers, shape, accept, &mut out) {
+    match serve_counted(rt, options, read.table) {
         Ok(_) => Status::Done,
-        Err(fault) => tell_daemon(rt, path, &fault),
+        Err(fault) => tell_daemon(rt, options.socket.as_str(), &fault),
+    }
+}
+
+/// Serves so many connections of a socket that it makes, and prints a line once clients can connect
+/// and one once all connections have ended.
+fn serve_counted<R>(rt: &R, options: &ServeOptions, table: KeyTable) -> Result<Day, DaemonFault>
+where
+    R: Alloc<A = Global> + Print + Eprint + Files<File = File> + Net + Clock + RandomSource,
+    R: Threads + Wait + Sync + Copy + Send + 'static,
+    ensures { IfOk result (λ day. day.served ≡ options.now.accept) }
+{
+    let alloc = rt.alloc();
+    let terms = counted_terms(rt, options, table.len());
+    let publisher = Publisher::new(alloc, *rt, table, FOLLOWERS_MAX)?;
+    let followers = publisher.followers()?;
+    let mut doors = Doors::new(alloc);
+    doors.add(alloc, bind_new(rt, terms.path)?, Rights::all(), false)?;
+    let daemon = listen(rt, alloc, terms, doors, followers, Surroundings::none())?;
+    if println!(rt; "listening").is_err() {
+        return Err(DaemonFault::Output);
+    }
+    let day = daemon.await_day(rt)?;
+    if println!(rt; "served {} faults {}", day.served, day.faults).is_err() {
+        return Err(DaemonFault::Output);
+    }
+    Ok(day)
+}
+
+/// The terms that the options of `serve` name.
+fn counted_terms<'a, R: Threads>(rt: &R, options: &'a ServeOptions, names: usize) -> Terms<'a>
+    ensures accept { result.accept ≡ Some options.now.accept }
+    ensures workers { HasCount WORKERS_MAX (Some options.now.workers) result.shape.workers }
+{
+    Terms {
+        path: options.socket.as_str(),
+        permissions: 0,
+        side: None,
+        names,
+        version: VERSION,
+        shape: Shape {
+            loops: count_loops(rt, None),
+            workers: count_workers(rt, Some(options.workers)),
+            connections: ACCEPT_MAX,
+            idle: None,
+            remembered: REMEMBER,
+        },
+        drain: DRAIN,
+        reserved: 0,
+        has_requests: false,
+        accept: Some(options.accept),
     }
 }
 
@@ -288,10 +324,12 @@ fn name_terms<'a, R: Threads>(
     ensures loops { HasCount LOOPS_MAX options.now.loops result.shape.loops }
     ensures workers { HasCount WORKERS_MAX options.now.workers result.shape.workers }
     ensures requests { result.has_requests ≡ has_requests }
+    ensures endless { result.accept ≡ None }
 {
     Terms {
         path: options.socket.as_str(),
         permissions: options.mode.permissions(),
+        side: options.verify_socket.as_deref(),
         names,
         version: VERSION,
         shape: Shape {
@@ -304,6 +342,7 @@ fn name_terms<'a, R: Threads>(
         drain: options.drain.unwrap_or(DRAIN),
         reserved,
         has_requests,
+        accept: None,
     }
 }
 
