@@ -28,7 +28,6 @@ MEANT = {
     "mac_ring::intake::Intake::free_slips": "tells whether the next admit succeeds, as its contract says",
     "mac_serve::caller::Caller::new": WHOLE,
     "mac_serve::whole::serve_all": WHOLE,
-    "mac_http::attending::attend": "a peer's turns up to the end of its connection, as try_http drives them",
 }
 WORD = re.compile(r"[^\W\d][\w'-]*")
 

@@ -1,4 +1,3 @@
 pub mod Crew
 pub mod Day
-pub mod Doors
 pub mod Parting

@@ -21,7 +21,7 @@ mod stop;
 mod surroundings;
 
 pub use crew::WIDE_MAX;
-pub use door::{Doors, SideSocket};
+pub use door::{Gift, SideSocket, give};
 pub use fault::DaemonFault;
 pub use fleet::{Day, FOLLOWERS_MAX, Shape};
 pub use listening::{Daemon, Terms, listen};

@@ -5,7 +5,7 @@ ghost use Rattle.mac_daemon.specs.Day.{MeetsCount, count_of};
 
 use crate::accepting::{AsAsked, Limits};
 use crate::descriptors::most_connections;
-use crate::door::Doors;
+use crate::door::Gift;
 use crate::fault::DaemonFault;
 use crate::fleet::{Day, Fleet, Idlers, Service, Shape, make_seen};
 use crate::quay::Quay;
@@ -13,7 +13,7 @@ use crate::stop::Stop;
 use crate::surroundings::{Surroundings, heed_signals};
 use mac_board::{Followers, News};
 use mac_host::{Beginning, Call, Ending, Host, Notices, Numbers, Roster};
-use mac_sockets::{Entrance, Holdings, STACK};
+use mac_sockets::{Doors, Entrance, Holdings, STACK};
 use mac_system::{NotifySocket, State};
 use std::alloc::{AllocError, Global};
 use std::fs::Files;
@@ -74,7 +74,7 @@ pub fn listen<R>(
     rt: &R,
     alloc: Global,
     terms: Terms<'_>,
-    doors: Doors,
+    doors: Doors<Gift>,
     followers: Followers,
     surroundings: Surroundings,
 ) -> Result<Daemon, DaemonFault>
@@ -88,7 +88,7 @@ where
         manager,
         is_journal,
     } = surroundings;
-    let entrance = Entrance::open(rt, alloc, doors.doors)?;
+    let entrance = Entrance::open(rt, alloc, doors)?;
     let ending = Ending::new(alloc)?;
     let stop = Stop::new(&ending, entrance.shutter())?;
     let notices = start_notices(*rt, alloc, is_journal, terms)?;

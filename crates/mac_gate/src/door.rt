@@ -2,7 +2,7 @@
 
 use crate::address::Address;
 use mac_decide::Rights;
-use mac_sockets::{Door, Holdings, PlaceFault};
+use mac_sockets::{Door, Doors, Holdings, PlaceFault};
 use std::alloc::Global;
 use std::fs::{File, Files};
 use std::io;
@@ -14,8 +14,8 @@ use thiserror::Error;
 
 /// Doors that were opened one after another, and what is allowed at each of them.
 #[derive(Drop)]
-pub struct Doors {
-    pub(crate) doors: Vec<Door<()>>,
+pub struct HttpDoors {
+    pub(crate) doors: Doors<()>,
     pub(crate) rights: Rights,
 }
 
@@ -62,15 +62,15 @@ impl From<io::Error> for DoorFault {
     }
 }
 
-impl Doors {
+impl HttpDoors {
     ghost use Rattle.std.specs.Prelude.{◌≡◌};
 
     /// No door yet. What is allowed at those that are opened is told here.
-    pub fn new(alloc: Global, rights: Rights) -> Doors
+    pub fn new(alloc: Global, rights: Rights) -> HttpDoors
         ensures { result.rights ≡ rights }
     {
-        Doors {
-            doors: Vec::new(alloc),
+        HttpDoors {
+            doors: Doors::new(alloc),
             rights,
         }
     }
@@ -94,7 +94,10 @@ impl Doors {
     {
         match address {
             Address::Unix(path) => self.open_unix(rt, path, permissions, holdings),
-            Address::Tcp(address) => self.open_tcp(rt, address),
+            Address::Tcp(address) => {
+                open_port(rt, &mut self.doors, address)?;
+                Ok(())
+            }
         }
     }
 
@@ -110,22 +113,21 @@ impl Doors {
     where
         R: Files<File = File> + Net + Clock + Wait,
     {
-        let listener = holdings.bind(rt, path, permissions)?;
-        self.keep(Door::unix(listener, (), false)?)
+        Ok(self.doors.open(rt, path, permissions, (), holdings)?)
     }
+}
 
-    fn open_tcp<R>(&mut self, rt: &R, address: SocketAddr) -> Result<(), DoorFault>
-    where
-        R: Net<Listener = TcpListener, Stream = TcpStream>,
-    {
-        let listener = TcpListener::bind(rt, address)?;
-        self.keep(Door::tcp(listener, ())?)
-    }
-
-    fn keep(&mut self, door: Door<()>) -> Result<(), DoorFault> {
-        match self.doors.push(door) {
-            Ok(()) => Ok(()),
-            Err(_) => Err(DoorFault::NoMemory),
-        }
-    }
+/// Adds the door of a port. The address that it has is told, as the system may choose the port.
+pub fn open_port<R>(
+    rt: &R,
+    doors: &mut Doors<()>,
+    address: SocketAddr,
+) -> Result<SocketAddr, DoorFault>
+where
+    R: Net<Listener = TcpListener, Stream = TcpStream>,
+{
+    let listener = TcpListener::bind(rt, address)?;
+    let served = listener.local_addr()?;
+    doors.add(Door::tcp(listener, ())?)?;
+    Ok(served)
 }

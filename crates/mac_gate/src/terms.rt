@@ -1,4 +1,4 @@
-//! How a gate serves its connections.
+//! How a server serves its connections.
 
 ghost use Rattle.std.specs.Prelude.{◌≡◌};
 
@@ -6,9 +6,9 @@ use mac_decide::Rights;
 use mac_http::{Calls, Granted, Pages, Rules, Sources, Way};
 use std::time::Duration;
 
-/// How connections are served.
+/// How the connections of a daemon are served.
 #[derive(Clone, Copy)]
-pub struct Terms {
+pub struct HttpTerms {
     /// Where facts are taken from.
     pub sources: Sources,
     /// The status that grants.
@@ -25,7 +25,28 @@ pub struct Terms {
     pub version: &'static str,
 }
 
-impl Terms {
+/// What the connections of a server are held to.
+#[derive(Clone, Copy)]
+pub struct Bounds {
+    /// How many there are at a time.
+    pub connections: usize,
+    /// How long a peer may bring no whole request, and a write may wait.
+    pub patience: Duration,
+    /// Whether one gives way to a further one: that to which nothing was sent for longest, of those
+    /// in its loop. Else the further one is closed.
+    pub gives_way: bool,
+}
+
+impl HttpTerms {
+    /// What they are held to.
+    pub(crate) fn bounds(&self) -> Bounds {
+        Bounds {
+            connections: self.connections,
+            patience: self.patience,
+            gives_way: false,
+        }
+    }
+
     /// What the face of a connection does with a request, where its address allows this and its peer
     /// comes by this way.
     pub(crate) fn rules<'a>(&self, rights: &'a Rights, way: Way) -> Rules<'a>

@@ -7,6 +7,7 @@ use crate::roster::Roster;
 use mac_decide::SeenTokens;
 use std::alloc::{AllocError, Global};
 use std::sync::{Arc, Wait};
+use std::time::Clock;
 
 /// What a server has of its daemon: its end, its log, its numbers, the list of the connections of
 /// its own socket, and the memory of tokens.
@@ -35,6 +36,17 @@ impl Host {
             roster,
             seen,
         }
+    }
+
+    /// That of a server which is no daemon's: nothing is logged, listed or remembered.
+    pub fn alone<R: Wait + Clock>(rt: &R, alloc: Global) -> Result<Host, AllocError> {
+        Ok(Host {
+            ending: Ending::new(alloc)?,
+            notices: Notices::none(alloc),
+            numbers: Numbers::begin(rt, alloc)?,
+            roster: Roster::new(rt, alloc, 1, Vec::new(alloc))?,
+            seen: SeenTokens::none(),
+        })
     }
 
     /// The same, for another server.

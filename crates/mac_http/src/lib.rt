@@ -5,8 +5,8 @@
 //! the token, the [`Sources`] that are named bring facts, and [`Moments`](mac_board::Moments) the
 //! moment. A [`Steward`] fills the pages that tell of the daemon. The [`Calls`] that are allowed
 //! bring JSON, which `mac_calls` answers. Which names may be used, and whether a mint is answered,
-//! `mac_decide`'s [`Rights`](mac_decide::Rights) say. [`attend`] serves it all over a reader and a
-//! writer. No sockets are opened here.
+//! `mac_decide`'s [`Rights`](mac_decide::Rights) say. [`take_turn`] answers a connection, a turn at a
+//! time. No sockets are opened here.
 #![tactic(auto)]
 
 mod attending;
@@ -25,7 +25,7 @@ mod rules;
 mod saying;
 mod target;
 
-pub use attending::{CONFIG, Watch, attend, serve, take_turn};
+pub use attending::{CONFIG, take_turn};
 pub use authorization::Scheme;
 pub use calling::{Asked, call_in};
 pub use face::Face;

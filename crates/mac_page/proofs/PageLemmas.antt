@@ -1,10 +1,21 @@
 -- Responses that are right, one after the other, and fields that are put one after the other.
-use Rattle.std.proofs.Common.{◌≡◌, ℕ, List, [], ◌∷◌, ◌++◌, subst, ap, ◌∙◌, append_assoc}
+use Rattle.std.proofs.Common.{◌≡◌, ℕ, List, [], ◌∷◌, ◌++◌, Option, sym, subst, ap, ◌∙◌, append_assoc}
 use Rattle.std.specs.Prelude.{All}
+use Rattle.std.specs.Io.KnownBytes.{Appends, Consumes}
 use Rattle.std.proofs.lemmas.List.Elements.{All-nil, All-cons}
 use Rattle.http.specs.declared.request.Request.{Request}
+use Rattle.http_server.specs.declared.connection.Connection.{Connection}
 use Rattle.http_server.specs.declared.response.Response.{Response}
+use Rattle.http_server.specs.declared.state.Config.{Config}
+use Rattle.http_server.specs.Connection.{config_of, history}
 use Rattle.http_server.specs.Exchange.{Call, Chain}
+use Rattle.http_server.specs.History.{History, IsServed, new_history}
+use Rattle.http_server.proofs.Theorems.{always_served}
+use Rattle.mac_http.specs.declared.attending.TheConstants.{CONFIG}
+use Rattle.mac_http.specs.Turn.{IsTurn}
+use Rattle.mac_page.specs.declared.site.Site.{Site}
+use Rattle.mac_page.specs.Paged.{IsPaged}
+use Rattle.mac_page.specs.Told.{Responds}
 
 -- where each call is right by something that stays, all are
 pub right_all : {S X : Type 0} (answers : S → Request (List ℕ) → Response → S → Type 0) (of : S → X) (Right : X → Call → Type 0)
@@ -15,6 +26,24 @@ right_all answers of Right each (c ∷ calls) old new x =
     let one = each old c.0 c.1 x.0 x.1 in
     let rest = right_all answers of Right each calls x.0 new x.2 in
     All-cons (Right (of old)) c calls one.1 (subst (λ s. All (Right s) calls) one.0 rest)
+
+-- turns from the begin of a connection
+pub paged_from : {S : Type 0} (answers : S → Request (List ℕ) → Response → S → Type 0) (site : S → Site)
+    → ((s : S) (q : Request (List ℕ)) (r : Response) (t : S) → answers s q r t → (site t ≡ site s) × Responds (site s) q r)
+    → (u v x y : Option (List ℕ)) (first last : S) (old new : Connection) → history old ≡ new_history → config_of old ≡ CONFIG
+    → IsTurn answers u v x y first last old new → IsPaged (site first) u v x y
+paged_from answers site each u v x y first last old new fresh config turn =
+    let received = turn.read.2 ∙ ap (λ (h : History). h.received ++ turn.read.0) fresh in
+    let sent = turn.written.2 ∙ ap (λ (h : History). h.sent ++ turn.written.0) fresh in
+    let called = turn.calls.1 ∙ ap (λ (h : History). h.calls ++ turn.calls.0) fresh in
+    let all = right_all answers site (λ (own : Site) (call : Call). Responds own call.0 call.1) each turn.calls.0 first last turn.calls.2 in
+    record {
+      history = history new;
+      read = subst (λ (t : List ℕ). Consumes u v t) (sym received) turn.read.1;
+      written = subst (λ (t : List ℕ). Appends x y t) (sym sent) turn.written.1;
+      served = subst (λ (k : Config). ∥ IsServed k (history new) ∥₁) (turn.config ∙ config) (always_served new);
+      right = subst (λ (cs : List Call). All (λ call. Responds (site first) call.0 call.1) cs) (sym called) all;
+    }
 
 -- a field that is put, and one more behind those that were put
 put_one : {X : Type 0} (old new : List X) (x x' : X) → x ≡ x' → new ≡ old ++ x ∷ [] → new ≡ old ++ x' ∷ []

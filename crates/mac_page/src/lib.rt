@@ -2,11 +2,10 @@
 //!
 //! A [`PageFace`] is a [`Service`](http_server::Service) that answers for a [`Site`]. The files are
 //! the same for everyone, and tell nothing. Whatever else isn't asked by the site's own page, which
-//! alone has its secret, is refused before anything else. Calls are answered by `mac_calls`. [`attend_page`]
-//! serves it over a reader and a writer. No sockets are opened here.
+//! alone has its secret, is refused before anything else. Calls are answered by `mac_calls`. Who has
+//! the sockets answers a connection by turns of `mac_http`.
 #![tactic(auto)]
 
-mod attending;
 mod face;
 mod home;
 pub mod laws;
@@ -16,9 +15,8 @@ mod secret;
 mod site;
 mod told;
 
-pub use attending::attend_page;
 pub use face::PageFace;
 pub use route::File;
 pub use secret::{Secret, Secrets};
-pub use site::{Site, Texts};
+pub use site::{Site, SiteTexts};
 pub use told::Told;

@@ -5,7 +5,7 @@ use mac_keys::KeyTable;
 
 /// The texts of the files.
 #[derive(Clone, Copy)]
-pub struct Texts {
+pub struct SiteTexts {
     /// The document, in HTML.
     pub document: &'static [u8],
     /// Its style, in CSS.
@@ -18,7 +18,7 @@ pub struct Texts {
 #[derive(Drop)]
 pub struct Site {
     /// The texts of its files.
-    pub texts: Texts,
+    pub texts: SiteTexts,
     /// The address and the port that it is served at, as a browser names them.
     pub address: String,
     /// The name of this machine with the same port.

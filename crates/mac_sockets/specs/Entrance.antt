@@ -1,6 +1,7 @@
 -- The doors of an entrance, and which of them a connection came in through.
 use Rattle.std.specs.Prelude.{◌≡◌, ◌+◌, ◌-◌, ◌^◌, ◌<◌, ◌≤◌, ℕ, Bool, false, List, Option, Some, None, Result, Ok, Err, MatchOption, length, min, slice_get}
 use Rattle.mac_sockets.specs.declared.door.Door.{Door}
+use Rattle.mac_sockets.specs.declared.doors.Doors.{Doors}
 use Rattle.mac_sockets.specs.declared.entrance.Arrived.{Arrived}
 use Rattle.mac_sockets.specs.declared.entrance.Entrance.{Entrance}
 
@@ -12,6 +13,10 @@ module _ {G : Type 0} where
   -- whether another process has a door too
   abbrev pub shared_of : Door G → Bool
   shared_of door = door.is_shared
+
+  -- the doors that were opened, in order
+  abbrev pub opened : Doors G → List (Door G)
+  opened doors = doors.doors.items
 
   -- the doors of an entrance, in the order of their numbers
   abbrev pub doors_of : Entrance G → List (Door G)

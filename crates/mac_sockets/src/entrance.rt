@@ -2,9 +2,10 @@
 
 ghost use Rattle.std.specs.Prelude.{◌≡◌, ◌<◌, [], IfOk, IsTrue, length};
 ghost use Rattle.mac_sockets.specs.Entrance.{CountsArrived, CountsDown, doors_of, IsGiftAt, IsThroughOneOf};
-ghost use Rattle.mac_sockets.specs.Entrance.{IsThroughOwn, taken_of};
+ghost use Rattle.mac_sockets.specs.Entrance.{IsThroughOwn, opened, taken_of};
 
 use crate::door::Door;
+use crate::doors::Doors;
 use crate::fault::EntranceFault;
 use crate::stream::Stream;
 use mio::unix::SourceFd;
@@ -78,11 +79,12 @@ impl<G: Drop> Entrance<G> {
     pub fn open<R: Net>(
         rt: &R,
         alloc: Global,
-        doors: Vec<Door<G>>,
+        doors: Doors<G>,
     ) -> Result<Entrance<G>, EntranceFault>
-        ensures doors { IfOk result (λ entrance. doors_of entrance ≡ doors.items) }
+        ensures doors { IfOk result (λ entrance. doors_of entrance ≡ opened doors) }
         ensures taken { IfOk result (λ entrance. taken_of entrance ≡ 0) }
     {
+        let Doors { doors } = doors;
         let poll = Poll::new(rt)?;
         let registry = poll.registry();
         for (number, door) in doors.iter().enumerate() {

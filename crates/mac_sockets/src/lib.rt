@@ -10,6 +10,7 @@
 
 mod connections;
 mod door;
+mod doors;
 mod entrance;
 mod fault;
 mod holding;
@@ -21,6 +22,7 @@ mod stream;
 
 pub use connections::{Connections, Readiness, Wakes};
 pub use door::Door;
+pub use doors::Doors;
 pub use entrance::{Arrived, Entrance, Shutter, Welcome};
 pub use fault::EntranceFault;
 pub use holding::Holdings;

@@ -11,7 +11,7 @@ use Rattle.mac_gate.specs.Address.{AreRead}
 use Rattle.mac_gate.specs.declared.address.Address.{Address}
 use Rattle.mac_gate.specs.declared.address.Reach.{Reach}
 use Rattle.mac_gate.specs.declared.address.Reach.TheVariants.{Loopback, Anywhere}
-use Rattle.mac_gate.specs.declared.terms.Terms.{Terms}
+use Rattle.mac_gate.specs.declared.terms.HttpTerms.{HttpTerms}
 use Rattle.mac_http.specs.Calling.{no_calls}
 use Rattle.mac_http.specs.declared.rules.Pages.{Pages}
 use Rattle.mac_http.specs.declared.rules.Pages.TheVariants as pages
@@ -118,7 +118,7 @@ http_patience_of None = 10
 http_patience_of (Some asked) = asked
 
 -- how the connections of gateways are served: no call is answered there
-pub record AreTerms (options : HttpOptions) (terms : Terms) : Type 0 where
+pub record AreTerms (options : HttpOptions) (terms : HttpTerms) : Type 0 where
   pub status : granted_of options.granted ≡ Some terms.granted
   pub sources : GivesSources options.strict_paths options.facts (Ok terms.sources)
   pub none : terms.calls ≡ no_calls

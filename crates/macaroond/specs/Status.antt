@@ -6,8 +6,8 @@ use Rattle.mac_daemon.specs.declared.fault.DaemonFault.{DaemonFault}
 use Rattle.mac_daemon.specs.declared.fault.DaemonFault.TheVariants as daemon
 use Rattle.mac_gate.specs.declared.door.DoorFault.{DoorFault}
 use Rattle.mac_gate.specs.declared.door.DoorFault.TheVariants as door
-use Rattle.mac_gate.specs.declared.gate.GateFault.{GateFault}
-use Rattle.mac_gate.specs.declared.gate.GateFault.TheVariants as gate
+use Rattle.mac_gate.specs.declared.server.ServerFault.{ServerFault}
+use Rattle.mac_gate.specs.declared.server.ServerFault.TheVariants as server
 use Rattle.macaroond.specs.declared.http.HttpFault.{HttpFault}
 use Rattle.macaroond.specs.declared.http.HttpFault.TheVariants as http
 use Rattle.macaroond.specs.declared.key_watch.ListenFault.{ListenFault}
@@ -55,15 +55,15 @@ door_status door.Taken = status.DeviceFault
 door_status door.Forbidden = status.DeviceFault
 door_status door.NotHere = status.DeviceFault
 
-abbrev pub gate_status : GateFault → Status
-gate_status gate.NoThread = status.NoMemory
-gate_status gate.NoMemory = status.NoMemory
-gate_status (gate.System fault) = status.DeviceFault
+abbrev pub server_status : ServerFault → Status
+server_status server.NoThread = status.NoMemory
+server_status server.NoMemory = status.NoMemory
+server_status (server.System fault) = status.DeviceFault
 
 abbrev pub listen_status : ListenFault → Status
 listen_status (listen.Daemon fault) = daemon_status fault
 listen_status (listen.Door address fault) = door_status fault
-listen_status (listen.Gate fault) = gate_status fault
+listen_status (listen.Server fault) = server_status fault
 
 -- a bad line, but for want of memory
 abbrev pub http_status : HttpFault → Status

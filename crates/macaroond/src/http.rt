@@ -15,7 +15,7 @@ use crate::key_watch::ListenFault;
 use crate::operating::{OPERATORS_LOOPS, OPERATORS_MAX};
 use crate::rights::read_rights;
 use mac_decide::Rights;
-use mac_gate::{Address, AddressFault, Doors, ListFault, Reach, Terms, read_addresses};
+use mac_gate::{Address, AddressFault, HttpDoors, HttpTerms, ListFault, Reach, read_addresses};
 use mac_http::{Calls, Granted, Pages, Sources};
 use mac_sockets::Holdings;
 use std::alloc::{Alloc, AllocError, Global};
@@ -69,16 +69,16 @@ pub struct HttpPlan<'a> {
     /// Where operators ask, and nobody else.
     pub operators: AddressGroup<'a>,
     /// How the connections of gateways are served.
-    pub terms: Terms,
+    pub terms: HttpTerms,
 }
 
 impl<'a> AddressGroup<'a> {
     /// How many descriptors its sockets may need where so many loops serve them.
-    fn descriptors(&self, terms: &Terms, loops: usize) -> u64 {
+    fn descriptors(&self, terms: &HttpTerms, loops: usize) -> u64 {
         if self.addresses.is_empty() {
             0
         } else {
-            gate_descriptors(terms.connections, self.addresses.len(), loops)
+            server_descriptors(terms.connections, self.addresses.len(), loops)
         }
     }
 }
@@ -88,17 +88,17 @@ impl<'a> HttpPlan<'a> {
     /// as many those of callers.
     pub fn descriptors(&self, loops: usize) -> u64 {
         let doors = self.operators.addresses.len().saturating_add(1);
-        let operators = gate_descriptors(OPERATORS_MAX, doors, OPERATORS_LOOPS);
+        let operators = server_descriptors(OPERATORS_MAX, doors, OPERATORS_LOOPS);
         let gateways = self.gateways.descriptors(&self.terms, loops);
         let callers = self.callers.descriptors(&self.terms, loops);
         operators.saturating_add(gateways).saturating_add(callers)
     }
 
     /// How the connections of callers are served.
-    pub fn calls_terms(&self) -> Terms
+    pub fn calls_terms(&self) -> HttpTerms
         ensures { result ≡ record self.now.terms { calls = self.now.calls } }
     {
-        Terms {
+        HttpTerms {
             calls: self.calls,
             ..self.terms
         }
@@ -115,9 +115,9 @@ impl<'a> HttpPlan<'a> {
     }
 }
 
-/// How many descriptors a gate may need: one for each connection, two for each door with its lock,
+/// How many descriptors a server over HTTP may need: one for each connection, two for each door with its lock,
 /// two for each loop to wait by, and three to wait at the doors.
-fn gate_descriptors(connections: usize, doors: usize, loops: usize) -> u64 {
+fn server_descriptors(connections: usize, doors: usize, loops: usize) -> u64 {
     (connections as u64)
         .saturating_add((doors as u64).saturating_mul(2))
         .saturating_add((loops as u64).saturating_mul(2))
@@ -193,7 +193,7 @@ pub fn plan_http<'a>(alloc: Global, options: &'a HttpOptions) -> Result<HttpPlan
 }
 
 /// How the connections of gateways are served.
-fn plan_terms<'a>(alloc: Global, options: &HttpOptions) -> Result<Terms, HttpFault<'a>>
+fn plan_terms<'a>(alloc: Global, options: &HttpOptions) -> Result<HttpTerms, HttpFault<'a>>
     ensures terms { IfOk result (AreTerms options.now) }
     ensures refused { IfErr result (IsRefused options.now) }
 {
@@ -201,7 +201,7 @@ fn plan_terms<'a>(alloc: Global, options: &HttpOptions) -> Result<Terms, HttpFau
         return Err(HttpFault::Granted);
     };
     let sources = read_sources(alloc, options.strict_paths, &options.facts)?;
-    Ok(Terms {
+    Ok(HttpTerms {
         sources,
         granted,
         calls: Calls::none(),
@@ -392,7 +392,7 @@ pub(crate) fn open_doors<'a, R>(
     rt: &R,
     group: AddressGroup<'a>,
     holdings: &mut Holdings,
-) -> Result<Doors, ListenFault<'a>>
+) -> Result<HttpDoors, ListenFault<'a>>
 where
     R: Alloc<A = Global> + Files<File = File> + Clock + Wait,
     R: Net<Listener = TcpListener, Stream = TcpStream>,
@@ -402,7 +402,7 @@ where
         permissions,
         rights,
     } = group;
-    let mut doors = Doors::new(rt.alloc(), rights);
+    let mut doors = HttpDoors::new(rt.alloc(), rights);
     for address in &addresses {
         if let Err(fault) = doors.open(rt, *address, permissions, holdings) {
             return Err(ListenFault::Door(*address, fault));

@@ -4,13 +4,15 @@ ghost use Rattle.macaroond.specs.Watching.{Watches};
 use crate::commands::LOOPS_MAX;
 use crate::http::{HttpPlan, open_doors};
 use crate::key_store::{FirstKeys, KeyPlace, look_at};
-use crate::operating::{OperatorsGate, open_status, start_operators, warn_of_no_status};
+use crate::operating::{OperatorsServer, open_status, start_operators, warn_of_no_status};
 use mac_board::Editor;
-use mac_daemon::{Daemon, DaemonFault, FOLLOWERS_MAX, SideSocket, Surroundings, Terms, listen};
+use mac_daemon::{
+    Daemon, DaemonFault, FOLLOWERS_MAX, Gift, SideSocket, Surroundings, Terms, give, listen,
+};
 use mac_decide::Rights;
-use mac_gate::{Address, DoorFault, Doors, Gate, GateFault, open_gate};
+use mac_gate::{Address, DoorFault, HttpDoors, HttpServer, HttpTerms, ServerFault, serve_daemon};
 use mac_host::Call;
-use mac_sockets::{Claim, Holdings};
+use mac_sockets::{Claim, Door, Doors, Holdings, PlaceFault};
 use mac_system::handed_listener;
 use std::alloc::{Alloc, AllocError, Global};
 use std::env::Env;
@@ -49,7 +51,7 @@ pub(crate) enum ListenFault<'a> {
     /// There is no socket over HTTP at this address.
     Door(Address<'a>, DoorFault),
     /// Nobody accepts connections over HTTP.
-    Gate(GateFault),
+    Server(ServerFault),
 }
 
 impl<'a> From<DaemonFault> for ListenFault<'a> {
@@ -64,9 +66,9 @@ impl<'a> From<AllocError> for ListenFault<'a> {
     }
 }
 
-impl<'a> From<GateFault> for ListenFault<'a> {
-    fn from(refused: GateFault) -> ListenFault<'a> {
-        ListenFault::Gate(refused)
+impl<'a> From<ServerFault> for ListenFault<'a> {
+    fn from(refused: ServerFault) -> ListenFault<'a> {
+        ListenFault::Server(refused)
     }
 }
 
@@ -126,13 +128,13 @@ where
     Ok(())
 }
 
-/// A daemon with its gates.
+/// A daemon with its servers over HTTP.
 #[derive(Drop)]
 struct Started<R: Wait + Drop> {
     daemon: Daemon,
-    gate: Option<Gate>,
-    callers: Option<Gate>,
-    operators: Option<OperatorsGate<R>>,
+    gateways: Option<HttpServer>,
+    callers: Option<HttpServer>,
+    operators: Option<OperatorsServer<R>>,
 }
 
 /// Makes the sockets of a daemon and starts the threads that serve them. Nobody can reach a Unix
@@ -171,12 +173,12 @@ where
         warn_of_no_status(rt, terms.path, &fault);
     }
     let loops = terms.shape.loops;
-    let gate = start_gate(rt, doors, editor, &daemon, loops, gateways_terms)?;
-    let callers = start_gate(rt, for_callers, editor, &daemon, loops, calls_terms)?;
+    let gateways = start_server(rt, doors, editor, &daemon, loops, gateways_terms)?;
+    let callers = start_server(rt, for_callers, editor, &daemon, loops, calls_terms)?;
     let operators = start_operators(rt, for_operators, &daemon)?;
     Ok(Started {
         daemon,
-        gate,
+        gateways,
         callers,
         operators,
     })
@@ -184,21 +186,22 @@ where
 
 /// The doors of a daemon's own sockets: of the one that was handed over or else is made, and of the
 /// second one, where there is one.
-fn open_own<'a, R>(
+fn open_own<R>(
     rt: &R,
     terms: Terms<'_>,
     rights: Rights,
     side: Option<SideSocket<'_>>,
     handed: Option<UnixListener>,
     holdings: &mut Holdings,
-) -> Result<mac_daemon::Doors, DaemonFault>
+) -> Result<Doors<Gift>, DaemonFault>
 where
     R: Alloc<A = Global> + Files<File = File> + Net + Clock + Wait,
 {
-    let mut doors = mac_daemon::Doors::new(rt.alloc());
+    let mut doors = Doors::new(rt.alloc());
+    let gift = give(rt.alloc(), rights)?;
     match handed {
-        Some(listener) => doors.add(rt.alloc(), listener, rights, true)?,
-        None => doors.open(rt, terms.path, terms.permissions, rights, holdings)?,
+        Some(listener) => doors.add(Door::unix(listener, gift, true)?)?,
+        None => doors.open(rt, terms.path, terms.permissions, gift, holdings)?,
     }
     let Some(
         SideSocket {
@@ -210,23 +213,24 @@ where
     else {
         return Ok(doors);
     };
-    match doors.open(rt, path, permissions, rights, holdings) {
+    let gift = give(rt.alloc(), rights)?;
+    match doors.open(rt, path, permissions, gift, holdings) {
         Ok(()) => Ok(doors),
-        Err(DaemonFault::Place(fault)) => Err(DaemonFault::Side(fault)),
-        Err(fault) => Err(fault),
+        Err(PlaceFault::NoMemory) => Err(DaemonFault::NoMemory),
+        Err(fault) => Err(DaemonFault::Side(fault)),
     }
 }
 
-/// Sees a daemon off with its gates.
+/// Sees a daemon off with its servers over HTTP.
 fn end_all<R: Wait + Clock + Drop>(rt: &R, started: Started<R>) {
     let Started {
         daemon,
-        gate,
+        gateways,
         callers,
         operators,
     } = started;
-    if let Some(gate) = gate {
-        gate.end();
+    if let Some(gateways) = gateways {
+        gateways.end();
     }
     if let Some(callers) = callers {
         callers.end();
@@ -239,14 +243,14 @@ fn end_all<R: Wait + Clock + Drop>(rt: &R, started: Started<R>) {
 
 /// Has the connections that come in through these doors served by so many loops, where there are
 /// any doors.
-fn start_gate<'a, R>(
+fn start_server<'a, R>(
     rt: &R,
-    doors: Doors,
+    doors: HttpDoors,
     editor: &Editor<R>,
     daemon: &Daemon,
     loops: usize,
-    terms: mac_gate::Terms,
-) -> Result<Option<Gate>, ListenFault<'a>>
+    terms: HttpTerms,
+) -> Result<Option<HttpServer>, ListenFault<'a>>
 where
     R: Alloc<A = Global> + Clock + RandomSource + Net,
     R: Threads + Wait + Sync + Copy + Send + 'static,
@@ -256,8 +260,8 @@ where
     }
     let followers = editor.followers()?;
     let host = daemon.host()?;
-    let gate = open_gate(rt, rt.alloc(), doors, followers, host, loops, terms)?;
-    Ok(Some(gate))
+    let server = serve_daemon(rt, doors, followers, host, loops, terms)?;
+    Ok(Some(server))
 }
 
 /// What a daemon looks at now and then, by their paths.

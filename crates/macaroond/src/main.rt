@@ -4,7 +4,7 @@
 //! [`choose`] and [`pipe`].
 #![tactic(auto)]
 
-ghost use Rattle.std.specs.Prelude.{◌≡◌, ◌≤◌, if◌then◌else◌, IfErr, IfOk, None, Some};
+ghost use Rattle.std.specs.Prelude.{◌≡◌, ◌≤◌, if◌then◌else◌, IfErr, None};
 ghost use Rattle.mac_pool.specs.declared.pool.TheConstants.{WORKERS_MAX};
 ghost use Rattle.macaroond.specs.CommandLine.{permissions};
 ghost use Rattle.macaroond.specs.Shape.{HasCount, connections_of, drain_of, remember_of};
@@ -35,7 +35,7 @@ mod people;
 mod piping;
 mod reply_line;
 mod rights;
-mod seats;
+mod serving;
 mod status;
 mod telling;
 
@@ -50,16 +50,12 @@ use descriptors::open_standard;
 pub use fault::PipeFault;
 use http::plan_http;
 pub use input::INPUT_MAX;
-use key_file::read_key_file;
 use key_store::{KeyPlace, read_first};
 use key_watch::{Sockets, listen_and_watch};
 use logging::read_log;
-use mac_board::Publisher;
-use mac_daemon::{DaemonFault, Day, Doors, FOLLOWERS_MAX, Shape, Surroundings, Terms, listen};
-use mac_decide::Rights;
-use mac_keys::KeyTable;
+use mac_daemon::{Shape, Terms};
 use mac_pool::WORKERS_MAX;
-use mac_sockets::{Claim, bind_new};
+use mac_sockets::Claim;
 use mac_system::SystemMoments;
 use mac_wire::{ReaderSource, WriterSink};
 use page::run_page;
@@ -67,6 +63,7 @@ use people::{admit_keys, run_task};
 pub use people::{PersonFault, Task};
 pub use piping::pipe;
 use rights::read_sockets;
+use serving::run_serve;
 pub use status::Status;
 use std::alloc::{Alloc, Global};
 use std::env::Env;
@@ -79,8 +76,8 @@ use std::thread::Threads;
 use std::time::Clock;
 use std::{io, thread};
 use telling::{
-    show, tell_daemon, tell_ending, tell_fault, tell_http, tell_key_file, tell_listen, tell_log,
-    tell_nowhere, tell_served_keys, warn_of_minting,
+    show, tell_ending, tell_fault, tell_http, tell_key_file, tell_listen, tell_log, tell_nowhere,
+    warn_of_minting,
 };
 
 /// How many connections there are at a time, where nothing else is asked for.
@@ -179,79 +176,6 @@ fn count_threads<R: Threads>(rt: &R, asked: Option<u64>, most: usize) -> usize
         None => thread::available_parallelism(rt).map_or(1, |count| count.get()),
     };
     count.max(1).min(most)
-}
-
-/// Serves so many connections, and says how the run ended.
-fn run_serve<R>(rt: &R, options: &ServeOptions) -> Status
-where
-    R: Alloc<A = Global> + Print + Eprint + Files<File = File> + Net + Clock + RandomSource,
-    R: Threads + Wait + Sync + Copy + Send + 'static,
-{
-    if let Err(refused) = open_standard(rt) {
-        return tell_nowhere(rt, &refused);
-    }
-    let keys = options.keys.as_str();
-    let read = match read_key_file(rt, keys) {
-        Ok(read) => read,
-        Err(fault) => return tell_served_keys(rt, keys, fault),
-    };
-    if !admit_keys(rt, keys, &read, options.keys_of_others) {
-        return Status::DeviceFault;
-    }
-    match serve_counted(rt, options, read.table) {
-        Ok(_) => Status::Done,
-        Err(fault) => tell_daemon(rt, options.socket.as_str(), &fault),
-    }
-}
-
-/// Serves so many connections of a socket that it makes, and prints a line once clients can connect
-/// and one once all connections have ended.
-fn serve_counted<R>(rt: &R, options: &ServeOptions, table: KeyTable) -> Result<Day, DaemonFault>
-where
-    R: Alloc<A = Global> + Print + Eprint + Files<File = File> + Net + Clock + RandomSource,
-    R: Threads + Wait + Sync + Copy + Send + 'static,
-    ensures { IfOk result (λ day. day.served ≡ options.now.accept) }
-{
-    let alloc = rt.alloc();
-    let terms = counted_terms(rt, options, table.len());
-    let publisher = Publisher::new(alloc, *rt, table, FOLLOWERS_MAX)?;
-    let followers = publisher.followers()?;
-    let mut doors = Doors::new(alloc);
-    doors.add(alloc, bind_new(rt, terms.path)?, Rights::all(), false)?;
-    let daemon = listen(rt, alloc, terms, doors, followers, Surroundings::none())?;
-    if println!(rt; "listening").is_err() {
-        return Err(DaemonFault::Output);
-    }
-    let day = daemon.await_day(rt)?;
-    if println!(rt; "served {} faults {}", day.served, day.faults).is_err() {
-        return Err(DaemonFault::Output);
-    }
-    Ok(day)
-}
-
-/// The terms that the options of `serve` name.
-fn counted_terms<'a, R: Threads>(rt: &R, options: &'a ServeOptions, names: usize) -> Terms<'a>
-    ensures accept { result.accept ≡ Some options.now.accept }
-    ensures workers { HasCount WORKERS_MAX (Some options.now.workers) result.shape.workers }
-{
-    Terms {
-        path: options.socket.as_str(),
-        permissions: 0,
-        side: None,
-        names,
-        version: VERSION,
-        shape: Shape {
-            loops: count_loops(rt, None),
-            workers: count_workers(rt, Some(options.workers)),
-            connections: ACCEPT_MAX,
-            idle: None,
-            remembered: REMEMBER,
-        },
-        drain: DRAIN,
-        reserved: 0,
-        has_requests: false,
-        accept: Some(options.accept),
-    }
 }
 
 /// Listens until it is told to end, and says how the run ended.

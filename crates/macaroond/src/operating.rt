@@ -4,7 +4,7 @@ use crate::commands::VERSION;
 use crate::key_watch::ListenFault;
 use mac_board::Publisher;
 use mac_daemon::{Daemon, DaemonFault};
-use mac_gate::{DoorFault, Doors, Gate, Terms, open_gate};
+use mac_gate::{DoorFault, HttpDoors, HttpServer, HttpTerms, serve_daemon};
 use mac_http::{Calls, Granted, Pages, Sources};
 use mac_keys::KeyTable;
 use mac_sockets::Holdings;
@@ -28,18 +28,18 @@ pub(crate) const OPERATORS_LOOPS: usize = 1;
 /// How many seconds an operator may bring no whole request.
 const PATIENCE: u64 = 10;
 
-/// The gate at which operators ask. No token is granted there: it has no key.
+/// The server that operators ask. No token is granted there: it has no key.
 #[derive(Drop)]
-pub(crate) struct OperatorsGate<R: Wait + Drop> {
-    gate: Gate,
+pub(crate) struct OperatorsServer<R: Wait + Drop> {
+    server: HttpServer,
     // The table without a key stays up as long as this is kept.
     _publisher: Publisher<R>,
 }
 
-impl<R: Wait + Drop> OperatorsGate<R> {
+impl<R: Wait + Drop> OperatorsServer<R> {
     /// Takes no further connection, and closes those that are idle.
     pub(crate) fn end(&self) {
-        self.gate.end();
+        self.server.end();
     }
 }
 
@@ -53,7 +53,7 @@ pub(crate) fn open_status<R>(
     rt: &R,
     alloc: Global,
     socket: &str,
-    doors: &mut Doors,
+    doors: &mut HttpDoors,
     holdings: &mut Holdings,
 ) -> Result<(), DoorFault>
 where
@@ -75,9 +75,9 @@ pub(crate) fn warn_of_no_status<R: Eprint>(rt: &R, socket: &str, fault: &DoorFau
 /// Has the connections of operators served, which come in through these doors.
 pub(crate) fn start_operators<'a, R>(
     rt: &R,
-    doors: Doors,
+    doors: HttpDoors,
     daemon: &Daemon,
-) -> Result<Option<OperatorsGate<R>>, ListenFault<'a>>
+) -> Result<Option<OperatorsServer<R>>, ListenFault<'a>>
 where
     R: Alloc<A = Global> + Clock + RandomSource + Net + Drop,
     R: Threads + Wait + Sync + Copy + Send + 'static,
@@ -91,24 +91,23 @@ where
     };
     let publisher = Publisher::new(alloc, *rt, no_keys, OPERATORS_LOOPS)?;
     let followers = publisher.followers()?;
-    let gate = open_gate(
+    let server = serve_daemon(
         rt,
-        alloc,
         doors,
         followers,
         daemon.host()?,
         OPERATORS_LOOPS,
         operators_terms(),
     )?;
-    Ok(Some(OperatorsGate {
-        gate,
+    Ok(Some(OperatorsServer {
+        server,
         _publisher: publisher,
     }))
 }
 
 /// How the connections of operators are served.
-fn operators_terms() -> Terms {
-    Terms {
+fn operators_terms() -> HttpTerms {
+    HttpTerms {
         sources: Sources {
             header: false,
             query: false,

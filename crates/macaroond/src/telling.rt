@@ -1,8 +1,8 @@
 //! What is said of a run that didn't go well, and how it ends.
 
 ghost use Rattle.std.specs.Prelude.{◌≡◌};
-ghost use Rattle.macaroond.specs.Status.{IsShown, daemon_status, door_status, gate_status};
-ghost use Rattle.macaroond.specs.Status.{http_status, listen_status, pipe_status, run_status};
+ghost use Rattle.macaroond.specs.Status.{IsShown, daemon_status, door_status, http_status};
+ghost use Rattle.macaroond.specs.Status.{listen_status, pipe_status, run_status, server_status};
 
 use crate::choices::ListenOptions;
 use crate::descriptors::NOWHERE;
@@ -12,7 +12,7 @@ use crate::key_fault::say_key_fault;
 use crate::key_watch::ListenFault;
 use crate::status::Status;
 use mac_daemon::DaemonFault;
-use mac_gate::{Address, DoorFault, GateFault};
+use mac_gate::{Address, DoorFault, ServerFault};
 use std::fs::Files;
 use std::io;
 
@@ -84,10 +84,7 @@ pub fn tell_listen<R: Eprint>(rt: &R, options: &ListenOptions, fault: ListenFaul
     match fault {
         ListenFault::Daemon(fault) => tell_daemon(rt, faulty_path(options, &fault), &fault),
         ListenFault::Door(address, fault) => tell_door(rt, address, fault),
-        ListenFault::Gate(fault) => {
-            let _ = eprintln!(rt; "error: {fault}");
-            status_of_gate(&fault)
-        }
+        ListenFault::Server(fault) => tell_server(rt, fault),
     }
 }
 
@@ -97,6 +94,17 @@ pub fn tell_door<R: Eprint>(rt: &R, address: Address<'_>, fault: DoorFault) -> S
 {
     let _ = eprintln!(rt; "error: {address}: {fault}");
     status_of_door(&fault)
+}
+
+/// Says why there is no server over HTTP, and how the run ends.
+pub fn tell_server<R: Eprint>(rt: &R, fault: ServerFault) -> Status
+    ensures { result ≡ server_status fault }
+{
+    let _ = eprintln!(rt; "error: {fault}");
+    match fault {
+        ServerFault::NoThread | ServerFault::NoMemory => Status::NoMemory,
+        ServerFault::System(_) => Status::DeviceFault,
+    }
 }
 
 /// Says where a page is served, and how a run ends that was told another address.
@@ -115,16 +123,6 @@ fn status_of_door(fault: &DoorFault) -> Status
         DoorFault::NoMemory => Status::NoMemory,
         DoorFault::Place(_) | DoorFault::System(_) => Status::DeviceFault,
         DoorFault::Taken | DoorFault::Forbidden | DoorFault::NotHere => Status::DeviceFault,
-    }
-}
-
-/// How a run ends in which nobody accepts connections over HTTP.
-fn status_of_gate(fault: &GateFault) -> Status
-    ensures { result ≡ gate_status fault.now }
-{
-    match fault {
-        GateFault::NoThread | GateFault::NoMemory => Status::NoMemory,
-        GateFault::System(_) => Status::DeviceFault,
     }
 }
 

@@ -1,9 +1,10 @@
 //! Connections one after another, and what each is answered.
 
-use crate::fixed::{FixedMoment, FixedSteward, NoWatch};
+use crate::fixed::{FixedMoment, FixedSteward};
+use http_server::Connection;
 use mac_board::FixedTables;
 use mac_decide::{Names, Rights, SeenTokens};
-use mac_http::{Calls, Face, Granted, Pages, Rules, Sources, Way, attend};
+use mac_http::{CONFIG, Calls, Face, Granted, Pages, Rules, Sources, Way, take_turn};
 use mac_keys::KeyTable;
 use mac_wire::Bytes;
 use std::alloc::{AllocError, Global};
@@ -83,14 +84,13 @@ where
     let mut answers = Vec::new(alloc);
     let mut reader = requests;
     let secrets = RandomState::new(rt)?;
-    attend(
-        alloc,
-        secrets,
-        &mut face,
-        &mut NoWatch,
-        &mut reader,
-        &mut answers,
-    )?;
+    let mut connection = Connection::new(alloc, secrets, CONFIG);
+    for _ in 0..u64::MAX {
+        if connection.is_done() {
+            break;
+        }
+        let _count = take_turn(&mut connection, &mut face, &mut reader, &mut answers)?;
+    }
     print_text(rt, words)?;
     print_text(rt, b"\n")?;
     print_text(rt, &answers)?;

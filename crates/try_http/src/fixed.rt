@@ -1,12 +1,11 @@
-//! A clock that stands still, a daemon that stays as it is, and a watch that drops nobody.
+//! A clock that stands still, and a daemon that stays as it is.
 
 use http::StatusCode;
 use http_server::Log;
 use mac_board::Moments;
 use mac_decide::SeenTokens;
-use mac_http::{Noted, Page, Steward, Told, Watch};
+use mac_http::{Noted, Page, Steward, Told};
 use std::alloc::AllocError;
-use std::io;
 
 /// The moment of each request: 2023-11-14T22:13:20Z.
 pub const MOMENT: u64 = 1_700_000_000;
@@ -73,18 +72,4 @@ impl Steward for FixedSteward {
     }
 
     fn note(&self, _noted: Noted<'_>, _status: StatusCode) {}
-}
-
-/// A watch that drops nobody.
-#[derive(Drop)]
-pub struct NoWatch;
-
-impl Watch for NoWatch {
-    fn before_read(&mut self) -> io::Result<()> {
-        Ok(())
-    }
-
-    fn after_write(&mut self) -> io::Result<()> {
-        Ok(())
-    }
 }

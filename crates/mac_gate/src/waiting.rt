@@ -1,7 +1,8 @@
 //! The connections of a loop, which of them are ready, and when one has taken too long.
 
-use crate::line::Line;
+use crate::connection::HttpConnection;
 use http_server::Service;
+use mac_host::microseconds_of;
 use mac_http::Way;
 use mac_sockets::{Connections, Readiness};
 use mio::{Token, Waker};
@@ -10,34 +11,35 @@ use std::io;
 use std::net::Net;
 use std::time::{Clock, Duration};
 
-/// How many seconds pass at most until one that is owed something is looked at again, though no
+/// How many microseconds pass at most until one that is owed something is looked at again, though no
 /// event told of it.
-const OWED_SECONDS: u64 = 1;
+const OWED: u64 = 1_000_000;
 
 /// The connections of a loop, each in its slot.
 #[derive(Drop)]
-pub struct Lines {
-    connections: Connections<Line>,
-    patience: Duration,
+pub struct Waiting {
+    connections: Connections<HttpConnection>,
+    // Both in microseconds.
+    patience: u64,
     // Nobody has to be looked at before then of whom no event tells.
-    due: Option<Duration>,
+    due: Option<u64>,
 }
 
-impl Lines {
+impl Waiting {
     /// No connections, whose peers may each take so long, and what ends the waits for them.
-    pub fn new<R: Net>(rt: &R, alloc: Global, patience: Duration) -> io::Result<(Lines, Waker)> {
+    pub fn new<R: Net>(rt: &R, alloc: Global, patience: u64) -> io::Result<(Waiting, Waker)> {
         let (connections, waker) = Connections::new(rt, alloc)?;
-        let lines = Lines {
+        let waiting = Waiting {
             connections,
             patience,
             due: None,
         };
-        Ok((lines, waker))
+        Ok((waiting, waker))
     }
 
-    /// Whether there are none.
-    pub fn is_empty(&self) -> bool {
-        self.connections.slots.count() == 0
+    /// How many there are.
+    pub fn count(&self) -> usize {
+        self.connections.slots.count()
     }
 
     /// How many are ready.
@@ -45,38 +47,38 @@ impl Lines {
         self.connections.slots.count_ready()
     }
 
-    /// When the last wait ended.
-    pub fn now(&self) -> Duration {
-        self.connections.now()
+    /// When the last wait ended, in microseconds.
+    pub fn now(&self) -> u64 {
+        microseconds_of(self.connections.now())
     }
 
     /// Waits until some are ready, and no longer than until one has to be looked at.
     pub fn wait<R: Clock>(&mut self, rt: &R) {
         let now = self.now();
         let patience = match self.due {
-            Some(due) => Some(due.saturating_sub(now)),
+            Some(due) => Some(Duration::from_micros(due.saturating_sub(now))),
             None => None,
         };
         self.connections.wait(rt, patience);
     }
 
     /// Takes a connection in, and has the poll tell of it. Whether that could be.
-    pub fn begin(&mut self, line: Line) -> bool {
+    pub fn begin(&mut self, one: HttpConnection) -> bool {
         let Ok(slot) = self.connections.slots.reserve() else {
             return false;
         };
-        if line.join(self.connections.registry(), Token(slot)).is_err() {
+        if one.join(self.connections.registry(), Token(slot)).is_err() {
             let _ = self.connections.slots.release(slot);
             return false;
         }
-        let _ = self.connections.slots.put(slot, line);
+        let _ = self.connections.slots.put(slot, one);
         self.expect(self.patience);
         self.list(slot);
         true
     }
 
     /// Somebody has to be looked at so long from now.
-    fn expect(&mut self, left: Duration) {
+    fn expect(&mut self, left: u64) {
         let then = self.now().saturating_add(left);
         let is_sooner = match self.due {
             Some(due) => then < due,
@@ -89,9 +91,26 @@ impl Lines {
 
     /// Lists a slot as ready, where its connection is.
     fn list(&mut self, slot: usize) {
-        let line = self.connections.slots.get(slot);
-        if line.is_some_and(|line| line.is_ready()) {
+        let one = self.connections.slots.get(slot);
+        if one.is_some_and(|one| one.is_ready()) {
             self.connections.slots.list(slot);
+        }
+    }
+
+    /// Lets the connection go to which nothing was sent for longest. Whether there is one.
+    pub fn drop_stalest(&mut self) -> bool {
+        let mut stalest: Option<(usize, u64)> = None;
+        for slot in 0..self.bound() {
+            if let Some(one) = self.connections.slots.get(slot) {
+                let since = one.since();
+                if stalest.is_none_or(|(_, other)| since < other) {
+                    stalest = Some((slot, since));
+                }
+            }
+        }
+        match stalest {
+            Some((slot, _)) => self.connections.slots.release(slot).is_some(),
+            None => false,
         }
     }
 
@@ -104,8 +123,8 @@ impl Lines {
 
     /// The same of one of them.
     fn end_if_idle(&mut self, slot: usize) {
-        if let Some(line) = self.connections.slots.get_mut(slot) {
-            line.end_if_idle();
+        if let Some(one) = self.connections.slots.get_mut(slot) {
+            one.end_if_idle();
         }
         self.list(slot);
     }
@@ -113,8 +132,8 @@ impl Lines {
     /// The next slot that is ready, with the way by which the peer of its connection comes.
     pub fn next_ready(&mut self) -> Option<(usize, Way)> {
         let slot = self.connections.slots.next_ready()?;
-        let line = self.connections.slots.get(slot)?;
-        Some((slot, line.way()))
+        let one = self.connections.slots.get(slot)?;
+        Some((slot, one.way()))
     }
 
     /// Has the connection of a slot do what it can, by this service; what it drops is read into the
@@ -127,18 +146,16 @@ impl Lines {
         piece: &mut [u8],
     ) -> bool {
         let now = self.now();
-        let Some(mut line) = self.connections.slots.take(slot) else {
+        let Some(mut one) = self.connections.slots.take(slot) else {
             return false;
         };
-        let goes_on = line.advance(service, now, piece)
-            && line
-                .update(self.connections.registry(), Token(slot))
-                .is_ok();
+        let goes_on = one.advance(service, now, piece)
+            && one.update(self.connections.registry(), Token(slot)).is_ok();
         if !goes_on {
             let _ = self.connections.slots.release(slot);
             return true;
         }
-        let _ = self.connections.slots.put(slot, line);
+        let _ = self.connections.slots.put(slot, one);
         if is_ending {
             self.end_if_idle(slot);
         }
@@ -148,15 +165,15 @@ impl Lines {
 
     /// Notes until when one that goes on has to be looked at.
     fn stay(&mut self, slot: usize) {
-        let Some(line) = self.connections.slots.get(slot) else {
+        let Some(one) = self.connections.slots.get(slot) else {
             return;
         };
-        let (left, is_owed) = (line.left(self.patience, self.now()), line.is_owed());
+        let (left, is_owed) = (one.left(self.patience, self.now()), one.is_owed());
         if let Some(left) = left {
             self.expect(left);
         }
         if is_owed {
-            self.expect(Duration::from_secs(OWED_SECONDS));
+            self.expect(OWED);
         }
         self.list(slot);
     }
@@ -180,10 +197,10 @@ impl Lines {
     /// that is owed something. So an event that was missed delays it, and no more. Whether one was
     /// let go.
     pub fn look(&mut self, slot: usize) -> bool {
-        let Some(line) = self.connections.slots.get(slot) else {
+        let Some(one) = self.connections.slots.get(slot) else {
             return false;
         };
-        let (left, is_owed) = (line.left(self.patience, self.now()), line.is_owed());
+        let (left, is_owed) = (one.left(self.patience, self.now()), one.is_owed());
         if left.is_none() {
             return self.connections.slots.release(slot).is_some();
         }

@@ -13,7 +13,6 @@ use mio::{Interest, Registry, Token};
 use std::io;
 use std::io::ErrorKind;
 use std::net::Shutdown;
-use std::time::Duration;
 
 /// How many bytes one read behind the last response drops at most.
 pub const DROPPED_PIECE: usize = 16_384;
@@ -21,16 +20,16 @@ pub const DROPPED_PIECE: usize = 16_384;
 /// How many such reads there are at most.
 const DROPPED_READS: usize = 64;
 
-/// How many milliseconds pass before each of them at most.
-const DROPPED_MILLIS: u64 = 100;
+/// How many microseconds pass before each of them at most.
+const DROPPED_MICROS: u64 = 100_000;
 
 /// A connection of a loop.
 #[derive(Drop)]
-pub struct Line {
+pub struct HttpConnection {
     stream: Stream,
     connection: Connection,
-    // When something was written last, or it began.
-    since: Duration,
+    // When something was written last, or it began, in microseconds.
+    since: u64,
     // Whether nothing has come since then.
     is_idle: bool,
     // Whether the last read gave some bytes.
@@ -46,10 +45,10 @@ pub struct Line {
     parting: Option<usize>,
 }
 
-impl Line {
+impl HttpConnection {
     /// A connection that begins now.
-    pub fn new(stream: Stream, connection: Connection, now: Duration) -> Line {
-        Line {
+    pub fn new(stream: Stream, connection: Connection, now: u64) -> HttpConnection {
+        HttpConnection {
             stream,
             connection,
             since: now,
@@ -88,6 +87,11 @@ impl Line {
         registry.reregister(&mut SourceFd(&self.stream.descriptor()), token, interest)
     }
 
+    /// When something was written last, or it began.
+    pub fn since(&self) -> u64 {
+        self.since
+    }
+
     /// The way by which its peer comes.
     pub fn way(&self) -> Way {
         match &self.stream {
@@ -121,9 +125,9 @@ impl Line {
     }
 
     /// What is left now of the time that the peer may take, if anything.
-    pub fn left(&self, patience: Duration, now: Duration) -> Option<Duration> {
+    pub fn left(&self, patience: u64, now: u64) -> Option<u64> {
         let limit = match self.parting {
-            Some(_) => Duration::from_millis(DROPPED_MILLIS),
+            Some(_) => DROPPED_MICROS,
             None => patience,
         };
         left_of(limit, now.saturating_sub(self.since))
@@ -131,12 +135,7 @@ impl Line {
 
     /// Does what can be done without waiting, by this service; what is dropped is read into the
     /// piece. Whether the connection goes on.
-    pub fn advance<S: Service>(
-        &mut self,
-        service: &mut S,
-        now: Duration,
-        piece: &mut [u8],
-    ) -> bool {
+    pub fn advance<S: Service>(&mut self, service: &mut S, now: u64, piece: &mut [u8]) -> bool {
         match self.parting {
             Some(left) => self.drop_piece(left, now, piece),
             None => self.answer(service, now),
@@ -144,7 +143,7 @@ impl Line {
     }
 
     /// Takes a turn. A fault ends the connection.
-    fn answer<S: Service>(&mut self, service: &mut S, now: Duration) -> bool {
+    fn answer<S: Service>(&mut self, service: &mut S, now: u64) -> bool {
         let mut heard = Heard::new(&self.stream, self.has_more);
         let mut spoken = Spoken::new(&self.stream, self.has_room);
         let turned = answer_turn(&mut self.connection, service, &mut heard, &mut spoken);
@@ -172,7 +171,7 @@ impl Line {
 
     /// Ends what is written, behind the last response. What still comes is read and dropped, so
     /// that the peer reads that response and no reset.
-    fn part(&mut self, now: Duration) {
+    fn part(&mut self, now: u64) {
         self.stream.shut(Shutdown::Write);
         self.parting = Some(DROPPED_READS);
         self.since = now;
@@ -180,7 +179,7 @@ impl Line {
     }
 
     /// Drops what has come behind the last response. It ends after `DROPPED_READS` reads.
-    fn drop_piece(&mut self, left: usize, now: Duration, piece: &mut [u8]) -> bool {
+    fn drop_piece(&mut self, left: usize, now: u64, piece: &mut [u8]) -> bool {
         match self.stream.read_past_signals(piece) {
             Ok(count) if count > 0 && left > 0 => {
                 self.parting = Some(left.saturating_sub(1));
@@ -196,7 +195,7 @@ impl Line {
     }
 }
 
-impl Wakes for Line {
+impl Wakes for HttpConnection {
     fn wake(&mut self, told: Readiness) -> bool {
         self.has_more = self.has_more || told.reads || told.closes;
         self.has_room = self.has_room || told.writes;
@@ -227,11 +226,11 @@ fn goes_on(turned: &io::Result<usize>) -> bool {
 }
 
 /// What is left of a limit once so long has passed, if anything.
-fn left_of(limit: Duration, passed: Duration) -> Option<Duration>
+fn left_of(limit: u64, passed: u64) -> Option<u64>
     ensures { IsLeft limit passed result }
 {
     match limit.checked_sub(passed) {
-        Some(left) if !left.is_zero() => Some(left),
+        Some(left) if left > 0 => Some(left),
         _ => None,
     }
 }

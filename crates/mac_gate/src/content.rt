@@ -1,0 +1,97 @@
+//! What the connections of a server are answered by: faces of a daemon, or a site.
+
+use crate::daemon::OwnDaemon;
+use crate::looping::HttpLoop;
+use crate::shared::Shared;
+use crate::terms::HttpTerms;
+use http_server::Service;
+use mac_board::{Follower, Moments, Tables};
+use mac_decide::Rights;
+use mac_http::{Face, Steward, Way};
+use mac_page::{PageFace, Site};
+use mac_system::SystemMoments;
+use std::alloc::Global;
+use std::random::RandomSource;
+use std::sync::{Arc, Wait};
+use std::time::Clock;
+
+/// What answers the connections of a loop.
+#[derive(Drop)]
+pub enum Content {
+    /// A face of the daemon.
+    Daemon(FaceParts),
+    /// The face of a site.
+    Site(Arc<Site, Global>),
+}
+
+/// What a face of the daemon is made of.
+#[derive(Drop)]
+pub struct FaceParts {
+    /// Follows the key tables.
+    pub keys: Follower,
+    /// What is answered.
+    pub terms: HttpTerms,
+    /// What is allowed.
+    pub rights: Arc<Rights, Global>,
+}
+
+/// A service whose requests come by one way or another.
+pub trait Answers: Service {
+    /// Has the requests from now on come by this way.
+    fn come_by(&mut self, way: Way);
+}
+
+impl<'a, K: Tables, M: Moments, S: Steward> Answers for Face<'a, K, M, S> {
+    fn come_by(&mut self, way: Way) {
+        Face::come_by(self, way);
+    }
+}
+
+impl<'a> Answers for PageFace<'a> {
+    // A page is asked at a port alone.
+    fn come_by(&mut self, _way: Way) {}
+}
+
+impl Content {
+    /// Serves the connections of a loop to the end of the last one.
+    pub fn serve<R: Wait + Clock + RandomSource>(
+        self,
+        rt: &R,
+        alloc: Global,
+        server: &Shared,
+        own: &mut HttpLoop,
+    ) {
+        match self {
+            Content::Daemon(parts) => parts.serve(rt, alloc, server, own),
+            Content::Site(site) => {
+                let mut face = PageFace::new(alloc, &site);
+                own.run(rt, alloc, server, &mut face);
+            }
+        }
+    }
+}
+
+impl FaceParts {
+    fn serve<R: Wait + Clock + RandomSource>(
+        self,
+        rt: &R,
+        alloc: Global,
+        server: &Shared,
+        own: &mut HttpLoop,
+    ) {
+        let FaceParts {
+            keys,
+            terms,
+            rights,
+        } = self;
+        let daemon = OwnDaemon {
+            rt,
+            alloc,
+            server,
+            version: terms.version,
+        };
+        let rules = terms.rules(&rights, Way::Socket);
+        let mut face = Face::new(alloc, keys, rules, SystemMoments::new(rt), daemon);
+        own.run(rt, alloc, server, &mut face);
+    }
+}

@@ -1,0 +1,100 @@
+//! What a face over HTTP tells of its daemon, and tells it.
+
+use crate::noting::{exchange_of, request_of};
+use crate::shared::Shared;
+use http::StatusCode;
+use mac_count::{Number, append_metrics, append_status, append_version};
+use mac_decide::SeenTokens;
+use mac_host::Host;
+use mac_http::{Noted, Page, Steward, Told};
+use std::alloc::{AllocError, Global};
+use std::sync::Wait;
+use std::time::Clock;
+
+/// The daemon of a server, as its faces see it.
+#[derive(Drop)]
+pub struct OwnDaemon<'a, R> {
+    pub rt: &'a R,
+    pub alloc: Global,
+    pub server: &'a Shared,
+    /// The version of the program.
+    pub version: &'static str,
+}
+
+impl<'a, R: Wait + Clock> OwnDaemon<'a, R> {
+    fn host(&self) -> &Host {
+        self.server.host()
+    }
+
+    /// Tells how the daemon is.
+    fn tell_health(&self, text: &mut Vec<u8>) -> Result<Told, AllocError> {
+        if self.server.is_ending() {
+            text.extend_from_slice(b"it was told to end\n")?;
+            return Ok(Told::Unwell);
+        }
+        if self.host().numbers().snapshot().number(Number::KeysRefused) > 0 {
+            text.extend_from_slice(b"the last key file was refused; the keys stay as they were\n")?;
+            return Ok(Told::Unwell);
+        }
+        text.extend_from_slice(b"ok\n")?;
+        Ok(Told::Well)
+    }
+
+    /// Logs a request and the status that it was answered with, where requests are logged. Without
+    /// memory for its name it isn't logged.
+    fn log(&self, noted: Noted<'_>, status: StatusCode) {
+        if !self.host().notices().has_requests() {
+            return;
+        }
+        let Ok(name) = Vec::from_slice(self.alloc, noted.name) else {
+            return;
+        };
+        let exchange = exchange_of(noted.asks, name, status);
+        self.host().notices().tell_exchange(self.rt, None, exchange);
+    }
+}
+
+impl<'a, R: Wait + Clock> Steward for OwnDaemon<'a, R> {
+    fn is_ending(&self) -> bool {
+        self.server.is_ending()
+    }
+
+    fn seen(&self) -> &SeenTokens {
+        self.server.host().seen()
+    }
+
+    fn tell(&self, page: Page, text: &mut Vec<u8>) -> Result<Told, AllocError> {
+        let numbers = self.host().numbers();
+        match page {
+            Page::Health => return self.tell_health(text),
+            Page::Numbers => {
+                append_version_metric(self.version, text)?;
+                append_metrics(self.alloc, &numbers.snapshot(), text)?;
+            }
+            Page::Status => {
+                append_version(self.version, text)?;
+                append_status(self.alloc, &numbers.snapshot(), text)?;
+            }
+            Page::Connections => self
+                .host()
+                .roster()
+                .append_lines(self.rt, self.alloc, text)?,
+        }
+        Ok(Told::Well)
+    }
+
+    fn note(&self, noted: Noted<'_>, status: StatusCode) {
+        if let Some(request) = request_of(noted.asks, status) {
+            self.host().numbers().count_request(request);
+        }
+        self.log(noted, status);
+    }
+}
+
+/// Appends the version in Prometheus's text form: a metric whose value is 1, with a label.
+fn append_version_metric(version: &str, text: &mut Vec<u8>) -> Result<(), AllocError> {
+    text.extend_from_slice(b"# TYPE macaroond_build_info gauge\n")?;
+    text.extend_from_slice(b"macaroond_build_info{version=\"")?;
+    text.extend_from_slice(version.as_bytes())?;
+    text.extend_from_slice(b"\"} 1\n")
+}

@@ -1,0 +1,177 @@
+//! The server of sockets over HTTP: its assembly, and its end.
+
+use crate::accepting::start_accepting;
+use crate::content::{Content, FaceParts};
+use crate::door::HttpDoors;
+use crate::looping::HttpLoop;
+use crate::shared::Shared;
+use crate::terms::{Bounds, HttpTerms};
+use mac_board::Followers;
+use mac_host::Host;
+use mac_page::Site;
+use mac_sockets::{Doors, Entrance, EntranceFault};
+use std::alloc::{Alloc, AllocError, AllocFailed, Global};
+use std::io;
+use std::net::Net;
+use std::random::RandomSource;
+use std::sync::{Arc, Wait};
+use std::thread::{JoinHandle, Threads};
+use std::time::Clock;
+use thiserror::Error;
+
+/// Why no server can be started.
+#[derive(Debug, Drop, Error)]
+pub enum ServerFault {
+    /// The system gives no thread.
+    #[error("the system gives no further thread; raise the limit of processes, or that of memory")]
+    NoThread,
+    /// Memory ran out.
+    #[error("memory ran out")]
+    NoMemory,
+    /// The system refused a step.
+    #[error("the system refused a step: {0}")]
+    System(io::Error),
+}
+
+impl From<AllocError> for ServerFault {
+    fn from(_refused: AllocError) -> ServerFault {
+        ServerFault::NoMemory
+    }
+}
+
+impl<T: Drop> From<AllocFailed<T>> for ServerFault {
+    fn from(_refused: AllocFailed<T>) -> ServerFault {
+        ServerFault::NoMemory
+    }
+}
+
+impl From<io::Error> for ServerFault {
+    fn from(refused: io::Error) -> ServerFault {
+        ServerFault::System(refused)
+    }
+}
+
+impl From<EntranceFault> for ServerFault {
+    fn from(refused: EntranceFault) -> ServerFault {
+        match refused {
+            EntranceFault::NoMemory => ServerFault::NoMemory,
+            EntranceFault::System(refused) => ServerFault::System(refused),
+        }
+    }
+}
+
+/// A server over HTTP: connections are accepted in a thread of its own, and served in loops.
+#[derive(Drop)]
+pub struct HttpServer {
+    server: Arc<Shared, Global>,
+    acceptor: JoinHandle<()>,
+}
+
+impl HttpServer {
+    /// Takes no further connection, closes those that are idle, and has the others close behind
+    /// their next response.
+    pub fn end(&self) {
+        self.server.end();
+    }
+
+    /// Waits until it takes no further connection.
+    pub fn await_end<R: Threads>(self, rt: &R) {
+        self.acceptor.join(rt);
+    }
+}
+
+/// Has the connections that come in through these doors answered for a daemon, by so many loops,
+/// under the tables that are followed. The end of the daemon waits for them.
+pub fn serve_daemon<R>(
+    rt: &R,
+    doors: HttpDoors,
+    followers: Followers,
+    host: Host,
+    loops: usize,
+    terms: HttpTerms,
+) -> Result<HttpServer, ServerFault>
+where
+    R: Alloc<A = Global> + Net + Threads + Wait + Clock + RandomSource,
+    R: Sync + Copy + Send + 'static,
+{
+    let alloc = rt.alloc();
+    let HttpDoors { doors, rights } = doors;
+    let rights = Arc::new(alloc, rights)?;
+    let mut contents = Vec::with_capacity(alloc, loops)?;
+    for _ in 0..loops {
+        contents.push(Content::Daemon(FaceParts {
+            keys: followers.follower()?,
+            terms,
+            rights: Arc::try_clone(&rights)?,
+        }))?;
+    }
+    start_server(rt, doors, contents, terms.bounds(), host)
+}
+
+/// Has the connections that come in through these doors shown a site, which is no daemon's.
+pub fn serve_site<R>(
+    rt: &R,
+    doors: Doors<()>,
+    site: Site,
+    bounds: Bounds,
+) -> Result<HttpServer, ServerFault>
+where
+    R: Alloc<A = Global> + Net + Threads + Wait + Clock + RandomSource,
+    R: Sync + Copy + Send + 'static,
+{
+    let alloc = rt.alloc();
+    let mut contents = Vec::with_capacity(alloc, 1)?;
+    contents.push(Content::Site(Arc::new(alloc, site)?))?;
+    start_server(rt, doors, contents, bounds, Host::alone(rt, alloc)?)
+}
+
+/// Starts the threads of a server, a loop for each of these contents.
+fn start_server<R>(
+    rt: &R,
+    doors: Doors<()>,
+    contents: Vec<Content>,
+    bounds: Bounds,
+    host: Host,
+) -> Result<HttpServer, ServerFault>
+where
+    R: Alloc<A = Global> + Net + Threads + Wait + Clock + RandomSource,
+    R: Sync + Copy + Send + 'static,
+{
+    let alloc = rt.alloc();
+    let entrance = Entrance::open(rt, alloc, doors)?;
+    let (mut made, mut wakers) = (Vec::new(alloc), Vec::new(alloc));
+    for (number, content) in contents.into_iter().enumerate() {
+        let (own, waker) = HttpLoop::new(rt, alloc, number, bounds)?;
+        made.push((own, content))?;
+        wakers.push(waker)?;
+    }
+    let shutter = Arc::try_clone(entrance.shutter())?;
+    let server = Shared::new(alloc, bounds, host, shutter, wakers)?;
+    server.open(rt);
+    match start_all(rt, made, entrance, &server) {
+        Some(acceptor) => Ok(HttpServer { server, acceptor }),
+        None => {
+            server.close(rt);
+            Err(ServerFault::NoThread)
+        }
+    }
+}
+
+/// Starts the loops of a server, and the thread that accepts, if there is each of them.
+fn start_all<R>(
+    rt: &R,
+    loops: Vec<(HttpLoop, Content)>,
+    entrance: Entrance<()>,
+    server: &Arc<Shared, Global>,
+) -> Option<JoinHandle<()>>
+where
+    R: Alloc<A = Global> + Threads + Wait + Clock + RandomSource + Sync + Copy + Send + 'static,
+{
+    for (own, content) in loops {
+        let server = Arc::try_clone(server).ok()?;
+        if !own.start(*rt, rt.alloc(), server, content) {
+            return None;
+        }
+    }
+    start_accepting(*rt, entrance, Arc::try_clone(server).ok()?)
+}
