@@ -145,7 +145,7 @@ where
                         rights: Arc::try_clone(entrance.gift(door)).ok(),
                         badge: quay.badge(rt, entrance.taken(), door),
                     };
-                    welcome(rt, alloc, newcomer, loops, quay);
+                    begin(rt, alloc, newcomer, loops, quay);
                 }
             }
             Some(Err(fault)) if limits.count.is_some() => return Err(DaemonFault::System(fault)),

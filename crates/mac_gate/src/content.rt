@@ -7,7 +7,7 @@ use crate::terms::HttpTerms;
 use http_server::Service;
 use mac_board::{Follower, Moments, Tables};
 use mac_decide::Rights;
-use mac_http::{Face, Steward, Way};
+use mac_http::{Face, Monitor, Way};
 use mac_page::{PageFace, Site};
 use mac_system::SystemMoments;
 use std::alloc::Global;
@@ -41,7 +41,7 @@ pub trait Answers: Service {
     fn come_by(&mut self, way: Way);
 }
 
-impl<'a, K: Tables, M: Moments, S: Steward> Answers for Face<'a, K, M, S> {
+impl<'a, K: Tables, M: Moments, S: Monitor> Answers for Face<'a, K, M, S> {
     fn come_by(&mut self, way: Way) {
         Face::come_by(self, way);
     }

@@ -6,7 +6,7 @@ use http::StatusCode;
 use mac_count::{Number, append_metrics, append_status, append_version};
 use mac_decide::SeenTokens;
 use mac_host::Host;
-use mac_http::{Noted, Page, Steward, Told};
+use mac_http::{Noted, Page, Monitor, Told};
 use std::alloc::{AllocError, Global};
 use std::sync::Wait;
 use std::time::Clock;
@@ -54,7 +54,7 @@ impl<'a, R: Wait + Clock> OwnDaemon<'a, R> {
     }
 }
 
-impl<'a, R: Wait + Clock> Steward for OwnDaemon<'a, R> {
+impl<'a, R: Wait + Clock> Monitor for OwnDaemon<'a, R> {
     fn is_ending(&self) -> bool {
         self.server.is_ending()
     }

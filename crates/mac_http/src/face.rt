@@ -7,7 +7,7 @@ ghost use Rattle.mac_http.specs.Turn.{AnswersOnce};
 
 use crate::calling::{call_in, respond_to_call};
 use crate::noted::{note_of_call, note_of_path};
-use crate::page::{Steward, announce_close, page_in, tell_page};
+use crate::page::{Monitor, announce_close, page_in, tell_page};
 use crate::rules::{Rules, Way};
 use crate::saying::respond;
 use bytes::Bytes;
@@ -25,7 +25,7 @@ pub struct Face<'a, K, M, S> {
     keys: K,
     rules: Rules<'a>,
     moments: M,
-    steward: S,
+    monitor: S,
 }
 
 impl<'a, K, M, S> Face<'a, K, M, S> {
@@ -34,7 +34,7 @@ impl<'a, K, M, S> Face<'a, K, M, S> {
         keys: K,
         rules: Rules<'a>,
         moments: M,
-        steward: S,
+        monitor: S,
     ) -> Face<'a, K, M, S>
         ensures keys { result.keys ≡ keys }
         ensures rules { result.rules ≡ rules.entry }
@@ -45,7 +45,7 @@ impl<'a, K, M, S> Face<'a, K, M, S> {
             keys,
             rules,
             moments,
-            steward,
+            monitor,
         }
     }
 
@@ -59,7 +59,7 @@ impl<'a, K, M, S> Face<'a, K, M, S> {
     }
 }
 
-impl<'a, K: Tables, M: Moments, S: Steward> Service for Face<'a, K, M, S> {
+impl<'a, K: Tables, M: Moments, S: Monitor> Service for Face<'a, K, M, S> {
     ghost answers = { AnswersOnce K.tells (λ face. K.known face.keys) (λ face. face.rules)
         (λ face. M.told face.moments) };
 
@@ -76,11 +76,11 @@ impl<'a, K: Tables, M: Moments, S: Steward> Service for Face<'a, K, M, S> {
             keys,
             self.rules,
             moment,
-            &self.steward,
+            &self.monitor,
             request,
             response,
         );
-        if self.steward.is_ending() {
+        if self.monitor.is_ending() {
             announce_close(response);
         }
         Ok(())
@@ -88,12 +88,12 @@ impl<'a, K: Tables, M: Moments, S: Steward> Service for Face<'a, K, M, S> {
 }
 
 /// Fills a blank response with a page, or with what comes of the request.
-fn answer<S: Steward>(
+fn answer<S: Monitor>(
     alloc: Global,
     keys: &KeyTable,
     rules: Rules<'_>,
     moment: Option<u64>,
-    steward: &S,
+    monitor: &S,
     request: &Request<Bytes>,
     response: &mut Response,
 )
@@ -101,19 +101,19 @@ fn answer<S: Steward>(
     ensures { IsAnswer keys.now rules.entry moment request.now response.new }
 {
     match page_in(request.uri().path().as_bytes()) {
-        Some(page) => tell_page(alloc, steward, rules.pages, page, response),
-        None => answer_plain(alloc, keys, rules, moment, steward, request, response),
+        Some(page) => tell_page(alloc, monitor, rules.pages, page, response),
+        None => answer_plain(alloc, keys, rules, moment, monitor, request, response),
     }
 }
 
 /// Fills a blank response with what comes of a request that names no page: of a call that is
 /// allowed, or of a verify. Either is noted.
-fn answer_plain<S: Steward>(
+fn answer_plain<S: Monitor>(
     alloc: Global,
     keys: &KeyTable,
     rules: Rules<'_>,
     moment: Option<u64>,
-    steward: &S,
+    monitor: &S,
     request: &Request<Bytes>,
     response: &mut Response,
 )
@@ -123,12 +123,12 @@ fn answer_plain<S: Steward>(
     match call_in(rules.allowed_calls(), request.uri().path().as_bytes()) {
         Some(asked) => {
             respond_to_call(alloc, keys, rules, asked, request, response);
-            steward.note(note_of_call(asked), response.status);
+            monitor.note(note_of_call(asked), response.status);
         }
         None => {
             respond(
                 alloc,
-                steward.seen(),
+                monitor.seen(),
                 keys,
                 rules,
                 moment,
@@ -136,7 +136,7 @@ fn answer_plain<S: Steward>(
                 response,
             );
             let noted = note_of_path(request.uri().path().as_bytes());
-            steward.note(noted, response.status);
+            monitor.note(noted, response.status);
         }
     }
 }

@@ -3,7 +3,7 @@
 //!
 //! [`Face`] is a [`Service`](http_server::Service): the path names a key, `Authorization` brings
 //! the token, the [`Sources`] that are named bring facts, and [`Moments`](mac_board::Moments) the
-//! moment. A [`Steward`] fills the pages that tell of the daemon. The [`Calls`] that are allowed
+//! moment. A [`Monitor`] fills the pages that tell of the daemon. The [`Calls`] that are allowed
 //! bring JSON, which `mac_calls` answers. Which names may be used, and whether a mint is answered,
 //! `mac_decide`'s [`Rights`](mac_decide::Rights) say. [`take_turn`] answers a connection, a turn at a
 //! time. No sockets are opened here.
@@ -31,7 +31,7 @@ pub use calling::{Asked, call_in};
 pub use face::Face;
 pub use finding::{Finding, find};
 pub use noted::{Asks, Noted};
-pub use page::{Page, Steward, Told};
+pub use page::{Page, Monitor, Told};
 pub use path::{PATH_MAX, SEGMENTS_MAX};
 pub use rules::{Calls, Granted, Pages, Rules, Sources, Way};
 pub use saying::respond;

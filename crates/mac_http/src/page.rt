@@ -46,7 +46,7 @@ pub enum Told {
 }
 
 /// Speaks for the daemon that a face belongs to.
-pub trait Steward {
+pub trait Monitor {
     /// Whether its connections are to end.
     fn is_ending(&self) -> bool;
 
@@ -79,9 +79,9 @@ pub(crate) fn page_in(path: &[u8]) -> Option<Page>
 }
 
 /// Fills a blank response with a page, if it is one of these.
-pub(crate) fn tell_page<S: Steward>(
+pub(crate) fn tell_page<S: Monitor>(
     alloc: Global,
-    steward: &S,
+    monitor: &S,
     pages: Pages,
     page: Page,
     response: &mut Response,
@@ -93,15 +93,15 @@ pub(crate) fn tell_page<S: Steward>(
         response.status = StatusCode::NOT_FOUND;
         return;
     }
-    if fill_page(alloc, steward, page, response).is_err() {
+    if fill_page(alloc, monitor, page, response).is_err() {
         response.clear();
         response.status = StatusCode::SERVICE_UNAVAILABLE;
     }
 }
 
-fn fill_page<S: Steward>(
+fn fill_page<S: Monitor>(
     alloc: Global,
-    steward: &S,
+    monitor: &S,
     page: Page,
     response: &mut Response,
 ) -> Result<(), AllocError>
@@ -109,7 +109,7 @@ fn fill_page<S: Steward>(
     ensures { OnOk result (IsText page response.new) }
 {
     let mut text = Vec::new(alloc);
-    let status = match steward.tell(page, &mut text)? {
+    let status = match monitor.tell(page, &mut text)? {
         Told::Well => StatusCode::OK,
         Told::Unwell => StatusCode::SERVICE_UNAVAILABLE,
     };

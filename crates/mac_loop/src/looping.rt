@@ -117,7 +117,7 @@ impl Loop {
             let patience = self.patience();
             self.members.wait(rt, patience);
             self.now = microseconds_of(self.members.now());
-            self.welcome(rt, loops, outlook, watch);
+            self.take_in_all(rt, loops, outlook, watch);
             self.drain(loops);
             self.serve_ready(rt, loops, outlook, watch);
             self.sweep(rt, loops, watch);
@@ -137,7 +137,7 @@ impl Loop {
     }
 
     /// Takes in the clients that were handed over.
-    fn welcome<R: Wait + Clock, K: Outlook, W: Watch>(
+    fn take_in_all<R: Wait + Clock, K: Outlook, W: Watch>(
         &mut self,
         rt: &R,
         loops: &Loops,

@@ -59,7 +59,7 @@ pub struct Arrived {
 }
 
 /// A connection, or why the system gives none.
-pub type Welcome = io::Result<Arrived>;
+pub type Accepted = io::Result<Arrived>;
 
 impl Shutter {
     /// Has the entrance take no more connections than those that wait.
@@ -135,21 +135,21 @@ impl<G: Drop> Entrance<G> {
     /// The next connection, or why the system gives none. Once the entrance is shut, there are only
     /// those that wait already, up to the first fault, and none at a door that another process has
     /// too.
-    pub fn accept<R: Wait>(&mut self, rt: &R) -> Option<Welcome>
+    pub fn accept<R: Wait>(&mut self, rt: &R) -> Option<Accepted>
         ensures doors { doors_of self.new ≡ doors_of self.old }
         ensures through { IsThroughOneOf (doors_of self.old) result }
         ensures counts { CountsArrived result (taken_of self.old) (taken_of self.new) }
     {
-        let welcome = self.await_next(rt);
-        match &welcome {
+        let accepted = self.await_next(rt);
+        match &accepted {
             Some(Ok(_)) => self.taken = self.taken.saturating_add(1),
             Some(Err(_)) | None => {}
         }
-        welcome
+        accepted
     }
 
     /// The same, before it is counted.
-    fn await_next<R: Wait>(&mut self, rt: &R) -> Option<Welcome>
+    fn await_next<R: Wait>(&mut self, rt: &R) -> Option<Accepted>
         ensures doors { doors_of self.new ≡ doors_of self.old }
         ensures through { IsThroughOneOf (doors_of self.old) result }
         ensures taken { self.new.taken ≡ self.old.taken }
@@ -161,8 +161,8 @@ impl<G: Drop> Entrance<G> {
             if self.shutter.is_shut() {
                 return self.take_waiting(rt);
             }
-            if let Some(welcome) = self.try_doors(rt, false) {
-                return Some(welcome);
+            if let Some(accepted) = self.try_doors(rt, false) {
+                return Some(accepted);
             }
             if let Err(fault) = self.poll.poll(&mut self.events, None) {
                 return Some(Err(fault));
@@ -172,23 +172,23 @@ impl<G: Drop> Entrance<G> {
     }
 
     /// The next connection that waits, while it may be taken. Behind a fault none is.
-    fn take_waiting<R: Wait>(&mut self, rt: &R) -> Option<Welcome>
+    fn take_waiting<R: Wait>(&mut self, rt: &R) -> Option<Accepted>
         ensures doors { doors_of self.new ≡ doors_of self.old }
         ensures through { IsThroughOwn (doors_of self.old) result }
         ensures waiting { CountsDown result self.old.waiting self.new.waiting }
         ensures taken { self.new.taken ≡ self.old.taken }
     {
         self.waiting = self.waiting.checked_sub(1)?;
-        let welcome = self.try_doors(rt, true)?;
-        if welcome.is_err() {
+        let accepted = self.try_doors(rt, true)?;
+        if accepted.is_err() {
             self.waiting = 0;
         }
-        Some(welcome)
+        Some(accepted)
     }
 
     /// What waits at the first door that has something, from the next one on. So no door keeps
     /// another from its turn. Doors of its own alone are looked at where that is asked for.
-    fn try_doors<R: Wait>(&mut self, rt: &R, is_own: bool) -> Option<Welcome>
+    fn try_doors<R: Wait>(&mut self, rt: &R, is_own: bool) -> Option<Accepted>
         ensures doors { doors_of self.new ≡ doors_of self.old }
         ensures through { IsThroughOneOf (doors_of self.old) result }
         ensures own { IsTrue is_own → IsThroughOwn (doors_of self.old) result }

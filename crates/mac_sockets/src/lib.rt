@@ -23,7 +23,7 @@ mod stream;
 pub use connections::{Connections, Readiness, Wakes};
 pub use door::Door;
 pub use doors::Doors;
-pub use entrance::{Arrived, Entrance, Shutter, Welcome};
+pub use entrance::{Arrived, Entrance, Shutter, Accepted};
 pub use fault::EntranceFault;
 pub use holding::Holdings;
 pub use inbox::Inbox;

@@ -1,6 +1,6 @@
 //! Connections one after another, and what each is answered.
 
-use crate::fixed::{FixedMoment, FixedSteward};
+use crate::fixed::{FixedMoment, FixedMonitor};
 use http_server::Connection;
 use mac_board::FixedTables;
 use mac_decide::{Names, Rights, SeenTokens};
@@ -79,7 +79,7 @@ where
         FixedTables(keys),
         rules_of(words, &rights),
         FixedMoment::new(),
-        steward_of(words, seen.share()?),
+        monitor_of(words, seen.share()?),
     );
     let mut answers = Vec::new(alloc);
     let mut reader = requests;
@@ -110,8 +110,8 @@ fn has(words: &[u8], word: &[u8]) -> bool {
 }
 
 /// The daemon that the words name.
-fn steward_of(words: &[u8], seen: SeenTokens) -> FixedSteward {
-    FixedSteward {
+fn monitor_of(words: &[u8], seen: SeenTokens) -> FixedMonitor {
+    FixedMonitor {
         is_ending: has(words, b"ending"),
         is_well: !has(words, b"unwell"),
         seen,

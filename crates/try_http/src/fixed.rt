@@ -4,7 +4,7 @@ use http::StatusCode;
 use http_server::Log;
 use mac_board::Moments;
 use mac_decide::SeenTokens;
-use mac_http::{Noted, Page, Steward, Told};
+use mac_http::{Noted, Page, Monitor, Told};
 use std::alloc::AllocError;
 
 /// The moment of each request: 2023-11-14T22:13:20Z.
@@ -36,7 +36,7 @@ impl Moments for FixedMoment {
 
 /// A daemon that stays as it is.
 #[derive(Drop)]
-pub struct FixedSteward {
+pub struct FixedMonitor {
     /// Whether its connections are to end.
     pub is_ending: bool,
     /// Whether it is well.
@@ -45,7 +45,7 @@ pub struct FixedSteward {
     pub seen: SeenTokens,
 }
 
-impl Steward for FixedSteward {
+impl Monitor for FixedMonitor {
     fn is_ending(&self) -> bool {
         self.is_ending
     }
