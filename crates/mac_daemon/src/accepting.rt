@@ -166,7 +166,7 @@ fn pause<R: Wait + Clock>(rt: &R, alloc: Global, fault: io::Error, quay: &Quay) 
 }
 
 /// Hands a connection to a loop. One for which there is no memory is closed, and that is told.
-fn welcome<R: Wait + Clock>(rt: &R, alloc: Global, newcomer: Newcomer, loops: &Loops, quay: &Quay) {
+fn begin<R: Wait + Clock>(rt: &R, alloc: Global, newcomer: Newcomer, loops: &Loops, quay: &Quay) {
     let Newcomer {
         stream,
         rights,

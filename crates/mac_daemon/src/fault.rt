@@ -1,8 +1,7 @@
 //! Why a daemon can't begin, or can't go on.
 
-use mac_loop::LoopFault;
 use mac_pool::PoolFault;
-use mac_sockets::{EntranceFault, PlaceFault};
+use mac_sockets::{PlaceFault, WaitFault};
 use mac_system::HandedFault;
 use std::alloc::AllocError;
 use std::io;
@@ -64,20 +63,11 @@ impl From<HandedFault> for DaemonFault {
     }
 }
 
-impl From<EntranceFault> for DaemonFault {
-    fn from(refused: EntranceFault) -> DaemonFault {
+impl From<WaitFault> for DaemonFault {
+    fn from(refused: WaitFault) -> DaemonFault {
         match refused {
-            EntranceFault::NoMemory => DaemonFault::NoMemory,
-            EntranceFault::System(refused) => DaemonFault::System(refused),
-        }
-    }
-}
-
-impl From<LoopFault> for DaemonFault {
-    fn from(refused: LoopFault) -> DaemonFault {
-        match refused {
-            LoopFault::NoMemory => DaemonFault::NoMemory,
-            LoopFault::System(refused) => DaemonFault::System(refused),
+            WaitFault::NoMemory => DaemonFault::NoMemory,
+            WaitFault::System(refused) => DaemonFault::System(refused),
         }
     }
 }

@@ -8,8 +8,7 @@ use crate::devices::{Heard, Spoken};
 use http_server::{Connection, Service};
 use mac_http::{Way, take_turn};
 use mac_sockets::{Readiness, Stream, Wakes};
-use mio::unix::SourceFd;
-use mio::{Interest, Registry, Token};
+use mio::{Registry, Token};
 use std::io;
 use std::io::ErrorKind;
 use std::net::Shutdown;
@@ -65,11 +64,7 @@ impl HttpConnection {
     /// Has a poll tell of what comes, under this token.
     pub fn join(&self, registry: &Registry, token: Token) -> io::Result<()> {
         self.stream.hurry()?;
-        registry.register(
-            &mut SourceFd(&self.stream.descriptor()),
-            token,
-            Interest::READABLE,
-        )
+        self.stream.join(registry, token)
     }
 
     /// Has a poll tell of room to write too, while that is waited for.
@@ -79,12 +74,7 @@ impl HttpConnection {
             return Ok(());
         }
         self.awaits_room = awaits;
-        let interest = if awaits {
-            Interest::READABLE | Interest::WRITABLE
-        } else {
-            Interest::READABLE
-        };
-        registry.reregister(&mut SourceFd(&self.stream.descriptor()), token, interest)
+        self.stream.await_room(registry, token, awaits)
     }
 
     /// When something was written last, or it began.

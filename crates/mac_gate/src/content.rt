@@ -5,12 +5,12 @@ use crate::looping::HttpLoop;
 use crate::shared::Shared;
 use crate::terms::HttpTerms;
 use http_server::Service;
-use mac_board::{Follower, Moments, Tables};
+use mac_board::{Follower, Followers, Moments, Tables};
 use mac_decide::Rights;
 use mac_http::{Face, Monitor, Way};
 use mac_page::{PageFace, Site};
 use mac_system::SystemMoments;
-use std::alloc::Global;
+use std::alloc::{AllocError, Global};
 use std::random::RandomSource;
 use std::sync::{Arc, Wait};
 use std::time::Clock;
@@ -21,7 +21,7 @@ pub enum Content {
     /// A face of the daemon.
     Daemon(FaceParts),
     /// The face of a site.
-    Site(Arc<Site, Global>),
+    Site(Site),
 }
 
 /// What a face of the daemon is made of.
@@ -53,6 +53,33 @@ impl<'a> Answers for PageFace<'a> {
 }
 
 impl Content {
+    /// Faces of a daemon for so many loops, under the tables that are followed.
+    pub fn faces(
+        alloc: Global,
+        followers: Followers,
+        rights: Rights,
+        loops: usize,
+        terms: HttpTerms,
+    ) -> Result<Vec<Content>, AllocError> {
+        let rights = Arc::new(alloc, rights)?;
+        let mut contents = Vec::with_capacity(alloc, loops)?;
+        for _ in 0..loops {
+            contents.push(Content::Daemon(FaceParts {
+                keys: followers.follower()?,
+                terms,
+                rights: Arc::try_clone(&rights)?,
+            }))?;
+        }
+        Ok(contents)
+    }
+
+    /// A site, for one loop.
+    pub fn site(alloc: Global, site: Site) -> Result<Vec<Content>, AllocError> {
+        let mut contents = Vec::with_capacity(alloc, 1)?;
+        contents.push(Content::Site(site))?;
+        Ok(contents)
+    }
+
     /// Serves the connections of a loop to the end of the last one.
     pub fn serve<R: Wait + Clock + RandomSource>(
         self,

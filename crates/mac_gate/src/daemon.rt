@@ -6,7 +6,7 @@ use http::StatusCode;
 use mac_count::{Number, append_metrics, append_status, append_version};
 use mac_decide::SeenTokens;
 use mac_host::Host;
-use mac_http::{Noted, Page, Monitor, Told};
+use mac_http::{Monitor, Noted, Page, Told};
 use std::alloc::{AllocError, Global};
 use std::sync::Wait;
 use std::time::Clock;

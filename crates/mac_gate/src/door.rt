@@ -1,9 +1,7 @@
 //! Sockets that listen.
 
 use crate::address::Address;
-use mac_decide::Rights;
 use mac_sockets::{Door, Doors, Holdings, PlaceFault};
-use std::alloc::Global;
 use std::fs::{File, Files};
 use std::io;
 use std::io::ErrorKind;
@@ -11,13 +9,6 @@ use std::net::{Net, SocketAddr, TcpListener, TcpStream};
 use std::sync::Wait;
 use std::time::Clock;
 use thiserror::Error;
-
-/// Doors that were opened one after another, and what is allowed at each of them.
-#[derive(Drop)]
-pub struct HttpDoors {
-    pub(crate) doors: Doors<()>,
-    pub(crate) rights: Rights,
-}
 
 /// Why there is no door at an address.
 #[derive(Debug, Drop, Error)]
@@ -62,59 +53,24 @@ impl From<io::Error> for DoorFault {
     }
 }
 
-impl HttpDoors {
-    ghost use Rattle.std.specs.Prelude.{◌≡◌};
-
-    /// No door yet. What is allowed at those that are opened is told here.
-    pub fn new(alloc: Global, rights: Rights) -> HttpDoors
-        ensures { result.rights ≡ rights }
-    {
-        HttpDoors {
-            doors: Doors::new(alloc),
-            rights,
+/// Opens a door at an address. A Unix socket has these permissions, and is among those that are held.
+pub fn open_door<R>(
+    rt: &R,
+    doors: &mut Doors<()>,
+    address: Address<'_>,
+    permissions: u32,
+    holdings: &mut Holdings,
+) -> Result<(), DoorFault>
+where
+    R: Files<File = File> + Net<Listener = TcpListener, Stream = TcpStream> + Clock + Wait,
+{
+    match address {
+        Address::Unix(path) => doors.open(rt, path, permissions, (), holdings)?,
+        Address::Tcp(address) => {
+            open_port(rt, doors, address)?;
         }
     }
-
-    /// Whether there is none.
-    pub fn is_empty(&self) -> bool {
-        self.doors.is_empty()
-    }
-
-    /// Opens a door at an address. A Unix socket has these permissions, and is among those that are
-    /// held.
-    pub fn open<R>(
-        &mut self,
-        rt: &R,
-        address: Address<'_>,
-        permissions: u32,
-        holdings: &mut Holdings,
-    ) -> Result<(), DoorFault>
-    where
-        R: Files<File = File> + Net<Listener = TcpListener, Stream = TcpStream> + Clock + Wait,
-    {
-        match address {
-            Address::Unix(path) => self.open_unix(rt, path, permissions, holdings),
-            Address::Tcp(address) => {
-                open_port(rt, &mut self.doors, address)?;
-                Ok(())
-            }
-        }
-    }
-
-    /// Opens the door of a Unix socket, which has these permissions and is among those that are
-    /// held.
-    pub fn open_unix<R>(
-        &mut self,
-        rt: &R,
-        path: &str,
-        permissions: u32,
-        holdings: &mut Holdings,
-    ) -> Result<(), DoorFault>
-    where
-        R: Files<File = File> + Net + Clock + Wait,
-    {
-        Ok(self.doors.open(rt, path, permissions, (), holdings)?)
-    }
+    Ok(())
 }
 
 /// Adds the door of a port. The address that it has is told, as the system may choose the port.

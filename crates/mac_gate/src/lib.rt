@@ -1,8 +1,8 @@
 //! The server of sockets over HTTP: where gateways, programs, operators and the page's browser
 //! connect, and loops that answer them.
 //!
-//! [`read_addresses`] reads what people write, [`HttpDoors`] are opened there, and [`serve_daemon`] or
-//! [`serve_site`] starts the thread that accepts, and loops. A loop is a thread that waits for many
+//! [`read_addresses`] reads what people write, [`open_door`] opens a door there, and [`start_server`]
+//! starts the thread that accepts, and a loop for each [`Content`]. A loop is a thread that waits for many
 //! connections: each that is ready takes a turn of `mac_http`, over its stream, which never waits. An
 //! [`HttpServer`] is told to end, and waited for.
 #![tactic(auto)]
@@ -23,6 +23,7 @@ mod terms;
 mod waiting;
 
 pub use address::{Address, AddressFault, ListFault, Reach, read_address, read_addresses};
-pub use door::{DoorFault, HttpDoors, open_port};
-pub use server::{HttpServer, ServerFault, serve_daemon, serve_site};
+pub use content::Content;
+pub use door::{DoorFault, open_door, open_port};
+pub use server::{HttpServer, ServerFault, start_server};
 pub use terms::{Bounds, HttpTerms};

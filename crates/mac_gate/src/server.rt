@@ -1,15 +1,12 @@
 //! The server of sockets over HTTP: its assembly, and its end.
 
 use crate::accepting::start_accepting;
-use crate::content::{Content, FaceParts};
-use crate::door::HttpDoors;
+use crate::content::Content;
 use crate::looping::HttpLoop;
 use crate::shared::Shared;
-use crate::terms::{Bounds, HttpTerms};
-use mac_board::Followers;
+use crate::terms::Bounds;
 use mac_host::Host;
-use mac_page::Site;
-use mac_sockets::{Doors, Entrance, EntranceFault};
+use mac_sockets::{Doors, Entrance, WaitFault};
 use std::alloc::{Alloc, AllocError, AllocFailed, Global};
 use std::io;
 use std::net::Net;
@@ -51,11 +48,11 @@ impl From<io::Error> for ServerFault {
     }
 }
 
-impl From<EntranceFault> for ServerFault {
-    fn from(refused: EntranceFault) -> ServerFault {
+impl From<WaitFault> for ServerFault {
+    fn from(refused: WaitFault) -> ServerFault {
         match refused {
-            EntranceFault::NoMemory => ServerFault::NoMemory,
-            EntranceFault::System(refused) => ServerFault::System(refused),
+            WaitFault::NoMemory => ServerFault::NoMemory,
+            WaitFault::System(refused) => ServerFault::System(refused),
         }
     }
 }
@@ -80,53 +77,9 @@ impl HttpServer {
     }
 }
 
-/// Has the connections that come in through these doors answered for a daemon, by so many loops,
-/// under the tables that are followed. The end of the daemon waits for them.
-pub fn serve_daemon<R>(
-    rt: &R,
-    doors: HttpDoors,
-    followers: Followers,
-    host: Host,
-    loops: usize,
-    terms: HttpTerms,
-) -> Result<HttpServer, ServerFault>
-where
-    R: Alloc<A = Global> + Net + Threads + Wait + Clock + RandomSource,
-    R: Sync + Copy + Send + 'static,
-{
-    let alloc = rt.alloc();
-    let HttpDoors { doors, rights } = doors;
-    let rights = Arc::new(alloc, rights)?;
-    let mut contents = Vec::with_capacity(alloc, loops)?;
-    for _ in 0..loops {
-        contents.push(Content::Daemon(FaceParts {
-            keys: followers.follower()?,
-            terms,
-            rights: Arc::try_clone(&rights)?,
-        }))?;
-    }
-    start_server(rt, doors, contents, terms.bounds(), host)
-}
-
-/// Has the connections that come in through these doors shown a site, which is no daemon's.
-pub fn serve_site<R>(
-    rt: &R,
-    doors: Doors<()>,
-    site: Site,
-    bounds: Bounds,
-) -> Result<HttpServer, ServerFault>
-where
-    R: Alloc<A = Global> + Net + Threads + Wait + Clock + RandomSource,
-    R: Sync + Copy + Send + 'static,
-{
-    let alloc = rt.alloc();
-    let mut contents = Vec::with_capacity(alloc, 1)?;
-    contents.push(Content::Site(Arc::new(alloc, site)?))?;
-    start_server(rt, doors, contents, bounds, Host::alone(rt, alloc)?)
-}
-
-/// Starts the threads of a server, a loop for each of these contents.
-fn start_server<R>(
+/// Has the connections that come in through these doors answered by these contents, in a loop for
+/// each. The end of their host waits for them.
+pub fn start_server<R>(
     rt: &R,
     doors: Doors<()>,
     contents: Vec<Content>,

@@ -39,7 +39,7 @@ pub struct Bounds {
 
 impl HttpTerms {
     /// What they are held to.
-    pub(crate) fn bounds(&self) -> Bounds {
+    pub fn bounds(&self) -> Bounds {
         Bounds {
             connections: self.connections,
             patience: self.patience,

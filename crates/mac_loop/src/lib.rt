@@ -7,7 +7,6 @@
 //! from other loops: few clients share a loop for as long as it keeps up.
 #![tactic(auto)]
 
-mod fault;
 mod handover;
 mod inbox;
 mod looping;
@@ -17,7 +16,6 @@ mod port;
 mod transcript;
 mod watch;
 
-pub use fault::LoopFault;
 pub use handover::Handover;
 pub use inbox::Loops;
 pub use looping::{Loop, make_loops};

@@ -6,7 +6,6 @@ ghost use Rattle.mac_plain.specs.Client.{may_move};
 mod sharing;
 mod sweeping;
 
-use crate::fault::LoopFault;
 use crate::handover::Handover;
 use crate::inbox::Loops;
 use crate::members::{Lent, Member};
@@ -17,7 +16,7 @@ use mac_board::Outlook;
 use mac_decide::SeenTokens;
 use mac_host::{Traffic, microseconds, microseconds_of};
 use mac_plain::{Client, Course, Round};
-use mac_sockets::{Connections, Inbox};
+use mac_sockets::{Connections, Inbox, WaitFault};
 use mio::Token;
 use std::alloc::Global;
 use std::net::Net;
@@ -77,7 +76,7 @@ pub fn make_loops<R: Net>(
     idle: Option<u64>,
     seen: &SeenTokens,
     may_share: bool,
-) -> Result<(Arc<Loops, Global>, Vec<Loop>), LoopFault> {
+) -> Result<(Arc<Loops, Global>, Vec<Loop>), WaitFault> {
     let mut loops = Loops::new(alloc, may_share);
     let mut made = Vec::with_capacity(alloc, count)?;
     for number in 0..count {
@@ -205,7 +204,8 @@ impl Loop {
         let Ok(slot) = self.members.slots.reserve() else {
             return false;
         };
-        if port.join(self.members.registry(), Token(slot)).is_err() {
+        let registry = self.members.registry();
+        if port.stream().join(registry, Token(slot)).is_err() {
             let _ = self.members.slots.release(slot);
             return false;
         }
@@ -332,7 +332,7 @@ impl Loop {
         let since = member.note_progress(self.now);
         let Member { client, note } = member;
         let (port, session, rights) = client.into_parts();
-        let _ = port.leave(self.members.registry());
+        let _ = port.stream().leave(self.members.registry());
         Handover {
             port,
             session,
@@ -356,6 +356,7 @@ impl Loop {
             member.note.awaits_room = awaits;
             let _ = client
                 .port()
+                .stream()
                 .await_room(self.members.registry(), Token(slot), awaits);
         }
         if member.note.is_deep {

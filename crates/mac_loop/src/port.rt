@@ -7,8 +7,6 @@ use crate::transcript::Transcript;
 use mac_host::{Exchange, Traffic};
 use mac_plain::{Came, Port, Went};
 use mac_sockets::Stream;
-use mio::unix::SourceFd;
-use mio::{Interest, Registry, Token};
 use std::cell::RefCell;
 use std::io;
 use std::io::ErrorKind;
@@ -83,28 +81,9 @@ impl SocketPort {
         self.stream.shut(Shutdown::Read);
     }
 
-    /// Has a poll tell of what comes, under this token.
-    pub fn join(&self, registry: &Registry, token: Token) -> io::Result<()> {
-        registry.register(
-            &mut SourceFd(&self.stream.descriptor()),
-            token,
-            Interest::READABLE,
-        )
-    }
-
-    /// Has a poll tell of room to write too, or no longer.
-    pub fn await_room(&self, registry: &Registry, token: Token, awaits: bool) -> io::Result<()> {
-        let interest = if awaits {
-            Interest::READABLE | Interest::WRITABLE
-        } else {
-            Interest::READABLE
-        };
-        registry.reregister(&mut SourceFd(&self.stream.descriptor()), token, interest)
-    }
-
-    /// Has a poll tell of nothing more.
-    pub fn leave(&self, registry: &Registry) -> io::Result<()> {
-        registry.deregister(&mut SourceFd(&self.stream.descriptor()))
+    /// Its stream.
+    pub fn stream(&self) -> &Stream {
+        &self.stream
     }
 }
 

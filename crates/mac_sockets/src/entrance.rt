@@ -6,7 +6,7 @@ ghost use Rattle.mac_sockets.specs.Entrance.{IsThroughOwn, opened, taken_of};
 
 use crate::door::Door;
 use crate::doors::Doors;
-use crate::fault::EntranceFault;
+use crate::fault::WaitFault;
 use crate::stream::Stream;
 use mio::unix::SourceFd;
 use mio::{Events, Interest, Poll, Token, Waker};
@@ -76,11 +76,7 @@ impl Shutter {
 
 impl<G: Drop> Entrance<G> {
     /// The entrance through these doors.
-    pub fn open<R: Net>(
-        rt: &R,
-        alloc: Global,
-        doors: Doors<G>,
-    ) -> Result<Entrance<G>, EntranceFault>
+    pub fn open<R: Net>(rt: &R, alloc: Global, doors: Doors<G>) -> Result<Entrance<G>, WaitFault>
         ensures doors { IfOk result (λ entrance. doors_of entrance ≡ opened doors) }
         ensures taken { IfOk result (λ entrance. taken_of entrance ≡ 0) }
     {
@@ -99,7 +95,7 @@ impl<G: Drop> Entrance<G> {
             is_shut: AtomicBool::new(false),
         };
         let Ok(shutter) = Arc::new(alloc, shutter) else {
-            return Err(EntranceFault::NoMemory);
+            return Err(WaitFault::NoMemory);
         };
         Ok(Entrance {
             doors,
@@ -137,7 +133,7 @@ impl<G: Drop> Entrance<G> {
     /// too.
     pub fn accept<R: Wait>(&mut self, rt: &R) -> Option<Accepted>
         ensures doors { doors_of self.new ≡ doors_of self.old }
-        ensures through { IsThroughOneOf (doors_of self.old) result }
+        ensures through { IsThroughOneOf (doors_of self.new) result }
         ensures counts { CountsArrived result (taken_of self.old) (taken_of self.new) }
     {
         let accepted = self.await_next(rt);

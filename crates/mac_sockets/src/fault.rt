@@ -1,12 +1,12 @@
-//! Why there is no entrance.
+//! Why nothing can wait for connections.
 
-use std::alloc::AllocError;
+use std::alloc::{AllocError, AllocFailed};
 use std::io;
 use thiserror::Error;
 
 /// Why nothing can wait for connections.
 #[derive(Debug, Drop, Error)]
-pub enum EntranceFault {
+pub enum WaitFault {
     /// Memory ran out.
     #[error("memory ran out")]
     NoMemory,
@@ -15,14 +15,20 @@ pub enum EntranceFault {
     System(io::Error),
 }
 
-impl From<AllocError> for EntranceFault {
-    fn from(_refused: AllocError) -> EntranceFault {
-        EntranceFault::NoMemory
+impl From<AllocError> for WaitFault {
+    fn from(_refused: AllocError) -> WaitFault {
+        WaitFault::NoMemory
     }
 }
 
-impl From<io::Error> for EntranceFault {
-    fn from(refused: io::Error) -> EntranceFault {
-        EntranceFault::System(refused)
+impl<T: Drop> From<AllocFailed<T>> for WaitFault {
+    fn from(_refused: AllocFailed<T>) -> WaitFault {
+        WaitFault::NoMemory
+    }
+}
+
+impl From<io::Error> for WaitFault {
+    fn from(refused: io::Error) -> WaitFault {
+        WaitFault::System(refused)
     }
 }

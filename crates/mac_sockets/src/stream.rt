@@ -2,6 +2,8 @@
 
 ghost use Rattle.std.specs.Io.{ReadsAtMost, WritesAtMost};
 
+use mio::unix::SourceFd;
+use mio::{Interest, Registry, Token};
 use std::io;
 use std::io::{ErrorKind, Read, Write};
 use std::net::{Shutdown, TcpStream};
@@ -47,11 +49,31 @@ impl Stream {
     }
 
     /// The number that the system knows it by.
-    pub fn descriptor(&self) -> i32 {
+    fn descriptor(&self) -> i32 {
         match self {
             Stream::Unix(stream) => stream.as_raw_fd(),
             Stream::Tcp(stream) => stream.as_raw_fd(),
         }
+    }
+
+    /// Has a poll tell of what comes, under this token.
+    pub fn join(&self, registry: &Registry, token: Token) -> io::Result<()> {
+        registry.register(&mut SourceFd(&self.descriptor()), token, Interest::READABLE)
+    }
+
+    /// Has a poll tell of room to write too, or no longer.
+    pub fn await_room(&self, registry: &Registry, token: Token, awaits: bool) -> io::Result<()> {
+        let interest = if awaits {
+            Interest::READABLE | Interest::WRITABLE
+        } else {
+            Interest::READABLE
+        };
+        registry.reregister(&mut SourceFd(&self.descriptor()), token, interest)
+    }
+
+    /// Has a poll tell of nothing more.
+    pub fn leave(&self, registry: &Registry) -> io::Result<()> {
+        registry.deregister(&mut SourceFd(&self.descriptor()))
     }
 
     /// Shuts a half of the stream, or both.

@@ -2,15 +2,17 @@
 ghost use Rattle.macaroond.specs.Watching.{Watches};
 
 use crate::commands::LOOPS_MAX;
-use crate::http::{HttpPlan, open_doors};
+use crate::http::{HttpPlan, OpenDoors, open_doors};
 use crate::key_store::{FirstKeys, KeyPlace, look_at};
-use crate::operating::{OperatorsServer, open_status, start_operators, warn_of_no_status};
+use crate::operating::{
+    OperatorsServer, open_status, operators_terms, start_operators, warn_of_no_status,
+};
 use mac_board::Editor;
 use mac_daemon::{
     Daemon, DaemonFault, FOLLOWERS_MAX, Gift, SideSocket, Surroundings, Terms, give, listen,
 };
 use mac_decide::Rights;
-use mac_gate::{Address, DoorFault, HttpDoors, HttpServer, HttpTerms, ServerFault, serve_daemon};
+use mac_gate::{Address, DoorFault, HttpServer, ServerFault};
 use mac_host::Call;
 use mac_sockets::{Claim, Door, Doors, Holdings, PlaceFault};
 use mac_system::handed_listener;
@@ -162,10 +164,10 @@ where
         terms: gateways_terms,
         ..
     } = http;
-    let doors = open_doors(rt, gateways, holdings)?;
-    let for_callers = open_doors(rt, callers, holdings)?;
-    let mut for_operators = open_doors(rt, operators, holdings)?;
-    let status = open_status(rt, alloc, terms.path, &mut for_operators, holdings);
+    let gateways = open_doors(rt, gateways, gateways_terms, holdings)?;
+    let callers = open_doors(rt, callers, calls_terms, holdings)?;
+    let mut operators = open_doors(rt, operators, operators_terms(), holdings)?;
+    let status = open_status(rt, alloc, terms.path, &mut operators.doors, holdings);
     let own = open_own(rt, terms, rights, side, handed, holdings)?;
     let followers = editor.followers()?;
     let daemon = listen(rt, alloc, terms, own, followers, Surroundings::find(rt))?;
@@ -173,9 +175,9 @@ where
         warn_of_no_status(rt, terms.path, &fault);
     }
     let loops = terms.shape.loops;
-    let gateways = start_server(rt, doors, editor, &daemon, loops, gateways_terms)?;
-    let callers = start_server(rt, for_callers, editor, &daemon, loops, calls_terms)?;
-    let operators = start_operators(rt, for_operators, &daemon)?;
+    let gateways = start_faces(rt, gateways, editor, &daemon, loops)?;
+    let callers = start_faces(rt, callers, editor, &daemon, loops)?;
+    let operators = start_operators(rt, operators, &daemon)?;
     Ok(Started {
         daemon,
         gateways,
@@ -241,26 +243,23 @@ fn end_all<R: Wait + Clock + Drop>(rt: &R, started: Started<R>) {
     daemon.see_off(rt);
 }
 
-/// Has the connections that come in through these doors served by so many loops, where there are
+/// Has the connections that come in through these doors answered by so many loops, where there are
 /// any doors.
-fn start_server<'a, R>(
+fn start_faces<'a, R>(
     rt: &R,
-    doors: HttpDoors,
+    opened: OpenDoors,
     editor: &Editor<R>,
     daemon: &Daemon,
     loops: usize,
-    terms: HttpTerms,
 ) -> Result<Option<HttpServer>, ListenFault<'a>>
 where
     R: Alloc<A = Global> + Clock + RandomSource + Net,
     R: Threads + Wait + Sync + Copy + Send + 'static,
 {
-    if doors.is_empty() {
+    if opened.doors.is_empty() {
         return Ok(None);
     }
-    let followers = editor.followers()?;
-    let host = daemon.host()?;
-    let server = serve_daemon(rt, doors, followers, host, loops, terms)?;
+    let server = opened.serve(rt, editor.followers()?, loops, daemon.host()?)?;
     Ok(Some(server))
 }
 

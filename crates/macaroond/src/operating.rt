@@ -1,13 +1,14 @@
 //! Where operators ask how a daemon is: a socket beside its own, and addresses of this machine.
 
 use crate::commands::VERSION;
+use crate::http::OpenDoors;
 use crate::key_watch::ListenFault;
 use mac_board::Publisher;
 use mac_daemon::{Daemon, DaemonFault};
-use mac_gate::{DoorFault, HttpDoors, HttpServer, HttpTerms, serve_daemon};
+use mac_gate::{DoorFault, HttpServer, HttpTerms};
 use mac_http::{Calls, Granted, Pages, Sources};
 use mac_keys::KeyTable;
-use mac_sockets::Holdings;
+use mac_sockets::{Doors, Holdings};
 use std::alloc::{Alloc, AllocError, Global};
 use std::fs::{File, Files};
 use std::net::{Net, TcpListener, TcpStream};
@@ -53,7 +54,7 @@ pub(crate) fn open_status<R>(
     rt: &R,
     alloc: Global,
     socket: &str,
-    doors: &mut HttpDoors,
+    doors: &mut Doors<()>,
     holdings: &mut Holdings,
 ) -> Result<(), DoorFault>
 where
@@ -62,7 +63,7 @@ where
     let Ok(path) = status_path(alloc, socket) else {
         return Err(DoorFault::NoMemory);
     };
-    doors.open_unix(rt, path.as_str(), STATUS_PERMISSIONS, holdings)
+    Ok(doors.open(rt, path.as_str(), STATUS_PERMISSIONS, (), holdings)?)
 }
 
 /// Warns of a daemon that has no status socket. Nobody is kept from what it is for.
@@ -75,14 +76,14 @@ pub(crate) fn warn_of_no_status<R: Eprint>(rt: &R, socket: &str, fault: &DoorFau
 /// Has the connections of operators served, which come in through these doors.
 pub(crate) fn start_operators<'a, R>(
     rt: &R,
-    doors: HttpDoors,
+    opened: OpenDoors,
     daemon: &Daemon,
 ) -> Result<Option<OperatorsServer<R>>, ListenFault<'a>>
 where
     R: Alloc<A = Global> + Clock + RandomSource + Net + Drop,
     R: Threads + Wait + Sync + Copy + Send + 'static,
 {
-    if doors.is_empty() {
+    if opened.doors.is_empty() {
         return Ok(None);
     }
     let alloc = rt.alloc();
@@ -90,15 +91,7 @@ where
         return Err(ListenFault::Daemon(DaemonFault::NoMemory));
     };
     let publisher = Publisher::new(alloc, *rt, no_keys, OPERATORS_LOOPS)?;
-    let followers = publisher.followers()?;
-    let server = serve_daemon(
-        rt,
-        doors,
-        followers,
-        daemon.host()?,
-        OPERATORS_LOOPS,
-        operators_terms(),
-    )?;
+    let server = opened.serve(rt, publisher.followers()?, OPERATORS_LOOPS, daemon.host()?)?;
     Ok(Some(OperatorsServer {
         server,
         _publisher: publisher,
@@ -106,7 +99,7 @@ where
 }
 
 /// How the connections of operators are served.
-fn operators_terms() -> HttpTerms {
+pub(crate) fn operators_terms() -> HttpTerms {
     HttpTerms {
         sources: Sources {
             header: false,

@@ -9,7 +9,11 @@ use crate::status::Status;
 use crate::telling::{
     tell_door, tell_fault, tell_key_file, tell_nowhere, tell_page_address, tell_server,
 };
-use mac_gate::{Address, AddressFault, Bounds, Reach, open_port, read_address, serve_site};
+use mac_gate::{
+    Address, AddressFault, Bounds, Content, HttpServer, Reach, ServerFault, open_port,
+    read_address, start_server,
+};
+use mac_host::Host;
 use mac_keys::KeyTable;
 use mac_page::{Secret, Secrets, Site, SiteTexts};
 use mac_sockets::Doors;
@@ -103,7 +107,7 @@ where
     let Ok(site) = build_site(rt.alloc(), served, secrets, keys, has_keys) else {
         return tell_fault(rt, Status::NoMemory);
     };
-    let server = match serve_site(rt, doors, site, bounds()) {
+    let server = match serve_site(rt, doors, site) {
         Ok(server) => server,
         Err(fault) => return tell_server(rt, fault),
     };
@@ -113,6 +117,16 @@ where
     }
     server.await_end(rt);
     Status::Done
+}
+
+/// Has the connections that come in through these doors shown a site.
+fn serve_site<R>(rt: &R, doors: Doors<()>, site: Site) -> Result<HttpServer, ServerFault>
+where
+    R: Alloc<A = Global> + Net + Clock + RandomSource,
+    R: Threads + Wait + Sync + Copy + Send + 'static,
+{
+    let contents = Content::site(rt.alloc(), site)?;
+    start_server(rt, doors, contents, bounds(), Host::alone(rt, rt.alloc())?)
 }
 
 /// What the connections of the page are held to. Those that are silent give way, so that they shut
