@@ -96,7 +96,7 @@ pub fn make_seen<R: RandomSource + Eprint>(rt: &R, alloc: Global, shape: Shape) 
 
 /// What the threads of a daemon are started with.
 #[derive(Drop)]
-pub struct Service {
+pub struct FleetParts {
     /// How many workers answer wide connections.
     pub workers: usize,
     /// The loops that answer all others.
@@ -125,14 +125,14 @@ impl Fleet {
     pub fn start<R>(
         rt: &R,
         alloc: Global,
-        service: Service,
+        service: FleetParts,
         followers: &Followers,
     ) -> Result<Fleet, DaemonFault>
     where
         R: Threads + Wait + Clock + Sync + Copy + Send + 'static,
         ensures { IfOk result (λ fleet. fleet.acceptor.promise.0 ≡ service.limits.count) }
     {
-        let Service {
+        let FleetParts {
             workers,
             idlers,
             entrance,

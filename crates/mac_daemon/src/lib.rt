@@ -24,5 +24,5 @@ pub use crew::WIDE_MAX;
 pub use door::{Gift, SideSocket, give};
 pub use fault::DaemonFault;
 pub use fleet::{Day, FOLLOWERS_MAX, Shape};
-pub use listening::{Daemon, Terms, listen};
+pub use listening::{Daemon, DaemonTerms, listen};
 pub use surroundings::Surroundings;

@@ -7,7 +7,7 @@ use crate::accepting::{AsAsked, Limits};
 use crate::descriptors::most_connections;
 use crate::door::Gift;
 use crate::fault::DaemonFault;
-use crate::fleet::{Day, Fleet, Idlers, Service, Shape, make_seen};
+use crate::fleet::{Day, Fleet, FleetParts, Idlers, Shape, make_seen};
 use crate::quay::Quay;
 use crate::stop::Stop;
 use crate::surroundings::{Surroundings, heed_signals};
@@ -25,7 +25,7 @@ use std::time::{Clock, Duration};
 
 /// What a daemon is told of what it serves.
 #[derive(Clone, Copy)]
-pub struct Terms<'a> {
+pub struct DaemonTerms<'a> {
     /// The path of its socket.
     pub path: &'a str,
     /// The permissions of the socket's file.
@@ -73,7 +73,7 @@ type Serving = PromisedHandle<Result<Day, DaemonFault>, AsAsked>;
 pub fn listen<R>(
     rt: &R,
     alloc: Global,
-    terms: Terms<'_>,
+    terms: DaemonTerms<'_>,
     doors: Doors<Gift>,
     followers: Followers,
     surroundings: Surroundings,
@@ -110,7 +110,7 @@ where
         Arc::try_clone(&roster)?,
     )?;
     let seen = make_seen(rt, alloc, terms.shape);
-    let service = Service {
+    let service = FleetParts {
         workers: terms.shape.workers,
         idlers: Idlers::make(rt, alloc, terms.shape, &seen)?,
         entrance,
@@ -137,7 +137,7 @@ impl Daemon {
     pub fn open<R>(
         &self,
         rt: &R,
-        terms: Terms<'_>,
+        terms: DaemonTerms<'_>,
         holdings: &mut Holdings,
     ) -> Result<(), DaemonFault>
     where
@@ -210,7 +210,7 @@ fn start_notices<R>(
     rt: R,
     alloc: Global,
     is_journal: bool,
-    terms: Terms<'_>,
+    terms: DaemonTerms<'_>,
 ) -> Result<Notices, DaemonFault>
 where
     R: Threads + Wait + Clock + Eprint + Copy + Send + 'static,
@@ -225,7 +225,7 @@ where
 }
 
 /// The paths of the sockets, in the order of their doors.
-fn socket_paths(alloc: Global, terms: Terms<'_>) -> Result<Vec<String>, AllocError> {
+fn socket_paths(alloc: Global, terms: DaemonTerms<'_>) -> Result<Vec<String>, AllocError> {
     let mut paths = Vec::with_capacity(alloc, 2)?;
     paths.push(String::from_str(alloc, terms.path)?)?;
     if let Some(side) = terms.side {
@@ -239,7 +239,7 @@ fn socket_paths(alloc: Global, terms: Terms<'_>) -> Result<Vec<String>, AllocErr
 fn start_serving<R>(
     rt: R,
     alloc: Global,
-    service: Service,
+    service: FleetParts,
     followers: Followers,
     ending: &Arc<Ending, Global>,
 ) -> Result<Serving, DaemonFault>
@@ -269,7 +269,7 @@ where
 fn serve_all<R>(
     rt: &R,
     alloc: Global,
-    service: Service,
+    service: FleetParts,
     followers: &Followers,
     ending: &Ending,
 ) -> Result<Day, DaemonFault>
@@ -285,8 +285,8 @@ where
 /// How many connections there may be at a time: as many as were asked for, or as the system's limit
 /// of descriptors allows beside those that are reserved, which is told then. A daemon that ends after
 /// so many looks at no limit: it ends where the system gives none.
-fn allow_connections<R: Wait + Clock>(rt: &R, terms: Terms<'_>, notices: &Notices) -> u64 {
-    let Terms {
+fn allow_connections<R: Wait + Clock>(rt: &R, terms: DaemonTerms<'_>, notices: &Notices) -> u64 {
+    let DaemonTerms {
         shape,
         reserved,
         accept,
@@ -301,7 +301,7 @@ fn allow_connections<R: Wait + Clock>(rt: &R, terms: Terms<'_>, notices: &Notice
 }
 
 /// What is told of a daemon at its start.
-fn beginning_of(terms: Terms<'_>) -> Beginning<'_> {
+fn beginning_of(terms: DaemonTerms<'_>) -> Beginning<'_> {
     Beginning {
         version: terms.version,
         socket: terms.path,
@@ -314,8 +314,8 @@ fn beginning_of(terms: Terms<'_>) -> Beginning<'_> {
 /// Prints the line that tells that clients can connect, and at which sockets. Where it can't be
 /// printed that is told, and no more: clients can connect, and a daemon that had the place before
 /// goes.
-fn say_listening<R: Print + Eprint>(rt: &R, terms: Terms<'_>) {
-    let Terms {
+fn say_listening<R: Print + Eprint>(rt: &R, terms: DaemonTerms<'_>) {
+    let DaemonTerms {
         path,
         side,
         names,

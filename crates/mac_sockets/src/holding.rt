@@ -1,6 +1,6 @@
 //! What a process has of the paths of its sockets. Each socket is made out of reach, and all are
 //! put in their places once the daemon serves them.
-use crate::lock::{Claim, FileId, PathLock, lock_path, name_lock};
+use crate::lock::{FileId, PathClaim, PathLock, lock_path, name_lock};
 use crate::place::{PATH_MAX, PlaceFault, check_length};
 use std::alloc::{AllocError, Global};
 use std::fs::{DirBuilder, File, Files, Permissions};
@@ -40,14 +40,14 @@ struct Made {
 #[derive(Drop)]
 pub struct Holdings {
     alloc: Global,
-    claim: Claim,
+    claim: PathClaim,
     process: Process,
     held: Vec<Holding>,
 }
 
 impl Holdings {
     /// No path yet. Those that come are claimed so.
-    pub fn new(alloc: Global, claim: Claim, process: Process) -> Holdings {
+    pub fn new(alloc: Global, claim: PathClaim, process: Process) -> Holdings {
         Holdings {
             alloc,
             claim,

@@ -27,7 +27,7 @@ pub use entrance::{Accepted, Arrived, Entrance, Shutter};
 pub use fault::WaitFault;
 pub use holding::Holdings;
 pub use inbox::Inbox;
-pub use lock::Claim;
+pub use lock::PathClaim;
 pub use place::{PlaceFault, bind_new};
 pub use stacks::{STACK, has_roomy_stacks};
 pub use stream::Stream;

@@ -25,7 +25,7 @@ const TURN_MILLIS: u64 = 100;
 
 /// How a process comes by a path.
 #[derive(Clone, Copy, Debug, PartialEq, Eq)]
-pub enum Claim {
+pub enum PathClaim {
     /// Nobody else may have it.
     Free,
     /// A daemon that has it gives it up.
@@ -55,12 +55,12 @@ pub enum PathLock {
     /// The lock of the path.
     Own(File),
     /// The turn to have that lock next, while another process has it.
-    Next(Turn),
+    Next(LockTurn),
 }
 
 /// The turn to have a path's lock next: the lock of a further file.
 #[derive(Drop)]
-pub struct Turn {
+pub struct LockTurn {
     file: File,
     name: String,
 }
@@ -71,15 +71,15 @@ impl PathLock {
         rt: &R,
         alloc: Global,
         path: &str,
-        claim: Claim,
+        claim: PathClaim,
         process: Process,
     ) -> Result<PathLock, PlaceFault>
     where
         R: Files<File = File> + Clock + Wait,
     {
         match claim {
-            Claim::Free => Ok(PathLock::Own(lock_path(rt, alloc, path, process)?)),
-            Claim::Replacing => take_turn(rt, alloc, path, process),
+            PathClaim::Free => Ok(PathLock::Own(lock_path(rt, alloc, path, process)?)),
+            PathClaim::Replacing => take_turn(rt, alloc, path, process),
         }
     }
 
@@ -97,16 +97,16 @@ impl PathLock {
     }
 }
 
-impl Turn {
+impl LockTurn {
     /// Takes the turn, which another process may be about to give back.
-    fn take<R>(rt: &R, alloc: Global, path: &str, process: Process) -> Result<Turn, PlaceFault>
+    fn take<R>(rt: &R, alloc: Global, path: &str, process: Process) -> Result<LockTurn, PlaceFault>
     where
         R: Files<File = File> + Clock + Wait,
     {
         let name = format!(in alloc; "{path}.next.lock")?;
         for _ in 0..TURN_TRIES {
             match lock_file(rt, alloc, name.as_str(), process) {
-                Ok(file) => return Ok(Turn { file, name }),
+                Ok(file) => return Ok(LockTurn { file, name }),
                 Err(fault) if fault.is_locked() => {
                     thread::sleep(rt, Duration::from_millis(TURN_MILLIS));
                 }
@@ -130,7 +130,7 @@ fn take_turn<R>(rt: &R, alloc: Global, path: &str, process: Process) -> Result<P
 where
     R: Files<File = File> + Clock + Wait,
 {
-    let turn = Turn::take(rt, alloc, path, process)?;
+    let turn = LockTurn::take(rt, alloc, path, process)?;
     match lock_path(rt, alloc, path, process) {
         Ok(own) => {
             turn.give_back(rt);

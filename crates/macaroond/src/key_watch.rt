@@ -9,12 +9,12 @@ use crate::operating::{
 };
 use mac_board::Editor;
 use mac_daemon::{
-    Daemon, DaemonFault, FOLLOWERS_MAX, Gift, SideSocket, Surroundings, Terms, give, listen,
+    Daemon, DaemonFault, DaemonTerms, FOLLOWERS_MAX, Gift, SideSocket, Surroundings, give, listen,
 };
 use mac_decide::Rights;
 use mac_gate::{Address, DoorFault, HttpServer, ServerFault};
 use mac_host::Call;
-use mac_sockets::{Claim, Door, Doors, Holdings, PlaceFault};
+use mac_sockets::{Door, Doors, Holdings, PathClaim, PlaceFault};
 use mac_system::handed_listener;
 use std::alloc::{Alloc, AllocError, Global};
 use std::env::Env;
@@ -79,11 +79,11 @@ impl<'a> From<ServerFault> for ListenFault<'a> {
 /// in their places is removed.
 pub(crate) fn listen_and_watch<'a, R>(
     rt: &R,
-    terms: Terms<'_>,
+    terms: DaemonTerms<'_>,
     sockets: Sockets<'a>,
     keys: KeyPlace<'_>,
     first: FirstKeys,
-    claim: Claim,
+    claim: PathClaim,
     process: Process,
 ) -> Result<(), ListenFault<'a>>
 where
@@ -101,7 +101,7 @@ where
 /// The same, with what is held of the sockets' paths.
 fn listen_holding<'a, R>(
     rt: &R,
-    terms: Terms<'_>,
+    terms: DaemonTerms<'_>,
     sockets: Sockets<'a>,
     keys: KeyPlace<'_>,
     first: FirstKeys,
@@ -143,7 +143,7 @@ struct Started<R: Wait + Drop> {
 /// socket yet.
 fn start_all<'a, R>(
     rt: &R,
-    terms: Terms<'_>,
+    terms: DaemonTerms<'_>,
     sockets: Sockets<'a>,
     editor: &Editor<R>,
     handed: Option<UnixListener>,
@@ -190,7 +190,7 @@ where
 /// second one, where there is one.
 fn open_own<R>(
     rt: &R,
-    terms: Terms<'_>,
+    terms: DaemonTerms<'_>,
     rights: Rights,
     side: Option<SideSocket<'_>>,
     handed: Option<UnixListener>,

@@ -53,9 +53,9 @@ pub use input::INPUT_MAX;
 use key_store::{KeyPlace, read_first};
 use key_watch::{Sockets, listen_and_watch};
 use logging::read_log;
-use mac_daemon::{Shape, Terms};
+use mac_daemon::{DaemonTerms, Shape};
 use mac_pool::WORKERS_MAX;
-use mac_sockets::Claim;
+use mac_sockets::PathClaim;
 use mac_system::SystemMoments;
 use mac_wire::{ReaderSource, WriterSink};
 use page::run_page;
@@ -222,13 +222,13 @@ where
 }
 
 /// How a daemon comes by the paths of its sockets.
-fn claim_of(is_replacing: bool) -> Claim
-    ensures { result ≡ (if is_replacing then Claim.Replacing else Claim.Free) }
+fn claim_of(is_replacing: bool) -> PathClaim
+    ensures { result ≡ (if is_replacing then PathClaim.Replacing else PathClaim.Free) }
 {
     if is_replacing {
-        Claim::Replacing
+        PathClaim::Replacing
     } else {
-        Claim::Free
+        PathClaim::Free
     }
 }
 
@@ -239,7 +239,7 @@ fn name_terms<'a, R: Threads>(
     names: usize,
     reserved: u64,
     has_requests: bool,
-) -> Terms<'a>
+) -> DaemonTerms<'a>
     ensures mode { result.permissions ≡ permissions options.now.mode }
     ensures idle { result.shape.idle ≡ options.now.idle }
     ensures drain { result.drain ≡ drain_of options.now.drain }
@@ -250,7 +250,7 @@ fn name_terms<'a, R: Threads>(
     ensures requests { result.has_requests ≡ has_requests }
     ensures endless { result.accept ≡ None }
 {
-    Terms {
+    DaemonTerms {
         path: options.socket.as_str(),
         permissions: options.mode.permissions(),
         side: options.verify_socket.as_deref(),

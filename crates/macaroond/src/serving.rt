@@ -13,7 +13,7 @@ use crate::status::Status;
 use crate::telling::{tell_daemon, tell_nowhere, tell_served_keys};
 use crate::{DRAIN, REMEMBER, count_loops, count_workers};
 use mac_board::Publisher;
-use mac_daemon::{DaemonFault, Day, FOLLOWERS_MAX, Shape, Surroundings, Terms, give, listen};
+use mac_daemon::{DaemonFault, DaemonTerms, Day, FOLLOWERS_MAX, Shape, Surroundings, give, listen};
 use mac_decide::Rights;
 use mac_keys::KeyTable;
 use mac_sockets::{Door, Doors, bind_new};
@@ -86,11 +86,11 @@ fn say<W: Sink>(out: &mut W, line: &[u8]) -> Result<(), DaemonFault>
 }
 
 /// The terms that the options of `serve` name.
-fn counted_terms<'a, R: Threads>(rt: &R, options: &'a ServeOptions, names: usize) -> Terms<'a>
+fn counted_terms<'a, R: Threads>(rt: &R, options: &'a ServeOptions, names: usize) -> DaemonTerms<'a>
     ensures accept { result.accept ≡ Some options.now.accept }
     ensures workers { HasCount WORKERS_MAX (Some options.now.workers) result.shape.workers }
 {
-    Terms {
+    DaemonTerms {
         path: options.socket.as_str(),
         permissions: 0,
         side: None,
