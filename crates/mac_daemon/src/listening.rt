@@ -81,7 +81,7 @@ pub fn listen<R>(
 where
     R: Net + Threads + Wait + Clock + RandomSource + Eprint,
     R: Sync + Copy + Send + 'static,
-    ensures { IfOk result (λ daemon. count_of daemon ≡ terms.accept) }
+    ensures { IfOk result (λ daemon. count_of daemon ≡ terms.entry.accept) }
 {
     let Surroundings {
         signals,
@@ -250,7 +250,7 @@ where
     let ending = Arc::try_clone(ending)?;
     let count = service.limits.count;
     let work = move || -> Result<Day, DaemonFault>
-        ensures { IfOk result (λ day. MeetsCount count day.served) }
+        ensures { IfOk result (λ day. MeetsCount service.limits.count day.served) }
     {
         let outcome = serve_all(&rt, alloc, service, &followers, &ending);
         ending.finish(&rt);
