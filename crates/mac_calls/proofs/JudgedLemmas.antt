@@ -1,20 +1,25 @@
 -- What is told of a token in a context.
 use Rattle.std.proofs.Common.{◌≡◌, ◌↔◌, ℕ, List, [], ◌∷◌, map, codes, slice_index, ◌==◌, Bool, true, false, Some, refl, sym, subst, ap, ◌∙◌}
+use Rattle.std.specs.Prelude.{Ok, Err}
 use Rattle.std.proofs.lemmas.Bool.{false≢true}
 use Rattle.std.specs.List.{AllZip}
 use Rattle.serde_json.specs.Data.{Data, boolean}
 use Rattle.serde_json.specs.View.{items_of}
 use Rattle.serde_json.specs.Written.{compact_text, has_float, items_have_float}
-use Rattle.mac_decide.specs.Reading.{is_satisfied, verdict_of}
-use Rattle.mac_decide.specs.Verdict.{Accepts, IsVerdict, Satisfied}
+use Rattle.mac_decide.specs.Answer.{IsGranted}
+use Rattle.mac_decide.specs.Reading.{is_satisfied}
+use Rattle.mac_decide.specs.Verdict.{Satisfied}
 use Rattle.mac_decide.specs.declared.context.Context.{Context}
-use Rattle.mac_decide.specs.declared.verdict.Verdict.{Verdict}
-use Rattle.mac_decide.specs.declared.verdict.Verdict.TheVariants.{Granted, BadSignature, Unsatisfied}
-use Rattle.mac_decide.proofs.VerdictLemmas.{is_satisfied-exact, one_verdict, verdict_of-is}
-use Rattle.mac_keys.specs.Table.{listed}
+use Rattle.mac_decide.proofs.AnswerLemmas.{granted-request, request-granted}
+use Rattle.mac_decide.proofs.VerdictLemmas.{is_satisfied-exact}
+use Rattle.mac_wire.specs.declared.reply.Refusal.{Refusal}
+use Rattle.mac_wire.specs.declared.reply.Refusal.TheVariants as refusal
+use Rattle.mac_wire.specs.declared.reply.Reply.{Reply}
+use Rattle.mac_wire.specs.declared.reply.Reply.TheVariants as reply
 use Rattle.mac_keys.specs.declared.keys.Keys.{Keys}
-use Rattle.mac_token.specs.RawToken.{TokenParts}
-use Rattle.mac_calls.specs.Judged.{holding, holds_object, judgement, verdict_json}
+use Rattle.mac_calls.specs.Asking.{basis_of}
+use Rattle.mac_calls.specs.Judged.{holding, holds_object, refused_json, reply_json, verify_reply}
+use Rattle.mac_calls.specs.Steps.{Step}
 
 -- two tests that hold in the same case
 same_test : (a b : Bool) → (a ≡ true → b ≡ true) → (b ≡ true → a ≡ true) → a ≡ b
@@ -52,15 +57,33 @@ tells_each (caveat ∷ caveats) x = (is_satisfied-exact caveat x, tells_each cav
 abbrev says_granted : List ℕ → Bool
 says_granted json = slice_index json 11 == 116
 
-granted_told : (v : Verdict) → verdict_json v ≡ codes "{\"granted\":true}" → v ≡ Granted
-granted_told Granted e = refl
-granted_told BadSignature e = let bad : false ≡ true = ap says_granted e in absurd (false≢true bad)
-granted_told (Unsatisfied index) e = let bad : false ≡ true = ap says_granted e in absurd (false≢true bad)
+abbrev says_so : Step (List ℕ) → Bool
+says_so (Ok json) = says_granted json
+says_so (Err why) = false
 
-pub tells_verdict : (keys : Keys) (t : TokenParts) (x : Context)
-    → (judgement (Some keys) x t ≡ codes "{\"granted\":true}") ↔ Accepts (listed keys) t x
-tells_verdict keys t x =
-    let told = verdict_of-is (listed keys) t x in (
-      λ e. subst (λ v. IsVerdict (listed keys) t x v) (granted_told (verdict_of (listed keys) t x) e) told,
-      λ accepts. ap verdict_json (one_verdict (listed keys) t x (verdict_of (listed keys) t x) Granted told accepts),
-    )
+granted_refused : (why : Refusal) → refused_json why ≡ Ok (codes "{\"granted\":true}") → reply.Refused why ≡ reply.Granted
+granted_refused refusal.BadSignature e = let bad : false ≡ true = ap says_so e in absurd (false≢true bad)
+granted_refused refusal.BadRequest e = absurd cc
+granted_refused refusal.FrameTooLong e = absurd cc
+granted_refused refusal.UnknownKey e = absurd cc
+granted_refused refusal.Transport e = absurd cc
+granted_refused refusal.Malformed e = absurd cc
+granted_refused refusal.ThirdParty e = absurd cc
+granted_refused refusal.Limit e = absurd cc
+granted_refused refusal.CaveatLocation e = absurd cc
+granted_refused refusal.NotAllowed e = absurd cc
+granted_refused refusal.NoClock e = absurd cc
+
+granted_told : (r : Reply) → reply_json r ≡ Ok (codes "{\"granted\":true}") → r ≡ reply.Granted
+granted_told reply.Granted e = refl
+granted_told (reply.Unsatisfied index) e = let bad : false ≡ true = ap says_so e in absurd (false≢true bad)
+granted_told (reply.Refused why) e = granted_refused why e
+granted_told (reply.Token bytes) e = absurd cc
+granted_told (reply.GrantedTo identifier location) e = absurd cc
+
+pub tells_granted : (keys : Keys) (token : List ℕ) (x : Context)
+    → (reply_json (verify_reply keys token x) ≡ Ok (codes "{\"granted\":true}")) ↔ IsGranted (Some keys) token x
+tells_granted keys token x = (
+  λ e. granted-request [] token x.moment x.facts (basis_of (Some keys)) (granted_told (verify_reply keys token x) e),
+  λ g. ap reply_json (request-granted [] token x.moment x.facts (basis_of (Some keys)) g),
+)

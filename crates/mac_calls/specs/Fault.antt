@@ -7,8 +7,9 @@ use Rattle.mac_calls.specs.declared.fault.CallFault.TheVariants.{Refused, Memory
 use Rattle.mac_calls.specs.declared.fault.CallRefusal.TheVariants as refusal
 use Rattle.mac_token.specs.declared.fault.TokenFault.{TokenFault}
 use Rattle.mac_token.specs.declared.fault.TokenFault.TheVariants as token_fault
-use Rattle.mac_token.specs.declared.fault.TokenRefusal.{TokenRefusal}
-use Rattle.mac_token.specs.declared.fault.TokenRefusal.TheVariants as token
+use Rattle.mac_wire.specs.declared.reply.Refusal.{Refusal}
+use Rattle.mac_wire.specs.declared.reply.Refusal.TheVariants as wire
+use Rattle.mac_decide.specs.Answer.{refusal_of}
 
 -- why a body is none of its call
 abbrev pub body_reason : BodyFault → List ℕ
@@ -25,15 +26,21 @@ body_reason Facts = codes "the facts are no list of texts"
 body_reason ManyFacts = codes "the facts are more or longer than a request may have"
 body_reason Moment = codes "there is no number of seconds that is the moment"
 
--- why a token is refused
-abbrev pub token_reason : TokenRefusal → List ℕ
-token_reason token.Transport = codes "the token is neither a bare form nor base64 text"
-token_reason token.Malformed = codes "the bytes are in no form of a token"
-token_reason token.ThirdParty = codes "a caveat of the token is third-party"
-token_reason token.Limit = codes "the token passes a limit"
-token_reason token.CaveatLocation = codes "a first-party caveat of the token has a location"
+-- why a request is refused
+abbrev pub reason : Refusal → List ℕ
+reason wire.BadRequest = codes "the body makes no request"
+reason wire.FrameTooLong = codes "the request is too long"
+reason wire.UnknownKey = codes "no key has the name"
+reason wire.Transport = codes "the token is neither a bare form nor base64 text"
+reason wire.Malformed = codes "the bytes are in no form of a token"
+reason wire.ThirdParty = codes "a caveat of the token is third-party"
+reason wire.Limit = codes "the token passes a limit"
+reason wire.BadSignature = codes "the key does not give the signature of the token"
+reason wire.CaveatLocation = codes "a first-party caveat of the token has a location"
+reason wire.NotAllowed = codes "the address does not allow this request"
+reason wire.NoClock = codes "the clock tells no moment"
 
 -- a fault of a token, as one of a call
 abbrev pub fault_of_token : TokenFault → CallFault
-fault_of_token (token_fault.Refused why) = Refused (refusal.Token why)
+fault_of_token (token_fault.Refused why) = Refused (refusal.Token (refusal_of why))
 fault_of_token token_fault.Memory = Memory

@@ -2,8 +2,6 @@
 use Rattle.std.specs.Prelude.{ℕ, ◌==◌, nat_lt, if◌then◌else◌, List, codes, slice_index, length, Option, Some, None, Result, Ok, Err}
 use Rattle.std.specs.Str.{bytes_eq}
 use Rattle.mac_token.specs.declared.fault.TokenRefusal.{TokenRefusal}
-use Rattle.mac_token.specs.declared.form.Form.{Form}
-use Rattle.mac_token.specs.declared.form.Form.TheVariants as forms
 use Rattle.mac_token.specs.Read.{carried_of}
 use Rattle.mac_wire.specs.declared.request.TokenForm.{TokenForm}
 use Rattle.mac_wire.specs.declared.request.TokenForm.TheVariants as asked
@@ -22,13 +20,7 @@ form_word V1 = codes "v1"
 form_word V2 = codes "v2"
 form_word Json = codes "json"
 
--- what is written of a token in it
-abbrev pub written_form : CallForm → Form
-written_form V1 = forms.V1Text
-written_form V2 = forms.V2Text
-written_form Json = forms.V2Json
-
--- the form that the same is asked for in over the wire
+-- what the wire is asked for
 abbrev pub wire_form : CallForm → TokenForm
 wire_form V1 = asked.V1Text
 wire_form V2 = asked.V2Text

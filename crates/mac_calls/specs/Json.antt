@@ -7,12 +7,12 @@ use Rattle.serde_json.specs.Data.{Data, string, array, object, Members, no_membe
 use Rattle.serde_json.specs.View.{items_of}
 use Rattle.serde_json.specs.Written.{compact_text}
 use Rattle.mac_token.specs.Base64Text.{base64_of}
-use Rattle.mac_token.specs.Fault.{refusal_code}
+use Rattle.mac_wire.specs.Reply.{refusal_code}
 use Rattle.mac_token.specs.RawToken.{TokenParts}
 use Rattle.mac_calls.specs.declared.fault.CallRefusal.{CallRefusal}
 use Rattle.mac_calls.specs.declared.fault.CallRefusal.TheVariants.{Body, Token}
 use Rattle.mac_calls.specs.declared.form.CallForm.{CallForm}
-use Rattle.mac_calls.specs.Fault.{body_reason, token_reason}
+use Rattle.mac_calls.specs.Fault.{body_reason, reason}
 use Rattle.mac_calls.specs.Form.{form_of_text, form_word}
 use Rattle.mac_calls.specs.Members.{token_in}
 use Rattle.mac_calls.specs.Received.{received}
@@ -27,7 +27,7 @@ token_json text = codes "{\"token\":\"" ++ (text ++ codes "\"}")
 abbrev pub refusal_json : CallRefusal → List ℕ
 refusal_json (Body why) = codes "{\"reason\":\"" ++ (body_reason why ++ codes "\"}")
 refusal_json (Token why) = codes "{\"code\":" ++ (decimal (refusal_code why)
-    ++ (codes ",\"reason\":\"" ++ (token_reason why ++ codes "\"}")))
+    ++ (codes ",\"reason\":\"" ++ (reason why ++ codes "\"}")))
 
 -- the members, and bytes: a text by its name where they are UTF-8, else base64 by the other
 abbrev pub put_bytes : List ℕ → List ℕ → List ℕ → Members → Members

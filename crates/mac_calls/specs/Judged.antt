@@ -1,18 +1,22 @@
--- Tokens judged in a context (this project's own): what is told is what `mac_decide` says.
-use Rattle.std.specs.Prelude.{ℕ, Bool, List, ◌++◌, map, codes, Option, Some, None, Ok, Err, if◌then◌else◌}
+-- What is told of tokens in a context (this project's own): as the wire's verify is replied to, or
+-- which caveats hold.
+use Rattle.std.specs.Prelude.{ℕ, Bool, List, [], ◌++◌, map, codes, Option, Some, None, Ok, Err, if◌then◌else◌}
 use Rattle.std.specs.Fmt.{decimal}
 use Rattle.serde_json.specs.Data.{Data, boolean, array, object, no_members, put}
 use Rattle.serde_json.specs.View.{items_of}
 use Rattle.serde_json.specs.Written.{compact_text}
-use Rattle.mac_decide.specs.Reading.{is_satisfied, verdict_of}
+use Rattle.mac_decide.specs.Answer.{request_reply}
+use Rattle.mac_decide.specs.Reading.{is_satisfied}
 use Rattle.mac_decide.specs.declared.context.Context.{Context}
-use Rattle.mac_decide.specs.declared.verdict.Verdict.{Verdict}
-use Rattle.mac_decide.specs.declared.verdict.Verdict.TheVariants.{Granted, BadSignature, Unsatisfied}
-use Rattle.mac_keys.specs.Table.{listed}
 use Rattle.mac_keys.specs.declared.keys.Keys.{Keys}
-use Rattle.mac_token.specs.RawToken.{TokenParts}
+use Rattle.mac_wire.specs.Request.{verify}
+use Rattle.mac_wire.specs.declared.reply.Refusal.{Refusal}
+use Rattle.mac_wire.specs.declared.reply.Refusal.TheVariants as refusal
+use Rattle.mac_wire.specs.declared.reply.Reply.{Reply}
+use Rattle.mac_wire.specs.declared.reply.Reply.TheVariants as reply
 use Rattle.mac_calls.specs.declared.fault.BodyFault.TheVariants.{ManyFacts}
-use Rattle.mac_calls.specs.declared.fault.CallRefusal.TheVariants.{Body}
+use Rattle.mac_calls.specs.declared.fault.CallRefusal.TheVariants.{Body, Token}
+use Rattle.mac_calls.specs.Asking.{basis_of}
 use Rattle.mac_calls.specs.Counted.{are_few}
 use Rattle.mac_calls.specs.Members.{facts_in, moment_in, token_in}
 use Rattle.mac_calls.specs.Received.{received}
@@ -26,28 +30,53 @@ holding caveats x = map (λ caveat. is_satisfied caveat x) caveats
 unfoldable pub holds_object : List Bool → Data
 holds_object holds = object (put (codes "holds") (array (items_of (map boolean holds))) no_members)
 
--- a verdict as JSON: with its number where it refuses, and with the index of the caveat
-abbrev pub verdict_json : Verdict → List ℕ
-verdict_json Granted = codes "{\"granted\":true}"
-verdict_json BadSignature =
-    codes "{\"granted\":false,\"code\":23,\"reason\":\"the key does not give the signature of the token\"}"
-verdict_json (Unsatisfied index) =
+-- that the caveat at a place isn't satisfied, as JSON
+abbrev pub unsatisfied_json : ℕ → List ℕ
+unsatisfied_json index =
     codes "{\"granted\":false,\"code\":24,\"caveat\":" ++ (decimal index
     ++ (codes ",\"reason\":\"caveat " ++ (decimal index ++ codes " is not satisfied\"}")))
 
--- what is told of a token in a context: the verdict of a name's keys, or which caveats hold
-abbrev pub judgement : Option Keys → Context → TokenParts → List ℕ
-judgement None x t = compact_text (holds_object (holding t.caveats x))
-judgement (Some keys) x t = verdict_json (verdict_of (listed keys) t x)
+-- a refusal of a verify as JSON: the keys don't grant the token; others refuse the call
+abbrev pub refused_json : Refusal → Step (List ℕ)
+refused_json refusal.BadSignature =
+    Ok (codes "{\"granted\":false,\"code\":23,\"reason\":\"the key does not give the signature of the token\"}")
+refused_json refusal.BadRequest = Err (Token refusal.BadRequest)
+refused_json refusal.FrameTooLong = Err (Token refusal.FrameTooLong)
+refused_json refusal.UnknownKey = Err (Token refusal.UnknownKey)
+refused_json refusal.Transport = Err (Token refusal.Transport)
+refused_json refusal.Malformed = Err (Token refusal.Malformed)
+refused_json refusal.ThirdParty = Err (Token refusal.ThirdParty)
+refused_json refusal.Limit = Err (Token refusal.Limit)
+refused_json refusal.CaveatLocation = Err (Token refusal.CaveatLocation)
+refused_json refusal.NotAllowed = Err (Token refusal.NotAllowed)
+refused_json refusal.NoClock = Err (Token refusal.NoClock)
 
--- the same of the token that a text spells
-abbrev pub judged_text : Option Keys → List ℕ → Context → Step (List ℕ)
-judged_text keys text x = received text >>= λ t. Ok (judgement keys x t)
+-- the reply to a verify as JSON: with the index of a caveat that isn't satisfied
+abbrev pub reply_json : Reply → Step (List ℕ)
+reply_json reply.Granted = Ok (codes "{\"granted\":true}")
+reply_json (reply.Unsatisfied index) = Ok (unsatisfied_json index)
+reply_json (reply.Refused why) = refused_json why
+reply_json (reply.Token bytes) = Err (Token refusal.BadRequest)
+reply_json (reply.GrantedTo identifier location) = Err (Token refusal.BadRequest)
+
+-- what the wire's verify of a token in a context is replied with under the keys
+abbrev pub verify_reply : Keys → List ℕ → Context → Reply
+verify_reply keys text x = request_reply (verify [] text x.moment x.facts) (basis_of (Some keys))
+
+-- which caveats of the token that a text spells hold in a context
+abbrev pub checked : List ℕ → Context → Step (List ℕ)
+checked text x = received text >>= λ t. Ok (compact_text (holds_object (holding t.caveats x)))
+
+-- what is told of a text in a context: the reply to a verify under a name's keys, or which caveats
+-- hold
+abbrev pub judged_at : Option Keys → List ℕ → Context → Step (List ℕ)
+judged_at None text x = checked text x
+judged_at (Some keys) text x = reply_json (verify_reply keys text x)
 
 -- the same with these facts, if they are few
 abbrev pub judged_few : Option Keys → List ℕ → List (List ℕ) → ℕ → Step (List ℕ)
 judged_few keys text facts moment =
-    if are_few facts then judged_text keys text (record { moment = moment; facts = facts })
+    if are_few facts then judged_at keys text (record { moment = moment; facts = facts })
     else Err (Body ManyFacts)
 
 -- the same of an object's token, with the object's facts at its moment

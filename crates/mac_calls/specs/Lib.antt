@@ -3,6 +3,7 @@ pub mod Steps
 pub mod Gives
 pub mod Form
 pub mod Counted
+pub mod Asking
 pub mod Object
 pub mod Members
 pub mod Received

@@ -1,27 +1,29 @@
--- The texts of tokens that calls make (this project's own): what is made is what `mac_decide` says.
-use Rattle.std.specs.Prelude.{ℕ, List, [], ◌∷◌, nat_lt, length, if◌then◌else◌, unwrap_or, Result, Ok, Err}
+-- The texts of tokens that calls make (this project's own): what is made is what the wire's requests
+-- are replied with.
+use Rattle.std.specs.Prelude.{ℕ, List, [], ◌∷◌, nat_lt, length, if◌then◌else◌, unwrap_or, Some, None, Result, Ok, Err}
 use Rattle.serde_json.specs.Data.{Data}
-use Rattle.mac_decide.specs.Minted.{minted, add}
+use Rattle.mac_decide.specs.Answer.{request_reply}
 use Rattle.mac_keys.specs.declared.keys.Keys.{Keys}
-use Rattle.mac_token.specs.declared.fault.TokenRefusal.TheVariants.{Limit}
 use Rattle.mac_token.specs.declared.limits.TheConstants.{TOKEN_MAX}
 use Rattle.mac_token.specs.Base64Text.{base64_of}
-use Rattle.mac_token.specs.Limits.{token_or_limit}
-use Rattle.mac_token.specs.RawToken.{TokenParts}
-use Rattle.mac_token.specs.Written.{write_of}
+use Rattle.mac_wire.specs.Request.{attenuate, mint}
+use Rattle.mac_wire.specs.declared.reply.Refusal.TheVariants as refusal
+use Rattle.mac_wire.specs.declared.reply.Reply.{Reply}
+use Rattle.mac_wire.specs.declared.reply.Reply.TheVariants as reply
 use Rattle.mac_calls.specs.declared.fault.BodyFault.TheVariants.{NoCaveat}
 use Rattle.mac_calls.specs.declared.fault.CallRefusal.TheVariants.{Body, Token}
 use Rattle.mac_calls.specs.declared.form.CallForm.{CallForm}
 use Rattle.mac_calls.specs.declared.form.CallForm.TheVariants.{V1, V2, Json}
-use Rattle.mac_calls.specs.Form.{form_of_text, written_form}
+use Rattle.mac_calls.specs.Asking.{basis_of}
+use Rattle.mac_calls.specs.Counted.{are_few}
+use Rattle.mac_calls.specs.Form.{form_of_text, wire_form}
 use Rattle.mac_calls.specs.Members.{caveats_in, form_in, identifier_in, location_in, token_in}
-use Rattle.mac_calls.specs.Received.{received}
-use Rattle.mac_calls.specs.Steps.{Step, of_token, ◌>>=◌}
+use Rattle.mac_calls.specs.Steps.{Step, ◌>>=◌}
 
 -- the base64 text of a token's bytes, or Limit where it is longer than a token may be
 abbrev pub as_text : List ℕ → Step (List ℕ)
 as_text bytes =
-    if nat_lt TOKEN_MAX (length (base64_of bytes)) then Err (Token Limit) else Ok (base64_of bytes)
+    if nat_lt TOKEN_MAX (length (base64_of bytes)) then Err (Token refusal.Limit) else Ok (base64_of bytes)
 
 -- the text of what is written in a form: that of V1 and V2 is base64 already
 abbrev pub text_of_written : CallForm → List ℕ → Step (List ℕ)
@@ -29,14 +31,25 @@ text_of_written V1 written = Ok written
 text_of_written V2 written = Ok written
 text_of_written Json written = as_text written
 
--- the text of a token in a form
-abbrev pub text_in : CallForm → TokenParts → Step (List ℕ)
-text_in form t = of_token (write_of t (written_form form)) >>= text_of_written form
+-- the text of the token that a reply brings in a form
+abbrev pub made_text : CallForm → Reply → Step (List ℕ)
+made_text form (reply.Token written) = text_of_written form written
+made_text form (reply.Refused why) = Err (Token why)
+made_text form (reply.Unsatisfied index) = Err (Token refusal.BadRequest)
+made_text form reply.Granted = Err (Token refusal.BadRequest)
+made_text form (reply.GrantedTo identifier location) = Err (Token refusal.BadRequest)
 
--- the token of these parts under the name's first key, in a form
+-- what the wire's mint of these parts is replied with under the keys
+abbrev pub mint_reply : Keys → CallForm → List ℕ → List ℕ → List (List ℕ) → Reply
+mint_reply keys form location identifier caveats =
+    request_reply (mint (wire_form form) [] location identifier caveats) (basis_of (Some keys))
+
+-- the token of these parts under the name's first key, in a form; more caveats, or longer ones, than
+-- the wire takes pass a limit of tokens
 abbrev pub new_text : Keys → CallForm → List ℕ → List ℕ → List (List ℕ) → Step (List ℕ)
 new_text keys form location identifier caveats =
-    of_token (token_or_limit (minted keys.first location identifier caveats)) >>= text_in form
+    if are_few caveats then made_text form (mint_reply keys form location identifier caveats)
+    else Err (Token refusal.Limit)
 
 -- the token that an object asks for, in the form V2 where it asks for none
 abbrev pub minted_text : Keys → Data → Step (List ℕ)
@@ -52,9 +65,16 @@ abbrev pub some_caveat : List (List ℕ) → Step (List (List ℕ))
 some_caveat [] = Err (Body NoCaveat)
 some_caveat (c ∷ cs) = Ok (c ∷ cs)
 
+-- what the wire's attenuate of a token is replied with
+abbrev pub attenuate_reply : CallForm → List ℕ → List (List ℕ) → Reply
+attenuate_reply form token caveats =
+    request_reply (attenuate (wire_form form) token caveats) (basis_of None)
+
 -- the token with these caveats behind its own, in a form
-abbrev pub narrowed : CallForm → TokenParts → List (List ℕ) → Step (List ℕ)
-narrowed form t caveats = of_token (token_or_limit (add t caveats)) >>= text_in form
+abbrev pub narrowed : CallForm → List ℕ → List (List ℕ) → Step (List ℕ)
+narrowed form token caveats =
+    if are_few caveats then made_text form (attenuate_reply form token caveats)
+    else Err (Token refusal.Limit)
 
 -- an object's token with the object's caveats behind its own, in the form that is asked for, or else
 -- in the one in which it came
@@ -64,5 +84,4 @@ attenuated d = do
   listed ← caveats_in d
   form ← form_in d
   caveats ← some_caveat listed
-  t ← received text
-  narrowed (unwrap_or form (form_of_text text)) t caveats
+  narrowed (unwrap_or form (form_of_text text)) text caveats

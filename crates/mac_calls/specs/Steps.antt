@@ -1,6 +1,7 @@
 -- Reading step by step: each step gives a value, or the refusal.
 use Rattle.std.specs.Prelude.{Option, Some, None, Result, Ok, Err}
 use Rattle.mac_token.specs.declared.fault.TokenRefusal.{TokenRefusal}
+use Rattle.mac_decide.specs.Answer.{refusal_of}
 use Rattle.mac_calls.specs.declared.fault.BodyFault.{BodyFault}
 use Rattle.mac_calls.specs.declared.fault.CallRefusal.{CallRefusal}
 use Rattle.mac_calls.specs.declared.fault.CallRefusal.TheVariants.{Body, Token}
@@ -22,4 +23,4 @@ or_fault why (Some x) = Ok x
 -- what is told of a token
 abbrev pub of_token : {X : Type 0} → Result X TokenRefusal → Step X
 of_token (Ok x) = Ok x
-of_token (Err why) = Err (Token why)
+of_token (Err why) = Err (Token (refusal_of why))

@@ -1,11 +1,13 @@
 //! Why a call is refused.
 
 ghost use Rattle.std.specs.Prelude.{◌≡◌};
-ghost use Rattle.mac_calls.specs.Fault.{body_reason, fault_of_token, token_reason};
+ghost use Rattle.mac_calls.specs.Fault.{body_reason, fault_of_token, reason};
 ghost use Rattle.mac_calls.specs.declared.fault.CallFault.TheVariants as fault;
 ghost use Rattle.mac_calls.specs.declared.fault.CallRefusal.TheVariants as refusal;
 
-use mac_token::{TokenFault, TokenRefusal};
+use mac_decide::refusal_of;
+use mac_token::TokenFault;
+use mac_wire::Refusal;
 use std::alloc::{AllocError, AllocFailed};
 
 /// Why a body is none of its call.
@@ -60,24 +62,30 @@ impl BodyFault {
 }
 
 /// Why a call is refused.
-#[derive(Clone, Copy, Debug, PartialEq, Eq)]
+#[derive(Clone, Copy, PartialEq, Eq)]
 pub enum CallRefusal {
     /// The body is none of the call.
     Body(BodyFault),
     /// The token is refused, or none is made.
-    Token(TokenRefusal),
+    Token(Refusal),
 }
 
-/// The reason of a token's refusal in words.
-pub(crate) fn token_reason(why: TokenRefusal) -> &'static str
-    ensures { result.now ≡ token_reason why }
+/// The reason of a refusal in words.
+pub(crate) fn reason(why: Refusal) -> &'static str
+    ensures { result.now ≡ reason why }
 {
     match why {
-        TokenRefusal::Transport => "the token is neither a bare form nor base64 text",
-        TokenRefusal::Malformed => "the bytes are in no form of a token",
-        TokenRefusal::ThirdParty => "a caveat of the token is third-party",
-        TokenRefusal::Limit => "the token passes a limit",
-        TokenRefusal::CaveatLocation => "a first-party caveat of the token has a location",
+        Refusal::BadRequest => "the body makes no request",
+        Refusal::FrameTooLong => "the request is too long",
+        Refusal::UnknownKey => "no key has the name",
+        Refusal::Transport => "the token is neither a bare form nor base64 text",
+        Refusal::Malformed => "the bytes are in no form of a token",
+        Refusal::ThirdParty => "a caveat of the token is third-party",
+        Refusal::Limit => "the token passes a limit",
+        Refusal::BadSignature => "the key does not give the signature of the token",
+        Refusal::CaveatLocation => "a first-party caveat of the token has a location",
+        Refusal::NotAllowed => "the address does not allow this request",
+        Refusal::NoClock => "the clock tells no moment",
     }
 }
 
@@ -98,12 +106,20 @@ impl From<BodyFault> for CallFault {
     }
 }
 
+impl From<Refusal> for CallFault {
+    ghost from_gives = { λ why made. made ≡ fault.Refused (refusal.Token why) };
+
+    fn from(why: Refusal) -> CallFault {
+        CallFault::Refused(CallRefusal::Token(why))
+    }
+}
+
 impl From<TokenFault> for CallFault {
     ghost from_gives = { λ why made. made ≡ fault_of_token why };
 
     fn from(why: TokenFault) -> CallFault {
         match why {
-            TokenFault::Refused(why) => CallFault::Refused(CallRefusal::Token(why)),
+            TokenFault::Refused(why) => refusal_of(why).into(),
             TokenFault::Memory => CallFault::Memory,
         }
     }

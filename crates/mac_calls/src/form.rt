@@ -1,9 +1,9 @@
 //! The forms of tokens in calls.
 
 ghost use Rattle.std.specs.Prelude.{◌≡◌};
-ghost use Rattle.mac_calls.specs.Form.{form_named, form_of_bare, form_word, written_form};
+ghost use Rattle.mac_calls.specs.Form.{form_named, form_of_bare, form_word, wire_form};
 
-use mac_token::Form;
+use mac_wire::TokenForm;
 
 /// The form of a token. Its text is base64url in each, without padding.
 #[derive(Clone, Copy, Debug, PartialEq, Eq)]
@@ -40,14 +40,14 @@ impl CallForm {
         }
     }
 
-    /// What is written of a token in it, before that is made base64 where it isn't.
-    pub(crate) fn written(self) -> Form
-        ensures { result ≡ written_form self }
+    /// What the wire is asked for, before that is made base64 where it isn't.
+    pub(crate) fn wire(self) -> TokenForm
+        ensures { result ≡ wire_form self }
     {
         match self {
-            CallForm::V1 => Form::V1Text,
-            CallForm::V2 => Form::V2Text,
-            CallForm::Json => Form::V2Json,
+            CallForm::V1 => TokenForm::V1Text,
+            CallForm::V2 => TokenForm::V2Text,
+            CallForm::Json => TokenForm::V2Json,
         }
     }
 

@@ -3,7 +3,7 @@
 ghost use Rattle.std.specs.Prelude.{◌≡◌, IfOk, string_bytes};
 ghost use Rattle.mac_calls.specs.Json.{refusal_json, token_json};
 
-use crate::fault::{CallRefusal, token_reason};
+use crate::fault::{CallRefusal, reason};
 use std::alloc::{AllocError, Global};
 
 /// A token's text.
@@ -27,7 +27,7 @@ pub(crate) fn refusal_json(alloc: Global, why: CallRefusal) -> Result<Vec<u8>, A
             format!(in alloc;
                 "{{\"code\":{},\"reason\":\"{}\"}}",
                 why.code(),
-                token_reason(why)
+                reason(why)
             )?
         }
     };

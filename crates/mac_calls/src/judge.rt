@@ -1,27 +1,28 @@
 //! Tokens judged in a context.
 
 ghost use Rattle.std.specs.Prelude.{◌≡◌, map, true, Bool, IfOk, List, ℕ};
-ghost use Rattle.std.specs.Option.{option_map};
+ghost use Rattle.std.specs.Option.{option_copied};
 ghost use Rattle.serde_json.specs.Data.{boolean};
 ghost use Rattle.serde_json.specs.View.{view};
 ghost use Rattle.serde_json.specs.Written.{compact_text};
-ghost use Rattle.mac_decide.specs.Reading.{is_satisfied, verdict_of};
-ghost use Rattle.mac_keys.specs.Table.{listed};
+ghost use Rattle.mac_decide.specs.Reading.{is_satisfied};
 ghost use Rattle.mac_token.specs.RawToken.{byte_lists};
 ghost use Rattle.mac_wire.specs.Request.{counted_fields};
 ghost use Rattle.mac_calls.specs.Counted.{are_few};
 ghost use Rattle.mac_calls.specs.Gives.{Gives};
-ghost use Rattle.mac_calls.specs.Judged.{holding, holds_object, judged, judged_few, judged_text};
-ghost use Rattle.mac_calls.specs.Judged.{judgement, verdict_json};
+ghost use Rattle.mac_calls.specs.Judged.{checked, holding, holds_object, judged, judged_at};
+ghost use Rattle.mac_calls.specs.Judged.{judged_few, refused_json, reply_json, unsatisfied_json};
+ghost use Rattle.mac_calls.specs.Judged.{verify_reply};
 
+use crate::asking::ask;
 use crate::counted::counted_facts;
 use crate::fault::{BodyFault, CallFault};
 use crate::members::{facts_in, moment_in, token_in};
 use crate::received::receive;
-use mac_decide::{Context, Verdict, satisfied, verify};
+use mac_decide::{Context, satisfied};
 use mac_keys::Keys;
 use mac_token::Token;
-use mac_wire::FieldList;
+use mac_wire::{FieldList, Refusal, Reply, Request};
 use serde_json::{Map, Value, put};
 use std::alloc::{AllocError, Global};
 
@@ -40,7 +41,7 @@ pub(crate) fn judged(
     object: &Value,
 ) -> Result<Vec<u8>, CallFault>
     ensures { Gives (λ text. text.items) result
-        (judged (option_map (λ k. k.now) keys.entry) (view object.now)) }
+        (judged (option_copied keys.entry) (view object.now)) }
 {
     let text = token_in(object)?;
     let facts = facts_in(alloc, object)?;
@@ -57,7 +58,7 @@ fn judged_few(
     moment: u64,
 ) -> Result<Vec<u8>, CallFault>
     ensures { Gives (λ text. text.items) result
-        (judged_few (option_map (λ k. k.now) keys.entry) text.now (byte_lists facts.now) moment) }
+        (judged_few (option_copied keys.entry) text.now (byte_lists facts.now) moment) }
 {
     match counted_facts(alloc, facts)? {
         Some(counted) => judged_at(alloc, keys, text, &counted, moment),
@@ -74,43 +75,44 @@ fn judged_at(
     moment: u64,
 ) -> Result<Vec<u8>, CallFault>
     ensures { (facts : List (List ℕ)) → counted.now ≡ counted_fields facts → are_few facts ≡ true
-        → Gives (λ text. text.items) result (judged_text (option_map (λ k. k.now) keys.entry)
+        → Gives (λ text. text.items) result (judged_at (option_copied keys.entry)
         text.now (record { moment = moment; facts = facts })) }
 {
     let Some(facts) = FieldList::read(counted) else {
         return Err(BodyFault::ManyFacts.into());
     };
-    judged_text(alloc, keys, text, &Context { moment, facts })
+    match keys {
+        Some(keys) => verified(alloc, keys, text, Context { moment, facts }),
+        None => checked(alloc, text, &Context { moment, facts }),
+    }
 }
 
-/// The same in a context.
-fn judged_text(
+/// What a verify of a text is answered under these keys, in a context.
+fn verified(
     alloc: Global,
-    keys: Option<&Keys>,
-    text: &[u8],
-    context: &Context<'_>,
+    keys: &Keys,
+    token: &[u8],
+    context: Context<'_>,
 ) -> Result<Vec<u8>, CallFault>
     ensures { Gives (λ text. text.items) result
-        (judged_text (option_map (λ k. k.now) keys.entry) text.now context.now) }
+        (reply_json (verify_reply keys.now token.now context.entry)) }
 {
-    let received = receive(alloc, text)?;
-    Ok(judgement(alloc, keys, &received.token, context)?)
+    let request = Request::Verify {
+        key: b"",
+        token,
+        moment: context.moment,
+        facts: context.facts,
+    };
+    let reply = ask(alloc, Some(keys), request)?;
+    reply_json(alloc, &reply)
 }
 
-/// What is told of a token in a context.
-fn judgement(
-    alloc: Global,
-    keys: Option<&Keys>,
-    token: &Token,
-    context: &Context<'_>,
-) -> Result<Vec<u8>, AllocError>
-    ensures { IfOk result (λ text. text.items
-        ≡ judgement (option_map (λ k. k.now) keys.entry) context.now token.now) }
+/// Which caveats of the token that a text spells are satisfied in a context.
+fn checked(alloc: Global, text: &[u8], context: &Context<'_>) -> Result<Vec<u8>, CallFault>
+    ensures { Gives (λ text. text.items) result (checked text.now context.now) }
 {
-    match keys {
-        None => holds_json(alloc, token, context),
-        Some(keys) => verdict_json(alloc, verdict_of(keys, token, context)),
-    }
+    let received = receive(alloc, text)?;
+    Ok(holds_json(alloc, &received.token, context)?)
 }
 
 /// Which caveats of a token are satisfied, as JSON.
@@ -157,26 +159,38 @@ fn is_satisfied(caveat: &[u8], context: &Context<'_>) -> bool
     satisfied(caveat, context)
 }
 
-/// The verdict of a name's keys on a token.
-fn verdict_of(keys: &Keys, token: &Token, context: &Context<'_>) -> Verdict
-    ensures { result ≡ verdict_of (listed keys.now) token.now context.now }
+/// The reply to a verify as JSON. A token that is none is refused.
+fn reply_json(alloc: Global, reply: &Reply) -> Result<Vec<u8>, CallFault>
+    ensures { Gives (λ json. json.items) result (reply_json reply.now) }
 {
-    verify(keys, token, context)
+    match reply {
+        Reply::Granted => Ok(Vec::from_slice(alloc, b"{\"granted\":true}")?),
+        Reply::Unsatisfied(index) => Ok(unsatisfied_json(alloc, *index)?),
+        Reply::Refused(why) => refused_json(alloc, *why),
+        Reply::GrantedTo { .. } | Reply::Token(_) => Err(Refusal::BadRequest.into()),
+    }
 }
 
-/// A verdict as JSON.
-fn verdict_json(alloc: Global, verdict: Verdict) -> Result<Vec<u8>, AllocError>
-    ensures { IfOk result (λ json. json.items ≡ verdict_json verdict) }
+/// A refusal of a verify as JSON, where it says that the keys don't grant the token.
+fn refused_json(alloc: Global, why: Refusal) -> Result<Vec<u8>, CallFault>
+    ensures { Gives (λ json. json.items) result (refused_json why) }
 {
-    match verdict {
-        Verdict::Granted => Vec::from_slice(alloc, b"{\"granted\":true}"),
-        Verdict::BadSignature => Vec::from_slice(alloc, BAD_SIGNATURE),
-        Verdict::Unsatisfied(index) => {
-            let text = format!(in alloc;
-                "{}{},\"reason\":\"caveat {} is not satisfied\"}}",
-                UNSATISFIED, index, index
-            )?;
-            Ok(text.into_bytes())
-        }
+    match why {
+        Refusal::BadSignature => Ok(Vec::from_slice(alloc, BAD_SIGNATURE)?),
+        Refusal::BadRequest | Refusal::FrameTooLong | Refusal::UnknownKey => Err(why.into()),
+        Refusal::Transport | Refusal::Malformed | Refusal::ThirdParty => Err(why.into()),
+        Refusal::Limit | Refusal::CaveatLocation => Err(why.into()),
+        Refusal::NotAllowed | Refusal::NoClock => Err(why.into()),
     }
+}
+
+/// That the caveat at a place isn't satisfied, as JSON.
+fn unsatisfied_json(alloc: Global, index: u16) -> Result<Vec<u8>, AllocError>
+    ensures { IfOk result (λ json. json.items ≡ unsatisfied_json index) }
+{
+    let text = format!(in alloc;
+        "{}{},\"reason\":\"caveat {} is not satisfied\"}}",
+        UNSATISFIED, index, index
+    )?;
+    Ok(text.into_bytes())
 }

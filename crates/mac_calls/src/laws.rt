@@ -2,19 +2,16 @@
 
 ghost use Rattle.std.specs.Prelude.{◌≡◌, ◌↔◌, ℕ, List, Option, Some, codes, true};
 ghost use Rattle.std.specs.List.{AllZip};
-ghost use Rattle.mac_decide.specs.Answer.{request_reply};
-ghost use Rattle.mac_decide.specs.Verdict.{Accepts, Satisfied};
+ghost use Rattle.mac_decide.specs.Answer.{IsGranted, request_reply};
+ghost use Rattle.mac_decide.specs.Verdict.{Satisfied};
 ghost use Rattle.mac_decide.specs.declared.context.Context.{Context as PlainContext};
-ghost use Rattle.mac_keys.specs.Table.{listed};
 ghost use Rattle.mac_keys.specs.declared.keys.Keys.{Keys};
-ghost use Rattle.mac_token.specs.RawToken.{TokenParts};
-ghost use Rattle.mac_token.specs.Read.{read_of};
 ghost use Rattle.mac_wire.specs.Request.{attenuate, mint};
 ghost use Rattle.mac_wire.specs.declared.reply.Reply.TheVariants as reply;
 ghost use Rattle.mac_decide.specs.declared.job.Basis.{Basis};
 ghost use Rattle.mac_calls.specs.declared.form.CallForm.{CallForm};
 ghost use Rattle.mac_calls.specs.Form.{wire_form};
-ghost use Rattle.mac_calls.specs.Judged.{holding, judgement};
+ghost use Rattle.mac_calls.specs.Judged.{holding, reply_json, verify_reply};
 ghost use Rattle.mac_calls.specs.Made.{narrowed, new_text, text_of_written};
 
 /// What a mint is answered with is the text of the token that the wire's request is replied with.
@@ -31,9 +28,8 @@ pub fn mints_as_the_wire()
 /// What an attenuate is answered with is the text of the token that the wire's request is replied
 /// with.
 pub fn attenuates_as_the_wire()
-    ensures { (form : CallForm) (token : List ℕ) (t : TokenParts) (caveats : List (List ℕ))
-        (basis : Basis) (text : List ℕ)
-        → read_of token ≡ Ok t → narrowed form t caveats ≡ Ok text
+    ensures { (form : CallForm) (token : List ℕ) (caveats : List (List ℕ))
+        (basis : Basis) (text : List ℕ) → narrowed form token caveats ≡ Ok text
         → (written : List ℕ) × (text_of_written form written ≡ Ok text)
         × (request_reply (attenuate (wire_form form) token caveats) basis
         ≡ reply.Token written) }
@@ -46,9 +42,9 @@ pub fn check_tells_each_caveat()
         (holding caveats x) }
 {}
 
-/// A verify tells that a token is granted exactly where the keys of the name accept it.
-pub fn verify_tells_what_is_accepted()
-    ensures { (keys : Keys) (t : TokenParts) (x : PlainContext)
-        → (judgement (Some keys) x t ≡ codes "{\"granted\":true}")
-        ↔ Accepts (listed keys) t x }
+/// A verify tells that a token is granted exactly where the keys of the name grant it.
+pub fn verify_tells_what_is_granted()
+    ensures { (keys : Keys) (token : List ℕ) (x : PlainContext)
+        → (reply_json (verify_reply keys token x) ≡ Ok (codes "{\"granted\":true}"))
+        ↔ IsGranted (Some keys) token x }
 {}

@@ -6,6 +6,7 @@
 #![tactic(auto)]
 
 mod answering;
+mod asking;
 mod call;
 mod counted;
 mod fault;

@@ -1,20 +1,24 @@
 //! Tokens that are made, and their texts.
 
-ghost use Rattle.std.specs.Prelude.{◌≡◌};
+ghost use Rattle.std.specs.Prelude.{◌≡◌, List, ℕ, true};
 ghost use Rattle.serde_json.specs.View.{view};
 ghost use Rattle.mac_token.specs.RawToken.{byte_lists};
+ghost use Rattle.mac_wire.specs.Request.{counted_fields};
+ghost use Rattle.mac_calls.specs.Counted.{are_few};
 ghost use Rattle.mac_calls.specs.Gives.{Gives};
-ghost use Rattle.mac_calls.specs.Made.{as_text, attenuated, minted_text, narrowed};
-ghost use Rattle.mac_calls.specs.Made.{some_caveat, text_in};
+ghost use Rattle.mac_calls.specs.Made.{as_text, attenuate_reply, attenuated, made_text, mint_reply};
+ghost use Rattle.mac_calls.specs.Made.{minted_text, narrowed, new_text, some_caveat};
 
-use crate::fault::{BodyFault, CallFault, CallRefusal};
+use crate::asking::ask;
+use crate::counted::counted_facts;
+use crate::fault::{BodyFault, CallFault};
 use crate::form::CallForm;
 use crate::members::{caveats_in, form_in, identifier_in, location_in, token_in};
-use crate::received::receive;
+use crate::received::form_of_text;
 use base64::engine::general_purpose::URL_SAFE_NO_PAD;
-use mac_decide::{attenuate, mint};
 use mac_keys::Keys;
-use mac_token::{TOKEN_MAX, Token, TokenRefusal, write};
+use mac_token::TOKEN_MAX;
+use mac_wire::{FieldList, Refusal, Reply, Request};
 use serde_json::Value;
 use std::alloc::Global;
 
@@ -27,8 +31,52 @@ pub(crate) fn minted_text(alloc: Global, keys: &Keys, object: &Value) -> Result<
     let location = location_in(object)?;
     let caveats = caveats_in(alloc, object)?;
     let form = form_in(object)?.unwrap_or(CallForm::V2);
-    let token = mint(alloc, &keys.first, location, &identifier, &caveats)?;
-    text_in(alloc, form, &token)
+    new_text(alloc, keys, form, location, &identifier, &caveats)
+}
+
+/// The text of the token of these parts under the first of the keys, in a form.
+fn new_text(
+    alloc: Global,
+    keys: &Keys,
+    form: CallForm,
+    location: &str,
+    identifier: &[u8],
+    caveats: &[Vec<u8>],
+) -> Result<Vec<u8>, CallFault>
+    ensures { Gives (λ text. text.items) result
+        (new_text keys.now form location.now identifier.now (byte_lists caveats.now)) }
+{
+    match counted_facts(alloc, caveats)? {
+        Some(counted) => new_counted(alloc, keys, form, location, identifier, &counted),
+        None => Err(Refusal::Limit.into()),
+    }
+}
+
+/// The same with counted caveats.
+fn new_counted(
+    alloc: Global,
+    keys: &Keys,
+    form: CallForm,
+    location: &str,
+    identifier: &[u8],
+    counted: &[u8],
+) -> Result<Vec<u8>, CallFault>
+    ensures { (caveats : List (List ℕ)) → counted.now ≡ counted_fields caveats
+        → are_few caveats ≡ true → Gives (λ text. text.items) result (made_text form
+        (mint_reply keys.now form location.now identifier.now caveats)) }
+{
+    let Some(caveats) = FieldList::read(counted) else {
+        return Err(Refusal::Limit.into());
+    };
+    let request = Request::Mint {
+        form: form.wire(),
+        key: b"",
+        location,
+        identifier,
+        caveats,
+    };
+    let reply = ask(alloc, Some(keys), request)?;
+    made_text(alloc, form, reply)
 }
 
 /// The text of an object's token with the object's caveats behind its own, in the form that is
@@ -40,13 +88,11 @@ pub(crate) fn attenuated_text(alloc: Global, object: &Value) -> Result<Vec<u8>, 
     let caveats = caveats_in(alloc, object)?;
     let form = form_in(object)?;
     let caveats = some_caveat(caveats)?;
-    let received = receive(alloc, text.as_bytes())?;
-    narrowed(
-        alloc,
-        form.unwrap_or(received.form),
-        received.token,
-        &caveats,
-    )
+    let form = match form {
+        Some(form) => form,
+        None => form_of_text(alloc, text.as_bytes())?,
+    };
+    narrowed(alloc, form, text.as_bytes(), &caveats)
 }
 
 /// The caveats, if there are any.
@@ -64,25 +110,51 @@ fn some_caveat(caveats: Vec<Vec<u8>>) -> Result<Vec<Vec<u8>>, CallFault>
 fn narrowed(
     alloc: Global,
     form: CallForm,
-    token: Token,
+    token: &[u8],
     caveats: &[Vec<u8>],
 ) -> Result<Vec<u8>, CallFault>
-    ensures { Gives (λ text. text.items) result (narrowed form token (byte_lists caveats.now)) }
+    ensures { Gives (λ text. text.items) result
+        (narrowed form token.now (byte_lists caveats.now)) }
 {
-    match attenuate(alloc, token, caveats) {
-        Ok(token) => text_in(alloc, form, &token),
-        Err((fault, _)) => Err(fault.into()),
+    match counted_facts(alloc, caveats)? {
+        Some(counted) => narrowed_counted(alloc, form, token, &counted),
+        None => Err(Refusal::Limit.into()),
     }
 }
 
-/// The text of a token in a form, as an `Authorization` brings it.
-fn text_in(alloc: Global, form: CallForm, token: &Token) -> Result<Vec<u8>, CallFault>
-    ensures { Gives (λ text. text.items) result (text_in form token.now) }
+/// The same with counted caveats.
+fn narrowed_counted(
+    alloc: Global,
+    form: CallForm,
+    token: &[u8],
+    counted: &[u8],
+) -> Result<Vec<u8>, CallFault>
+    ensures { (caveats : List (List ℕ)) → counted.now ≡ counted_fields caveats
+        → are_few caveats ≡ true → Gives (λ text. text.items) result
+        (made_text form (attenuate_reply form token.now caveats)) }
 {
-    let written = write(alloc, token, form.written())?;
-    match form {
-        CallForm::V1 | CallForm::V2 => Ok(written),
-        CallForm::Json => as_text(alloc, &written),
+    let Some(caveats) = FieldList::read(counted) else {
+        return Err(Refusal::Limit.into());
+    };
+    let request = Request::Attenuate {
+        form: form.wire(),
+        token,
+        caveats,
+    };
+    let reply = ask(alloc, None, request)?;
+    made_text(alloc, form, reply)
+}
+
+/// The text of the token that a reply brings in a form, as an `Authorization` brings it. A reply
+/// that brings none refuses.
+fn made_text(alloc: Global, form: CallForm, reply: Reply) -> Result<Vec<u8>, CallFault>
+    ensures { Gives (λ text. text.items) result (made_text form reply) }
+{
+    match (reply, form) {
+        (Reply::Token(written), CallForm::V1 | CallForm::V2) => Ok(written.into_vec()),
+        (Reply::Token(written), CallForm::Json) => as_text(alloc, written.as_slice()),
+        (Reply::Refused(why), _) => Err(why.into()),
+        _ => Err(Refusal::BadRequest.into()),
     }
 }
 
@@ -92,7 +164,7 @@ fn as_text(alloc: Global, bytes: &[u8]) -> Result<Vec<u8>, CallFault>
 {
     let text = URL_SAFE_NO_PAD.encode(alloc, bytes)?.into_bytes();
     if text.len() > TOKEN_MAX {
-        return Err(CallFault::Refused(CallRefusal::Token(TokenRefusal::Limit)));
+        return Err(Refusal::Limit.into());
     }
     Ok(text)
 }

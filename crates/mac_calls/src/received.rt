@@ -9,8 +9,8 @@ ghost use Rattle.mac_calls.specs.Steps.{of_token};
 
 use crate::fault::CallFault;
 use crate::form::CallForm;
-use mac_token::{Token, bare, read_bare};
-use std::alloc::Global;
+use mac_token::{Token, TokenFault, bare, read_bare};
+use std::alloc::{AllocError, Global};
 
 /// A token, and the form in which it came.
 #[derive(Drop)]
@@ -27,6 +27,18 @@ pub(crate) fn receive(alloc: Global, text: &[u8]) -> Result<Received, CallFault>
     let mut room = Vec::new(alloc);
     let bytes = bare(&mut room, text)?;
     receive_bare(alloc, bytes)
+}
+
+/// The form in which a token's text came. A text that carries nothing is as one of V2.
+pub(crate) fn form_of_text(alloc: Global, text: &[u8]) -> Result<CallForm, AllocError>
+    ensures { IfOk result (λ form. form ≡ form_of_text text.now) }
+{
+    let mut room = Vec::new(alloc);
+    match bare(&mut room, text) {
+        Ok(bytes) => Ok(CallForm::of_bare(bytes)),
+        Err(TokenFault::Refused(_)) => Ok(CallForm::V2),
+        Err(TokenFault::Memory) => Err(AllocError),
+    }
 }
 
 /// The token that the bytes of a bare form spell.

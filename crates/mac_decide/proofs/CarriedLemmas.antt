@@ -21,14 +21,14 @@ use Rattle.mac_token.specs.declared.form.Form.{Form}
 use Rattle.mac_token.specs.declared.limits.TheConstants.{TOKEN_MAX}
 use Rattle.mac_token.proofs.Within.{is_within-Decides}
 use Rattle.mac_token.proofs.WrittenLaws.{written_read}
-use Rattle.mac_wire.specs.Request.{Asked, mint, attenuate, verify, Asks, IsBytes, key_of, payload_of, short_field, long_field, counted_fields}
+use Rattle.mac_wire.specs.Request.{Asked, mint, attenuate, verify, Asks, IsBytes, payload_of, short_field, long_field, counted_fields}
 use Rattle.mac_wire.specs.declared.arrival.Arrival.TheVariants.{Payload}
 use Rattle.mac_wire.specs.declared.reply.Refusal.TheVariants as refusal
 use Rattle.mac_wire.specs.declared.reply.Reply.{Reply}
 use Rattle.mac_wire.specs.declared.reply.Reply.TheVariants as reply
 use Rattle.mac_wire.specs.declared.request.TokenForm.{TokenForm}
 use Rattle.mac_wire.proofs.Asking.{request_of-asks, key_name_of-asks}
-use Rattle.mac_decide.specs.Answer.{refused, told, keyed, form_of, written_reply, token_reply, request_reply, reply_of, keys_of, answer_of, IsGranted}
+use Rattle.mac_decide.specs.Answer.{refused, told, keyed, form_of, written_reply, token_reply, request_reply, reply_of, keys_of, answer_of, asked_basis, answer_to, IsGranted}
 use Rattle.mac_decide.specs.Minted.{Minted, minted, add}
 use Rattle.mac_decide.specs.Terms.{Terms}
 use Rattle.mac_decide.specs.Verdict.{Satisfied, Accepts}
@@ -163,12 +163,8 @@ mint-keys form name location identifier caveats bytes basis e =
     let (keys, found, made) = keyed-bytes basis.keys tell bytes told in
     (keys, found, may, made)
 
--- what a request is answered on
-abbrev pub asked_basis : Terms → Asked → Basis
-asked_basis terms asked = record { keys = option_and_then (keys_of terms) (key_of asked); may_mint = terms.rights.may_mint; moment = terms.moment }
-
 -- the reply to what a payload asks
-pub answer_of-asked : (terms : Terms) (payload : List ℕ) (asked : Asked) → Asks payload asked → answer_of terms (Payload payload) ≡ request_reply asked (asked_basis terms asked)
+pub answer_of-asked : (terms : Terms) (payload : List ℕ) (asked : Asked) → Asks payload asked → answer_of terms (Payload payload) ≡ answer_to terms asked
 unfolding answer_of reply_of
 answer_of-asked terms payload asked asks = rw (request_of-asks payload asked asks, key_name_of-asks payload asked asks) refl
 

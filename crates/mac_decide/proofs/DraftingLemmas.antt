@@ -1,5 +1,5 @@
 -- A token that is written before its signature is known, one caveat after the other.
-use Rattle.std.proofs.Common.{◌≡◌, ℕ, List, [], ◌∷◌, append_assoc, length, ◌≤◌, length-append, arith, Ok, Err, sym, ap, subst, ◌∙◌}
+use Rattle.std.proofs.Common.{◌≡◌, ℕ, List, [], ◌∷◌, append_assoc, length, ◌≤◌, length-append, arith, Bool, true, false, if◌then◌else◌, Ok, Err, sym, ap, subst, ◌∙◌}
 use Rattle.std.proofs.lemmas.List.{get_or_append_left}
 use Rattle.mac_token.specs.Answers.{IsFault}
 use Rattle.mac_token.specs.Draft.{DraftParts, IsDraftOf}
@@ -8,6 +8,7 @@ use Rattle.mac_token.specs.Push.{IsPushFault, with_caveats, with_sig}
 use Rattle.mac_token.specs.RawToken.{TokenParts, token_parts}
 use Rattle.mac_token.specs.declared.fault.TokenFault.{TokenFault}
 use Rattle.mac_token.specs.declared.fault.TokenFault.TheVariants.{Refused, Memory}
+use Rattle.mac_token.specs.declared.fault.TokenRefusal.TheVariants.{Limit}
 use Rattle.mac_token.specs.declared.fault.TokenRefusal.{TokenRefusal}
 use Rattle.mac_token.specs.declared.form.Form.{Form}
 use Rattle.mac_token.specs.declared.limits.TheConstants.{CAVEAT_MAX}
@@ -17,7 +18,11 @@ use Rattle.mac_wire.specs.declared.request.TokenForm.{TokenForm}
 use Rattle.mac_wire.specs.declared.reply.Reply.TheVariants.{Token}
 use Rattle.mac_decide.specs.Answer as answers
 use Rattle.mac_decide.specs.Prepared.{signed_reply}
-use Rattle.mac_decide.proofs.MintingLemmas.{only_limit}
+
+-- only a limit refuses
+pub only_limit : (t : TokenParts) (b : Bool) (refusal : TokenRefusal) → (if b then Ok t else Err Limit) ≡ Err refusal → refusal ≡ Limit
+only_limit t true refusal e = absurd (cc)
+only_limit t false refusal e = cc
 
 -- a draft, signed, gives the reply with its token
 pub draft-reply : (asked : TokenForm) (t : TokenParts) (d : DraftParts) (sig : List ℕ) → length sig ≡ 32 → IsDraftOf (answers.form_of asked) t d

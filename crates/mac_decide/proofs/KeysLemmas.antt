@@ -15,21 +15,3 @@ module _ {X : Type 0} {P : X → Type 0} where
 
   pub Any-none : Any P [] → ⊥
   Any-none (k, y, within, is, holds) = absurd (omega arith)
-
-  pub Any-second : (x y : X) → P y → Any P (x ∷ y ∷ [])
-  Any-second x y second = Any-later x (y ∷ []) (Any-here y [] second)
-
-  pub Any-but-first : (x y : X) → ¬ (P x) → Any P (x ∷ y ∷ []) → P y
-  Any-but-first x y other any = elim (Any-cases x (y ∷ []) any) [
-    | inl first ↦ absurd (other first)
-    | inr later ↦ elim (Any-cases y [] later) [
-      | inl second ↦ second
-      | inr none ↦ absurd (Any-none none)
-    ]
-  ]
-
-  pub Any-alone : (x : X) → ¬ (P x) → Any P (x ∷ []) → ⊥
-  Any-alone x other any = elim (Any-cases x [] any) [
-    | inl first ↦ other first
-    | inr none ↦ Any-none none
-  ]

@@ -6,7 +6,6 @@ pub mod WalkLemmas
 pub mod ReadingLemmas
 pub mod VerdictLemmas
 pub mod NarrowingLemmas
-pub mod MintingLemmas
 pub mod AnswerLemmas
 pub mod SendableLemmas
 pub mod CarriedLemmas

@@ -1,5 +1,5 @@
 -- Verifies at the clock.
-use Rattle.std.proofs.Common.{◌≡◌, ℕ, List, Option, Some, None, Result, Ok, Err, refl, sym, ap, ◌∙◌, subst}
+use Rattle.std.proofs.Common.{◌≡◌, ◌↔◌, ℕ, List, Option, Some, None, Result, Ok, Err, refl, sym, ap, ◌∙◌, subst}
 use Rattle.mac_keys.specs.Table.{listed}
 use Rattle.mac_keys.specs.declared.keys.Keys.{Keys}
 use Rattle.mac_token.specs.RawToken.{TokenParts}
@@ -13,14 +13,14 @@ use Rattle.mac_wire.specs.declared.reply.Reply.{Reply}
 use Rattle.mac_wire.specs.declared.reply.Reply.TheVariants as reply
 use Rattle.mac_wire.specs.declared.request.Grant.{Grant}
 use Rattle.mac_wire.specs.declared.request.Grant.TheVariants as grant
-use Rattle.mac_decide.specs.Answer.{refused, told, keyed, timed, verdict_reply, verify_reply, with_owner, keys_of, answer_of, IsGranted}
+use Rattle.mac_decide.specs.Answer.{refused, told, keyed, timed, verdict_reply, verify_reply, with_owner, keys_of, answer_of, answer_to, IsGranted}
 use Rattle.mac_decide.specs.Reading.{verdict_of}
 use Rattle.mac_decide.specs.Terms.{Terms}
 use Rattle.mac_decide.specs.declared.context.Context.{Context}
 use Rattle.mac_decide.specs.declared.verdict.Verdict.{Verdict}
 use Rattle.mac_decide.specs.declared.verdict.Verdict.TheVariants.{Granted, BadSignature, Unsatisfied}
 use Rattle.mac_decide.proofs.CarriedLemmas.{answer_of-asked}
-use Rattle.mac_decide.proofs.VerdictLemmas.{verdict_of-is}
+use Rattle.mac_decide.proofs.VerdictLemmas.{verdict_of-is, one_verdict}
 
 -- what is told under the keys that were found, at the moment that was told
 abbrev now_reply : Grant → List ℕ → List (List ℕ) → Option ℕ → Option Keys → Reply
@@ -95,7 +95,7 @@ owner-read keys token x identifier location (Ok t) is e =
     (record { named = keys; has_keys = refl; token = t; is_read = is; accepted = rw v.0 at (verdict_of-is (listed keys) t x) }, v.1, v.2)
 owner-read keys token x identifier location (Err fault) is e = absurd (cc)
 
-owner-found : (found : Option Keys) (token : List ℕ) (facts : List (List ℕ)) (moment : ℕ) (identifier location : List ℕ)
+pub owner-found : (found : Option Keys) (token : List ℕ) (facts : List (List ℕ)) (moment : ℕ) (identifier location : List ℕ)
     → now_reply grant.Owner token facts (Some moment) found ≡ reply.GrantedTo identifier location → IsOwners found token (record { moment = moment; facts = facts }) identifier location
 owner-found None token facts moment identifier location e = absurd (cc)
 owner-found (Some keys) token facts moment identifier location e =
@@ -107,3 +107,23 @@ pub owner-told : (terms : Terms) (payload name token identifier location : List 
 owner-told terms payload name token identifier location moment facts is asks e =
     owner-found (keys_of terms name) token facts moment identifier location
     (ap (λ (m : Option ℕ). now_reply grant.Owner token facts m (keys_of terms name)) (sym is) ∙ sym (now-answer terms grant.Owner payload name token facts asks) ∙ e)
+
+-- what is granted is told so
+abbrev IsToldOwner : Reply → Type 0
+IsToldOwner r = (identifier : List ℕ) × (location : List ℕ) × (r ≡ reply.GrantedTo identifier location)
+
+owner-back : (found : Option Keys) (token : List ℕ) (facts : List (List ℕ)) (moment : ℕ) → IsGranted found token (record { moment = moment; facts = facts })
+    → IsToldOwner (now_reply grant.Owner token facts (Some moment) found)
+owner-back found token facts moment g =
+    let x : Context = record { moment = moment; facts = facts } in
+    let verdict : verdict_of (listed g.named) g.token x ≡ Granted = one_verdict (listed g.named) g.token x _ Granted (verdict_of-is (listed g.named) g.token x) g.accepted in
+    (g.token.identifier, g.token.location, rw (g.has_keys, g.is_read, verdict) refl)
+
+pub owner-granted : (terms : Terms) (name token : List ℕ) (moment : ℕ) (facts : List (List ℕ)) → terms.moment ≡ Some moment
+    → IsToldOwner (answer_to terms (verify_now grant.Owner name token facts)) ↔ IsGranted (keys_of terms name) token (record { moment = moment; facts = facts })
+owner-granted terms name token moment facts is =
+    let same : answer_to terms (verify_now grant.Owner name token facts) ≡ now_reply grant.Owner token facts (Some moment) (keys_of terms name)
+    = ap (λ (m : Option ℕ). now_reply grant.Owner token facts m (keys_of terms name)) is in (
+      (λ told. (owner-found (keys_of terms name) token facts moment told.0 told.1 (sym same ∙ told.2)).0),
+      (λ g. subst IsToldOwner (sym same) (owner-back (keys_of terms name) token facts moment g)),
+    )

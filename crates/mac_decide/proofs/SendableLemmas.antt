@@ -164,6 +164,10 @@ pub result-sent : {E : Type 0} (result : Result Reply E) (arrival : Arrival) (ba
 result-sent (Ok r) arrival basis is = rw is (reply-sent arrival basis)
 result-sent (Err e) arrival basis is = tt
 
+pub request-result-sent : {E : Type 0} (result : Result Reply E) (request : Asked) (basis : Basis) → IfOk result (λ r. r ≡ request_reply request basis) → IfOk result IsReply
+request-result-sent (Ok r) request basis is = rw is (request-sent request basis)
+request-result-sent (Err e) request basis is = tt
+
 -- the replies to jobs
 replies-sent : (jobs : List Job) → All IsReply (map reply_to_job jobs)
 replies-sent jobs = All-map IsReply reply_to_job jobs (λ k d within. reply-sent (slice_index_or jobs k d).arrival (slice_index_or jobs k d).basis)

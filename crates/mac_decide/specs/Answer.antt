@@ -12,7 +12,7 @@ use Rattle.mac_token.specs.declared.form.Form.TheVariants as forms
 use Rattle.mac_token.specs.declared.fault.TokenRefusal.{TokenRefusal}
 use Rattle.mac_token.specs.declared.fault.TokenRefusal.TheVariants as token
 use Rattle.mac_wire.specs.Reading.{request_of, key_name_of}
-use Rattle.mac_wire.specs.Request.{Asked, Asks, mint, attenuate, verify, verify_now}
+use Rattle.mac_wire.specs.Request.{Asked, Asks, key_of, mint, attenuate, verify, verify_now}
 use Rattle.mac_wire.specs.declared.arrival.Arrival.{Arrival}
 use Rattle.mac_wire.specs.declared.arrival.Arrival.TheVariants as arrival
 use Rattle.mac_wire.specs.declared.reply.Refusal.{Refusal}
@@ -167,6 +167,18 @@ basis_of terms a =
 -- the answer to an arrival under these terms
 unfoldable pub answer_of : Terms → Arrival → Reply
 answer_of terms a = reply_of a (basis_of terms a)
+
+-- what a request is answered on, under these terms: the keys of the name that it is about
+abbrev pub asked_basis : Terms → Asked → Basis
+asked_basis terms request = record {
+  keys = option_and_then (keys_of terms) (key_of request);
+  may_mint = terms.rights.may_mint;
+  moment = terms.moment;
+}
+
+-- the answer to a request under these terms, whatever way it came by
+abbrev pub answer_to : Terms → Asked → Reply
+answer_to terms request = request_reply request (asked_basis terms request)
 
 -- the answer to an arrival under a table at a moment, where everything is allowed
 abbrev pub full_answer : Option ℕ → Table → Arrival → Reply

@@ -1,4 +1,5 @@
 pub mod Answer
+pub mod Asking
 pub mod Calendar
 pub mod Folding
 pub mod Minted

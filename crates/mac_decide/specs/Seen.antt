@@ -1,14 +1,14 @@
 -- Which tokens need no signature computed again (this project's own).
-use Rattle.std.specs.Prelude.{◌≡◌, ℕ, Bool, true, false, List, Option, Some, None, Result, Ok, Err}
+use Rattle.std.specs.Prelude.{◌≡◌, ℕ, Bool, true, false, List, Result, Ok, Err}
 use Rattle.std.specs.List.{AllZip}
 use Rattle.mac_keys.specs.Table.{listed}
 use Rattle.mac_keys.specs.declared.keys.Keys.{Keys}
 use Rattle.mac_token.specs.RawToken.{TokenParts}
 use Rattle.mac_token.specs.Read.{read_of}
 use Rattle.mac_token.specs.declared.fault.TokenRefusal.{TokenRefusal}
-use Rattle.mac_wire.specs.Request.{Asked, mint, attenuate, verify, verify_now}
 use Rattle.mac_wire.specs.declared.reply.Reply.{Reply}
 use Rattle.mac_wire.specs.declared.reply.Reply.TheVariants as reply
+use Rattle.mac_decide.specs.Asking.{asking_reply}
 use Rattle.mac_decide.specs.Reading.{is_minted}
 use Rattle.mac_decide.specs.declared.looking.Sight.{Sight}
 use Rattle.mac_decide.specs.declared.looking.Sight.TheVariants as sight
@@ -26,21 +26,20 @@ is_minted_text keys text = is_minted_read keys (read_of text)
 abbrev pub IsFound : Keys → List ℕ → TokenParts → Type 0
 IsFound keys text t = (read_of text ≡ Ok t) × (is_minted (listed keys) t ≡ true)
 
--- the reply that is told at first sight, if one is, is the one that is due
-abbrev pub IsRight : Sight → Reply → Type 0
-IsRight (sight.Told reply) due = reply ≡ due
-IsRight (sight.Asked mark) due = Unit {0}
+-- the reply that is due: the one that is told at first sight, or the one that is asked for
+abbrev pub due_of : Sight → Reply
+due_of (sight.Told reply) = reply
+due_of (sight.Asked asking) = asking_reply asking
 
--- the same of each reply that is due
-abbrev pub AreRight : List Sight → List Reply → Type 0
-AreRight = AllZip IsRight
+-- what was prepared for what was seen comes to the reply that is asked for; one that is told needs
+-- nothing prepared
+abbrev pub IsReady : Sight → Reply → Type 0
+IsReady (sight.Told reply) came = Unit {0}
+IsReady (sight.Asked asking) came = came ≡ asking_reply asking
 
--- the token that a request asks to verify
-abbrev pub verified : Asked → Option (List ℕ)
-verified (mint form name location identifier caveats) = None
-verified (attenuate form token caveats) = None
-verified (verify name token moment facts) = Some token
-verified (verify_now g name token facts) = Some token
+-- the same of each
+abbrev pub AreReady : List Sight → List Reply → Type 0
+AreReady = AllZip IsReady
 
 -- whether the reply to a verify tells that one of the keys gives the signature
 abbrev pub tells_minted : Reply → Bool

@@ -51,10 +51,5 @@ pub(crate) fn keys_named<'a>(terms: Terms<'a>, payload: &[u8]) -> Option<&'a Key
     ensures { option_copied result
         ≡ keys_for (lent_terms terms.entry) (arrival.Payload payload.now) }
 {
-    let name = key_name(payload)?;
-    if terms.rights.allows(name) {
-        terms.table.find(name)
-    } else {
-        None
-    }
+    terms.keys_of(key_name(payload)?)
 }

@@ -3,10 +3,10 @@
 ghost use Rattle.std.specs.Prelude.{◌≡◌};
 ghost use Rattle.mac_wire.specs.declared.arrival.Arrival.TheVariants as arrival;
 ghost use Rattle.mac_decide.specs.Terms.{lent_terms};
-ghost use Rattle.mac_decide.specs.Viewed.{arrival_of, viewed, viewed_basis};
+ghost use Rattle.mac_decide.specs.Viewed.{arrival_of, viewed};
 ghost use Rattle.mac_decide.specs.World.{job_under};
 
-use crate::job::{Basis, Job, keys_named};
+use crate::job::{Job, keys_named};
 use crate::rights::Terms;
 use mac_keys::Keys;
 use mac_wire::Arrival;
@@ -51,17 +51,6 @@ impl<'a> JobView<'a> {
             keys: job.basis.keys.as_ref(),
             may_mint: job.basis.may_mint,
             moment: job.basis.moment,
-        }
-    }
-
-    /// What it is answered on.
-    pub(crate) fn basis(&self) -> Basis
-        ensures { result ≡ viewed_basis self.now }
-    {
-        Basis {
-            keys: self.keys.copied(),
-            may_mint: self.may_mint,
-            moment: self.moment,
         }
     }
 }

@@ -12,7 +12,7 @@ ghost use Rattle.mac_decide.specs.declared.verdict.Verdict.{Verdict as PlainVerd
 ghost use Rattle.mac_keys.specs.Table.{Table, listed};
 ghost use Rattle.mac_keys.specs.declared.keys.Keys.{Keys};
 ghost use Rattle.mac_wire.specs.Reply.{IsReply};
-ghost use Rattle.mac_wire.specs.Request.{Asks, IsBytes, mint, attenuate, verify, verify_now};
+ghost use Rattle.mac_wire.specs.Request.{Asked, Asks, IsBytes, mint, attenuate, verify, verify_now};
 ghost use Rattle.mac_wire.specs.declared.request.Grant.{Grant as PlainGrant};
 ghost use Rattle.mac_wire.specs.declared.request.TokenForm.{TokenForm};
 ghost use Rattle.mac_wire.specs.declared.arrival.Arrival.{Arrival as PlainArrival};
@@ -20,7 +20,7 @@ ghost use Rattle.mac_wire.specs.declared.reply.Reply.{Reply as PlainReply};
 ghost use Rattle.mac_decide.specs.declared.job.Basis.{Basis as PlainBasis};
 ghost use Rattle.mac_decide.specs.declared.job.Job.{Job as PlainJob};
 ghost use Rattle.mac_decide.specs.World.{job_under};
-ghost use Rattle.mac_decide.specs.Answer.{reply_of, answer_of, keys_of, refused, with_owner, IsAttenuate, IsGranted};
+ghost use Rattle.mac_decide.specs.Answer.{reply_of, answer_of, answer_to, keys_of, refused, with_owner, IsAttenuate, IsGranted};
 ghost use Rattle.mac_decide.specs.Minted.{Signs, Minted, minted, add};
 ghost use Rattle.mac_decide.specs.Reading.{limit_of, since_of, verdict_of};
 ghost use Rattle.mac_decide.specs.Terms.{Terms, with_all_names};
@@ -103,6 +103,24 @@ pub fn verify_is_granted()
     ensures { (terms : Terms) (payload name token : List ℕ) (moment : ℕ) (facts : List (List ℕ))
         → Asks payload (verify name token moment facts)
         → (answer_of terms (Arrival.Payload payload) ≡ Reply.Granted)
+        ↔ IsGranted (keys_of terms name) token (record { moment = moment; facts = facts }) }
+{}
+
+/// A request is answered as the payload that asks it is, whatever way it came by: so each law of
+/// the one is a law of the other.
+pub fn requests_are_answered_alike()
+    ensures { (terms : Terms) (payload : List ℕ) (request : Asked) → Asks payload request
+        → answer_of terms (Arrival.Payload payload) ≡ answer_to terms request }
+{}
+
+/// A verify at the clock that asks whose the token is is granted, and told so, exactly where a
+/// verify at that moment is.
+pub fn owner_is_granted()
+    ensures { (terms : Terms) (name token : List ℕ) (moment : ℕ) (facts : List (List ℕ))
+        → terms.moment ≡ Some moment
+        → ((identifier : List ℕ) × (location : List ℕ)
+        × (answer_to terms (verify_now Grant.Owner name token facts)
+        ≡ Reply.GrantedTo identifier location))
         ↔ IsGranted (keys_of terms name) token (record { moment = moment; facts = facts }) }
 {}
 

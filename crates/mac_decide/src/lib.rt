@@ -2,9 +2,10 @@
 //! each arrival.
 //!
 //! [`job_of`] takes an arrival with what the [`Terms`] that it came under say of it, and [`answer`]
-//! gives its reply, by [`mint`], [`attenuate`] and [`verify`].
+//! gives its reply. [`answer_request`] gives that to a request that no arrival carries.
 #![tactic(auto)]
 
+mod asking;
 mod choosing;
 mod context;
 mod drafting;
@@ -15,7 +16,6 @@ mod keyed;
 pub mod laws;
 mod looking;
 mod macaroons;
-mod minting;
 mod one_by_one;
 mod prepared;
 mod preparing;
@@ -30,16 +30,16 @@ mod verdict;
 mod verdict_view;
 mod verifying;
 
+pub use asking::Asking;
 pub use context::{Context, satisfied};
 pub use job::{Basis, Job, job_of};
 pub use job_view::{ArrivalView, JobView, job_view_of};
 pub use macaroons::Macaroons;
-pub use minting::{attenuate, mint};
-pub use one_by_one::answer_one;
+pub use one_by_one::{answer_one, answer_request};
 pub use reply::{answer, refusal_of};
 pub use rights::{Names, Rights, Terms};
 pub use rooms::{RUN, Rooms};
 pub use seen::{SEEN_MAX, SeenTokens};
 pub use side_by_side::{answer_all, answer_run, answer_views};
 pub use time::{time_limit, time_since};
-pub use verdict::{Verdict, verify, verify_read};
+pub use verdict::Verdict;

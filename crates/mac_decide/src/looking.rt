@@ -1,145 +1,130 @@
-//! What a memory tells of jobs at first sight, before anything is hashed.
+//! What is known of a reply at first sight, before anything is hashed.
 
-ghost use Rattle.std.specs.Prelude.{◌≡◌, ◌++◌, ◌≤◌, [], IfOk, OnOk, drop, length, map};
+ghost use Rattle.std.specs.Prelude.{◌≡◌, ◌+◌, ◌++◌, ◌≤◌, IfOk, OnOk, IfSome, length, map};
 ghost use Rattle.mac_wire.specs.Reading.{request_of};
-ghost use Rattle.mac_wire.specs.Request.{asked as asked_of};
 ghost use Rattle.mac_decide.specs.Answer as answers;
+ghost use Rattle.mac_decide.specs.Asking.{asking_reply};
 ghost use Rattle.mac_decide.specs.Prepared.{reply_to_job};
-ghost use Rattle.mac_decide.specs.Seen.{AreRight, IsRight};
-ghost use Rattle.mac_decide.specs.Viewed.{viewed};
+ghost use Rattle.mac_decide.specs.Seen.{due_of};
+ghost use Rattle.mac_decide.specs.Viewed.{viewed, viewed_basis};
 
+use crate::asking::Asking;
 use crate::context::Context;
-use crate::job::Basis;
 use crate::job_view::{ArrivalView, JobView};
 use crate::reply::refused;
 use crate::rooms::RUN;
 use crate::seen::SeenTokens;
 use arrayvec::ArrayVec;
-use mac_keys::Keys;
 use mac_wire::{Grant, NoMemory, Refusal, Reply, Request, parse_request};
 use std::alloc::Global;
 
 /// What is known of a reply at first sight.
 #[derive(Drop)]
-pub(crate) enum Sight {
+pub(crate) enum Sight<'a> {
     /// The reply.
     Told(Reply),
-    /// What asks for it is to be read. Of a verify, by what the memory may be told that its token
-    /// is minted.
-    Asked(Option<u64>),
-}
-
-impl Sight {
-    /// How many replies it still asks for: one or none.
-    pub(crate) fn asks(&self) -> usize {
-        match self {
-            Sight::Told(_) => 0,
-            Sight::Asked(_) => 1,
-        }
-    }
+    /// What asks for it, as it was parsed.
+    Asked(Asking<'a>),
 }
 
 /// What stands in a place of a run that has no job.
-impl Default for Sight {
+impl Default for Sight<'_> {
     fn default() -> Self {
-        Sight::Asked(None)
+        Sight::Told(Reply::default())
     }
 }
 
-/// What is known of the reply to each job.
-pub(crate) fn look_at_all(
+/// Puts what is known of the reply to each job behind what is known of others.
+pub(crate) fn look_at_all<'a>(
+    sights: &mut ArrayVec<Sight<'a>, RUN>,
     seen: &SeenTokens,
     alloc: Global,
-    jobs: &[JobView<'_>],
-) -> Result<ArrayVec<Sight, RUN>, NoMemory>
-    requires { length jobs.now ≤ RUN }
-    ensures { IfOk result (λ sights.
-        AreRight sights.items (map reply_to_job (map viewed jobs.now))) }
+    jobs: &[JobView<'a>],
+) -> Result<(), NoMemory>
+    requires { length sights.old.items + length jobs.now ≤ RUN }
+    ensures sights { OnOk result (map due_of sights.new.items
+        ≡ map due_of sights.old.items ++ map reply_to_job (map viewed jobs.now)) }
+    ensures count { OnOk result
+        (length sights.new.items ≡ length sights.old.items + length jobs.now) }
 {
-    let mut sights = ArrayVec::new();
     for job in jobs {
         sights.push(look_at_job(seen, alloc, job)?);
-    }
-    Ok(sights)
-}
-
-/// Puts the replies to the first jobs where nothing is, up to the first that isn't told at first
-/// sight.
-pub(crate) fn tell_front(
-    replies: &mut ArrayVec<Reply, RUN>,
-    seen: &SeenTokens,
-    alloc: Global,
-    jobs: &[JobView<'_>],
-) -> Result<(), NoMemory>
-    requires empty { replies.old.items ≡ [] }
-    requires count { length jobs.now ≤ RUN }
-    ensures { OnOk result (replies.new.items
-        ++ map reply_to_job (map viewed (drop (length replies.new.items) jobs.now))
-        ≡ map reply_to_job (map viewed jobs.now)) }
-{
-    for job in jobs {
-        match look_at_job(seen, alloc, job)? {
-            Sight::Told(reply) => replies.push(reply),
-            Sight::Asked(_) => return Ok(()),
-        }
     }
     Ok(())
 }
 
 /// How many replies are still asked for.
-pub(crate) fn count_asked(sights: &[Sight]) -> usize {
+pub(crate) fn count_asked(sights: &[Sight<'_>]) -> usize {
     let mut count: usize = 0;
     for sight in sights {
-        count = count.saturating_add(sight.asks());
+        if let Sight::Asked(_) = sight {
+            count = count.saturating_add(1);
+        }
     }
     count
 }
 
-/// What is known of the reply to a job.
+/// What is known of the reply to a job, whose payload is parsed here and nowhere else.
 #[tactic(auto, unfolding(crate::specs::Answer::reply_of))]
-pub(crate) fn look_at_job(
+pub(crate) fn look_at_job<'a>(
     seen: &SeenTokens,
     alloc: Global,
-    job: &JobView<'_>,
-) -> Result<Sight, NoMemory>
-    ensures { IfOk result (λ sight. IsRight sight (reply_to_job (viewed job.now))) }
+    job: &JobView<'a>,
+) -> Result<Sight<'a>, NoMemory>
+    ensures { IfOk result (λ sight. due_of sight ≡ reply_to_job (viewed job.now)) }
 {
     match job.arrival {
-        ArrivalView::Payload(payload) => look_at_payload(seen, alloc, payload, job.basis()),
+        ArrivalView::Payload(payload) => look_at_payload(seen, alloc, payload, job),
         ArrivalView::Oversize => Ok(Sight::Told(refused(Refusal::FrameTooLong))),
     }
 }
 
-/// The same of what a payload asks on its basis. Without a memory an empty payload alone is told at
-/// once: all others would be parsed twice.
-fn look_at_payload(
+/// The same of what a payload asks on the basis of its job.
+fn look_at_payload<'a>(
     seen: &SeenTokens,
     alloc: Global,
-    payload: &[u8],
-    basis: Basis,
-) -> Result<Sight, NoMemory>
-    ensures { IfOk result (λ sight.
-        IsRight sight (answers.asked_reply (request_of payload.now) basis)) }
+    payload: &'a [u8],
+    job: &JobView<'a>,
+) -> Result<Sight<'a>, NoMemory>
+    ensures { IfOk result (λ sight. due_of sight
+        ≡ answers.asked_reply (request_of payload.now) (viewed_basis job.now)) }
 {
-    if seen.is_none() && !payload.is_empty() {
-        return Ok(Sight::Asked(None));
-    }
     match parse_request(payload) {
-        Some(request) => look_at_request(seen, alloc, request, basis),
+        Some(request) => {
+            let asking = Asking {
+                request,
+                keys: job.keys,
+                may_mint: job.may_mint,
+                moment: job.moment,
+            };
+            look_at(seen, alloc, asking)
+        }
         None => Ok(Sight::Told(refused(Refusal::BadRequest))),
     }
 }
 
-fn look_at_request(
+/// What is known of the reply to a request: a verify of a token that the memory has is told.
+pub(crate) fn look_at<'a>(
     seen: &SeenTokens,
     alloc: Global,
-    request: Request<'_>,
-    basis: Basis,
-) -> Result<Sight, NoMemory>
-    ensures { IfOk result (λ sight.
-        IsRight sight (answers.request_reply (asked_of request.entry) basis)) }
+    asking: Asking<'a>,
+) -> Result<Sight<'a>, NoMemory>
+    ensures { IfOk result (λ sight. due_of sight ≡ asking_reply asking.entry) }
 {
-    match (request, basis.keys) {
+    if seen.is_none() {
+        return Ok(Sight::Asked(asking));
+    }
+    match tell(seen, alloc, &asking)? {
+        Some(reply) => Ok(Sight::Told(reply)),
+        None => Ok(Sight::Asked(asking)),
+    }
+}
+
+/// The reply to a verify of a token that the memory has.
+fn tell(seen: &SeenTokens, alloc: Global, asking: &Asking<'_>) -> Result<Option<Reply>, NoMemory>
+    ensures { IfOk result (λ told. IfSome told (λ r. r ≡ asking_reply asking.now)) }
+{
+    match (&asking.request, asking.keys, asking.moment) {
         (
             Request::Verify {
                 token,
@@ -148,9 +133,11 @@ fn look_at_request(
                 ..
             },
             Some(keys),
+            _,
         ) => {
-            let context = Context { moment, facts };
-            look_at_token(seen, alloc, Grant::Bare, &keys, token, &context)
+            let facts = facts.walk();
+            let moment = *moment;
+            seen.reply(alloc, keys, token, Grant::Bare, &Context { moment, facts })
         }
         (
             Request::VerifyNow {
@@ -160,34 +147,11 @@ fn look_at_request(
                 ..
             },
             Some(keys),
-        ) => match basis.moment {
-            Some(moment) => {
-                let context = Context { moment, facts };
-                look_at_token(seen, alloc, grant, &keys, token, &context)
-            }
-            None => Ok(Sight::Asked(None)),
-        },
-        _ => Ok(Sight::Asked(None)),
-    }
-}
-
-/// The same of a verify of a token.
-fn look_at_token(
-    seen: &SeenTokens,
-    alloc: Global,
-    grant: Grant,
-    keys: &Keys,
-    token: &[u8],
-    context: &Context<'_>,
-) -> Result<Sight, NoMemory>
-    ensures { IfOk result (λ sight.
-        IsRight sight (answers.verify_reply grant token.now context.now keys.now)) }
-{
-    let Some(mark) = seen.mark(token) else {
-        return Ok(Sight::Asked(None));
-    };
-    match seen.reply(alloc, mark, keys, token, grant, context)? {
-        Some(reply) => Ok(Sight::Told(reply)),
-        None => Ok(Sight::Asked(Some(mark))),
+            Some(moment),
+        ) => {
+            let facts = facts.walk();
+            seen.reply(alloc, keys, token, *grant, &Context { moment, facts })
+        }
+        _ => Ok(None),
     }
 }

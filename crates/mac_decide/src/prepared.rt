@@ -21,8 +21,6 @@ pub struct Question<'a> {
     pub second: Option<RootKey>,
     pub token: TokenView<'a>,
     pub context: Context<'a>,
-    /// By what a memory may be told that the token is minted.
-    pub mark: Option<u64>,
 }
 
 impl<'a> Question<'a> {
@@ -128,19 +126,6 @@ impl Default for Prepared<'_> {
 }
 
 impl<'a> Prepared<'a> {
-    /// By what a memory may be told that the token of a verify is minted.
-    pub fn mark(&self) -> Option<u64> {
-        match self {
-            Prepared::Pending(
-                Signing {
-                    purpose: Purpose::Verdict(question),
-                    ..
-                },
-            ) => question.mark,
-            _ => None,
-        }
-    }
-
     /// How many texts are still to be folded on.
     pub fn left(&self) -> usize
         ensures { result ≡ length (left_of self.now) }

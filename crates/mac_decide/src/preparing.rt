@@ -1,23 +1,22 @@
-//! A job, up to what its reply waits for.
+//! A request, up to what its reply waits for.
 
 ghost use Rattle.std.specs.Prelude.{◌≡◌, IfOk};
 ghost use Rattle.mac_token.specs.Read.{read_of};
-ghost use Rattle.mac_wire.specs.Reading.{request_of};
-ghost use Rattle.mac_wire.specs.Request.{asked as asked_of};
 ghost use Rattle.mac_decide.specs.Answer as answers;
+ghost use Rattle.mac_decide.specs.Asking.{asking_reply};
 ghost use Rattle.mac_decide.specs.Minted.{add, minted};
 ghost use Rattle.mac_decide.specs.Prepared.{comes_to};
 
+use crate::asking::Asking;
 use crate::context::Context;
 use crate::drafting::{draft_narrowed, draft_of_parts, draft_to_sign};
 use crate::folding::Folding;
-use crate::job::Basis;
 use crate::prepared::Prepared;
 use crate::reply::{form_of, refusal_of, refused};
 use crate::verifying::prepare_verify;
 use mac_hmac::{RootKey, Sig};
 use mac_token::{TokenFault, TokenView};
-use mac_wire::{FieldList, Grant, NoMemory, Refusal, Request, TokenForm, parse_request};
+use mac_wire::{FieldList, Grant, NoMemory, Refusal, Request, TokenForm};
 use std::alloc::{AllocError, Global};
 
 pub(crate) fn told(reason: Refusal) -> Prepared<'static>
@@ -26,62 +25,46 @@ pub(crate) fn told(reason: Refusal) -> Prepared<'static>
     Prepared::Told(refused(reason))
 }
 
-/// What the reply to a payload waits for. The room is for a token that comes as base64 text or in
-/// JSON; the mark is its own, if a memory is to be told that it is minted.
-pub fn prepare<'a>(
+/// What the reply to a request waits for. The room is for a token that comes as base64 text or in
+/// JSON.
+pub(crate) fn prepare<'a>(
     room: &'a mut Vec<u8>,
     alloc: Global,
-    mark: Option<u64>,
-    payload: &'a [u8],
-    basis: Basis,
+    asking: &Asking<'a>,
 ) -> Result<Prepared<'a>, NoMemory>
-    ensures { IfOk result (λ p.
-        comes_to p ≡ answers.asked_reply (request_of payload.now) basis) }
+    ensures { IfOk result (λ p. comes_to p ≡ asking_reply asking.now) }
 {
-    match parse_request(payload) {
-        Some(request) => prepare_request(room, alloc, mark, request, basis),
-        None => Ok(told(Refusal::BadRequest)),
-    }
-}
-
-fn prepare_request<'a>(
-    room: &'a mut Vec<u8>,
-    alloc: Global,
-    mark: Option<u64>,
-    request: Request<'a>,
-    basis: Basis,
-) -> Result<Prepared<'a>, NoMemory>
-    ensures { IfOk result (λ p.
-        comes_to p ≡ answers.request_reply (asked_of request.entry) basis) }
-{
-    match request {
+    match &asking.request {
         Request::Mint {
             form,
             location,
             identifier,
             caveats,
             ..
-        } => match (basis.may_mint, basis.keys) {
+        } => match (asking.may_mint, asking.keys) {
             (false, _) => Ok(told(Refusal::NotAllowed)),
             (true, None) => Ok(told(Refusal::UnknownKey)),
             (true, Some(keys)) => {
-                prepare_mint(alloc, form, keys.first, location, identifier, caveats)
+                let caveats = caveats.walk();
+                prepare_mint(alloc, *form, keys.first, location, identifier, caveats)
             }
         },
         Request::Attenuate {
             form,
             token,
             caveats,
-        } => prepare_attenuate(room, alloc, form, token, caveats),
+        } => prepare_attenuate(room, alloc, *form, token, caveats.walk()),
         Request::Verify {
             token,
             moment,
             facts,
             ..
-        } => match basis.keys {
+        } => match asking.keys {
             Some(keys) => {
+                let facts = facts.walk();
+                let moment = *moment;
                 let context = Context { moment, facts };
-                prepare_verify(room, alloc, mark, Grant::Bare, keys, token, context)
+                prepare_verify(room, alloc, Grant::Bare, keys, token, context)
             }
             None => Ok(told(Refusal::UnknownKey)),
         },
@@ -90,12 +73,13 @@ fn prepare_request<'a>(
             token,
             facts,
             ..
-        } => match (basis.keys, basis.moment) {
+        } => match (asking.keys, asking.moment) {
             (None, _) => Ok(told(Refusal::UnknownKey)),
             (Some(_), None) => Ok(told(Refusal::NoClock)),
             (Some(keys), Some(moment)) => {
+                let facts = facts.walk();
                 let context = Context { moment, facts };
-                prepare_verify(room, alloc, mark, grant, keys, token, context)
+                prepare_verify(room, alloc, *grant, keys, token, context)
             }
         },
     }

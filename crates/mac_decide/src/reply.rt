@@ -2,17 +2,20 @@
 
 ghost use Rattle.std.specs.Prelude.{◌≡◌, ◌↔◌, IfOk, OnErr, List, ℕ};
 ghost use Rattle.mac_token.specs.RawToken.{TokenParts};
+ghost use Rattle.mac_wire.specs.Reading.{request_of};
 ghost use Rattle.mac_wire.specs.Reply.{IsReply};
 ghost use Rattle.mac_wire.specs.Request.{Asks, verify};
 ghost use Rattle.mac_decide.specs.Answer as answers;
 ghost use Rattle.mac_decide.specs.Prepared.{signed_reply};
 
+use crate::asking::Asking;
 use crate::job::{Basis, Job};
-use crate::preparing::prepare;
+use crate::one_by_one::answer_request;
+use crate::seen::SeenTokens;
 use crate::verdict::Verdict;
 use mac_hmac::Sig;
 use mac_token::{Draft, Form, TokenFault, TokenRefusal};
-use mac_wire::{Arrival, Bytes, Grant, NoMemory, Refusal, Reply, TokenForm};
+use mac_wire::{Arrival, Bytes, Grant, NoMemory, Refusal, Reply, TokenForm, parse_request};
 use std::alloc::{AllocError, Global};
 
 /// The reply to a job. Want of memory is an error and never a reply.
@@ -27,20 +30,34 @@ pub fn answer(alloc: Global, job: &Job) -> Result<Reply, NoMemory>
         → IfOk result (λ r. (r ≡ Reply.Granted)
         ↔ answers.IsGranted job.now.basis.keys token (record { moment = moment; facts = facts })) }
 {
-    arrival_reply(alloc, &job.arrival, job.basis)
+    arrival_reply(alloc, &job.arrival, &job.basis)
 }
 
 #[tactic(auto, unfolding(crate::specs::Answer::reply_of))]
-fn arrival_reply(alloc: Global, arrival: &Arrival, basis: Basis) -> Result<Reply, NoMemory>
-    ensures reply { IfOk result (λ r. r ≡ answers.reply_of arrival.now basis) }
+fn arrival_reply(alloc: Global, arrival: &Arrival, basis: &Basis) -> Result<Reply, NoMemory>
+    ensures reply { IfOk result (λ r. r ≡ answers.reply_of arrival.now basis.now) }
     ensures memory { OnErr result (answers.TakesMemory arrival.now) }
 {
     match arrival {
-        Arrival::Payload(payload) => {
-            let mut room = Vec::new(alloc);
-            prepare(&mut room, alloc, None, payload.as_slice(), basis)?.into_reply(alloc)
-        }
+        Arrival::Payload(payload) => payload_reply(alloc, payload.as_slice(), basis),
         Arrival::Oversize => Ok(refused(Refusal::FrameTooLong)),
+    }
+}
+
+fn payload_reply(alloc: Global, payload: &[u8], basis: &Basis) -> Result<Reply, NoMemory>
+    ensures { IfOk result (λ r. r ≡ answers.asked_reply (request_of payload.now) basis.now) }
+{
+    match parse_request(payload) {
+        Some(request) => {
+            let asking = Asking {
+                request,
+                keys: basis.keys.as_ref(),
+                may_mint: basis.may_mint,
+                moment: basis.moment,
+            };
+            answer_request(&SeenTokens::none(), alloc, asking)
+        }
+        None => Ok(refused(Refusal::BadRequest)),
     }
 }
 

@@ -3,9 +3,11 @@
 ghost use Rattle.std.specs.Prelude.{◌≡◌};
 ghost use Rattle.std.specs.List.{list_any};
 ghost use Rattle.std.specs.Str.{bytes_eq};
-ghost use Rattle.mac_decide.specs.Terms.{all_rights, is_allowed};
+ghost use Rattle.std.specs.Option.{option_copied};
+ghost use Rattle.mac_decide.specs.Answer.{keys_of};
+ghost use Rattle.mac_decide.specs.Terms.{all_rights, is_allowed, lent_terms};
 
-use mac_keys::KeyTable;
+use mac_keys::{KeyTable, Keys};
 use mac_wire::Bytes;
 use std::marker::Model;
 
@@ -80,4 +82,17 @@ pub struct Terms<'a> {
     pub rights: &'a Rights,
     /// The moment, in seconds since 1970, if the clock tells one.
     pub moment: Option<u64>,
+}
+
+impl<'a> Terms<'a> {
+    /// The keys of a name, if it has any and they may be used, lent.
+    pub(crate) fn keys_of(self, name: &[u8]) -> Option<&'a Keys>
+        ensures { option_copied result ≡ keys_of (lent_terms self.entry) name.now }
+    {
+        if self.rights.allows(name) {
+            self.table.find(name)
+        } else {
+            None
+        }
+    }
 }

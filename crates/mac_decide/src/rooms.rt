@@ -16,9 +16,9 @@ const ROOM_KEPT: usize = 65_536;
 #[derive(Drop)]
 pub struct Rooms {
     pub(crate) held: [Vec<u8>; RUN],
-    seen: SeenTokens,
+    pub(crate) seen: SeenTokens,
     /// How many jobs of the last run no memory told.
-    asked: usize,
+    pub(crate) asked: usize,
 }
 
 impl Rooms {
@@ -34,11 +34,6 @@ impl Rooms {
     /// Whether the last run hashed for so many jobs that others like it are worth further threads.
     pub fn was_dear(&self) -> bool {
         self.asked >= LANES
-    }
-
-    /// The rooms, the memory of tokens, and how many jobs it didn't tell, lent.
-    pub(crate) fn lend(&mut self) -> (&mut [Vec<u8>; RUN], &SeenTokens, &mut usize) {
-        (&mut self.held, &self.seen, &mut self.asked)
     }
 
     /// Gives back the memory of each room that has grown large.

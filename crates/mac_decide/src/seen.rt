@@ -313,7 +313,7 @@ impl SeenTokens {
 
     /// By what the memory knows the token of a text, where there is a memory. Long texts aren't
     /// remembered.
-    pub(crate) fn mark(&self, text: &[u8]) -> Option<u64> {
+    fn mark(&self, text: &[u8]) -> Option<u64> {
         match &self.shared {
             Some(shared) if text.len() <= SEEN_MAX => Some(shared.mark(text)),
             _ => None,
@@ -331,25 +331,10 @@ impl SeenTokens {
         self.shared.as_ref()?.part(mark)?.try_write()
     }
 
-    /// Whether the text of this mark is there, found to be minted under one of these keys.
-    pub(crate) fn has(&self, mark: u64, keys: &Keys, text: &[u8]) -> bool
-        ensures { IsTrue result → is_minted_text keys.now text.now ≡ true }
-    {
-        match self.read_part(mark) {
-            Some(guard) => {
-                let part = &*guard;
-                part.find(mark, keys, text).is_some()
-            }
-            None => false,
-        }
-    }
-
-    /// The reply to a verify of the text of this mark, where it is there, found to be minted under
-    /// one of these keys.
+    /// The reply to a verify of a text that is there, found to be minted under one of these keys.
     pub(crate) fn reply(
         &self,
         alloc: Global,
-        mark: u64,
         keys: &Keys,
         text: &[u8],
         grant: Grant,
@@ -358,6 +343,9 @@ impl SeenTokens {
         ensures { IfOk result (λ found. IfSome found (λ r.
             r ≡ answers.verify_reply grant text.now context.now keys.now)) }
     {
+        let Some(mark) = self.mark(text) else {
+            return Ok(None);
+        };
         let Some(guard) = self.read_part(mark) else {
             return Ok(None);
         };
@@ -368,9 +356,21 @@ impl SeenTokens {
         }
     }
 
+    /// Notes that a text came which was found to be minted under one of these keys. Where it came
+    /// before it is kept.
+    pub(crate) fn note(&self, alloc: Global, keys: &Keys, text: &[u8])
+        requires { is_minted_text keys.now text.now ≡ true }
+    {
+        if let Some(mark) = self.mark(text) {
+            if self.is_again(mark) {
+                self.keep(alloc, mark, keys, text);
+            }
+        }
+    }
+
     /// Whether a token of this mark, which is found to be minted, came before. That it came is
     /// noted.
-    pub(crate) fn is_again(&self, mark: u64) -> bool {
+    fn is_again(&self, mark: u64) -> bool {
         match &self.shared {
             Some(shared) => shared.is_again(mark),
             None => false,
@@ -380,7 +380,7 @@ impl SeenTokens {
     /// Keeps the token of a text of this mark, which was found to be minted under one of these
     /// keys. It isn't kept where there is no memory for it or its part is taken; where others would
     /// have to give way, one in eight is.
-    pub(crate) fn keep(&self, alloc: Global, mark: u64, keys: &Keys, text: &[u8])
+    fn keep(&self, alloc: Global, mark: u64, keys: &Keys, text: &[u8])
         requires { is_minted_text keys.now text.now ≡ true }
     {
         if let Some(mut guard) = self.write_part(mark) {

@@ -1,26 +1,25 @@
 //! The replies to a run of jobs, whose texts are hashed side by side.
 
-ghost use Rattle.std.specs.Prelude.{◌≡◌, ◌+◌, ◌++◌, ◌≤◌, [], All, IfOk, OnOk, length, map, slice_get, Some, get_or};
+ghost use Rattle.std.specs.Prelude.{◌≡◌, ◌+◌, ◌++◌, ◌∷◌, ◌≤◌, ◌<◌, [], All, IfOk, OnOk, length, map, slice_get, Some, get_or};
 ghost use Rattle.mac_wire.specs.Reply.{IsReply};
 ghost use Rattle.mac_decide.specs.Prepared.{AreNext, comes_to, left_of, reply_to_job, signature_of};
-ghost use Rattle.mac_decide.specs.Seen.{AreRight, IsRight};
+ghost use Rattle.mac_decide.specs.Seen.{AreReady, IsReady, due_of};
 ghost use Rattle.mac_decide.specs.Viewed.{viewed};
 
 use crate::choosing::{FEWEST, LANES, Step, next_step};
 use crate::job::Job;
-use crate::job_view::{ArrivalView, JobView};
+use crate::job_view::JobView;
 use crate::keyed::keys_at;
-use crate::looking::{Sight, count_asked, look_at_all, tell_front};
+use crate::looking::{Sight, count_asked, look_at_all, look_at_job};
 use crate::one_by_one::replies_one_by_one;
 use crate::prepared::Prepared;
 use crate::preparing::prepare;
 use crate::remembering::remember;
-use crate::reply::refused;
 use crate::rooms::{RUN, Rooms};
 use crate::seen::SeenTokens;
 use arrayvec::ArrayVec;
 use mac_hmac::{Sig, extend_each, start_each};
-use mac_wire::{NoMemory, Refusal, Reply};
+use mac_wire::{NoMemory, Reply};
 use std::alloc::Global;
 
 /// How many chains a token's texts are folded into at most: one under each of two keys.
@@ -94,32 +93,32 @@ pub fn answer_run(
         replies.items ≡ map reply_to_job (map viewed jobs.now)) }
     ensures sendable { IfOk result (λ replies. All IsReply replies.items) }
 {
-    let (held, seen, asked) = rooms.lend();
-    let replies = replies_to(held, seen, asked, alloc, jobs);
+    let replies = replies_to(rooms, alloc, jobs);
     rooms.give_back(alloc);
     replies
 }
 
-/// The same in these rooms. It counts the jobs that aren't told at first sight.
+/// The same. What a memory tells up to the first job that it doesn't tell asks for no places.
 fn replies_to(
-    rooms: &mut [Vec<u8>],
-    seen: &SeenTokens,
-    asked: &mut usize,
+    rooms: &mut Rooms,
     alloc: Global,
     jobs: &[JobView<'_>],
 ) -> Result<ArrayVec<Reply, RUN>, NoMemory>
-    requires count { length jobs.now ≤ RUN }
-    requires rooms { length jobs.now ≤ length rooms.old }
+    requires { length jobs.now ≤ RUN }
     ensures { IfOk result (λ replies.
         replies.items ≡ map reply_to_job (map viewed jobs.now)) }
 {
     let mut replies = ArrayVec::new();
-    tell_front(&mut replies, seen, alloc, jobs)?;
-    let told = replies.len();
-    *asked = 0;
-    if told < jobs.len() {
-        let others = replies_to_others(&mut rooms[told..], seen, asked, alloc, &jobs[told..])?;
-        join(&mut replies, others);
+    rooms.asked = 0;
+    for place in 0..jobs.len() {
+        match look_at_job(&rooms.seen, alloc, &jobs[place])? {
+            Sight::Told(reply) => replies.push(reply),
+            first => {
+                let others = replies_from(rooms, alloc, first, &jobs[place + 1..])?;
+                join(&mut replies, others);
+                return Ok(replies);
+            }
+        }
     }
     Ok(replies)
 }
@@ -134,130 +133,88 @@ fn join(replies: &mut ArrayVec<Reply, RUN>, others: ArrayVec<Reply, RUN>)
     }
 }
 
-/// The same where some are asked for.
-fn replies_to_others(
-    rooms: &mut [Vec<u8>],
-    seen: &SeenTokens,
-    asked: &mut usize,
+/// The reply to what was seen first, and those to the jobs behind it.
+fn replies_from<'a>(
+    rooms: &mut Rooms,
     alloc: Global,
-    jobs: &[JobView<'_>],
+    first: Sight<'a>,
+    jobs: &[JobView<'a>],
 ) -> Result<ArrayVec<Reply, RUN>, NoMemory>
-    requires count { length jobs.now ≤ RUN }
-    requires rooms { length jobs.now ≤ length rooms.old }
+    requires { length jobs.now < RUN }
     ensures { IfOk result (λ replies.
-        replies.items ≡ map reply_to_job (map viewed jobs.now)) }
+        replies.items ≡ due_of first.entry ∷ map reply_to_job (map viewed jobs.now)) }
 {
-    let sights = look_at_all(seen, alloc, jobs)?;
-    *asked = count_asked(sights.as_slice());
-    if *asked < FEWEST {
-        replies_one_by_one(rooms, seen, alloc, jobs, sights)
+    let mut sights = ArrayVec::new();
+    sights.push(first);
+    look_at_all(&mut sights, &rooms.seen, alloc, jobs)?;
+    rooms.asked = count_asked(sights.as_slice());
+    if rooms.asked < FEWEST {
+        replies_one_by_one(&mut rooms.held, &rooms.seen, alloc, sights)
     } else {
-        replies_side_by_side(rooms, seen, alloc, jobs, sights)
+        replies_side_by_side(&mut rooms.held, &rooms.seen, alloc, sights)
     }
 }
 
+/// The replies to what was seen, in order.
 fn replies_side_by_side(
     rooms: &mut [Vec<u8>],
     seen: &SeenTokens,
     alloc: Global,
-    jobs: &[JobView<'_>],
-    sights: ArrayVec<Sight, RUN>,
+    sights: ArrayVec<Sight<'_>, RUN>,
 ) -> Result<ArrayVec<Reply, RUN>, NoMemory>
-    requires count { length jobs.now ≤ RUN }
-    requires rooms { length jobs.now ≤ length rooms.old }
-    requires sights { AreRight sights.items (map reply_to_job (map viewed jobs.now)) }
-    ensures { IfOk result (λ replies.
-        replies.items ≡ map reply_to_job (map viewed jobs.now)) }
+    requires count { length sights.items ≤ RUN }
+    requires rooms { length sights.items ≤ length rooms.old }
+    ensures { IfOk result (λ replies. replies.items ≡ map due_of sights.entry.items) }
 {
     let mut run = ArrayVec::new();
-    prepare_all(&mut run, rooms, alloc, jobs, sights)?;
+    prepare_all(&mut run, rooms, alloc, sights.as_slice())?;
     walk(run.as_mut_slice());
-    let marks = marks_of(run.as_slice());
     let mut replies = ArrayVec::new();
-    for prepared in run {
-        replies.push(prepared.into_reply(alloc)?);
+    for (sight, prepared) in sights.into_iter().zip(run) {
+        replies.push(reply_when_ready(seen, alloc, sight, prepared)?);
     }
-    remember_run(seen, alloc, &marks, jobs, replies.as_slice());
     Ok(replies)
 }
 
-/// The marks of the tokens of a run.
-fn marks_of(run: &[Prepared<'_>]) -> [Option<u64>; RUN] {
-    let mut marks = [None; RUN];
-    for place in 0..run.len().min(RUN) {
-        marks[place] = run[place].mark();
-    }
-    marks
-}
-
-/// Remembers the tokens of a run that are minted by the replies.
-fn remember_run(
-    seen: &SeenTokens,
-    alloc: Global,
-    marks: &[Option<u64>; RUN],
-    jobs: &[JobView<'_>],
-    replies: &[Reply],
-)
-    requires { replies.now ≡ map reply_to_job (map viewed jobs.now) }
-{
-    for place in 0..RUN {
-        if let Some(job) = jobs.get(place) {
-            if let Some(reply) = replies.get(place) {
-                remember(seen, alloc, marks[place], job, reply);
-            }
-        }
-    }
-}
-
-/// Puts what the replies to the jobs wait for into an empty run.
+/// Puts what the replies to what was seen wait for into an empty run.
 fn prepare_all<'a>(
     run: &mut ArrayVec<Prepared<'a>, RUN>,
     rooms: &'a mut [Vec<u8>],
     alloc: Global,
-    jobs: &[JobView<'a>],
-    sights: ArrayVec<Sight, RUN>,
+    sights: &[Sight<'a>],
 ) -> Result<(), NoMemory>
     requires empty { run.old.items ≡ [] }
-    requires count { length jobs.now ≤ RUN }
-    requires rooms { length jobs.now ≤ length rooms.old }
-    requires sights { AreRight sights.items (map reply_to_job (map viewed jobs.now)) }
-    ensures { OnOk result (map comes_to run.new.items ≡ map reply_to_job (map viewed jobs.now)) }
+    requires count { length sights.now ≤ RUN }
+    requires rooms { length sights.now ≤ length rooms.old }
+    ensures ready { OnOk result (AreReady sights.now (map comes_to run.new.items)) }
+    ensures each { OnOk result (length run.new.items ≡ length sights.now) }
 {
-    for ((room, job), sight) in rooms.iter_mut().zip(jobs).zip(sights) {
-        run.push(prepare_by_sight(room, alloc, job, sight)?);
+    for (room, sight) in rooms.iter_mut().zip(sights) {
+        match sight {
+            Sight::Told(_) => run.push(Prepared::default()),
+            Sight::Asked(asking) => run.push(prepare(room, alloc, asking)?),
+        }
     }
     Ok(())
 }
 
-/// What the reply to a job waits for.
-fn prepare_by_sight<'a>(
-    room: &'a mut Vec<u8>,
+/// The reply to what was seen, once no other needs a text of it folded on.
+fn reply_when_ready(
+    seen: &SeenTokens,
     alloc: Global,
-    job: &JobView<'a>,
-    sight: Sight,
-) -> Result<Prepared<'a>, NoMemory>
-    requires { IsRight sight (reply_to_job (viewed job.now)) }
-    ensures { IfOk result (λ prepared. comes_to prepared ≡ reply_to_job (viewed job.now)) }
+    sight: Sight<'_>,
+    prepared: Prepared<'_>,
+) -> Result<Reply, NoMemory>
+    requires { IsReady sight (comes_to prepared) }
+    ensures { IfOk result (λ reply. reply ≡ due_of sight.entry) }
 {
     match sight {
-        Sight::Told(reply) => Ok(Prepared::Told(reply)),
-        Sight::Asked(mark) => prepare_job(room, alloc, mark, job),
-    }
-}
-
-/// The same, whatever is known of it.
-#[tactic(auto, unfolding(crate::specs::Answer::reply_of))]
-pub(crate) fn prepare_job<'a>(
-    room: &'a mut Vec<u8>,
-    alloc: Global,
-    mark: Option<u64>,
-    job: &JobView<'a>,
-) -> Result<Prepared<'a>, NoMemory>
-    ensures { IfOk result (λ prepared. comes_to prepared ≡ reply_to_job (viewed job.now)) }
-{
-    match job.arrival {
-        ArrivalView::Payload(payload) => prepare(room, alloc, mark, payload, job.basis()),
-        ArrivalView::Oversize => Ok(Prepared::Told(refused(Refusal::FrameTooLong))),
+        Sight::Told(reply) => Ok(reply),
+        Sight::Asked(asking) => {
+            let reply = prepared.into_reply(alloc)?;
+            remember(seen, alloc, &asking, &reply);
+            Ok(reply)
+        }
     }
 }
 

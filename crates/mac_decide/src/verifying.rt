@@ -17,45 +17,36 @@ use mac_token::{TokenFault, TokenView};
 use mac_wire::{Grant, NoMemory};
 use std::alloc::{AllocError, Global};
 
-/// What the reply to a verify waits for. The mark is its token's, if a memory is to be told that it
-/// is minted.
+/// What the reply to a verify waits for.
 pub(crate) fn prepare_verify<'a>(
     room: &'a mut Vec<u8>,
     alloc: Global,
-    mark: Option<u64>,
     grant: Grant,
-    keys: Keys,
+    keys: &Keys,
     token: &'a [u8],
     context: Context<'a>,
 ) -> Result<Prepared<'a>, NoMemory>
     ensures { IfOk result (λ p.
-        comes_to p ≡ answers.verify_reply grant token.now context.entry keys) }
+        comes_to p ≡ answers.verify_reply grant token.now context.entry keys.now) }
 {
     match TokenView::read(room, alloc, token) {
-        Ok(token) => Ok(ask(grant, keys, token, context, mark)),
+        Ok(token) => Ok(ask(grant, keys, token, context)),
         Err(TokenFault::Refused(reason)) => Ok(told(refusal_of(reason))),
         Err(TokenFault::Memory) => Err(AllocError),
     }
 }
 
 /// What a verify of a token asks, which waits for a signature.
-fn ask<'a>(
-    grant: Grant,
-    keys: Keys,
-    token: TokenView<'a>,
-    context: Context<'a>,
-    mark: Option<u64>,
-) -> Prepared<'a>
+fn ask<'a>(grant: Grant, keys: &Keys, token: TokenView<'a>, context: Context<'a>) -> Prepared<'a>
     ensures { comes_to result ≡ answers.verdict_reply grant token.entry
-        (verdict_of (listed keys) token.entry context.entry) }
+        (verdict_of (listed keys.now) token.entry context.entry) }
 {
     let folding = Folding::of_token(keys.first, &token);
     let question = Question {
         grant,
-        second: other_key(&keys),
+        second: other_key(keys),
         token,
         context,
-        mark,
     };
     let purpose = Purpose::Verdict(question);
     Prepared::Pending(Signing { folding, purpose })

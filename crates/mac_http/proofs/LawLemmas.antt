@@ -1,83 +1,73 @@
 -- The laws of the definitions.
 use Rattle.std.proofs.Common.{◌≡◌, ◌∙◌, refl, sym, ap, subst, ℕ, zero, suc, ◌<◌, ◌≤◌, Bool, true, false, List, [], ◌∷◌, length, take, Option, Some, None, Result, Ok, Err, ◌⊎◌, ⊎_elim, arith, Contains}
 use Rattle.std.specs.Prelude.{if◌then◌else◌}
-use Rattle.std.specs.FinMap as map
 use Rattle.std.proofs.lemmas.List.Elements.{Contains-push, Contains-push_cases, Contains-append_cases, Contains-append_left, Contains-append_right}
 use Rattle.http.specs.declared.request.Parts.{Parts}
 use Rattle.http_uri.specs.Uri.{uri_path}
 use Rattle.mac_calls.specs.Counted.{are_few}
-use Rattle.mac_decide.specs.Answer.{IsGranted}
+use Rattle.mac_decide.specs.Answer.{IsGranted, answer_to, keyed, keys_of, timed, told, verdict_reply, verify_reply}
 use Rattle.mac_decide.specs.Reading.{verdict_of}
-use Rattle.mac_decide.specs.Verdict.{Accepts, IsVerdict}
+use Rattle.mac_decide.specs.Terms.{Terms}
 use Rattle.mac_decide.specs.declared.context.Context.{Context}
-use Rattle.mac_decide.specs.declared.verdict.Verdict.{Verdict}
-use Rattle.mac_decide.specs.declared.verdict.Verdict.TheVariants as verdict
-use Rattle.mac_decide.proofs.VerdictLemmas.{verdict_of-is, one_verdict}
+use Rattle.mac_decide.proofs.NowLemmas.{owner-granted}
 use Rattle.mac_keys.specs.Table.{Table, listed}
 use Rattle.mac_keys.specs.declared.keys.Keys.{Keys}
 use Rattle.mac_token.specs.RawToken.{TokenParts}
 use Rattle.mac_token.specs.Read.{read_of}
 use Rattle.mac_token.specs.declared.fault.TokenRefusal.{TokenRefusal}
+use Rattle.mac_wire.specs.Request.{verify_now}
+use Rattle.mac_wire.specs.declared.reply.Reply.{Reply}
+use Rattle.mac_wire.specs.declared.reply.Reply.TheVariants as reply
+use Rattle.mac_wire.specs.declared.request.Grant.TheVariants as grant
 use Rattle.mac_http.specs.declared.authorization.Scheme.{Scheme}
 use Rattle.mac_http.specs.declared.finding.Finding.TheVariants.{Granted, Fragment, UnsafePath, ManyFacts}
 use Rattle.mac_http.specs.declared.rules.Rules.{Rules}
 use Rattle.mac_http.specs.declared.rules.Sources.{Sources}
 use Rattle.mac_http.specs.Authorization.{credentials_in}
 use Rattle.mac_http.specs.Facts.{facts_of, tells_fragment, tells_unsafe}
-use Rattle.mac_http.specs.Found.{found_by, found_read, allowed_keys, found_at, found_with, found_under, found_in, found_of, context_of, IsGrantedBy}
+use Rattle.mac_http.specs.Found.{found_by, found_at, found_with, found_under, found_in, found_of, terms_of, context_of, IsGrantedBy}
 use Rattle.mac_http.specs.Path.{IsStep, is_step, step_of, steps_within}
 use Rattle.mac_http.specs.Target.{target_in}
 
--- a token of which Granted is found has the verdict
-granted_by : (scheme : Scheme) (t s : TokenParts) (v : Verdict) → found_by scheme t v ≡ Granted s → v ≡ verdict.Granted
-granted_by scheme t s verdict.Granted e = refl
-granted_by scheme t s verdict.BadSignature e = absurd (cc)
-granted_by scheme t s (verdict.Unsatisfied index) e = absurd (cc)
+-- a reply of which Granted is found tells whose the token is
+granted_by : (scheme : Scheme) (r : Reply) (identifier location : List ℕ) → found_by scheme r ≡ Granted identifier location → r ≡ reply.GrantedTo identifier location
+granted_by scheme reply.Granted identifier location e = absurd (cc)
+granted_by scheme (reply.GrantedTo i l) identifier location e = cc
+granted_by scheme (reply.Token bytes) identifier location e = absurd (cc)
+granted_by scheme (reply.Unsatisfied index) identifier location e = absurd (cc)
+granted_by scheme (reply.Refused reason) identifier location e = absurd (cc)
 
--- what was read is granted exactly where the keys accept it
-pub read_granted : (scheme : Scheme) (keys : Option Keys) (x : Context) (bytes : List ℕ) (r : Result TokenParts TokenRefusal) (s : TokenParts)
-    → read_of bytes ≡ r → found_read scheme keys x r ≡ Granted s → IsGranted keys bytes x
-read_granted scheme keys x bytes (Err why) s read e = absurd (cc)
-read_granted scheme None x bytes (Ok t) s read e = absurd (cc)
-read_granted scheme (Some keys) x bytes (Ok t) s read e = record {
-  named = keys;
-  has_keys = refl;
-  token = t;
-  is_read = read;
-  accepted = subst (λ v. IsVerdict (listed keys) t x v) (granted_by scheme t s _ e) (verdict_of-is (listed keys) t x);
-}
+-- where no fragment and no unsafe path is told and the facts are few, what is found with them
+pub found_plainly : (sources : Sources) (terms : Terms) (head : Parts) (target : List ℕ × List ℕ) (credentials : Scheme × List ℕ)
+    → tells_fragment sources head target.1 ≡ false → tells_unsafe sources head target.1 ≡ false → are_few (facts_of sources head target.1) ≡ true
+    → found_with sources terms head target credentials ≡ found_at terms target.0 credentials (facts_of sources head target.1) terms.moment
+found_plainly sources terms head target credentials whole safe few = rw (whole, safe, few) refl
 
-pub granted_read : (scheme : Scheme) (keys : Option Keys) (x : Context) (bytes : List ℕ) → IsGranted keys bytes x
-    → (t : TokenParts) × (found_read scheme keys x (read_of bytes) ≡ Granted t)
-granted_read scheme keys x bytes g =
-    let v : verdict_of (listed g.named) g.token x ≡ verdict.Granted = one_verdict (listed g.named) g.token x _ verdict.Granted (verdict_of-is (listed g.named) g.token x) g.accepted in (
-      g.token,
-      ap (λ (k : Option Keys). found_read scheme k x (read_of bytes)) g.has_keys
-          ∙ ap (found_read scheme (Some g.named) x) g.is_read
-          ∙ ap (found_by scheme g.token) v,
-    )
-
--- where no fragment and no unsafe path is told and the facts are few, what is found with them at the moment
-pub found_plainly : (sources : Sources) (moment : Option ℕ) (head : Parts) (behind : List ℕ) (keys : Option Keys) (credentials : Scheme × List ℕ)
-    → tells_fragment sources head behind ≡ false → tells_unsafe sources head behind ≡ false → are_few (facts_of sources head behind) ≡ true
-    → found_with sources moment head behind keys credentials ≡ found_at keys credentials (facts_of sources head behind) moment
-found_plainly sources moment head behind keys credentials whole safe few = rw (whole, safe, few) refl
+-- what is found at the moment of the terms, under keys that the name has
+pub found_now : (terms : Terms) (name : List ℕ) (credentials : Scheme × List ℕ) (facts : List (List ℕ)) (moment : ℕ) (keys : Keys) → terms.moment ≡ Some moment → keys_of terms name ≡ Some keys
+    → found_at terms name credentials facts terms.moment ≡ found_by credentials.0 (verify_reply grant.Owner credentials.1 (record { moment = moment; facts = facts }) keys)
+found_now terms name credentials facts moment keys is named =
+    let tell : Option ℕ → Keys → Reply = λ at k. timed at (λ m. verify_reply grant.Owner credentials.1 (record { moment = m; facts = facts }) k) in
+    ap (found_at terms name credentials facts) is
+    ∙ ap (λ (k : Option Keys). found_by credentials.0 (keyed k (tell terms.moment))) named
+    ∙ ap (λ (m : Option ℕ). found_by credentials.0 (tell m keys)) is
 
 -- two contexts by which each token has one verdict find one thing
 pub found_alike : (scheme : Scheme) (keys : Keys) (x y : Context) (r : Result TokenParts TokenRefusal)
-    → ((t : TokenParts) → verdict_of (listed keys) t x ≡ verdict_of (listed keys) t y) → found_read scheme (Some keys) x r ≡ found_read scheme (Some keys) y r
+    → ((t : TokenParts) → verdict_of (listed keys) t x ≡ verdict_of (listed keys) t y)
+    → found_by scheme (told r (λ t. verdict_reply grant.Owner t (verdict_of (listed keys) t x))) ≡ found_by scheme (told r (λ t. verdict_reply grant.Owner t (verdict_of (listed keys) t y)))
 found_alike scheme keys x y (Err why) same = refl
-found_alike scheme keys x y (Ok t) same = ap (found_by scheme t) (same t)
+found_alike scheme keys x y (Ok t) same = ap (λ v. found_by scheme (verdict_reply grant.Owner t v)) (same t)
 
 -- ---- what is granted
 
-module _ (table : Table) (rules : Rules) (moment : Option ℕ) (head : Parts) (t : TokenParts) where
+module _ (table : Table) (rules : Rules) (moment : Option ℕ) (head : Parts) (identifier location : List ℕ) where
   at_moment : (name behind : List ℕ) (credentials : Scheme × List ℕ) (m : Option ℕ) → target_in (uri_path head.uri) ≡ Some (name, behind)
       → credentials_in head.headers ≡ Some credentials → tells_fragment rules.sources head behind ≡ false → tells_unsafe rules.sources head behind ≡ false
       → are_few (facts_of rules.sources head behind) ≡ true → moment ≡ m
-      → found_at (allowed_keys table rules name) credentials (facts_of rules.sources head behind) m ≡ Granted t → IsGrantedBy table rules moment head
-  at_moment name behind credentials None named brought whole safe few told e = absurd (cc)
-  at_moment name behind credentials (Some second) named brought whole safe few told e = record {
+      → found_at (terms_of table rules moment) name credentials (facts_of rules.sources head behind) m ≡ Granted identifier location → IsGrantedBy table rules moment head
+  at_moment name behind credentials None named brought whole safe few is e = absurd (cc)
+  at_moment name behind credentials (Some second) named brought whole safe few is e = record {
     name = name;
     behind = behind;
     named = named;
@@ -88,15 +78,15 @@ module _ (table : Table) (rules : Rules) (moment : Option ℕ) (head : Parts) (t
     safe = safe;
     few = few;
     second = second;
-    told = told;
-    granted = read_granted credentials.0 (allowed_keys table rules name) (context_of rules.sources second head behind) credentials.1 _ t refl e;
+    told = is;
+    granted = (owner-granted (terms_of table rules moment) name credentials.1 second (facts_of rules.sources head behind) is).0 (identifier, location, granted_by credentials.0 _ identifier location e);
   }
 
   with_facts : (name behind : List ℕ) (credentials : Scheme × List ℕ) (broken unsafe few : Bool) → target_in (uri_path head.uri) ≡ Some (name, behind)
       → credentials_in head.headers ≡ Some credentials → tells_fragment rules.sources head behind ≡ broken → tells_unsafe rules.sources head behind ≡ unsafe
       → are_few (facts_of rules.sources head behind) ≡ few
       → (if broken then Fragment else (if unsafe then UnsafePath
-      else (if few then found_at (allowed_keys table rules name) credentials (facts_of rules.sources head behind) moment else ManyFacts))) ≡ Granted t
+      else (if few then found_at (terms_of table rules moment) name credentials (facts_of rules.sources head behind) moment else ManyFacts))) ≡ Granted identifier location
       → IsGrantedBy table rules moment head
   with_facts name behind credentials true unsafe few named brought bs us fs e = absurd (cc)
   with_facts name behind credentials false true few named brought bs us fs e = absurd (cc)
@@ -104,33 +94,35 @@ module _ (table : Table) (rules : Rules) (moment : Option ℕ) (head : Parts) (t
   with_facts name behind credentials false false false named brought bs us fs e = absurd (cc)
 
   with_token : (name behind : List ℕ) (o : Option (Scheme × List ℕ)) → target_in (uri_path head.uri) ≡ Some (name, behind)
-      → credentials_in head.headers ≡ o → found_under rules.sources moment head behind (allowed_keys table rules name) o ≡ Granted t
+      → credentials_in head.headers ≡ o → found_under rules.sources (terms_of table rules moment) head (name, behind) o ≡ Granted identifier location
       → IsGrantedBy table rules moment head
   with_token name behind None named brought e = absurd (cc)
   with_token name behind (Some credentials) named brought e = with_facts name behind credentials _ _ _ named brought refl refl refl e
 
-  with_target : (o : Option (List ℕ × List ℕ)) → target_in (uri_path head.uri) ≡ o → found_in table rules moment head o ≡ Granted t
+  with_target : (o : Option (List ℕ × List ℕ)) → target_in (uri_path head.uri) ≡ o → found_in rules.sources (terms_of table rules moment) head o ≡ Granted identifier location
       → IsGrantedBy table rules moment head
   with_target None named e = absurd (cc)
   with_target (Some target) named e = with_token target.0 target.1 _ named refl e
 
-pub granted_forth : (table : Table) (rules : Rules) (moment : Option ℕ) (head : Parts) (t : TokenParts) → found_of table rules moment head ≡ Granted t
-    → IsGrantedBy table rules moment head
-granted_forth table rules moment head t e = with_target table rules moment head t _ refl e
+abbrev IsFoundGranted : Table → Rules → Option ℕ → Parts → Type 0
+IsFoundGranted table rules moment head = (identifier : List ℕ) × (location : List ℕ) × (found_of table rules moment head ≡ Granted identifier location)
 
-pub granted_back : (table : Table) (rules : Rules) (moment : Option ℕ) (head : Parts) → IsGrantedBy table rules moment head
-    → (t : TokenParts) × (found_of table rules moment head ≡ Granted t)
+pub granted_forth : (table : Table) (rules : Rules) (moment : Option ℕ) (head : Parts) → IsFoundGranted table rules moment head → IsGrantedBy table rules moment head
+granted_forth table rules moment head (identifier, location, e) = with_target table rules moment head identifier location _ refl e
+
+pub granted_back : (table : Table) (rules : Rules) (moment : Option ℕ) (head : Parts) → IsGrantedBy table rules moment head → IsFoundGranted table rules moment head
 granted_back table rules moment head g =
-    let keys = allowed_keys table rules g.name in
     let sources = rules.sources in
-    let x = context_of sources g.second head g.behind in
-    let found = granted_read g.scheme keys x g.token g.granted in (
-      found.0,
-      ap (found_in table rules moment head) g.named
-          ∙ ap (found_under sources moment head g.behind keys) g.brought
-          ∙ found_plainly sources moment head g.behind keys (g.scheme, g.token) g.whole g.safe g.few
-          ∙ ap (found_at keys (g.scheme, g.token) (facts_of sources head g.behind)) g.told
-          ∙ found.1,
+    let terms = terms_of table rules moment in
+    let facts = facts_of sources head g.behind in
+    let owner = (owner-granted terms g.name g.token g.second facts g.told).1 g.granted in (
+      owner.0,
+      owner.1,
+      ap (found_in sources terms head) g.named
+          ∙ ap (found_under sources terms head (g.name, g.behind)) g.brought
+          ∙ found_plainly sources terms head (g.name, g.behind) (g.scheme, g.token) g.whole g.safe g.few
+          ∙ ap (found_at terms g.name (g.scheme, g.token) facts) g.told
+          ∙ ap (found_by g.scheme) owner.2,
     )
 
 -- ---- steps

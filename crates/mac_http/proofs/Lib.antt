@@ -1,6 +1,5 @@
 pub mod CallLemmas
 pub mod FieldLemmas
-pub mod FoundLemmas
 pub mod LawLemmas
 pub mod ListLemmas
 pub mod MintLemmas

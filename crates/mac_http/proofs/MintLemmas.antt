@@ -18,7 +18,7 @@ use Rattle.mac_http.specs.declared.rules.Way.TheVariants.{Socket, Port}
 use Rattle.mac_http.specs.Browsing.{is_of_json, is_of_page, refusal_of}
 use Rattle.mac_http.specs.Calling.{RespondsToCall, TellsCall, TellsUnlessRefused, allowed_calls, allowed_outcome, call_in, mint_in}
 use Rattle.mac_http.specs.Faced.{IsAnswer, IsAnswerTo, IsAnswerToCall}
-use Rattle.mac_http.specs.Found.{found_in}
+use Rattle.mac_http.specs.Found.{found_in, terms_of}
 use Rattle.mac_http.specs.Page.{page_in}
 use Rattle.mac_http.specs.Saying.{IsOverloaded, Responds}
 use Rattle.mac_http.specs.Target.{target_in}
@@ -46,7 +46,7 @@ uncalled : (table : Table) (rules : Rules) (moment : Option ℕ) (request : Requ
     → uri_path (head_of request).uri ≡ codes "/mint/" ++ below
     → IsAnswerToCall None table rules moment request response → IsResponse 404 [] [] response ⊎ IsOverloaded response
 uncalled table rules moment request below response path answer =
-    subst (λ p. Responds rules.granted (found_in table rules moment (head_of request) (target_in p)) response) path answer
+    subst (λ p. Responds rules.granted (found_in rules.sources (terms_of table rules moment) (head_of request) (target_in p)) response) path answer
 
 pub not_minted : (table : Table) (rules : Rules) (moment : Option ℕ) (request : Request (List ℕ)) (below : List ℕ) (response : Response)
     → rules.calls.mint && rules.rights.now.may_mint ≡ false → uri_path (head_of request).uri ≡ codes "/mint/" ++ below

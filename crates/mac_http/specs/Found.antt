@@ -1,21 +1,17 @@
 -- What is found of a request under a table of keys, at a moment (this project's own). The first
 -- case that holds is the answer.
-use Rattle.std.specs.Prelude.{◌≡◌, true, false, ℕ, List, Option, Some, None, Result, Ok, Err, if◌then◌else◌}
-use Rattle.std.specs.FinMap as map
+use Rattle.std.specs.Prelude.{◌≡◌, true, false, ℕ, List, Option, Some, None, if◌then◌else◌}
 use Rattle.http.specs.declared.request.Parts.{Parts}
 use Rattle.http_uri.specs.Uri.{uri_path}
 use Rattle.mac_calls.specs.Counted.{are_few}
-use Rattle.mac_decide.specs.Answer.{IsGranted}
-use Rattle.mac_decide.specs.Reading.{verdict_of}
-use Rattle.mac_decide.specs.Terms.{is_allowed}
+use Rattle.mac_decide.specs.Answer.{IsGranted, answer_to, keys_of}
+use Rattle.mac_decide.specs.Terms.{Terms}
 use Rattle.mac_decide.specs.declared.context.Context.{Context}
-use Rattle.mac_decide.specs.declared.verdict.Verdict.{Verdict}
-use Rattle.mac_decide.specs.declared.verdict.Verdict.TheVariants as verdict
-use Rattle.mac_keys.specs.Table.{Table, listed}
-use Rattle.mac_keys.specs.declared.keys.Keys.{Keys}
-use Rattle.mac_token.specs.RawToken.{TokenParts}
-use Rattle.mac_token.specs.Read.{read_of}
-use Rattle.mac_token.specs.declared.fault.TokenRefusal.{TokenRefusal}
+use Rattle.mac_keys.specs.Table.{Table}
+use Rattle.mac_wire.specs.Request.{verify_now}
+use Rattle.mac_wire.specs.declared.reply.Reply.{Reply}
+use Rattle.mac_wire.specs.declared.reply.Reply.TheVariants as reply
+use Rattle.mac_wire.specs.declared.request.Grant.TheVariants as grant
 use Rattle.mac_http.specs.declared.authorization.Scheme.{Scheme}
 use Rattle.mac_http.specs.declared.finding.Finding.{Finding}
 use Rattle.mac_http.specs.declared.finding.Finding.TheVariants.{Unknown, NoToken, Fragment, UnsafePath, ManyFacts, NoMoment, Invalid, Unsatisfied, Granted}
@@ -25,73 +21,65 @@ use Rattle.mac_http.specs.Authorization.{credentials_in}
 use Rattle.mac_http.specs.Facts.{facts_of, tells_fragment, tells_unsafe}
 use Rattle.mac_http.specs.Target.{target_in}
 
--- what a verdict on a token that came by a scheme finds
-abbrev pub found_by : Scheme → TokenParts → Verdict → Finding
-found_by scheme t verdict.Granted = Granted t
-found_by scheme t verdict.BadSignature = Invalid scheme
-found_by scheme t (verdict.Unsatisfied index) = Unsatisfied index
+-- what the reply to a verify that asks whose the token is finds of one that came by a scheme
+abbrev pub found_by : Scheme → Reply → Finding
+found_by scheme (reply.GrantedTo identifier location) = Granted identifier location
+found_by scheme (reply.Unsatisfied index) = Unsatisfied index
+found_by scheme reply.Granted = Invalid scheme
+found_by scheme (reply.Token bytes) = Invalid scheme
+found_by scheme (reply.Refused reason) = Invalid scheme
 
--- the same under the keys of a name, in a context; where it has none, no token is good
-abbrev pub found_of_token : Scheme → Context → TokenParts → Option Keys → Finding
-found_of_token scheme x t None = Invalid scheme
-found_of_token scheme x t (Some keys) = found_by scheme t (verdict_of (listed keys) t x)
-
--- the same of what was read
-abbrev pub found_read : Scheme → Option Keys → Context → Result TokenParts TokenRefusal → Finding
-found_read scheme keys x (Err why) = Invalid scheme
-found_read scheme keys x (Ok t) = found_of_token scheme x t keys
-
--- the same at the moment, if the clock told one
-abbrev pub found_at : Option Keys → Scheme × List ℕ → List (List ℕ) → Option ℕ → Finding
-found_at keys credentials facts None = NoMoment
-found_at keys credentials facts (Some moment) =
-    found_read credentials.0 keys (record { moment = moment; facts = facts })
-    (read_of credentials.1)
+-- what is found of a token with these facts, if the clock told a moment: what the answer to a verify
+-- under the same terms finds, whatever way it comes
+abbrev pub found_at : Terms → List ℕ → Scheme × List ℕ → List (List ℕ) → Option ℕ → Finding
+found_at terms name credentials facts None = NoMoment
+found_at terms name credentials facts (Some moment) =
+    found_by credentials.0 (answer_to terms (verify_now grant.Owner name credentials.1 facts))
 
 -- the same, if the facts are few
-abbrev pub found_few : Option Keys → Scheme × List ℕ → List (List ℕ) → Option ℕ → Finding
-found_few keys credentials facts moment =
-    if are_few facts then found_at keys credentials facts moment else ManyFacts
+abbrev pub found_few : Terms → List ℕ → Scheme × List ℕ → List (List ℕ) → Finding
+found_few terms name credentials facts =
+    if are_few facts then found_at terms name credentials facts terms.moment else ManyFacts
 
--- the same with the facts that a request brings
-abbrev pub found_with : Sources → Option ℕ → Parts → List ℕ → Option Keys → Scheme × List ℕ
-    → Finding
-found_with sources moment head behind keys credentials =
-    if tells_fragment sources head behind then Fragment
-    else (if tells_unsafe sources head behind then UnsafePath
-    else found_few keys credentials (facts_of sources head behind) moment)
+-- the same of a target, which is a name and what stands behind it, with the facts that a request
+-- brings
+abbrev pub found_with : Sources → Terms → Parts → List ℕ × List ℕ → Scheme × List ℕ → Finding
+found_with sources terms head target credentials =
+    if tells_fragment sources head target.1 then Fragment
+    else (if tells_unsafe sources head target.1 then UnsafePath
+    else found_few terms target.0 credentials (facts_of sources head target.1))
 
 -- the same, if there is a token
-abbrev pub found_under : Sources → Option ℕ → Parts → List ℕ → Option Keys
-    → Option (Scheme × List ℕ) → Finding
-found_under sources moment head behind keys None = NoToken
-found_under sources moment head behind keys (Some credentials) =
-    found_with sources moment head behind keys credentials
-
--- the keys of a name, if it has any and they may be used
-abbrev pub allowed_keys : Table → Rules → List ℕ → Option Keys
-allowed_keys table rules name =
-    if is_allowed rules.rights.now.names name then map.get table name else None
+abbrev pub found_under : Sources → Terms → Parts → List ℕ × List ℕ → Option (Scheme × List ℕ)
+    → Finding
+found_under sources terms head target None = NoToken
+found_under sources terms head target (Some credentials) =
+    found_with sources terms head target credentials
 
 -- the same, if the path asks for a verify
-abbrev pub found_in : Table → Rules → Option ℕ → Parts → Option (List ℕ × List ℕ) → Finding
-found_in table rules moment head None = Unknown
-found_in table rules moment head (Some target) = found_under rules.sources moment head target.1
-    (allowed_keys table rules target.0) (credentials_in head.headers)
+abbrev pub found_in : Sources → Terms → Parts → Option (List ℕ × List ℕ) → Finding
+found_in sources terms head None = Unknown
+found_in sources terms head (Some target) =
+    found_under sources terms head target (credentials_in head.headers)
 
 -- the context in which a token of the request is judged
 abbrev pub context_of : Sources → ℕ → Parts → List ℕ → Context
 context_of sources moment head behind =
     record { moment = moment; facts = facts_of sources head behind }
 
+-- the terms of requests: the table that is up, what the address allows, and the moment
+abbrev pub terms_of : Table → Rules → Option ℕ → Terms
+terms_of table rules moment =
+    record { table = table; rights = rules.rights.now; moment = moment }
+
 -- what is found of a request
 abbrev pub found_of : Table → Rules → Option ℕ → Parts → Finding
 found_of table rules moment head =
-    found_in table rules moment head (target_in (uri_path head.uri))
+    found_in rules.sources (terms_of table rules moment) head (target_in (uri_path head.uri))
 
 -- a token of the request is good under the name's keys, whether its caveats hold or not
 abbrev pub IsHeld : Finding → Type 0
-IsHeld (Granted t) = Unit {0}
+IsHeld (Granted identifier location) = Unit {0}
 IsHeld (Unsatisfied index) = Unit {0}
 IsHeld _ = ⊥
 
@@ -109,5 +97,5 @@ pub record IsGrantedBy (table : Table) (rules : Rules) (moment : Option ℕ) (he
   pub few : are_few (facts_of rules.sources head behind) ≡ true
   pub second : ℕ
   pub told : moment ≡ Some second
-  pub granted : IsGranted (allowed_keys table rules name) token
+  pub granted : IsGranted (keys_of (terms_of table rules moment) name) token
       (context_of rules.sources second head behind)

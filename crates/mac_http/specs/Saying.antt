@@ -4,7 +4,6 @@ use Rattle.std.specs.Fmt.{decimal}
 use Rattle.http1.specs.Fields.{Header}
 use Rattle.http_server.specs.declared.response.Response.{Response}
 use Rattle.http_server.specs.Response.{IsResponse}
-use Rattle.mac_token.specs.RawToken.{TokenParts}
 use Rattle.mac_http.specs.declared.finding.Finding.{Finding}
 use Rattle.mac_http.specs.declared.finding.Finding.TheVariants as found
 use Rattle.mac_http.specs.declared.rules.Granted.{Granted}
@@ -27,7 +26,7 @@ status_of granted found.ManyFacts = 400
 status_of granted found.NoMoment = 500
 status_of granted (found.Invalid scheme) = 401
 status_of granted (found.Unsatisfied index) = 403
-status_of granted (found.Granted t) = granted_status granted
+status_of granted (found.Granted identifier location) = granted_status granted
 
 -- the field that asks for a token
 abbrev pub asks : List ℕ → List Header
@@ -39,10 +38,10 @@ tells_why reason =
     (codes "macaroon-reason", reason) ∷ (codes "content-type", codes "application/json") ∷ []
 
 -- the fields that tell whose token it is
-abbrev pub tells_whose : TokenParts → List Header
-tells_whose t =
-    (codes "macaroon-identifier", escaped t.identifier)
-    ∷ (codes "macaroon-location", escaped t.location) ∷ []
+abbrev pub tells_whose : List ℕ → List ℕ → List Header
+tells_whose identifier location =
+    (codes "macaroon-identifier", escaped identifier)
+    ∷ (codes "macaroon-location", escaped location) ∷ []
 
 -- the number of the refusal, and the index of the caveat
 abbrev pub unsatisfied_reason : ℕ → List ℕ
@@ -58,7 +57,7 @@ fields_for found.ManyFacts = []
 fields_for found.NoMoment = []
 fields_for (found.Invalid scheme) = asks (challenge scheme)
 fields_for (found.Unsatisfied index) = tells_why (unsatisfied_reason index)
-fields_for (found.Granted t) = tells_whose t
+fields_for (found.Granted identifier location) = tells_whose identifier location
 
 -- the same as JSON
 abbrev pub unsatisfied_body : ℕ → List ℕ
@@ -76,7 +75,7 @@ body_for found.ManyFacts = []
 body_for found.NoMoment = []
 body_for (found.Invalid scheme) = []
 body_for (found.Unsatisfied index) = unsatisfied_body index
-body_for (found.Granted t) = []
+body_for (found.Granted identifier location) = []
 
 -- the response tells what was found
 abbrev pub Tells : Granted → Finding → Response → Type 0

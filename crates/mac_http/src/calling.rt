@@ -9,14 +9,14 @@ ghost use Rattle.mac_http.specs.Calling.{TellsUnlessRefused, allowed_outcome, ca
 ghost use Rattle.mac_http.specs.Calling.{may_use, takes_post};
 
 use crate::browsing::refusal_of;
-use crate::rules::{Calls, Rules};
+use crate::footing::Footing;
+use crate::rules::Calls;
 use bytes::{BufMut, Bytes};
 use http::header::{ALLOW, CONTENT_TYPE, HeaderValue};
 use http::{Method, Request, StatusCode};
 use http_server::Response;
 use mac_calls::{Call, Outcome, answer};
 use mac_decide::Rights;
-use mac_keys::KeyTable;
 use std::alloc::{AllocError, Global};
 
 /// The paths of calls.
@@ -72,17 +72,16 @@ pub fn call_in(calls: Calls, path: &[u8]) -> Option<Asked<'_>>
 /// fields.
 pub(crate) fn respond_to_call(
     alloc: Global,
-    keys: &KeyTable,
-    rules: Rules<'_>,
+    footing: Footing<'_>,
     asked: Asked<'_>,
     request: &Request<Bytes>,
     response: &mut Response,
 )
     requires { IsBlank response.old }
-    ensures { RespondsToCall keys.now rules.entry (asked.entry.call, asked.entry.name.now)
-        request.now response.new }
+    ensures { RespondsToCall footing.entry.keys.now footing.entry.rules
+        (asked.entry.call, asked.entry.name.now) request.now response.new }
 {
-    if fill(alloc, keys, rules, asked, request, response).is_err() {
+    if fill(alloc, footing, asked, request, response).is_err() {
         response.clear();
         response.status = StatusCode::SERVICE_UNAVAILABLE;
     }
@@ -90,61 +89,58 @@ pub(crate) fn respond_to_call(
 
 fn fill(
     alloc: Global,
-    keys: &KeyTable,
-    rules: Rules<'_>,
+    footing: Footing<'_>,
     asked: Asked<'_>,
     request: &Request<Bytes>,
     response: &mut Response,
 ) -> Result<(), AllocError>
     requires { IsBlank response.old }
-    ensures { OnOk result (TellsUnlessRefused (refusal_of rules.entry.way (head_of request.now))
-        (bytes_eq (head_of request.now).method (codes "POST"))
-        (allowed_outcome rules.entry keys.now (asked.entry.call, asked.entry.name.now)
-        (body_of request.now)) response.new) }
+    ensures { OnOk result (TellsUnlessRefused
+        (refusal_of footing.entry.rules.way (head_of request.now)) (bytes_eq (head_of request.now).method (codes "POST"))
+        (allowed_outcome footing.entry.rules footing.entry.keys.now
+        (asked.entry.call, asked.entry.name.now) (body_of request.now)) response.new) }
 {
-    match refusal_of(rules.way, request) {
+    match refusal_of(footing.rules.way, request) {
         Some(status) => {
             response.status = status;
             Ok(())
         }
-        None => fill_unrefused(alloc, keys, rules, asked, request, response),
+        None => fill_unrefused(alloc, footing, asked, request, response),
     }
 }
 
 /// The same of a call that isn't refused before it is looked at.
 fn fill_unrefused(
     alloc: Global,
-    keys: &KeyTable,
-    rules: Rules<'_>,
+    footing: Footing<'_>,
     asked: Asked<'_>,
     request: &Request<Bytes>,
     response: &mut Response,
 ) -> Result<(), AllocError>
     requires { IsBlank response.old }
     ensures { OnOk result (TellsCall (bytes_eq (head_of request.now).method (codes "POST"))
-        (allowed_outcome rules.entry keys.now (asked.entry.call, asked.entry.name.now)
-        (body_of request.now)) response.new) }
+        (allowed_outcome footing.entry.rules footing.entry.keys.now
+        (asked.entry.call, asked.entry.name.now) (body_of request.now)) response.new) }
 {
     if *request.method() != Method::POST {
         return refuse_method(response);
     }
-    let outcome = answer_allowed(alloc, keys, rules, asked, request.body())?;
+    let outcome = answer_allowed(alloc, footing, asked, request.body())?;
     tell(&outcome, response)
 }
 
 /// What comes of a call. A mint under a name that may not be used is as one of a name without keys.
 fn answer_allowed(
     alloc: Global,
-    keys: &KeyTable,
-    rules: Rules<'_>,
+    footing: Footing<'_>,
     asked: Asked<'_>,
     body: &[u8],
 ) -> Result<Outcome, AllocError>
-    ensures { IfOk result (λ o. o ≡ allowed_outcome rules.entry keys.now
+    ensures { IfOk result (λ o. o ≡ allowed_outcome footing.entry.rules footing.entry.keys.now
         (asked.entry.call, asked.entry.name.now) body.now) }
 {
-    if may_use(rules.rights, asked) {
-        answer(alloc, keys, asked.name, asked.call, body)
+    if may_use(footing.rules.rights, asked) {
+        answer(alloc, footing.keys, asked.name, asked.call, body)
     } else {
         Ok(Outcome::NoKey)
     }

@@ -6,6 +6,7 @@ ghost use Rattle.mac_http.specs.Faced.{IsAnswer, IsPlainAnswer};
 ghost use Rattle.mac_http.specs.Turn.{AnswersOnce};
 
 use crate::calling::{call_in, respond_to_call};
+use crate::footing::Footing;
 use crate::noted::{note_of_call, note_of_path};
 use crate::page::{Monitor, announce_close, page_in, tell_page};
 use crate::rules::{Rules, Way};
@@ -14,7 +15,6 @@ use bytes::Bytes;
 use http::Request;
 use http_server::{Response, Service};
 use mac_board::{Moments, Tables};
-use mac_keys::KeyTable;
 use std::alloc::{AllocError, Global};
 
 /// Answers the requests of connections, each under the table that is up and at a moment that its
@@ -71,15 +71,13 @@ impl<'a, K: Tables, M: Moments, S: Monitor> Service for Face<'a, K, M, S> {
         self.keys.look();
         let moment = self.moments.tell();
         let keys = self.keys.table();
-        answer(
-            self.alloc,
+        let footing = Footing {
             keys,
-            self.rules,
+            rules: self.rules,
             moment,
-            &self.monitor,
-            request,
-            response,
-        );
+            seen: self.monitor.seen(),
+        };
+        answer(self.alloc, footing, &self.monitor, request, response);
         if self.monitor.is_ending() {
             announce_close(response);
         }
@@ -90,19 +88,18 @@ impl<'a, K: Tables, M: Moments, S: Monitor> Service for Face<'a, K, M, S> {
 /// Fills a blank response with a page, or with what comes of the request.
 fn answer<S: Monitor>(
     alloc: Global,
-    keys: &KeyTable,
-    rules: Rules<'_>,
-    moment: Option<u64>,
+    footing: Footing<'_>,
     monitor: &S,
     request: &Request<Bytes>,
     response: &mut Response,
 )
     requires { IsBlank response.old }
-    ensures { IsAnswer keys.now rules.entry moment request.now response.new }
+    ensures { IsAnswer footing.entry.keys.now footing.entry.rules footing.entry.moment
+        request.now response.new }
 {
     match page_in(request.uri().path().as_bytes()) {
-        Some(page) => tell_page(alloc, monitor, rules.pages, page, response),
-        None => answer_plain(alloc, keys, rules, moment, monitor, request, response),
+        Some(page) => tell_page(alloc, monitor, footing.rules.pages, page, response),
+        None => answer_plain(alloc, footing, monitor, request, response),
     }
 }
 
@@ -110,31 +107,25 @@ fn answer<S: Monitor>(
 /// allowed, or of a verify. Either is noted.
 fn answer_plain<S: Monitor>(
     alloc: Global,
-    keys: &KeyTable,
-    rules: Rules<'_>,
-    moment: Option<u64>,
+    footing: Footing<'_>,
     monitor: &S,
     request: &Request<Bytes>,
     response: &mut Response,
 )
     requires { IsBlank response.old }
-    ensures { IsPlainAnswer keys.now rules.entry moment request.now response.new }
+    ensures { IsPlainAnswer footing.entry.keys.now footing.entry.rules footing.entry.moment
+        request.now response.new }
 {
-    match call_in(rules.allowed_calls(), request.uri().path().as_bytes()) {
+    match call_in(
+        footing.rules.allowed_calls(),
+        request.uri().path().as_bytes(),
+    ) {
         Some(asked) => {
-            respond_to_call(alloc, keys, rules, asked, request, response);
+            respond_to_call(alloc, footing, asked, request, response);
             monitor.note(note_of_call(asked), response.status);
         }
         None => {
-            respond(
-                alloc,
-                monitor.seen(),
-                keys,
-                rules,
-                moment,
-                request,
-                response,
-            );
+            respond(alloc, footing, request, response);
             let noted = note_of_path(request.uri().path().as_bytes());
             monitor.note(noted, response.status);
         }

@@ -16,7 +16,8 @@ ghost use Rattle.http_uri.specs.Uri.{uri_path};
 ghost use Rattle.mac_board.specs.Follows.{Known};
 ghost use Rattle.mac_calls.specs.Counted.{are_few};
 ghost use Rattle.mac_decide.specs.Reading.{verdict_of};
-ghost use Rattle.mac_decide.specs.Terms.{is_allowed};
+ghost use Rattle.mac_decide.specs.Answer.{keys_of};
+ghost use Rattle.mac_decide.specs.Terms.{Terms, is_allowed};
 ghost use Rattle.mac_keys.specs.Table.{Table, listed};
 ghost use Rattle.mac_keys.specs.declared.keys.Keys.{Keys};
 ghost use Rattle.mac_token.specs.RawToken.{TokenParts};
@@ -48,7 +49,8 @@ use http_server::Service;
 /// grant the token at that moment with those facts.
 pub fn granted_exactly()
     ensures { (table : Table) (rules : PlainRules) (moment : Option ℕ) (head : Parts)
-        → ((t : TokenParts) × (found_of table rules moment head ≡ Finding.Granted t))
+        → ((identifier : List ℕ) × (location : List ℕ)
+        × (found_of table rules moment head ≡ Finding.Granted identifier location))
         ↔ IsGrantedBy table rules moment head }
 {}
 
@@ -109,19 +111,20 @@ pub fn pages_have_nothing_done()
 {}
 
 /// Facts are told by the verdict alone: where two requests with one token under one name's keys
-/// tell no fragment, no unsafe path and few facts, and the verdict on what the token reads as is the same with
-/// the facts of either, the same is found of both.
+/// tell no fragment, no unsafe path and few facts, and the verdict on what the token reads as is
+/// the same with the facts of either, the same is found of both.
 pub fn facts_tell_by_the_verdict()
-    ensures { (sources : PlainSources) (moment : ℕ) (one other : Parts) (here there : List ℕ)
-        (keys : Keys) (scheme : PlainScheme) (token : List ℕ)
+    ensures { (sources : PlainSources) (terms : Terms) (moment : ℕ) (one other : Parts)
+        (name here there : List ℕ) (keys : Keys) (scheme : PlainScheme) (token : List ℕ)
+        → terms.moment ≡ Some moment → keys_of terms name ≡ Some keys
         → tells_fragment sources one here ≡ false → tells_fragment sources other there ≡ false
         → tells_unsafe sources one here ≡ false → tells_unsafe sources other there ≡ false
         → are_few (facts_of sources one here) ≡ true
         → are_few (facts_of sources other there) ≡ true
         → ((t : TokenParts) → verdict_of (listed keys) t (context_of sources moment one here)
         ≡ verdict_of (listed keys) t (context_of sources moment other there))
-        → found_with sources (Some moment) one here (Some keys) (scheme, token)
-        ≡ found_with sources (Some moment) other there (Some keys) (scheme, token) }
+        → found_with sources terms one (name, here) (scheme, token)
+        ≡ found_with sources terms other (name, there) (scheme, token) }
 {}
 
 /// The steps of a path are its fronts that are one byte, or that end in no slash and have a slash

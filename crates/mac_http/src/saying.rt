@@ -9,14 +9,12 @@ ghost use Rattle.mac_http.specs.Saying.{Responds, Tells, body_for, fields_for, s
 
 use crate::escaped::escaped;
 use crate::finding::{Finding, find};
-use crate::rules::{Granted, Rules};
+use crate::footing::Footing;
+use crate::rules::Granted;
 use bytes::{BufMut, Bytes};
 use http::header::{CONTENT_TYPE, HeaderName, HeaderValue, HeaderValueError, WWW_AUTHENTICATE};
 use http::{Request, StatusCode};
 use http_server::{Response, Rope};
-use mac_decide::SeenTokens;
-use mac_keys::KeyTable;
-use mac_token::Token;
 use std::alloc::{AllocError, Global};
 
 /// The names of fields that are this project's own.
@@ -26,22 +24,18 @@ const IDENTIFIER: &str = "macaroon-identifier";
 
 const LOCATION: &str = "macaroon-location";
 
-/// Fills a blank response to a request under a table of keys at a moment, in seconds since 1970.
-/// Where memory is refused it is a 503 without fields.
+/// Fills a blank response to a request. Where memory is refused it is a 503 without fields.
 pub fn respond(
     alloc: Global,
-    seen: &SeenTokens,
-    keys: &KeyTable,
-    rules: Rules<'_>,
-    moment: Option<u64>,
+    footing: Footing<'_>,
     request: &Request<Bytes>,
     response: &mut Response,
 )
     requires { IsBlank response.old }
-    ensures { Responds rules.entry.granted
-        (found_of keys.now rules.entry moment (head_of request.now)) response.new }
+    ensures { Responds footing.entry.rules.granted (found_of footing.entry.keys.now
+        footing.entry.rules footing.entry.moment (head_of request.now)) response.new }
 {
-    if fill(alloc, seen, keys, rules, moment, request, response).is_err() {
+    if fill(alloc, footing, request, response).is_err() {
         response.clear();
         response.status = StatusCode::SERVICE_UNAVAILABLE;
     }
@@ -49,19 +43,16 @@ pub fn respond(
 
 fn fill(
     alloc: Global,
-    seen: &SeenTokens,
-    keys: &KeyTable,
-    rules: Rules<'_>,
-    moment: Option<u64>,
+    footing: Footing<'_>,
     request: &Request<Bytes>,
     response: &mut Response,
 ) -> Result<(), AllocError>
     requires { IsBlank response.old }
-    ensures { OnOk result (Tells rules.entry.granted
-        (found_of keys.now rules.entry moment (head_of request.now)) response.new) }
+    ensures { OnOk result (Tells footing.entry.rules.granted (found_of footing.entry.keys.now
+        footing.entry.rules footing.entry.moment (head_of request.now)) response.new) }
 {
-    let finding = find(alloc, seen, keys, rules, moment, request)?;
-    say(alloc, rules.granted, &finding, response)
+    let finding = find(alloc, footing, request)?;
+    say(alloc, footing.rules.granted, &finding, response)
 }
 
 /// Fills a blank response with what was found.
@@ -89,7 +80,7 @@ fn status(granted: Granted, finding: &Finding) -> StatusCode
         Finding::UnsafePath | Finding::Unsatisfied(_) => StatusCode::FORBIDDEN,
         Finding::Fragment | Finding::ManyFacts => StatusCode::BAD_REQUEST,
         Finding::NoMoment => StatusCode::INTERNAL_SERVER_ERROR,
-        Finding::Granted(_) => granted.status(),
+        Finding::Granted(_, _) => granted.status(),
     }
 }
 
@@ -109,7 +100,9 @@ fn put_fields(alloc: Global, finding: &Finding, response: &mut Response) -> Resu
         Finding::Invalid(scheme) => response.add_header(WWW_AUTHENTICATE, scheme.challenge()),
         Finding::UnsafePath => put_reason(response, HeaderValue::from_static("path")),
         Finding::Unsatisfied(index) => put_reason(response, unsatisfied_reason(alloc, *index)?),
-        Finding::Granted(token) => put_whose(alloc, token, response),
+        Finding::Granted(identifier, location) => {
+            put_whose(alloc, identifier.as_slice(), location.as_slice(), response)
+        }
     }
 }
 
@@ -138,16 +131,21 @@ fn unsatisfied_reason(alloc: Global, index: u16) -> Result<HeaderValue, AllocErr
 }
 
 /// Appends the fields that tell whose token it is.
-fn put_whose(alloc: Global, token: &Token, response: &mut Response) -> Result<(), AllocError>
-    ensures fields { OnOk result
-        (fields_of response.new ≡ fields_of response.old ++ tells_whose token.now) }
+fn put_whose(
+    alloc: Global,
+    identifier: &[u8],
+    location: &[u8],
+    response: &mut Response,
+) -> Result<(), AllocError>
+    ensures fields { OnOk result (fields_of response.new
+        ≡ fields_of response.old ++ tells_whose identifier.now location.now) }
     ensures status { response.new.status ≡ response.old.status }
     ensures body { response.new.body ≡ response.old.body }
 {
-    let identifier = escaped(alloc, token.identifier())?;
-    let location = escaped(alloc, token.location().as_bytes())?;
-    response.add_header(HeaderName::from_static(IDENTIFIER), identifier)?;
-    response.add_header(HeaderName::from_static(LOCATION), location)?;
+    let owner = escaped(alloc, identifier)?;
+    let place = escaped(alloc, location)?;
+    response.add_header(HeaderName::from_static(IDENTIFIER), owner)?;
+    response.add_header(HeaderName::from_static(LOCATION), place)?;
     Ok(())
 }
 
@@ -160,7 +158,7 @@ fn put_body(alloc: Global, finding: &Finding, body: &mut Rope) -> Result<(), All
         Finding::Unsatisfied(index) => put_unsatisfied(alloc, *index, body),
         Finding::Unknown | Finding::NoToken | Finding::Fragment => Ok(()),
         Finding::ManyFacts | Finding::NoMoment => Ok(()),
-        Finding::Invalid(_) | Finding::Granted(_) => Ok(()),
+        Finding::Invalid(_) | Finding::Granted(_, _) => Ok(()),
     }
 }
 

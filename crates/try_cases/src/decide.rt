@@ -2,18 +2,20 @@
 
 ghost use Rattle.mac_wire.specs.Reply.{IsReply};
 
+use crate::asking::{ask, asked_form, say_refused};
 use crate::case::{Case, CaseFault};
 use crate::keys::table;
-use crate::token::{next_token, say_parts, say_refusal, say_written, token_of};
+use crate::token::{say_parts, token_of};
 use crate::verdicts::say_verdicts;
 use arrayvec::ArrayVec;
 use mac_decide::{
-    Context, RUN, Rights, Rooms, SeenTokens, Terms, answer, answer_all, answer_run, attenuate,
-    job_of, job_view_of, mint, satisfied, time_limit, time_since,
+    Context, RUN, Rights, Rooms, SeenTokens, Terms, answer, answer_all, answer_run, job_of,
+    job_view_of, satisfied, time_limit, time_since,
 };
-use mac_hmac::root_key;
-use mac_token::{Form, Token, TokenFault, write};
-use mac_wire::{Arrival, Bytes, FieldList, NoMemory, Reply, Version, reply_bytes};
+use mac_hmac::{RootKey, root_key};
+use mac_keys::Keys;
+use mac_token::{Form, Token};
+use mac_wire::{Arrival, Bytes, FieldList, NoMemory, Reply, Request, Version, reply_bytes};
 use std::alloc::Global;
 
 /// The moment of every request that names none: 2023-11-14T22:13:20Z.
@@ -62,22 +64,24 @@ fn is_satisfied(case: &mut Case<'_>) {
     });
 }
 
-/// A token with caveats added; or the refusal, and whether the token was handed back as it was.
+/// A token with caveats added; or the refusal.
 fn narrowed(case: &mut Case<'_>) {
-    let form = case.form();
-    let Some(token) = next_token(case) else {
-        return;
-    };
+    let form = asked_form(case.form());
+    let token = case.bytes();
     let caveats = case.lists();
-    let before = parts(case.alloc, &token);
-    match attenuate(case.alloc, token, &caveats) {
-        Ok(token) => say_written(case, &token, form),
-        Err((fault, token)) => {
-            say_refusal(case, fault);
-            let after = parts(case.alloc, &token);
-            case.say(", the token ");
-            case.say(word_for(after.is_like(&before)));
-        }
+    let caveats = case.counted_lists(&caveats);
+    let Some(caveats) = FieldList::read(&caveats) else {
+        return case.fail(CaseFault::NoCase);
+    };
+    let request = Request::Attenuate {
+        form,
+        token: &token,
+        caveats,
+    };
+    match ask(case, None, request) {
+        Some(Reply::Token(made)) => case.digits(made.as_slice()),
+        Some(other) => say_refused(case, &other),
+        None => {}
     }
 }
 
@@ -187,18 +191,50 @@ fn agreement(case: &mut Case<'_>) {
     let Some(token) = token_of(case, &bytes) else {
         return;
     };
-    let added = case.lists_of(caveats);
-    let minted = match mint(case.alloc, &key, token.location(), &identifier, &added) {
-        Ok(minted) => minted,
-        Err(fault) => return say_refusal(case, fault),
+    let Some(reply) = minted(case, form, &key, token.location(), &identifier, caveats) else {
+        return;
+    };
+    let Reply::Token(made) = reply else {
+        return say_refused(case, &reply);
+    };
+    let Some(minted) = token_of(case, made.as_slice()) else {
+        return;
     };
     let is_there = token.location().as_bytes() == location.as_slice();
     say_likeness(case, &token, &minted, is_there);
-    let is_written = is_written(case, &minted, form, &bytes);
     case.say(", written ");
-    case.say(word_for(is_written));
+    case.say(word_for(made.as_slice() == bytes.as_slice()));
     case.say(", ");
     say_verdicts(case, &key, &bytes, caveats);
+}
+
+/// The reply to a mint of these parts under the key.
+fn minted(
+    case: &mut Case<'_>,
+    form: Form,
+    key: &RootKey,
+    location: &str,
+    identifier: &[u8],
+    caveats: &str,
+) -> Option<Reply> {
+    let caveats = case.lists_of(caveats);
+    let caveats = case.counted_lists(&caveats);
+    let Some(caveats) = FieldList::read(&caveats) else {
+        case.fail(CaseFault::NoCase);
+        return None;
+    };
+    let keys = Keys {
+        first: *key,
+        second: None,
+    };
+    let request = Request::Mint {
+        form: asked_form(form),
+        key: b"",
+        location,
+        identifier,
+        caveats,
+    };
+    ask(case, Some(&keys), request)
 }
 
 /// Appends whether a token of the right location has the parts of the one that was minted.
@@ -212,36 +248,18 @@ fn word_for(is_as_made: bool) -> &'static str {
     if is_as_made { "as made" } else { "otherwise" }
 }
 
-/// Whether a token is written as these bytes.
-fn is_written(case: &mut Case<'_>, token: &Token, form: Form, bytes: &[u8]) -> bool {
-    match write(case.alloc, token, form) {
-        Ok(written) => written.as_slice() == bytes,
-        Err(TokenFault::Memory) => {
-            case.fail(CaseFault::Memory);
-            false
-        }
-        Err(_) => false,
-    }
-}
-
 /// How many bytes the token of these parts, minted under the empty secret, has in a form.
 fn written_length(case: &mut Case<'_>) {
     let form = case.form();
     let location = case.bytes();
     let identifier = case.bytes();
-    let caveats = case.lists();
+    let caveats = case.word();
     let Ok(location) = str::from_utf8(&location) else {
         return case.fail(CaseFault::NoCase);
     };
-    match mint(case.alloc, &root_key(&[]), location, &identifier, &caveats) {
-        Ok(token) => say_length(case, &token, form),
-        Err(fault) => say_refusal(case, fault),
-    }
-}
-
-fn say_length(case: &mut Case<'_>, token: &Token, form: Form) {
-    match write(case.alloc, token, form) {
-        Ok(written) => case.say_number(written.len() as u64),
-        Err(fault) => say_refusal(case, fault),
+    match minted(case, form, &root_key(&[]), location, &identifier, caveats) {
+        Some(Reply::Token(made)) => case.say_number(made.as_slice().len() as u64),
+        Some(other) => say_refused(case, &other),
+        None => {}
     }
 }

@@ -3,6 +3,7 @@
 #![tactic(auto)]
 
 mod asked;
+mod asking;
 mod case;
 mod decide;
 mod devices;

@@ -1,11 +1,11 @@
 //! What keys say of a token, and of the token with a part of it changed.
 
+use crate::asking::{ask, say_refused};
 use crate::case::{Case, CaseFault};
-use mac_decide::{Context, Verdict, verify};
 use mac_hmac::RootKey;
 use mac_keys::Keys;
-use mac_token::{RawCaveat, RawToken, Token, read_raw};
-use mac_wire::FieldList;
+use mac_token::{Form, RawCaveat, RawToken, Token, read_raw, write};
+use mac_wire::{FieldList, Refusal, Reply, Request};
 
 /// What is changed.
 #[derive(Clone, Copy)]
@@ -54,7 +54,9 @@ fn say_verdict(case: &mut Case<'_>, key: &RootKey, bytes: &[u8], facts: &str, pa
 
 /// Appends the verdict on a token at the moment 0, which the key gives alone and behind another.
 fn say_of(case: &mut Case<'_>, key: &RootKey, token: &Token, facts: FieldList<'_>) {
-    let context = Context { moment: 0, facts };
+    let Ok(token) = write(case.alloc, token, Form::V2Binary) else {
+        return case.fail(CaseFault::NoCase);
+    };
     let alone = Keys {
         first: *key,
         second: None,
@@ -63,18 +65,31 @@ fn say_of(case: &mut Case<'_>, key: &RootKey, token: &Token, facts: FieldList<'_
         first: RootKey::from_bytes([0; 32]),
         second: Some(*key),
     };
-    let verdict = verify(&alone, token, &context);
-    if verify(&keys, token, &context) != verdict {
+    let verdict = verify(case, &alone, &token, facts.walk());
+    if verify(case, &keys, &token, facts) != verdict {
         return case.say("another verdict");
     }
     match verdict {
-        Verdict::Granted => case.say("granted"),
-        Verdict::BadSignature => case.say("bad signature"),
-        Verdict::Unsatisfied(index) => {
+        Some(Reply::Granted) => case.say("granted"),
+        Some(Reply::Refused(Refusal::BadSignature)) => case.say("bad signature"),
+        Some(Reply::Unsatisfied(index)) => {
             case.say("unsatisfied ");
             case.say_number(index as u64);
         }
+        Some(other) => say_refused(case, &other),
+        None => {}
     }
+}
+
+/// The reply to a verify at the moment 0.
+fn verify(case: &mut Case<'_>, keys: &Keys, token: &[u8], facts: FieldList<'_>) -> Option<Reply> {
+    let request = Request::Verify {
+        key: b"",
+        token,
+        moment: 0,
+        facts,
+    };
+    ask(case, Some(keys), request)
 }
 
 /// The token with one part changed.

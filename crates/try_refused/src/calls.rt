@@ -35,7 +35,7 @@ where
     Some(match word {
         "bare" => Ok(tokens::bares(alloc)),
         "push" => tokens::pushes(alloc),
-        "attenuate" => tokens::attenuates(alloc),
+        "attenuate" => Ok(tokens::attenuates(alloc)),
         "feed" => Ok(wire::feeds(alloc)),
         "sink" => Ok(wire::makes_sinks(alloc)),
         "make" => answers::makes(alloc),

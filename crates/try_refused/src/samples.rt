@@ -49,21 +49,6 @@ pub(crate) const V2_BINARY: &[u8] =
 pub(crate) const V2_TEXT: &[u8] = b"AgEOaHR0cDovL215YmFuay8CFndlIHVzZWQgb3VyIHNlY3JldCBrZXkAAAYg\
     49ngKQhSbEwAOa4VEUEV2X_daL8ro3mzQqrw9hfQVS8";
 
-/// The token.
-pub(crate) fn sample(alloc: Global) -> Result<Token, Refused> {
-    let location = String::from_str(alloc, LOCATION)?;
-    let identifier = Vec::from_slice(alloc, IDENTIFIER)?;
-    match Token::new(location, identifier, Vec::new(alloc), SIGNATURE) {
-        Ok(token) => Ok(token),
-        Err(_) => Err(Refused),
-    }
-}
-
-/// Whether it is the token.
-pub(crate) fn is_sample(token: &Token) -> bool {
-    has_parts(token) && token.caveats() == 0 && token.sig() == SIGNATURE
-}
-
 /// Whether it is the token with the caveat, so many times, and with this signature.
 pub(crate) fn is_narrowed(token: &Token, count: usize, signature: [u8; 32]) -> bool {
     has_parts(token)

@@ -2,12 +2,15 @@
 
 use crate::outcome::{Outcome, Refused, made_if, once_more, stood_if};
 use crate::samples::{
-    IDENTIFIER, LOCATION, NARROWED, SIGNATURE, V2_BINARY, V2_TEXT, caveats, is_narrowed, is_sample,
-    sample,
+    IDENTIFIER, LOCATION, NARROWED, SIGNATURE, V2_BINARY, V2_TEXT, caveats, is_narrowed,
 };
-use mac_decide::attenuate;
+use mac_decide::{Asking, SeenTokens, answer_request};
 use mac_token::{Token, TokenFault, bare};
+use mac_wire::{FieldList, Reply, Request, TokenForm};
 use std::alloc::Global;
+
+/// The caveat as a request has it, counted.
+const ONE_CAVEAT: &[u8] = b"\x01\x00\x0dtest = caveat";
 
 /// How many caveats a call adds.
 const ADDED: usize = 3;
@@ -54,19 +57,29 @@ fn narrowed(alloc: Global) -> Result<Token, Refused> {
     }
 }
 
-/// The same of `attenuate`, which computes the signature.
-pub(crate) fn attenuates(alloc: Global) -> Result<Outcome, Refused> {
-    let added = caveats(alloc, 1)?;
-    let token = sample(alloc)?;
-    match attenuate(alloc, token, &added) {
-        Ok(token) => Ok(made_if(is_narrowed(&token, 1, NARROWED))),
-        Err((TokenFault::Memory, back)) => {
-            let is_back = is_sample(&back);
-            Ok(match attenuate(alloc, back, &added) {
-                Ok(token) => stood_if(is_back && is_narrowed(&token, 1, NARROWED)),
-                Err(_) => Outcome::Wrong,
-            })
-        }
-        Err(_) => Ok(Outcome::Wrong),
+/// An attenuate that is asked as a call asks it leaves its token as it was, and is answered then.
+pub(crate) fn attenuates(alloc: Global) -> Outcome {
+    let first = is_attenuated(alloc);
+    once_more(first, is_attenuated(alloc))
+}
+
+fn is_attenuated(alloc: Global) -> Option<bool> {
+    let Some(caveats) = FieldList::read(ONE_CAVEAT) else {
+        return Some(false);
+    };
+    let asking = Asking {
+        request: Request::Attenuate {
+            form: TokenForm::V2Binary,
+            token: V2_BINARY,
+            caveats,
+        },
+        keys: None,
+        may_mint: false,
+        moment: None,
+    };
+    match answer_request(&SeenTokens::none(), alloc, asking) {
+        Ok(Reply::Token(made)) => Some(made.as_slice().ends_with(&NARROWED)),
+        Ok(_) => Some(false),
+        Err(_) => None,
     }
 }

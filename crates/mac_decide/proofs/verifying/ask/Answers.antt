@@ -9,7 +9,7 @@ use Rattle.mac_decide.proofs.verifying.ask.Goals as goal
 pub returns : goal.returns
 returns c =
     let grant = c.args.grant in
-    let keys = c.args.keys in
+    let keys = c.args.keys.now in
     let token = c.args.token in
     let context = c.args.context in
     let other = c.other_key.result in

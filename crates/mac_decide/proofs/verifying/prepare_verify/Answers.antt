@@ -14,4 +14,4 @@ returns-in-Err-Refused c =
     let reason = c.in-Err-Refused.reason in
     let named : c.refusal_of.result ≡ refusal_of reason = rw c.in-Err-Refused.field-0-is at c.refusal_of.ensures in
     let read = refused-is (read_of c.args.token.now) c.in-Err-Refused.field-0 reason c.in-Err-Refused.field-0-is c.in-Err-Refused.ensures.answer in
-    c.told.ensures ∙ ap refused named ∙ ap (λ read. told read (λ t. verdict_reply c.args.grant t (verdict_of (listed c.args.keys) t c.args.context))) (sym read)
+    c.told.ensures ∙ ap refused named ∙ ap (λ read. told read (λ t. verdict_reply c.args.grant t (verdict_of (listed c.args.keys.now) t c.args.context))) (sym read)

@@ -1,0 +1,45 @@
+//! Requests that are asked as HTTP and JSON calls ask them.
+
+use crate::case::{Case, CaseFault};
+use mac_decide::{Asking, SeenTokens, answer_request};
+use mac_keys::Keys;
+use mac_token::Form;
+use mac_wire::{Reply, Request, TokenForm};
+
+/// The reply to a request under these keys.
+pub(crate) fn ask(case: &mut Case<'_>, keys: Option<&Keys>, request: Request<'_>) -> Option<Reply> {
+    let asking = Asking {
+        request,
+        keys,
+        may_mint: true,
+        moment: None,
+    };
+    match answer_request(&SeenTokens::none(), case.alloc, asking) {
+        Ok(reply) => Some(reply),
+        Err(_) => {
+            case.fail(CaseFault::Memory);
+            None
+        }
+    }
+}
+
+/// Appends a refusal, or that there is none.
+pub(crate) fn say_refused(case: &mut Case<'_>, reply: &Reply) {
+    match reply {
+        Reply::Refused(why) => {
+            case.say("refused ");
+            case.say_number(why.code() as u64);
+        }
+        _ => case.say("another reply"),
+    }
+}
+
+/// The form as a request names it.
+pub(crate) fn asked_form(form: Form) -> TokenForm {
+    match form {
+        Form::V1Text => TokenForm::V1Text,
+        Form::V2Binary => TokenForm::V2Binary,
+        Form::V2Json => TokenForm::V2Json,
+        Form::V2Text => TokenForm::V2Text,
+    }
+}

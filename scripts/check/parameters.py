@@ -1,0 +1,102 @@
+#!/usr/bin/env python3
+"""Tells functions with more parameters than a reader keeps apart: what is passed together is one type."""
+import pathlib
+import re
+import sys
+
+sys.path.insert(0, str(pathlib.Path(__file__).resolve().parents[1]))
+from check.unused import TRIALS, crates_below
+from common import TOP
+from wrong_bodies.functions import HEADER, functions_of
+
+# How many a function has at most, its own value counted; and one of a crate that others take as a library.
+MOST = 6
+OF_LIBRARY = {"mac_plain": 5}
+# What passes that, and why.
+ROUND = "the requests of a round, where they lie and what is up, aren't one type yet"
+SERVER = "what a server is started or run with isn't one type yet"
+MEANT = {
+    "mac_daemon::connection::serve_stream": SERVER,
+    "mac_daemon::crew::Crew::take_on": SERVER,
+    "mac_daemon::listening::listen": SERVER,
+    "mac_daemon::listening::open_first": SERVER,
+    "mac_daemon::serving::accept_all": SERVER,
+    "mac_gate::gate::open_gate": SERVER,
+    "mac_gate::gate::start_all": SERVER,
+    "mac_loop::looping::Loop::look_after": SERVER,
+    "mac_loop::looping::sharing::Loop::give": SERVER,
+    "mac_loop::looping::sharing::Loop::move_to": SERVER,
+    "mac_plain::answering::answer_requests": ROUND,
+    "mac_plain::answering::answer_rest": ROUND,
+    "mac_plain::answering::replies_from": ROUND,
+    "mac_plain::answering::answer_runs": ROUND,
+    "mac_plain::answering::answer_some": ROUND,
+    "mac_plain::answering::replies_to": ROUND,
+    "mac_plain::answering::answer_apart": ROUND,
+    "mac_plain::answering::answer_alone": ROUND,
+    "mac_plain::answering::reply_to": ROUND,
+    "mac_plain::round::Round::serve": "a round lent its threads, what is up, its clients and their bound",
+    "mac_plain::round::visit": "a client, what it is read with, and where what came goes",
+    "mac_serve::connection::serve": SERVER,
+    "mac_serve::connection::run_both": SERVER,
+    "mac_serve::inbound::Inbound::take_arrivals": SERVER,
+    "mac_serve::inbound::Inbound::take_all": SERVER,
+    "mac_serve::inbound::Inbound::read_to_end": SERVER,
+    "mac_serve::inbound::Inbound::run": SERVER,
+    "mac_words::saying::say_mint": "the words of a mint, one by one, and the table",
+    "mac_worker::work::turn_from": SERVER,
+    "macaroond::key_watch::listen_and_watch": SERVER,
+    "macaroond::key_watch::listen_holding": SERVER,
+}
+
+
+def count_of(head):
+    """How many parameters stand between the parentheses of a function's head."""
+    text = re.sub(r"//.*", "", head)
+    at = behind_generics(text, re.search(r"\bfn \w+", text).end()) + 1
+    depth, count, is_empty = 0, 0, True
+    for at, letter in enumerate(text[at:], at):
+        if letter == ")" and depth == 0:
+            break
+        is_arrow = letter == ">" and text[at - 1] in "-="
+        depth += (letter in "(<[{") - (letter in ")>]}" and not is_arrow)
+        if letter == "," and depth == 0:
+            count, is_empty = count + 1, True
+        elif not letter.isspace():
+            is_empty = False
+    return count + (not is_empty)
+
+
+def behind_generics(text, at):
+    """Where the parameters begin."""
+    depth = 0
+    while text[at] != "(" or depth:
+        is_arrow = text[at] == ">" and text[at - 1] in "-="
+        depth += (text[at] == "<") - (text[at] == ">" and not is_arrow)
+        at += 1
+    return at
+
+
+def crowded():
+    """Each function of the product with more parameters than its crate's may have, and how many."""
+    for crate in (it for it in crates_below() if not TRIALS.match(it)):
+        folder = TOP / "crates" / crate
+        for path in sorted((folder / "src").rglob("*.rt")):
+            lines, file = path.read_text().split("\n"), str(path.relative_to(folder))
+            for it in functions_of(lines, file, crate):
+                head = next(at for at in range(it.first, it.end) if HEADER.match(lines[at]))
+                count = count_of("\n".join(lines[head : it.start]))
+                if count > OF_LIBRARY.get(crate, MOST):
+                    yield it.path, count
+
+
+def faults():
+    """Each that isn't meant, and what is meant and has no more than others; and how many are looked for."""
+    found = dict(crowded())
+    told = [f"{path} has {count} parameters" for path, count in found.items() if path not in MEANT]
+    told += [f"scripts/check/parameters.py: {it} has no more than others" for it in MEANT if it not in found]
+    return told, len(MEANT) + 1
+
+
+if __name__ == "__main__":
+    print("\n".join(faults()[0]))
