@@ -76,6 +76,11 @@ def shell_faults():
     return said(["shellcheck", "--format=gcc", "--exclude=SC1091", *files]), len(files), []
 
 
+def programs_in(folder):
+    """The words by which Go finds each program of a folder: it is one, or its runners each are, with what they share."""
+    return [[path.name, "rows.go"] for path in sorted(folder.glob("*_runner.go"))] or [["."]]
+
+
 def go_faults():
     """The same of gofmt for all files in Go, and of `go vet` for all programs; the client's own part vets that."""
     if not clients.has_go():
@@ -88,6 +93,6 @@ def go_faults():
         older = clients.go_surroundings(room)
         for folder in [] if skipped else folders:
             how = clients.GO_ALONE if (folder / "go.mod").exists() else older
-            run = clients.run(["go", "vet", "."], cwd=folder, env=how)
-            found += [f"{folder.relative_to(TOP)}: {run.stdout}"] * (run.returncode != 0)
+            runs = [clients.run(["go", "vet", *words], cwd=folder, env=how) for words in programs_in(folder)]
+            found += [f"{folder.relative_to(TOP)}: {run.stdout}" for run in runs if run.returncode != 0]
     return found, len(files) + len(folders) * (not skipped), skipped

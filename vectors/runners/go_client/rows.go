@@ -1,1 +1,0 @@
-../go_macaroon/rows.go
