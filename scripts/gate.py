@@ -3,7 +3,8 @@
 
 Its last line counts what passed, failed and was skipped in all of it; it ends with 1 where
 something failed. With `--all` nothing may be skipped; with `--anew` nothing is taken over that was
-proved on this machine before.
+proved on this machine before. What `rt tidy` would change in a crate is told, as its check says it;
+with `--tidy` each such crate is a failure.
 """
 import os
 import pathlib
@@ -14,6 +15,9 @@ import sys
 import time
 
 TOP = pathlib.Path(__file__).resolve().parent.parent
+# What `rt ci` says of a crate that `rt tidy` would change, behind the line with the crate's name.
+CRATE = re.compile(r"== (\w+)")
+UNTIDY = re.compile(r"finished `\.antt` files with imports that nothing uses: \d+|note: \S+ has no line #!\[tactic\(auto\)\]")
 # The line in which a step counts.
 COUNTS = re.compile(r"(?:[\w. -]+: )?(\d+) passed, (\d+) failed(?:, (\d+) skipped)?")
 PROOFS, PROGRAMS, OUTSIDE = ["rt", "ci"], ["make", "--silent", "taken"], ["scripts/outside.py"]
@@ -40,6 +44,7 @@ def followed(command):
     The line in which it counts is passed on under the command's name: one line alone ends the gate.
     """
     counts, name, begin = None, " ".join(command), time.monotonic()
+    crate, untidy = "", []
     print(f"gate: {name}", flush=True)
     if "/" not in command[0] and shutil.which(command[0]) is None:
         print(f"gate: there is no command `{command[0]}`")
@@ -49,10 +54,21 @@ def followed(command):
     with subprocess.Popen(command, **how) as run:
         for line in run.stdout:
             told = COUNTS.fullmatch(line.rstrip("\n"))
+            crate = found[1] if (found := CRATE.match(line)) else crate
+            untidy += [crate] * bool(UNTIDY.search(line))
             counts = [int(it or 0) for it in told.groups()] if told else counts
             print(f"from {name}: {line}" if told else line, end="", flush=True)
     print(f"gate: {name} took {(time.monotonic() - begin) / 60:.0f} minutes", flush=True)
-    return run.returncode, counts
+    return run.returncode, with_untidy(counts, list(dict.fromkeys(untidy)))
+
+
+def with_untidy(counts, crates):
+    """The counts with these crates among what failed, where that is asked for."""
+    if crates:
+        print(f"gate: `rt tidy` would change {' '.join(crates)}", flush=True)
+    if counts is None or "--tidy" not in sys.argv:
+        return counts
+    return [counts[0], counts[1] + len(crates), counts[2]]
 
 
 def judged(status, counts, what):

@@ -1,7 +1,7 @@
 #!/bin/sh
 # The daemon as the sources are now, with no proof: compiled by `rt try`, which stops it at an index out of
 # bounds, a sum that wraps and the like. It listens at ./socket with examples/keys, and with these further
-# words of `macaroond listen`, until it is interrupted; then what it printed is shown.
+# words of `macaroond listen`, until it is interrupted. What it printed is shown where it ends by itself.
 set -eu
 top=$(cd "$(dirname "$0")/.." && pwd)
 # shellcheck source=scripts/common/unproved.sh
@@ -11,6 +11,12 @@ if ! command -v rt > /dev/null; then
     exit 1
 fi
 here=$(pwd)
+# What a daemon that is killed leaves.
+clear() {
+    for left in socket socket.lock socket.status socket.status.lock; do
+        rm -f "$here/$left"
+    done
+}
 if [ -e socket ]; then
     echo "there is ./socket already: end the daemon that has it, or remove that"
     exit 1
@@ -24,7 +30,7 @@ echo "UNPROVED: this daemon is compiled from the sources as they are, and no con
 begin=$(date +%s)
 run_unproved "$folder" "$top" &
 running=$!
-trap 'kill $running 2> /dev/null || :; wait $running || :; rm -rf "$folder" "$here/socket"' EXIT
+trap 'kill $running 2> /dev/null || :; wait $running || :; rm -rf "$folder"; clear' EXIT
 trap 'exit 130' INT TERM
 if ! await_socket "$running" "$here/socket"; then
     cat "$folder/said"

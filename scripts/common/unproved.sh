@@ -12,12 +12,13 @@ unproved_case() {
 }
 
 # Runs the cases of a folder in a tree, with what they print in the folder's files `printed` and `said`, until it is told
-# to end.
+# to end. An interrupt of the terminal isn't the toolchain's: of two signals it would lose what it has started.
 run_unproved() {
     cd "$2/crates/macaroond" || exit 1
-    rt try --steps 1 --seconds 86400 --cases "$1/cases" > "$1/printed" 2> "$1/said" &
+    setsid rt try --steps 1 --seconds 86400 --cases "$1/cases" > "$1/printed" 2> "$1/said" &
     trial=$!
-    trap 'kill $trial; wait $trial; exit' TERM INT
+    trap 'kill $trial; wait $trial; exit' TERM
+    trap '' INT
     wait $trial
 }
 
