@@ -64,7 +64,7 @@ from check import (
     versions,
     words,
 )
-from common import runs
+from common import crates, runs
 from faults import faults, hostile, moving, refusing
 from measure import allocations
 from vectors import checking
@@ -213,7 +213,7 @@ def wanted(names):
     words.add_argument("parts", nargs="*", metavar="PART")
     words.add_argument("--of", action="append", default=[], metavar="CRATE")
     given = words.parse_args()
-    if unknown := [*({*given.parts} - {*names}), *({*given.of} - {*covering.crates()})]:
+    if unknown := [*({*given.parts} - {*names}), *({*given.of} - {*crates.uses()})]:
         sys.exit(f"there is no part or crate {', '.join(sorted(unknown))}")
     covers = {name for crate in given.of for name in covering.parts_of(crate)}
     return names if not given.parts and not given.of else [it for it in names if it in {*given.parts} | covers]

@@ -10,6 +10,7 @@ import tempfile
 
 from build import build
 from common import TOP
+from common.rows import judged
 
 # It "proves" a crate, and "builds" a program that tells how it was built, or does what HOW says: it is
 # killed, at once or as it builds, or ends well and leaves what was there.
@@ -131,5 +132,4 @@ def faults():
     if shutil.which("git") is None:
         return [], 0, ["git isn't there, which names the commit"]
     with tempfile.TemporaryDirectory() as folder:
-        seen = list(rows(Checkout(folder)))
-    return [f"building: {what}: {got!r} where {due!r} is due" for what, got, due in seen if got != due], len(seen)
+        return judged(rows(Checkout(folder)))

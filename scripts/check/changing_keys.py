@@ -1,27 +1,19 @@
-#!/usr/bin/env python3
 """Runs of `macaroond listen` whose key file changes while requests come, over sockets.
 
 Each change is made as docs/OPERATING.md says, by a new file that is moved over the old one, but for
 those that are there to show what comes of other ways.
 """
-import base64
 import contextlib
-import hashlib
-import hmac
 import itertools
 import json
-import pathlib
-import subprocess
-import sys
-import tempfile
 import threading
 import time
 from concurrent.futures import ThreadPoolExecutor
 
-sys.path.insert(0, str(pathlib.Path(__file__).resolve().parents[1]))
 from check.daemon_rows import HELLO
-from common import logged
-from common.daemon import PROGRAM, connected, frame, received
+from common.daemon import awaited, connected, frame, received, with_keys
+from common.rows import judged
+from common.tokens import signed, text_of, v1
 
 import request
 
@@ -53,34 +45,16 @@ def lines(**keys):
     return "".join(f"key {name} {SECRETS[secret].hex()}\n" for name, secret in pairs)
 
 
-def hashed(key, text):
-    return hmac.new(key, text, hashlib.sha256).digest()
-
-
 def token(secret, *caveats):
-    """A token of format one in binary, made here: the chain of HMACs is not the program's."""
-    packets = [packet(b"location", b"here"), packet(b"identifier", b"alice")]
-    packets += [packet(b"cid", caveat.encode()) for caveat in caveats]
-    return "hex:" + b"".join([*packets, packet(b"signature", signature_of(secret, caveats))]).hex()
+    """A token of format one in binary."""
+    return "hex:" + v1(SECRETS[secret], b"alice", [caveat.encode() for caveat in caveats], b"here").hex()
 
 
 def json_token(secret, *caveats):
     """The same in JSON."""
-    signature = base64.urlsafe_b64encode(signature_of(secret, caveats)).rstrip(b"=").decode()
+    signature = text_of(signed(SECRETS[secret], b"alice", [caveat.encode() for caveat in caveats]))
     told = {"v": 2, "l": "here", "i": "alice", "c": [{"i": caveat} for caveat in caveats], "s64": signature}
     return json.dumps(told)
-
-
-def signature_of(secret, caveats):
-    signature = hashed(hashed(b"macaroons-key-generator", SECRETS[secret]), b"alice")
-    for caveat in caveats:
-        signature = hashed(signature, caveat.encode())
-    return signature
-
-
-def packet(key, content):
-    inner = key + b" " + content + b"\n"
-    return f"{len(inner) + 4:04x}".encode() + inner
 
 
 def verify(name, secret):
@@ -91,58 +65,9 @@ def dear_verify(name, secret):
     return frame(request.verify(name, json_token(secret, *DEAR_CAVEATS), 0, *DEAR_CAVEATS, *WIDE_FACTS))
 
 
-class Listener:
-    """A daemon with a key file of its own, and what it has told."""
-
-    def __init__(self, folder, text):
-        self.folder, self.path = pathlib.Path(folder), folder + "/socket"
-        self.keys = self.folder / "keys"
-        self.keys.write_text(text)
-        self.keys.chmod(0o600)
-        words = ["listen", "--socket", self.path, "--keys", str(self.keys), "--workers", "2"]
-        self.errors = open(self.folder / "errors", "w")
-        pipes = {"stdout": subprocess.PIPE, "stderr": self.errors}
-        self.run = subprocess.Popen([PROGRAM, *words], **pipes)
-        self.run.stdout.readline()
-
-    def replace(self, text):
-        """Puts a new key file in the place of the old one."""
-        beside = self.folder / "keys.new"
-        beside.write_text(text) if isinstance(text, str) else beside.write_bytes(text)
-        beside.chmod(0o600)
-        beside.rename(self.keys)
-
-    def told(self):
-        """What it has told of its key file: how many names were read anew, or why none were."""
-        lines = logged.read_all((self.folder / "errors").read_text())
-        return [told_of(line.fields) for line in lines if line.fields.get("file") == str(self.keys)]
-
-    def await_told(self, count):
-        """What it has told once these are so many lines, or `PATIENCE` has passed."""
-        until = time.monotonic() + PATIENCE
-        while len(self.told()) < count and time.monotonic() < until:
-            time.sleep(0.02)
-        return self.told()
-
-    def close(self):
-        self.run.kill()
-        self.run.wait()
-        self.run.stdout.close()
-        self.errors.close()
-
-
-def told_of(fields):
-    return fields["fault"] if "fault" in fields else f"names: {fields['names']}"
-
-
-@contextlib.contextmanager
 def listening(text):
-    with tempfile.TemporaryDirectory() as folder:
-        listener = Listener(folder, text)
-        try:
-            yield listener
-        finally:
-            listener.close()
+    """A daemon with a key file of its own."""
+    return with_keys(text, "--workers", "2")
 
 
 class Asker:
@@ -211,9 +136,7 @@ class Load:
         return sum(one.asked for one in self.askers)
 
     def await_asked(self, count):
-        until = time.monotonic() + PATIENCE
-        while self.asked() < count and time.monotonic() < until and not self.wrong():
-            time.sleep(0.02)
+        awaited(lambda: self.asked() >= count or self.wrong())
 
     def wrong(self):
         return self.faults + [wrong for one in self.askers for wrong in one.wrong]
@@ -268,7 +191,7 @@ def a_change(what, before, after, code_before, code_after):
         plain = {asked: both, stays: {GRANTED}, verify("none", "old"): {NO_NAME}}
         with load(listener.path, plain, {dear: both, dear_stays: {GRANTED}}) as running:
             running.await_asked(REQUESTS // 2)
-            listener.replace(after)
+            listener.put_keys(after)
             in_time = probe.await_reply(asked, code_after, UP_WITHIN)
             yield f"{what}: up in time, on the same connection", in_time, True
             yield f"{what}: on a new one", Probe(listener.path).ask(asked), code_after
@@ -321,19 +244,19 @@ def one_row_of_faulty(first):
     with listening(lines(bank=["old"])) as listener:
         probe, due = Probe(listener.path), []
         for text, why in row:
-            listener.replace(text)
+            listener.put_keys(text)
             due.append(why)
             listener.await_told(len(due))
             yield "faulty files: the key stays", probe.ask(asked), GRANTED
         time.sleep(AWAITED)
-        yield "faulty files: each is told once", listener.told(), due
+        yield "faulty files: each is told once", listener.told_of_keys(), due
         listener.keys.unlink()
         yield "a missing file", listener.await_told(len(due) + 1)[-1], "there is no key file"
         listener.keys.mkdir()
         yield "a folder", listener.await_told(len(due) + 2)[-1], "the key file can't be read"
         yield "a folder: the key stays", probe.ask(asked), GRANTED
         listener.keys.rmdir()
-        listener.replace(lines(bank=["new"]))
+        listener.put_keys(lines(bank=["new"]))
         yield "a good file behind them", probe.await_reply(asked, BAD_SIGNATURE), True
         yield "is told, too", listener.await_told(len(due) + 3)[-1], "names: 1"
 
@@ -350,7 +273,7 @@ def swapped():
         with load(listener.path, plain, wide) as running:
             for swaps in range(SWAPS // SWAPS_AT_ONCE):
                 for number in range(SWAPS_AT_ONCE):
-                    listener.replace(other if (number + swaps) % 2 else one)
+                    listener.put_keys(other if (number + swaps) % 2 else one)
                     time.sleep(0.0005)
                 last, gone = ("new", "old") if swaps % 2 == 0 else ("old", "new")
                 is_gone = probe.await_reply(verify("bank", gone), BAD_SIGNATURE)
@@ -386,7 +309,7 @@ def written_in_place():
         with open(listener.keys, "w"):
             listener.await_told(2)
             yield "emptied: the keys stay", probe.ask(kept), GRANTED
-        yield "emptied: told once", listener.told()[1:], ["the key file has no key"]
+        yield "emptied: told once", listener.told_of_keys()[1:], ["the key file has no key"]
 
 
 def faults():
@@ -394,17 +317,4 @@ def faults():
     rows = [lambda first=first: one_row_of_faulty(first) for first in range(DAEMONS)]
     parts = [dropped, added, swapped, written_in_place, *rows]
     with ThreadPoolExecutor(len(parts)) as pool:
-        seen = [check for checks in pool.map(lambda part: list(part()), parts) for check in checks]
-    wrong = [check for check in seen if check[1] != check[2]]
-    return [f"changing keys: {what}: {got!r}, not {due!r}" for what, got, due in wrong], len(seen)
-
-
-def main():
-    found, count = faults()
-    if found:
-        raise SystemExit("\n".join(found))
-    print(f"{count} as they must be")
-
-
-if __name__ == "__main__":
-    main()
+        return judged(check for checks in pool.map(lambda part: list(part()), parts) for check in checks)

@@ -6,7 +6,8 @@ import os
 import shutil
 import subprocess
 import tempfile
-import time
+
+from common.daemon import come_to
 
 PROGRAMS = ("chromium", "chromium-browser", "google-chrome")
 # The zone in which the reader is.
@@ -80,10 +81,7 @@ class Tab:
 
     def until(self, expression, due):
         """The value of an expression once it is due, or what it is after all patience."""
-        end = time.monotonic() + PATIENCE
-        while (got := self.value(expression)) != due and time.monotonic() < end:
-            time.sleep(0.05)
-        return got
+        return come_to(lambda: self.value(expression), due, PATIENCE, pause=0.05)
 
     def press(self, key, count=1, modifiers=0):
         number, text = KEYS[key]

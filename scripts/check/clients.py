@@ -13,7 +13,6 @@ import os
 import pathlib
 import re
 import shutil
-import socket
 import subprocess
 import sys
 import tempfile
@@ -24,7 +23,7 @@ import urllib.request
 sys.path.insert(0, str(pathlib.Path(__file__).resolve().parents[1]))
 from check import client_cases, client_paths, client_tokens, client_words, peers
 from common import TOP, programs
-from common.daemon import listening
+from common.daemon import free_port, listening
 
 PYTHON, GO = TOP / "clients" / "python", TOP / "clients" / "go"
 GO_LIBRARIES = pathlib.Path("/usr/share/gocode")
@@ -91,12 +90,6 @@ def go_example_faults(folder):
         return [built.stdout], 1
     printed = run([program, "-test.run", "^Example"], cwd=folder)
     return [] if printed.returncode == 0 else [printed.stdout], 1
-
-
-def free_port():
-    with socket.socket() as any_port:
-        any_port.bind(("127.0.0.1", 0))
-        return any_port.getsockname()[1]
 
 
 def status_of(port, path, token=None):

@@ -2,7 +2,7 @@
 import functools
 import re
 
-from common import TOP
+from common import TOP, crates
 
 LIST = TOP / "scripts" / "covers.txt"
 # What stands for every crate, and for none; and the line that is no part's.
@@ -17,13 +17,6 @@ def table():
     return {name: words.split() for name, words in (re.split(r"  +", row, maxsplit=1) for row in rows)}
 
 
-@functools.cache
-def crates():
-    """All crates of the tree."""
-    lines = (TOP / "crates.txt").read_text().splitlines()
-    return [line.partition(":")[0].split()[0] for line in lines if re.match(r"\w", line)]
-
-
 def parts_of(crate):
     """The parts that cover the crate."""
     return [part for part, named in table().items() if part != BY_RT and (crate in named or ALL in named)]
@@ -35,8 +28,8 @@ def faults(parts):
     wrong = {
         "is no part of scripts/outside.py": {*table()} - {*parts, BY_RT},
         "is a part, and not in the list": {*parts} - {*table()},
-        "is no crate": named - {*crates()},
-        "is a crate that no part covers": {*crates()} - named,
+        "is no crate": named - {*crates.uses()},
+        "is a crate that no part covers": {*crates.uses()} - named,
     }
     told = [f"scripts/covers.txt: `{name}` {why}" for why, names in wrong.items() for name in sorted(names)]
-    return told, len(table()) + len(crates())
+    return told, len(table()) + len(crates.uses())

@@ -12,8 +12,9 @@ import tempfile
 import threading
 import time
 
-from common import KEYS, logged, runs
-from common.daemon import PATIENCE, connected, frame, received
+from common import logged, runs
+from common.daemon import PATIENCE, connected, frame, received, refused, running, serve_command, serving
+from common.rows import in_folders, judged
 
 import request
 
@@ -67,22 +68,10 @@ def answer(stream, data):
     return received
 
 
-@contextlib.contextmanager
-def daemon(*words):
-    """A daemon that has printed its first line."""
-    pipes = {"stdout": subprocess.PIPE, "stderr": subprocess.PIPE, "text": True}
-    with subprocess.Popen([runs.PROGRAM, *words], **pipes) as run:
-        try:
-            run.first = run.stdout.readline()
-            yield run
-        finally:
-            run.kill()
-
-
 def served(path, workers):
     """Three clients, of which the second comes while the first is there and the third breaks off."""
-    words = ["serve", "--socket", path, "--keys", KEYS, "--workers", str(workers), "--accept", "3"]
-    with daemon(*words) as run:
+    words = {"workers": workers, "accept": 3}
+    with serving(path, **words) as run:
         with connected(path) as first, connected(path) as second, connected(path) as third:
             answers = [answer(second, bytes(12)), answer(third, bytes(3))]
             answers.insert(0, answer(first, frame(MINT) + frame(b"")))
@@ -90,14 +79,14 @@ def served(path, workers):
     due = [frame(b"\x01" + TOKEN) + NO_REQUEST, NO_REQUEST * 3, b""]
     yield f"{workers} workers answer", answers, due
     yield f"{workers} workers end", (run.returncode, run.first + output, error), (0, "listening\nserved 3 faults 1\n", "")
-    again = subprocess.run([runs.PROGRAM, *words], capture_output=True, text=True, timeout=PATIENCE)
+    again = subprocess.run(serve_command(path, **words), capture_output=True, text=True, timeout=PATIENCE)
     yield "a path that is there", (again.returncode, again.stdout, again.stderr), (3, "", f"error: {path}: {EXISTS}\n")
 
 
 def both_ways(path):
     """Requests that are read while replies are written."""
     mint, token = frame(MINT), frame(b"\x01" + TOKEN)
-    with daemon("serve", "--socket", path, "--keys", KEYS, "--workers", "2", "--accept", "2") as run:
+    with serving(path, accept=2) as run:
         with connected(path) as stream:
             stream.sendall(mint + mint[:30])
             yield "a reply while the next request is on its way", received(stream, len(token)), token
@@ -117,7 +106,7 @@ def both_ways(path):
 def overtaking(path):
     """A quick request behind one that takes long: in the same connection its reply waits, in another it doesn't."""
     slow, quick = frame(request.verify("bank", SLOW_TOKEN, 0)), frame(b"")
-    with daemon("serve", "--socket", path, "--keys", KEYS, "--workers", "2", "--accept", "2") as run:
+    with serving(path, accept=2) as run:
         with connected(path) as stream, connected(path) as other:
             stream.sendall(20 * (slow + 8 * quick))
             due = 20 * (MALFORMED + 8 * NO_REQUEST)
@@ -138,7 +127,7 @@ def versions(path):
     """Connections of version two beside one of version one, and a hello that comes by itself."""
     requests = frame(MINT) + frame(b"") + bytes.fromhex("00010001")
     due = placed(b"\x01" + TOKEN, b"\x10", b"\x11")
-    with daemon("serve", "--socket", path, "--keys", KEYS, "--workers", "2", "--accept", "5") as run:
+    with serving(path, accept=5) as run:
         with connected(path) as stream:
             yield "places", answer(stream, HELLO + requests), due
         with connected(path) as stream:
@@ -164,18 +153,17 @@ def listening_line(path, workers):
 
 def listening(folder):
     path = folder + "/listening"
-    words = ["listen", "--socket", path, "--keys", KEYS, "--workers", "2"]
-    with daemon(*words, "--mode", "660") as run:
+    with running(path, "--workers", "2", "--mode", "660") as run:
         yield "what listen prints", run.first, listening_line(path, "2 workers")
         yield "the mode", stat.filemode(os.stat(path).st_mode), "srw-rw----"
         beside = [name + ending for name in ("listening", "listening.status") for ending in ("", ".lock")]
         yield "its status socket and two locks beside the socket", sorted(os.listdir(folder)), sorted(beside)
         with connected(path) as stream:
             yield "an answer", answer(stream, frame(MINT)), frame(b"\x01" + TOKEN)
-        taken = subprocess.run([runs.PROGRAM, *words], capture_output=True, text=True, timeout=PATIENCE)
+        taken = refused(path)
         due = (3, "", f"error: {path}: process {run.pid} has it; {END_FIRST}\n")
         yield "a path that is listened on", (taken.returncode, taken.stdout, taken.stderr), due
-    with daemon(*words, "--idle", "1") as run:
+    with running(path, "--workers", "2", "--idle", "1") as run:
         yield "a path that was left is taken over", run.first, listening_line(path, "2 workers")
         yield "the owner's mode", stat.filemode(os.stat(path).st_mode), "srw-------"
         begin = time.monotonic()
@@ -192,18 +180,14 @@ def listening(folder):
             yield "a client behind 64 silent ones", streams[-1].recv(5), NO_REQUEST
     file = folder + "/file"
     pathlib.Path(file).write_text("")
-    words[2] = file
-    refused = subprocess.run([runs.PROGRAM, *words], capture_output=True, text=True, timeout=PATIENCE)
+    taken = refused(file)
     due = (3, "", f"error: {file}: {NO_SOCKET}\n")
-    yield "a path that is no socket", (refused.returncode, refused.stdout, refused.stderr), due
+    yield "a path that is no socket", (taken.returncode, taken.stdout, taken.stderr), due
 
 
 def faults():
     """What went otherwise than it must, and how many things were looked at."""
     with tempfile.TemporaryDirectory() as folder:
         seen = [one for workers in (1, 2, 16) for one in served(f"{folder}/{workers}", workers)]
-    with tempfile.TemporaryDirectory() as folder:
         seen += [*both_ways(folder + "/both_ways"), *overtaking(folder + "/overtaking"), *versions(folder + "/versions")]
-    with tempfile.TemporaryDirectory() as folder:
-        seen += listening(folder)
-    return [f"daemon: {what}: {got!r} where {due!r} is due" for what, got, due in seen if got != due], len(seen)
+    return judged([*seen, *in_folders(listening)])

@@ -5,10 +5,10 @@ import pathlib
 import shutil
 import subprocess
 import sys
-import time
 
 sys.path.insert(0, str(pathlib.Path(__file__).resolve().parents[1]))
 from common import runs
+from common.daemon import awaited
 
 COMMANDS = {"mmdebstrap": "mmdebstrap", "systemd-nspawn": "systemd-container", "nsenter": "util-linux"}
 # How long anything may take, in seconds, on a machine that is busy with other work.
@@ -36,11 +36,8 @@ def debian(folder):
 
 def until(what, holds):
     """Waits until it holds; that it takes too long is a fault."""
-    end = time.monotonic() + PATIENCE
-    while not (found := holds()):
-        if time.monotonic() > end:
-            raise TimeoutError(f"{what} takes more than {PATIENCE} seconds")
-        time.sleep(0.1)
+    if not (found := awaited(holds, PATIENCE, pause=0.1)):
+        raise TimeoutError(f"{what} takes more than {PATIENCE} seconds")
     return found
 
 

@@ -1,22 +1,18 @@
-#!/usr/bin/env python3
 """How `macaroond listen` ends where it is told to: what has come is answered, and nothing is cut off;
 how a socket is handed over to it; and what it tells a service manager."""
 import contextlib
 import os
-import pathlib
 import re
 import signal
 import socket
 import subprocess
-import sys
-import tempfile
 import threading
 import time
 
-sys.path.insert(0, str(pathlib.Path(__file__).resolve().parents[1]))
 from check.daemon_rows import MINT, NO_REQUEST, SLOW_TOKEN, TOKEN
-from common import KEYS, logged
-from common.daemon import PROGRAM, connected, frame, received
+from common import daemon, logged
+from common.daemon import connected, frame, received
+from common.rows import in_folders, judged
 
 import request
 
@@ -32,12 +28,8 @@ MALFORMED = frame(b"\x14")
 
 
 def started(path, *words, **how):
-    """A daemon that clients can connect to, and what it printed first."""
-    pipes = {"stdout": subprocess.PIPE, "stderr": subprocess.PIPE, "text": True}
-    command = [PROGRAM, "listen", "--socket", path, "--keys", KEYS, "--workers", "2", *words]
-    run = subprocess.Popen(command, **{**pipes, **how})
-    run.first = run.stdout.readline()
-    return run
+    """A daemon of two workers that clients can connect to."""
+    return daemon.started(path, "--workers", "2", *words, **how)
 
 
 def ended(run):
@@ -109,19 +101,24 @@ def dear_requests(folder):
     yield from owed_replies(folder, DEAR, MALFORMED)
 
 
+def fill(stream, seconds=3):
+    """Sends requests and takes no reply, until no more goes."""
+    stream.setblocking(False)
+    until = time.monotonic() + seconds
+    while time.monotonic() < until:
+        try:
+            stream.send(MINTING * 100)
+        except BlockingIOError:
+            time.sleep(0.05)
+
+
 def cut_off(folder):
     """A client that takes no reply is cut off once the time is up, or at a second signal."""
     for words, again in ((["--drain", "1"], False), ([], True)):
         path = f"{folder}/cut"
         run = started(path, *words)
         with connected(path) as stream:
-            stream.setblocking(False)
-            until = time.monotonic() + 3
-            while time.monotonic() < until:
-                try:
-                    stream.send(MINTING * 100)
-                except BlockingIOError:
-                    time.sleep(0.05)
+            fill(stream)
             run.send_signal(signal.SIGTERM)
             begin = time.monotonic()
             if again:
@@ -155,11 +152,7 @@ def handed_over(path):
 
 
 def start_handed(listener, before, path):
-    command = [*before, PROGRAM, "listen", "--socket", path, "--keys", KEYS]
-    pipes = {"stdout": subprocess.PIPE, "stderr": subprocess.PIPE, "text": True}
-    run = subprocess.Popen(command, pass_fds=[listener.fileno()], **pipes)
-    run.first = run.stdout.readline()
-    return run
+    return daemon.started(path, before=before, pass_fds=[listener.fileno()])
 
 
 class Asking(threading.Thread):
@@ -229,7 +222,7 @@ def rolling_restart(folder):
 def no_listener(folder):
     """What is handed over and is no socket is told."""
     script = 'exec 3</dev/null; export LISTEN_PID=$$ LISTEN_FDS=1; exec "$@"'
-    command = ["bash", "-c", script, "bash", PROGRAM, "listen", "--socket", f"{folder}/none", "--keys", KEYS]
+    command = ["bash", "-c", script, "bash", *daemon.command(f"{folder}/none")]
     run = subprocess.run(command, capture_output=True, text=True, timeout=PATIENCE)
     told = "descriptor 3, which was handed over, is no Unix socket that listens"
     yield "no socket", (run.returncode, told in run.stderr), (3, True)
@@ -251,20 +244,4 @@ def told_manager(folder):
 def faults():
     """What went otherwise than it must, and how many checks there were."""
     parts = [quiet_clients, short_requests, dear_requests, cut_off, hang_up, rolling_restart, no_listener, told_manager]
-    seen = []
-    for part in parts:
-        with tempfile.TemporaryDirectory() as folder:
-            seen += [(part.__name__, *check) for check in part(folder)]
-    found = [f"{part}: {what}: {str(got)[:300]} where {str(due)[:300]} is due" for part, what, got, due in seen if got != due]
-    return found, len(seen)
-
-
-def main():
-    found, count = faults()
-    if found:
-        raise SystemExit("\n".join(found))
-    print(count, "checks")
-
-
-if __name__ == "__main__":
-    main()
+    return judged(in_folders(*parts), longest=300)

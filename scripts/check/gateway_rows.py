@@ -8,19 +8,8 @@ import sys
 import typing
 
 sys.path.insert(0, str(pathlib.Path(__file__).resolve().parents[1]))
-from check.http_rows import (
-    README,
-    SECRET,
-    field,
-    json_text,
-    mac,
-    packet,
-    signature,
-    text_of,
-    third_party,
-    v1,
-    v2,
-)
+from check.http_rows import README, SECRET, json_text, signature, third_party, v1, v2
+from common.tokens import field, hashed, packet, text_of
 
 HELLO = "/guarded/hello"
 # What a gateway answers without asking, whether the daemon is there or not.
@@ -62,7 +51,7 @@ def without_its_caveat():
 
 def caveat_somewhere():
     """A token of V1 whose first-party caveat has a location."""
-    chain = mac(signature(b"alice", [], SECRET), b"a = b")
+    chain = hashed(signature(b"alice", [], SECRET), b"a = b")
     parts = [(b"location", b""), (b"identifier", b"alice"), (b"cid", b"a = b"), (b"cl", b"there")]
     return text_of(b"".join(packet(*it) for it in parts) + packet(b"signature", chain))
 

@@ -8,7 +8,8 @@ import sys
 
 sys.path.insert(0, str(pathlib.Path(__file__).resolve().parents[1]))
 from check.gateway_rows import ROWS, UNASKED
-from check.gateway_servers import asked, free_port, head, in_folder
+from check.gateway_servers import asked, head, in_folder
+from common.daemon import free_port
 
 
 def tokens_of(row):

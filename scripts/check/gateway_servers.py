@@ -6,30 +6,25 @@ import contextlib
 import http.server
 import os
 import pathlib
-import random
 import shutil
-import signal
 import socket
 import subprocess
 import sys
 import tempfile
 import threading
-import time
 import typing
 
 sys.path.insert(0, str(pathlib.Path(__file__).resolve().parents[1]))
 from check import sessions
 from check.http_rows import SECRET, v2
 from common import TOP
-from common.daemon import PATIENCE, PROGRAM
+from common.daemon import PATIENCE, Daemon, awaited, connected, free_port
 
 import request
 
 FOLDER = TOP / "examples" / "gateways"
 # The port of the service behind, in each configuration.
 SERVICE_PORT = 18090
-# Ports that the system gives to no connection, so that one which is free now stays so.
-PORTS = iter(random.sample(range(20_000, 30_000), 10_000))
 
 
 class Gateway(typing.NamedTuple):
@@ -90,41 +85,8 @@ def program_of(name):
     return shutil.which(gateway.program, path="/usr/sbin:/usr/bin:/sbin:/bin")
 
 
-class Daemon:
-    """A daemon over HTTP whose keys change, and that is stopped, ended and started again."""
-
-    def __init__(self, folder, *words):
-        self.folder, self.words, self.run = folder, words, None
-        self.write_keys(SECRET)
-        self.start()
-
-    def write_keys(self, secret, name="bank"):
-        new = self.folder / "keys.new"
-        new.write_text(f"{request.key(name, secret.decode())}\n{request.key('shop', 'shop')}\n")
-        new.chmod(0o600)
-        new.rename(self.folder / "keys")
-
-    def start(self):
-        command = [PROGRAM, "listen", "--socket", "macaroond.socket", "--keys", "keys", *self.words]
-        pipes = {"stdout": subprocess.PIPE, "stderr": subprocess.DEVNULL}
-        self.run = subprocess.Popen(command, cwd=self.folder, **pipes)
-        self.run.stdout.readline()
-
-    def halt(self):
-        """Stops each thread of the daemon, until it is told to go on."""
-        self.run.send_signal(signal.SIGSTOP)
-        until = time.monotonic() + PATIENCE
-        while time.monotonic() < until and set(self.states()) != {"T"}:
-            time.sleep(0.01)
-
-    def states(self):
-        for stat in pathlib.Path(f"/proc/{self.run.pid}/task").glob("*/stat"):
-            yield stat.read_text().rpartition(") ")[2][0]
-
-    def end(self, how=signal.SIGKILL):
-        self.run.send_signal(how)
-        self.run.wait(PATIENCE)
-        self.run.stdout.close()
+def key_file(secret, name="bank"):
+    return f"{request.key(name, secret.decode())}\n{request.key('shop', 'shop')}\n"
 
 
 class Seen(typing.NamedTuple):
@@ -230,11 +192,11 @@ def in_folder(*words):
         give_to_workers(folder)
         for file in FOLDER.iterdir():
             shutil.copy(file, folder)
-        daemon = Daemon(folder, *words)
+        daemon = Daemon(folder, key_file(SECRET), *words, name="macaroond.socket", cwd=folder)
         try:
-            yield daemon
+            yield daemon.start()
         finally:
-            daemon.end()
+            daemon.close()
 
 
 class Scene(typing.NamedTuple):
@@ -243,14 +205,6 @@ class Scene(typing.NamedTuple):
     port: int
     daemon: Daemon
     service: Service
-
-
-def free_port():
-    """A port that nobody listens at, another each time."""
-    for port in PORTS:
-        with contextlib.suppress(OSError), socket.create_server(("127.0.0.1", port)):
-            return port
-    raise RuntimeError("there is no free port")
 
 
 def change(path, old, new):
@@ -307,13 +261,13 @@ def guarded(name, patient=True, by_readme=False):
 
 def is_answering(port, run):
     """Whether a gateway that has just been started lets a request through, once it is ready."""
-    until, bearing = time.monotonic() + PATIENCE, f"Authorization: Macaroon {v2(b'alice')}"
-    while time.monotonic() < until and run.poll() is None:
+    hello = head("/guarded/hello", f"Authorization: Macaroon {v2(b'alice')}")
+
+    def is_let_through():
         with contextlib.suppress(OSError):
-            if asked(port, head("/guarded/hello", bearing))[0] == 200:
-                return True
-        time.sleep(0.05)
-    return False
+            return run.poll() is not None or asked(port, hello)[0] == 200
+
+    return bool(awaited(is_let_through)) and run.poll() is None
 
 
 def head(target, *fields, method="GET", body=b""):
@@ -330,19 +284,16 @@ def head(target, *fields, method="GET", body=b""):
     return "\r\n".join([*lines, "", ""]).encode("latin-1") + body
 
 
-def connected(where):
+def connection(where):
     """A connection to a port of this machine, or to a Unix socket."""
     if isinstance(where, int):
         return socket.create_connection(("127.0.0.1", where), PATIENCE)
-    stream = socket.socket(socket.AF_UNIX)
-    stream.settimeout(PATIENCE)
-    stream.connect(str(where))
-    return stream
+    return connected(str(where))
 
 
 def asked(where, text):
     """The status of the response to a request, and its fields, their names in lower case."""
-    with connected(where) as stream:
+    with connection(where) as stream:
         # A peer may have answered and closed before all of a long request is sent.
         with contextlib.suppress(ConnectionError):
             stream.sendall(text)

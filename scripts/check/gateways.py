@@ -16,8 +16,8 @@ import time
 sys.path.insert(0, str(pathlib.Path(__file__).resolve().parents[1]))
 from check import gateway_scripted
 from check.gateway_rows import ALICE, HELLO, HOST, PAST, ROWS, UNASKED, Row, narrowed
-from check.gateway_servers import GATEWAYS, asked, connected, guarded, head, program_of
-from common.daemon import PATIENCE
+from check.gateway_servers import GATEWAYS, asked, connection, guarded, head, key_file, program_of
+from common.daemon import PATIENCE, awaited, come_to
 
 # What a gateway answers that got no verdict, and what each does: of a daemon that is gone, and of one that hangs.
 LOST = (500, 502, 503, 504)
@@ -97,11 +97,8 @@ def as_reasons_are_told(name, scene):
         _, fields = asked(scene.port, head(target, f"Authorization: Macaroon {token}"))
         yield f"the client's reason of {what}", fields.get("macaroon-reason") or None, reason
         tokens.append(token)
-    log, until = scene.daemon.folder / GATEWAYS[name].log, time.monotonic() + PATIENCE
-    while '"24 0"' not in log.read_text() or '"path"' not in log.read_text():
-        if time.monotonic() > until:
-            break
-        time.sleep(0.05)
+    log = scene.daemon.folder / GATEWAYS[name].log
+    awaited(lambda: '"24 0"' in log.read_text() and '"path"' in log.read_text())
     text = log.read_text()
     yield "the log has both reasons", ['"24 0"' in text, '"path"' in text], [True, True]
     yield "and no token", [token for token in tokens if token in text], []
@@ -119,7 +116,7 @@ def by_an_old_client(scene):
 def kept(daemon):
     """How many connections the daemon has over HTTP, besides that which asks."""
     front = b"macaroond_connections_http "
-    with connected(daemon.folder / "macaroond.http") as stream:
+    with connection(daemon.folder / "macaroond.http") as stream:
         stream.sendall(head("/metrics"))
         with stream.makefile("rb") as page:
             return next(int(line[len(front):]) for line in page if line.startswith(front)) - 1
@@ -129,9 +126,7 @@ def as_connections_stay(name, scene):
     """Whether the gateway keeps connections to the daemon, and uses them again."""
     for _ in range(REPEATS):
         asked_row(scene, GRANTED)
-    until = time.monotonic() + SETTLED
-    while (count := kept(scene.daemon)) and time.monotonic() < until:
-        time.sleep(0.1)
+    count = come_to(lambda: kept(scene.daemon), 0, SETTLED, pause=0.1)
     yield f"{count} connections are kept", 0 < count < REPEATS, name != "apache"
 
 
@@ -154,7 +149,7 @@ def while_it_hangs(name, scene):
 
 def while_it_is_gone(name, scene):
     """A daemon that was killed, one that came back, and one that came back unseen."""
-    scene.daemon.end()
+    scene.daemon.end(signal.SIGKILL)
     yield "no daemon", asked_row(scene, GRANTED), (LOST_BY[name][0], "", [])
     for row in ROWS:
         yield f"without a daemon: {row.what}", without_verdict(name, scene, row), "refused"
@@ -168,20 +163,18 @@ def while_it_is_gone(name, scene):
 
 def await_status(scene, row, status):
     """Waits until a row gets a status, as it does soon after keys changed."""
-    until = time.monotonic() + PATIENCE
-    while time.monotonic() < until and asked_row(scene, row)[0] != status:
-        time.sleep(0.05)
+    awaited(lambda: asked_row(scene, row)[0] == status)
 
 
 def as_keys_change(name, scene):
     """Keys that change while the daemon and the gateway run on."""
     yield "by a key to come", asked_row(scene, NEW), (401, "Macaroon", [])
-    scene.daemon.write_keys(NEW_SECRET)
+    scene.daemon.put_keys(key_file(NEW_SECRET))
     await_status(scene, NEW, 200)
     yield NEW.what, asked_row(scene, NEW), due_of(NEW, name)
     yield "by the old key", asked_row(scene, GRANTED), (401, "Macaroon", [])
     yield "without a token", asked_row(scene, NO_TOKEN), due_of(NO_TOKEN, name)
-    scene.daemon.write_keys(NEW_SECRET, "inn")
+    scene.daemon.put_keys(key_file(NEW_SECRET, "inn"))
     await_status(scene, NEW, 401)
     yield "no key of the name", asked_row(scene, NEW), (401, "Macaroon", [])
 

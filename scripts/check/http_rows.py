@@ -4,10 +4,12 @@
 The statuses, fields and bodies stand here as docs/HTTP.md has them. Tokens are made by hmac and
 hashlib of Python, but for the README token of libmacaroons, whose text stands below.
 """
-import base64
-import hashlib
-import hmac
 import pathlib
+import sys
+
+sys.path.insert(0, str(pathlib.Path(__file__).resolve().parents[1]))
+from common import tokens
+from common.tokens import field, text_of
 
 CRATE = pathlib.Path(__file__).resolve().parents[2] / "crates" / "try_http"
 SECRET = b"this is our super secret key; only we should know it"
@@ -26,45 +28,18 @@ REASONS = {200: "OK", 204: "No Content", 400: "Bad Request", 401: "Unauthorized"
            503: "Service Unavailable"}
 
 
-def mac(key, text):
-    return hmac.new(key, text, hashlib.sha256).digest()
-
-
-def field(kind, text):
-    length, out = len(text), bytes([kind])
-    while length > 127:
-        out, length = out + bytes([length & 127 | 128]), length >> 7
-    return out + bytes([length]) + text
-
-
-def text_of(token):
-    return base64.urlsafe_b64encode(token).rstrip(b"=").decode()
-
-
 def signature(identifier, caveats, secret):
-    found = mac(mac(b"macaroons-key-generator".ljust(32, b"\0"), secret), identifier)
-    for caveat in caveats:
-        found = mac(found, caveat)
-    return found
+    return tokens.signed(secret, identifier, caveats)
 
 
 def v2(identifier, caveats=(), secret=SECRET, location=b""):
     """The text of a V2 token."""
-    out = b"\x02" + (field(1, location) if location else b"") + field(2, identifier) + b"\0"
-    for caveat in caveats:
-        out += field(2, caveat) + b"\0"
-    return text_of(out + b"\0" + field(6, signature(identifier, caveats, secret)))
-
-
-def packet(key, value):
-    return b"%04x%s %s\n" % (len(key) + len(value) + 6, key, value)
+    return text_of(tokens.v2(secret, identifier, caveats, location))
 
 
 def v1(identifier, caveats=(), secret=SECRET, location=b""):
     """The text of a V1 token."""
-    out = packet(b"location", location) + packet(b"identifier", identifier)
-    out += b"".join(packet(b"cid", caveat) for caveat in caveats)
-    return text_of(out + packet(b"signature", signature(identifier, caveats, secret)))
+    return text_of(tokens.v1(secret, identifier, caveats, location))
 
 
 def json_text(identifier, caveats=(), secret=SECRET):

@@ -1,19 +1,15 @@
-#!/usr/bin/env python3
 """The sockets over HTTP of `macaroond listen`: what is answered there, who is dropped, and how they end."""
 import contextlib
 import pathlib
 import signal
 import socket
 import stat
-import subprocess
-import sys
 import tempfile
 import time
 
-sys.path.insert(0, str(pathlib.Path(__file__).resolve().parents[1]))
 from check.http_rows import README, v2
-from common import logged
-from common.daemon import PATIENCE, PROGRAM
+from common.daemon import PATIENCE, Daemon, awaited, connected, free_port, refused
+from common.rows import judged, of_each
 
 import request
 
@@ -27,58 +23,42 @@ WAITING = 20
 END = b"\r\n\r\n"
 
 
-class Daemon:
-    """A daemon that listens over HTTP at a Unix socket and at a port of this machine."""
+class Served(Daemon):
+    """A daemon that listens over HTTP too, at a Unix socket and at a port of this machine."""
 
     def __init__(self, folder, *words, names=("bank",)):
-        self.folder, self.keys = pathlib.Path(folder), pathlib.Path(folder) / "keys"
-        self.path, self.port = f"{folder}/http", free_port()
-        self.write_keys(*names)
-        command = [PROGRAM, "listen", "--socket", f"{folder}/socket", "--keys", str(self.keys)]
-        command += ["--http", f"unix:{self.path},127.0.0.1:{self.port}", *words]
-        pipes = {"stdout": subprocess.PIPE, "stderr": subprocess.PIPE, "text": True}
-        self.run = subprocess.Popen(command, **pipes)
-        self.first = self.run.stdout.readline()
+        self.http, self.port = f"{folder}/http", free_port()
+        super().__init__(folder, key_file(names), "--http", f"unix:{self.http},127.0.0.1:{self.port}", *words)
 
     def write_keys(self, *names):
-        new = self.folder / "keys.new"
-        new.write_text("".join(f"{request.key(name, SECRET)}\n" for name in names))
-        new.chmod(0o600)
-        new.rename(self.keys)
+        self.put_keys(key_file(names))
 
     def unix(self):
-        stream = socket.socket(socket.AF_UNIX)
-        stream.settimeout(PATIENCE)
-        stream.connect(self.path)
-        return stream
+        return connected(self.http)
 
     def tcp(self):
         return socket.create_connection(("127.0.0.1", self.port), PATIENCE)
 
     def told_to_end(self):
-        """How long the run took to its end, and how it ended."""
+        """How long it took to its end, and with which status it ended."""
         begin = time.monotonic()
         self.run.send_signal(signal.SIGTERM)
-        output, error = self.run.communicate(timeout=PATIENCE)
-        return time.monotonic() - begin, (self.run.returncode, output, error)
+        status = self.run.wait(PATIENCE)
+        return time.monotonic() - begin, status
 
 
-def free_port():
-    with socket.create_server(("127.0.0.1", 0)) as server:
-        return server.getsockname()[1]
+def key_file(names):
+    return "".join(f"{request.key(name, SECRET)}\n" for name in names)
 
 
 @contextlib.contextmanager
 def listening(*words, **how):
     with tempfile.TemporaryDirectory() as folder:
-        daemon = Daemon(folder, *words, **how)
+        daemon = Served(folder, *words, **how)
         try:
-            yield daemon
+            yield daemon.start()
         finally:
-            daemon.run.kill()
-            daemon.run.wait()
-            daemon.run.stdout.close()
-            daemon.run.stderr.close()
+            daemon.close()
 
 
 def asking(target, *fields, version="1.1", method="GET"):
@@ -162,7 +142,7 @@ def statuses():
                 stream.sendall(b"no request at all" + END + b"x" * 20_000)
                 yield f"no request over {where}", response(stream)[0], 400
                 yield f"and its end over {where}", end_of(stream) < PATIENCE, True
-        yield "the mode of the socket", stat.S_IMODE(pathlib.Path(daemon.path).stat().st_mode), 0o600
+        yield "the mode of the socket", stat.S_IMODE(pathlib.Path(daemon.http).stat().st_mode), 0o600
 
 
 def rules():
@@ -176,7 +156,7 @@ def rules():
             yield "a source that isn't named", asked(stream, narrowed), 403
             query = bearing(v2(b"alice", [b"account = 17"]), target="/verify/bank?fact=account+%3d+17")
             yield "a fact of the query", asked(stream, query), 204
-        yield "a mode", stat.S_IMODE(pathlib.Path(daemon.path).stat().st_mode), 0o666
+        yield "a mode", stat.S_IMODE(pathlib.Path(daemon.http).stat().st_mode), 0o666
 
 
 def calling(target, body, host="127.0.0.1", *fields):
@@ -225,7 +205,8 @@ def gateways_never_mint():
                 yield "a verify under a name of gateways", asked(stream, bearing(README)), 401
             yield from browsers(port)
             daemon.run.send_signal(signal.SIGTERM)
-            error = daemon.run.communicate(timeout=PATIENCE)[1]
+            daemon.run.wait(PATIENCE)
+            error = daemon.errors.read_text()
             warned = f"warning: 127.0.0.1:{port}: every user of this machine may have tokens minted here"
             yield f"a port that mints is warned of: {error[:200]}", warned in error, True
 
@@ -267,12 +248,8 @@ def changing_keys():
     with listening() as daemon, daemon.unix() as stream:
         yield "before", asked(stream, bearing(README)), 200
         daemon.write_keys("shop")
-        until = time.monotonic() + PATIENCE
-        status = 200
-        while status == 200 and time.monotonic() < until:
-            time.sleep(0.1)
-            status = asked(stream, bearing(README))
-        yield "the name is gone", status, 401
+        awaited(lambda: asked(stream, bearing(README)) != 200, pause=0.1)
+        yield "the name is gone", asked(stream, bearing(README)), 401
         yield "another is there", asked(stream, bearing(README, target="/verify/shop")), 200
 
 
@@ -321,20 +298,22 @@ def full_house():
                     yield "a fourth", late.recv(1), b""
             yield "the three go on", [asked(guest, asking("/healthz")) for guest in guests], [200] * 3
             guests[0].close()
-            status, until = None, time.monotonic() + PATIENCE
-            while status != 200 and time.monotonic() < until:
-                with daemon.unix() as late, contextlib.suppress(ConnectionError):
-                    status = asked(late, asking("/healthz"))
-            yield "a place again", status, 200
+            yield "a place again", awaited(lambda: status_at(daemon) == 200), True
+
+
+def status_at(daemon):
+    """The status of a request on a connection of its own, if there is a place for that."""
+    with daemon.unix() as stream, contextlib.suppress(ConnectionError):
+        return asked(stream, asking("/healthz"))
 
 
 def ends():
     """Idle connections are closed; one that has begun a request is answered, and told of the end."""
     with listening() as daemon, daemon.unix() as idle, daemon.tcp() as other:
         yield "before the end", [asked(stream, asking("/healthz")) for stream in (idle, other)], [200] * 2
-        took, (status, _, error) = daemon.told_to_end()
+        took, status = daemon.told_to_end()
         yield "idle connections", [stream.recv(1) for stream in (idle, other)], [b"", b""]
-        yield f"how it ends: {error}", status, 0
+        yield f"how it ends: {daemon.errors.read_text()}", status, 0
         yield f"at once: {took:.1f} s", took < 5, True
     with listening() as daemon, daemon.tcp() as begun:
         text = asking("/healthz")
@@ -351,16 +330,16 @@ def ends():
     with listening("--drain", "1") as daemon, daemon.tcp() as begun:
         begun.sendall(asking("/healthz")[:20])
         time.sleep(0.3)
-        took, (status, _, error) = daemon.told_to_end()
+        took, status = daemon.told_to_end()
         yield f"who never goes on is cut off: {took:.1f} s", 0.5 < took < 5, True
-        end = logged.read_all(error)[-1]
+        end = daemon.lines()[-1]
         yield "how that ends", (status, end.what, end.fields), (0, "end", {"connections": "1"})
     with listening("--drain", "60") as daemon, daemon.tcp() as begun:
         begun.sendall(asking("/healthz")[:20])
         time.sleep(0.3)
         daemon.run.send_signal(signal.SIGTERM)
         time.sleep(0.5)
-        took, (status, _, _) = daemon.told_to_end()
+        took, status = daemon.told_to_end()
         yield f"a second signal: {took:.1f} s", (status, took < 5), (0, True)
 
 
@@ -405,33 +384,22 @@ def refusals():
         (["--http-mode", "777"], "error: the mode of a socket is 600, 660 or 666\n", 2),
     ]
     with listening() as daemon:
-        command = [PROGRAM, "listen", "--socket", f"{daemon.folder}/2", "--keys", str(daemon.keys)]
         for words, text, status in cases:
-            found = subprocess.run([*command, *words], capture_output=True, text=True, timeout=PATIENCE)
+            found = refused(f"{daemon.folder}/2", *words, keys=daemon.keys)
             yield " ".join(words), (found.returncode, found.stderr), (status, text)
-        for address in (f"127.0.0.1:{daemon.port}", f"unix:{daemon.path}"):
-            found = subprocess.run([*command, "--http", address], capture_output=True, text=True, timeout=PATIENCE)
+        for address in (f"127.0.0.1:{daemon.port}", f"unix:{daemon.http}"):
+            found = refused(f"{daemon.folder}/2", "--http", address, keys=daemon.keys)
             yield f"{address} is taken", found.returncode, 3
             yield f"and told: {found.stderr}", found.stderr.startswith(f"error: {address}: "), True
-    with tempfile.TemporaryDirectory() as folder:
-        daemon = Daemon(folder, "--http-anywhere", f"0.0.0.0:{free_port()}")
-        anywhere = daemon.run.args[-1].rsplit(":", 1)[1]
-        with socket.create_connection(("127.0.0.1", int(anywhere)), PATIENCE) as stream:
+    anywhere = free_port()
+    with listening("--http-anywhere", f"0.0.0.0:{anywhere}") as daemon:
+        with socket.create_connection(("127.0.0.1", anywhere), PATIENCE) as stream:
             yield "an address for all", asked(stream, asking("/healthz")), 200
-        yield "how it ends", daemon.told_to_end()[1][0], 0
+        yield "how it ends", daemon.told_to_end()[1], 0
 
 
 PARTS = (statuses, rules, names, gateways_never_mint, strict_paths, changing_keys, slow_peers, full_house, ends, waiting, refusals)
 
 
 def faults():
-    found = [(part.__name__, *row) for part in PARTS for row in part()]
-    wrong = [f"{part}: {name}: {told!r}, and it should be {due!r}" for part, name, told, due in found if told != due]
-    return wrong, len(found)
-
-
-if __name__ == "__main__":
-    wrong, count = faults()
-    print(*wrong, sep="\n")
-    print(f"http: {len(wrong)} of {count} are wrong")
-    sys.exit(bool(wrong))
+    return judged(of_each(*PARTS))

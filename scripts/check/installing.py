@@ -7,10 +7,10 @@ import shutil
 import signal
 import subprocess
 import tarfile
-import tempfile
 
 from build import build, packaging
 from common import TOP
+from common.rows import in_folders, judged
 
 import request
 
@@ -168,9 +168,5 @@ def tarballs(folder):
 
 def faults():
     """What went otherwise than it must, and how many things were looked at."""
-    seen = []
-    for rows in (launches, cores, installations, neighbours, tarballs):
-        with tempfile.TemporaryDirectory() as folder:
-            seen += rows(pathlib.Path(folder))
-    wrong = [f"installing: {what}: {got!r} where {due!r} is due" for what, got, due in seen if got != due]
-    return wrong, len(seen), ["a daemon's neighbours: only root can"] * (os.geteuid() != 0)
+    seen = in_folders(launches, cores, installations, neighbours, tarballs, kind=pathlib.Path)
+    return *judged(seen), ["a daemon's neighbours: only root can"] * (os.geteuid() != 0)

@@ -1,20 +1,17 @@
-#!/usr/bin/env python3
 """Runs of `macaroond listen` that has to stay up: what it does where nobody reads what it prints, and
 how it ends connections."""
 import contextlib
 import os
-import pathlib
 import random
 import resource
 import subprocess
-import sys
 import threading
 import time
 
-sys.path.insert(0, str(pathlib.Path(__file__).resolve().parents[1]))
 from check.daemon_rows import MALFORMED, MINT, NO_REQUEST, TOKEN
 from common import daemon, logged
-from common.daemon import connected, frame, received
+from common.daemon import come_to, connected, frame, received
+from common.rows import judged, of_each
 from faults import hostile
 
 import request
@@ -240,10 +237,7 @@ def past_the_limit():
                 yield "a client within the limit", received(stream, len(NO_REQUEST)), NO_REQUEST
             with connected(path) as third:
                 yield "a client past it", end_of(third), "an end"
-        until = time.monotonic() + LONGEST_WAIT
-        while (reply := answered(path)) != NO_REQUEST and time.monotonic() < until:
-            time.sleep(0.05)
-        yield "a client once they have gone", reply, NO_REQUEST
+        yield "a client once they have gone", come_to(lambda: answered(path), NO_REQUEST, LONGEST_WAIT), NO_REQUEST
 
 
 def end_of(stream):
@@ -256,17 +250,4 @@ def end_of(stream):
 def faults():
     """What went otherwise than it must, and how many checks there were."""
     parts = [unread_errors, oversize_frames, deep_requests, begun_frames, owed_replies]
-    parts += [long_pipelines, busy_clients, past_the_limit]
-    seen = [check for part in parts for check in part()]
-    found = [f"lasting: {what}: {got!r} where {due!r} is due" for what, got, due in seen if got != due]
-    return found, len(seen)
-
-
-def main():
-    found, _ = faults()
-    if found:
-        raise SystemExit("\n".join(found))
-
-
-if __name__ == "__main__":
-    main()
+    return judged(of_each(*parts, long_pipelines, busy_clients, past_the_limit))

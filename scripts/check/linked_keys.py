@@ -1,4 +1,3 @@
-#!/usr/bin/env python3
 """Runs of `macaroond listen` whose key file stands behind links, as Kubernetes mounts a secret.
 
 The file is a link, keys -> ..data/keys, and ..data is one too, to a folder with a time in its name.
@@ -10,15 +9,12 @@ import contextlib
 import os
 import pathlib
 import shutil
-import subprocess
-import sys
 import tempfile
 import time
 
-sys.path.insert(0, str(pathlib.Path(__file__).resolve().parents[1]))
-from check.changing_keys import AWAITED, BAD_SIGNATURE, GRANTED, PATIENCE, UP_WITHIN, Probe, lines, told_of, verify
-from common import logged
-from common.daemon import PROGRAM
+from check.changing_keys import AWAITED, BAD_SIGNATURE, GRANTED, UP_WITHIN, Probe, lines, verify
+from common.daemon import Daemon
+from common.rows import judged, of_each
 
 # How many times a secret is replaced without a pause.
 SWAPS = 200
@@ -57,40 +53,17 @@ class Mount:
         (self.folder / "..data_tmp").rename(self.folder / "..data")
 
 
-class Listener:
-    """A daemon whose key file is the link of a mount."""
-
-    def __init__(self, folder, text):
-        self.path, self.errors = folder + "/socket", pathlib.Path(folder) / "errors"
-        self.mount = Mount(folder + "/secret", text)
-        command = [PROGRAM, "listen", "--socket", self.path, "--keys", str(self.mount.keys), "--workers", "2"]
-        with self.errors.open("w") as errors:
-            self.run = subprocess.Popen(command, stdout=subprocess.PIPE, stderr=errors)
-        self.run.stdout.readline()
-
-    def told(self):
-        """What it has told of its key file."""
-        told = logged.read_all(self.errors.read_text())
-        return [told_of(line.fields) for line in told if line.fields.get("file") == str(self.mount.keys)]
-
-    def await_told(self, count):
-        """What it has told once these are so many lines, or `PATIENCE` has passed."""
-        until = time.monotonic() + PATIENCE
-        while len(self.told()) < count and time.monotonic() < until:
-            time.sleep(0.02)
-        return self.told()
-
-
 @contextlib.contextmanager
 def listening(text):
+    """A daemon whose key file is the link of a mount, and the mount."""
     with tempfile.TemporaryDirectory() as folder:
-        listener = Listener(folder, text)
+        mount = Mount(folder + "/secret", text)
+        daemon = Daemon(folder, None, "--workers", "2", keys=mount.keys)
         try:
-            yield listener
+            daemon.start().mount = mount
+            yield daemon
         finally:
-            listener.run.kill()
-            listener.run.wait()
-            listener.run.stdout.close()
+            daemon.close()
 
 
 def replaced():
@@ -108,7 +81,7 @@ def replaced():
         yield "the same size and times", listener.mount.keys.stat().st_size, held.st_size
         yield "up in time, too", probe.await_reply(IS_OLD, GRANTED, UP_WITHIN), True
         time.sleep(AWAITED)
-        yield "told once more", listener.told(), ["names: 1"] * 2
+        yield "told once more", listener.told_of_keys(), ["names: 1"] * 2
 
 
 def dangling():
@@ -128,7 +101,7 @@ def dangling():
         listener.mount.replace(OLD)
         yield "is there again", probe.await_reply(IS_OLD, GRANTED, UP_WITHIN), True
         time.sleep(AWAITED)
-        yield "each is told once", listener.told(), ["there is no key file", "names: 1"] * 2
+        yield "each is told once", listener.told_of_keys(), ["there is no key file", "names: 1"] * 2
 
 
 def cut_secret():
@@ -158,17 +131,4 @@ def swapped():
 
 def faults():
     """What went otherwise than it must, and how many checks there were."""
-    seen = [check for part in (replaced, dangling, cut_secret, swapped) for check in part()]
-    wrong = [check for check in seen if check[1] != check[2]]
-    return [f"linked keys: {what}: {got!r}, not {due!r}" for what, got, due in wrong], len(seen)
-
-
-def main():
-    found, count = faults()
-    if found:
-        raise SystemExit("\n".join(found))
-    print(f"{count} as they must be")
-
-
-if __name__ == "__main__":
-    main()
+    return judged(of_each(replaced, dangling, cut_secret, swapped))

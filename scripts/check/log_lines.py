@@ -1,4 +1,3 @@
-#!/usr/bin/env python3
 """The lines of the daemon's log: each line of the table in docs/OPERATING.md is provoked here, or named as one that
 isn't."""
 import contextlib
@@ -7,14 +6,12 @@ import pathlib
 import re
 import resource
 import subprocess
-import sys
-import tempfile
 import time
 
-sys.path.insert(0, str(pathlib.Path(__file__).resolve().parents[1]))
 from check.daemon_rows import HELLO, MINT, NO_REQUEST, SLOW_TOKEN, TOKEN, placed
 from common import KEYS, TOP, daemon, logged
-from common.daemon import connected, frame, received
+from common.daemon import awaited, connected, frame, received
+from common.rows import in_folders, judged
 
 import request
 
@@ -51,13 +48,7 @@ class Log:
 
     def first(self, what):
         """The first line that tells this, once there is one."""
-        until = time.monotonic() + PATIENCE
-        while time.monotonic() < until:
-            for line in self.lines():
-                if line.what == what:
-                    return line
-            time.sleep(0.02)
-        return None
+        return awaited(lambda: next((line for line in self.lines() if line.what == what), None))
 
 
 def listening(log, *words, **how):
@@ -106,9 +97,7 @@ def many_torn(folder):
         for _ in range(TORN):
             with connected(path) as stream:
                 stream.sendall(bytes(3))
-        until = time.monotonic() + PATIENCE
-        while counted(log.lines()) < TORN and time.monotonic() < until:
-            time.sleep(0.05)
+        awaited(lambda: counted(log.lines()) >= TORN)
     lines = log.lines()
     yield "each is told or counted", counted(lines), TORN
     yield "left_out", told(log.first("left_out"), "kind"), ("warning", "connection_fault")
@@ -194,12 +183,10 @@ def said_of(lines, connection):
     return [tuple(map(fields.get, keys)) for fields in of]
 
 
-def awaited(log, connection, count):
+def await_said(log, connection, count):
     """The same, once there are so many."""
-    until = time.monotonic() + PATIENCE
-    while len(told := said_of(log.lines(), connection)) < count and time.monotonic() < until:
-        time.sleep(0.02)
-    return told
+    awaited(lambda: len(said_of(log.lines(), connection)) >= count)
+    return said_of(log.lines(), connection)
 
 
 def left_out(log):
@@ -218,20 +205,18 @@ def requests(folder):
                 stream.sendall(frames[at : at + 700])
             replies = b"".join(frame(reply) for _, reply, _ in REQUESTS)
             yield "replies", received(stream, len(replies)), replies
-            yield "a line for each request", awaited(log, "1", len(due)), due
+            yield "a line for each request", await_said(log, "1", len(due)), due
         with connected(path) as stream:
             stream.sendall(HELLO + frames)
             replies = placed(*(reply for _, reply, _ in REQUESTS))
             yield "replies with their places", received(stream, len(replies)), replies
-            yield "the same of version two", awaited(log, "2", len(due)), due
+            yield "the same of version two", await_said(log, "2", len(due)), due
         with connected(path) as stream:
             for _ in range(EACH):
                 stream.sendall(frame(b""))
                 received(stream, len(NO_REQUEST))
-            until = time.monotonic() + PATIENCE
-            while (there := len(said_of(log.lines(), "3")) + left_out(log)) < EACH and time.monotonic() < until:
-                time.sleep(0.05)
-            yield "each has its line, or is counted", there, EACH
+            awaited(lambda: len(said_of(log.lines(), "3")) + left_out(log) >= EACH)
+            yield "each has its line, or is counted", len(said_of(log.lines(), "3")) + left_out(log), EACH
             yield "a bound for other kinds isn't theirs", len(said_of(log.lines(), "3")) > LINES_MAX, True
     yield "no token", TOKEN.decode() in log.text(), False
 
@@ -297,7 +282,7 @@ def requests_over_http(folder):
         stream.sendall(b"".join(request for request, _ in asked))
         while stream.recv(65_536):
             pass
-        yield "a line for each request", awaited(log, None, len(due)), due
+        yield "a line for each request", await_said(log, None, len(due)), due
 
 
 def no_requests(folder):
@@ -310,20 +295,17 @@ def no_requests(folder):
         run.terminate()
         log.first("end")
     yield "no line", said_of(log.lines(), "1"), []
-    command = [daemon.PROGRAM, "listen", "--socket", f"{folder}/socket", "--keys", KEYS, "--log", "all"]
-    refused = subprocess.run(command, capture_output=True, text=True)
-    yield "another word", (refused.returncode, refused.stderr), (2, "error: what is logged besides is requests\n")
+    run = daemon.refused(f"{folder}/socket", "--log", "all")
+    yield "another word", (run.returncode, run.stderr), (2, "error: what is logged besides is requests\n")
 
 
 def replaced(folder):
     """A daemon whose place another one takes says so."""
     log = Log(folder)
     with listening(log) as (path, run):
-        command = [daemon.PROGRAM, "listen", "--socket", path, "--keys", KEYS, "--replace"]
-        with subprocess.Popen(command, stdout=subprocess.PIPE, stderr=subprocess.DEVNULL) as other:
+        with daemon.running(path, "--replace", stderr=subprocess.DEVNULL):
             yield "replaced", told(log.first("replaced"), "socket"), ("info", path)
             yield "status", run.wait(PATIENCE), 0
-            other.kill()
 
 
 def refused_step(folder):
@@ -344,22 +326,6 @@ def page():
 
 
 def faults():
-    seen = []
-    of_requests = (requests, unread, requests_over_http, no_requests)
-    for part in (connections, many_torn, few_descriptors, replaced, refused_step, key_files, journal, *of_requests):
-        with tempfile.TemporaryDirectory() as folder:
-            seen += part(folder)
-    seen += page()
-    found = [f"log lines: {what}: {got!r} where {due!r} is due" for what, got, due in seen if got != due]
-    return found, len(seen)
-
-
-def main():
-    found, count = faults()
-    if found:
-        raise SystemExit("\n".join(found))
-    print(count, "checks")
-
-
-if __name__ == "__main__":
-    main()
+    parts = [connections, many_torn, few_descriptors, replaced, refused_step, key_files, journal]
+    seen = list(in_folders(*parts, requests, unread, requests_over_http, no_requests))
+    return judged([*seen, *page()])

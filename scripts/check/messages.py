@@ -1,16 +1,13 @@
-#!/usr/bin/env python3
 """What `macaroond listen` and `macaroond serve` say where they can't start, or start with a warning: what is wrong,
 where, and what to do. Each message of the table in docs/OPERATING.md is provoked here."""
 import os
 import pathlib
 import subprocess
-import sys
-import tempfile
 
-sys.path.insert(0, str(pathlib.Path(__file__).resolve().parents[1]))
 from check.daemon_rows import END_FIRST, EXISTS, NO_SOCKET
 from common import KEYS, TOP
-from common.daemon import PROGRAM, connected
+from common.daemon import PROGRAM, command, connected, serve_command
+from common.rows import in_folders, judged
 
 # How many seconds anything may take, on a machine that is busy with other work.
 PATIENCE = 120
@@ -38,7 +35,7 @@ def as_nobody():
 def refused(words, **how):
     """The status of a run that doesn't start, and what it says."""
     pipes = {"stdout": subprocess.PIPE, "stderr": subprocess.PIPE, "text": True, "stdin": subprocess.DEVNULL}
-    run = subprocess.Popen([PROGRAM, *words], **{**pipes, **how})
+    run = subprocess.Popen(words, **{**pipes, **how})
     try:
         _, error = run.communicate(timeout=PATIENCE)
     except subprocess.TimeoutExpired:
@@ -48,12 +45,12 @@ def refused(words, **how):
     return run.returncode, error
 
 
-def listen(socket, keys=KEYS):
-    return ["listen", "--socket", socket, "--keys", str(keys), "--workers", "1"]
+def listen(path, keys=KEYS):
+    return command(path, "--workers", "1", keys=keys)
 
 
-def serve(socket, keys=KEYS):
-    return ["serve", "--socket", socket, "--keys", str(keys), "--workers", "1", "--accept", "1"]
+def serve(path, keys=KEYS):
+    return serve_command(path, accept=1, workers=1, keys=keys)
 
 
 def key_files(folder):
@@ -86,7 +83,7 @@ def key_lines(folder):
     yield "check warns of no key", (checked.returncode, checked.stdout, checked.stderr), (0, "", warning)
     pipes = {"stdout": subprocess.PIPE, "stderr": subprocess.PIPE, "text": True}
     for name, words in (("listen", listen), ("serve", serve)):
-        with subprocess.Popen([PROGRAM, *words(f"{folder}/{name}", empty)], **pipes) as run:
+        with subprocess.Popen(words(f"{folder}/{name}", empty), **pipes) as run:
             run.stdout.readline()
             yield f"{name} warns of no key", run.stderr.readline(), warning
             run.kill()
@@ -116,7 +113,7 @@ def taken(folder):
     """A path on which somebody listens: a daemon, or another program."""
     path = f"{folder}/taken"
     pipes = {"stdout": subprocess.PIPE, "stderr": subprocess.DEVNULL, "text": True}
-    with subprocess.Popen([PROGRAM, *listen(path)], **pipes) as run:
+    with subprocess.Popen(listen(path), **pipes) as run:
         run.stdout.readline()
         yield "a daemon's", refused(listen(path)), (3, f"error: {path}: process {run.pid} has it; {END_FIRST}\n")
         with connected(path):
@@ -132,7 +129,7 @@ def outputs(folder):
     path = f"{folder}/full"
     with open("/dev/full", "w") as full:
         yield "a full device", refused(serve(f"{folder}/once"), stdout=full), (3, f"error: {NO_OUTPUT}\n")
-        with subprocess.Popen([PROGRAM, *listen(path)], stdout=full, stderr=subprocess.PIPE, text=True) as run:
+        with subprocess.Popen(listen(path), stdout=full, stderr=subprocess.PIPE, text=True) as run:
             yield "listen warns", run.stderr.readline(), f"warning: {NO_LINE}\n"
             with connected(path):
                 pass
@@ -149,20 +146,4 @@ def told(page):
 def faults():
     """What went otherwise than it must, and how many checks there were."""
     seen = [("the page's table", told(PAGE.read_text()), [])]
-    for part in (key_files, key_lines, paths, taken, outputs):
-        with tempfile.TemporaryDirectory() as folder:
-            os.chmod(folder, 0o755)
-            seen += part(folder)
-    found = [f"messages: {what}: {got!r} where {due!r} is due" for what, got, due in seen if got != due]
-    return found, len(seen)
-
-
-def main():
-    found, count = faults()
-    if found:
-        raise SystemExit("\n".join(found))
-    print(count, "checks")
-
-
-if __name__ == "__main__":
-    main()
+    return judged([*seen, *in_folders(key_files, key_lines, paths, taken, outputs, mode=0o755)])

@@ -1,18 +1,15 @@
-#!/usr/bin/env python3
 """The numbers of `macaroond listen`, at `/metrics` of its HTTP face: each is made to change here, and compared with what
 was done. Those that docs/OPERATING.md lists are those that are told. And what `macaroond status` prints of a stranger."""
-import pathlib
 import re
 import socket
 import subprocess
-import sys
 import tempfile
 import time
 
-sys.path.insert(0, str(pathlib.Path(__file__).resolve().parents[1]))
 from check.http_sockets import asking, listening, response
 from common import TOP
-from common.daemon import PATIENCE, PROGRAM, frame, received
+from common.daemon import PROGRAM, come_to, connected, frame, reply_to
+from common.rows import judged
 
 import request
 
@@ -37,31 +34,14 @@ def numbers(daemon):
 
 def await_number(daemon, name, value):
     """The number once it is this one, or what it is after all patience."""
-    until = time.monotonic() + PATIENCE
-    while (now := numbers(daemon).get(name)) != value and time.monotonic() < until:
-        time.sleep(0.02)
-    return now
-
-
-def connected(daemon):
-    stream = socket.socket(socket.AF_UNIX)
-    stream.settimeout(PATIENCE)
-    stream.connect(f"{daemon.folder}/socket")
-    return stream
-
-
-def ask(stream, payload):
-    """The reply to a request, without its length."""
-    stream.sendall(frame(payload))
-    length = int.from_bytes(received(stream, 4), "big")
-    return received(stream, length)
+    return come_to(lambda: numbers(daemon).get(name), value)
 
 
 def requests_and_bytes(daemon):
     """Requests of each kind, and each answer, are counted once; and so are bytes."""
     before = numbers(daemon)
-    with connected(daemon) as stream:
-        token = ask(stream, request.mint("v2-binary", "bank", "here", "alice"))[1:]
+    with connected(daemon.path) as stream:
+        token = reply_to(stream, request.mint("v2-binary", "bank", "here", "alice"))[1:]
         text = "hex:" + token.hex()
         payloads = [
             request.mint("v2-binary", "none", "here", "alice"),
@@ -72,12 +52,12 @@ def requests_and_bytes(daemon):
             b"",
             b"\x09",
         ]
-        replies = [ask(stream, payload) for payload in payloads]
+        replies = [reply_to(stream, payload) for payload in payloads]
         narrow = "hex:" + replies[1][1:].hex()
         payloads.append(request.verify("bank", narrow, 0))
-        replies.append(ask(stream, payloads[-1]))
+        replies.append(reply_to(stream, payloads[-1]))
         payloads.append(request.verify("none", text, 0))
-        replies.append(ask(stream, payloads[-1]))
+        replies.append(reply_to(stream, payloads[-1]))
         first = len(frame(request.mint("v2-binary", "bank", "here", "alice")))
         came = first + sum(len(frame(payload)) for payload in payloads)
         went = 5 + len(token) + sum(len(frame(reply)) for reply in replies)
@@ -98,8 +78,8 @@ def requests_and_bytes(daemon):
 def wide(daemon):
     """A request that is dear is counted beside the others."""
     before = numbers(daemon)
-    with connected(daemon) as stream:
-        replies = [ask(stream, WIDE) for _ in range(3)]
+    with connected(daemon.path) as stream:
+        replies = [reply_to(stream, WIDE) for _ in range(3)]
     yield "its replies", replies, [b"\x14"] * 3
     yield "requests_wide_total", await_number(daemon, "requests_wide_total", before["requests_wide_total"] + 3), 3
     yield "connections_wide", await_number(daemon, "connections_wide", 0), 0
@@ -110,10 +90,10 @@ def wide(daemon):
 
 def connections(daemon):
     """Connections past the limit, in a fault, and over HTTP."""
-    with connected(daemon) as one, connected(daemon) as other:
+    with connected(daemon.path) as one, connected(daemon.path) as other:
         for stream in (one, other):
-            ask(stream, b"")
-        with connected(daemon) as third:
+            reply_to(stream, b"")
+        with connected(daemon.path) as third:
             yield "one too many is closed", third.recv(1), b""
         told = numbers(daemon)
         yield "connections at the limit", (told["connections"], told["connections_closed_at_limit_total"]), (2, 1)
@@ -177,16 +157,4 @@ def faults():
             seen += part(daemon)
     with listening("--connections", "2") as daemon:
         seen += connections(daemon)
-    found = [f"numbers: {what}: {got!r} where {due!r} is due" for what, got, due in seen if got != due]
-    return found, len(seen)
-
-
-def main():
-    found, count = faults()
-    if found:
-        raise SystemExit("\n".join(found))
-    print(count, "checks")
-
-
-if __name__ == "__main__":
-    main()
+    return judged(seen)

@@ -1,22 +1,18 @@
-#!/usr/bin/env python3
 """What operators ask a daemon: `macaroond status` in its three forms, the status socket beside the daemon's own, and
 the addresses of `--http-admin`."""
 import os
-import pathlib
 import re
 import socket
 import stat
 import subprocess
-import sys
 import tempfile
-import time
 
-sys.path.insert(0, str(pathlib.Path(__file__).resolve().parents[1]))
 from check.http_rows import README
-from check.http_sockets import asking, bearing, free_port, listening, response
-from check.numbers import WIDE, ask, connected
-from common import KEYS, daemon, logged
-from common.daemon import PATIENCE, PROGRAM
+from check.http_sockets import asking, bearing, listening, response
+from check.numbers import WIDE
+from common import daemon, logged
+from common.daemon import PATIENCE, PROGRAM, awaited, connected, free_port, reply_to
+from common.rows import judged
 
 import request
 
@@ -60,10 +56,8 @@ def listed(path):
 
 def await_listed(path, *requests):
     """The connections once they were answered so many requests, or what they are after all patience."""
-    until = time.monotonic() + PATIENCE
-    while asked_of(rows := listed(path)) != list(requests) and time.monotonic() < until:
-        time.sleep(0.05)
-    return rows
+    awaited(lambda: asked_of(listed(path)) == list(requests))
+    return listed(path)
 
 
 def asked_of(rows):
@@ -72,10 +66,10 @@ def asked_of(rows):
 
 def forms(served):
     """The numbers of both forms are those of the daemon, and the same."""
-    path = f"{served.folder}/socket"
-    with connected(served) as stream:
-        token = "hex:" + ask(stream, request.mint("v2-binary", "bank", "here", "alice"))[1:].hex()
-        ask(stream, request.verify("bank", token, 0))
+    path = served.path
+    with connected(served.path) as stream:
+        token = "hex:" + reply_to(stream, request.mint("v2-binary", "bank", "here", "alice"))[1:].hex()
+        reply_to(stream, request.verify("bank", token, 0))
         told = numbers(path)
         version = subprocess.run([PROGRAM, "--version"], capture_output=True, text=True).stdout
         yield "its version", f"macaroond {version_in(path)}\n", version
@@ -92,11 +86,11 @@ def forms(served):
 
 def connections(served):
     """Each connection has a line, with what it has come to."""
-    path = f"{served.folder}/socket"
-    with connected(served) as one, connected(served) as wide:
-        ask(one, b"")
-        ask(one, b"")
-        ask(wide, WIDE)
+    path = served.path
+    with connected(served.path) as one, connected(served.path) as wide:
+        reply_to(one, b"")
+        reply_to(one, b"")
+        reply_to(wide, WIDE)
         rows = await_listed(path, "1", "2")
         yield "both", asked_of(rows), ["1", "2"]
         yield "their socket", {row["socket"] for row in rows}, {path}
@@ -109,7 +103,7 @@ def connections(served):
 
 def places(served):
     """The status socket is its owner's alone, has no key, and is no place for frames."""
-    path = f"{served.folder}/socket.status"
+    path = f"{served.path}.status"
     yield "its mode", oct(stat.S_IMODE(os.stat(path).st_mode)), "0o600"
     with daemon.connected(path) as stream:
         stream.sendall(bearing(README))
@@ -118,7 +112,7 @@ def places(served):
         for page, due in (("/status", 404), ("/connections", 404), ("/metrics", 200), ("/healthz", 200)):
             gateway.sendall(asking(page))
             yield f"a gateway at {page}", response(gateway)[0], due
-    own = f"{served.folder}/socket"
+    own = served.path
     yield "two pages", status(own, "--prometheus", "--connections"), (2, "", TWO_PAGES)
     if os.getuid() == 0:
         os.chmod(served.folder, 0o755)
@@ -139,8 +133,9 @@ def admin():
         for page, there, here in (("/metrics", 200, 404), ("/healthz", 200, 404), ("/status", 200, 404)):
             yield f"an operator at {page}", asked_at(port, page), there
             yield f"a gateway at {page}", asked_at(served.port, page), here
-    code, error = refused("--http-admin", "0.0.0.0:8080")
-    yield "an address of others", (code, "0.0.0.0:8080" in error), (2, True)
+    with tempfile.TemporaryDirectory() as folder:
+        run = daemon.refused(f"{folder}/socket", "--http-admin", "0.0.0.0:8080")
+    yield "an address of others", (run.returncode, "0.0.0.0:8080" in run.stderr), (2, True)
 
 
 def asked_at(port, page):
@@ -149,47 +144,22 @@ def asked_at(port, page):
         return response(stream)[0]
 
 
-def refused(*words):
-    with tempfile.TemporaryDirectory() as folder:
-        command = [PROGRAM, "listen", "--socket", f"{folder}/socket", "--keys", KEYS, *words]
-        run = subprocess.run(command, capture_output=True, text=True, timeout=PATIENCE)
-    return run.returncode, run.stderr
-
-
 def without():
     """No daemon, one whose path is too long for a second socket, and a second one at the same path."""
     with tempfile.TemporaryDirectory() as folder:
         path = f"{folder}/none"
         yield "no daemon", status(path), (3, "", f"error: {path}.status: {NO_DAEMON}\n")
         long = f"{folder}/{'a' * (LONG - len(folder) - 1)}"
-        command = [PROGRAM, "listen", "--socket", long, "--keys", KEYS]
-        with subprocess.Popen(command, stdout=subprocess.PIPE, stderr=subprocess.PIPE, text=True) as run:
-            first = run.stdout.readline()
+        with daemon.running(long) as run:
             run.terminate()
             said = run.communicate(timeout=PATIENCE)[1]
-        yield "a long path", (first.startswith("listening"), f"warning: {long}.status: " in said), (True, True)
+        yield "a long path", (run.first.startswith("listening"), f"warning: {long}.status: " in said), (True, True)
     with daemon.listening() as (path, _):
-        command = [PROGRAM, "listen", "--socket", path, "--keys", KEYS]
-        run = subprocess.run(command, capture_output=True, text=True, timeout=PATIENCE)
+        run = daemon.refused(path)
         yield "a second daemon warns of nothing", (run.returncode, "warning" in run.stderr), (3, False)
 
 
 def faults():
-    seen = []
     with listening() as served:
-        for part in (forms, connections, places):
-            seen += part(served)
-    seen += [*admin(), *without()]
-    found = [f"operators: {what}: {got!r} where {due!r} is due" for what, got, due in seen if got != due]
-    return found, len(seen)
-
-
-def main():
-    found, count = faults()
-    if found:
-        raise SystemExit("\n".join(found))
-    print(count, "checks")
-
-
-if __name__ == "__main__":
-    main()
+        seen = [row for part in (forms, connections, places) for row in part(served)]
+    return judged([*seen, *admin(), *without()])

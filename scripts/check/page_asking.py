@@ -1,4 +1,3 @@
-#!/usr/bin/env python3
 """Who may ask the page of `macaroond page`: whoever has the URL that it printed. Another user's program, a page elsewhere
 and a name that was pointed at this machine get 403 and nothing else, and connections that are silent shut nobody out.
 
@@ -7,13 +6,11 @@ and a name that was pointed at this machine get 403 and nothing else, and connec
 import contextlib
 import json
 import os
-import pathlib
 import socket
-import sys
 
-sys.path.insert(0, str(pathlib.Path(__file__).resolve().parents[1]))
 from check.page_tab import SECRET, asked_at, secrets_in, serving, v2
 from common import TOP
+from common.rows import judged
 
 COMMAND = [str(TOP / "bin" / "macaroond"), "page"]
 NOTHING = (403, b"")
@@ -144,19 +141,5 @@ def rows():
 
 def faults():
     """What the page tells whom it shouldn't, how many checks were made, and what was left out."""
-    wrong, count = [], 0
-    for part, name, got, due in rows():
-        count += 1
-        if got != due:
-            wrong.append(f"{part}: {name}: {got!r}, and it should be {due!r}")
-    return wrong, count, [] if os.geteuid() == 0 else ["another user's program asks the page (it takes root)"]
-
-
-def main():
-    wrong, count, skipped = faults()
-    print(*wrong, *(f"skipped: {it}" for it in skipped), f"page_asking: {count - len(wrong)} passed", sep="\n")
-    sys.exit(bool(wrong))
-
-
-if __name__ == "__main__":
-    main()
+    seen = ((f"{part}: {name}", got, due) for part, name, got, due in rows())
+    return *judged(seen), [] if os.geteuid() == 0 else ["another user's program asks the page (it takes root)"]

@@ -1,18 +1,15 @@
-#!/usr/bin/env python3
 """`macaroond listen` with tokens that it has seen before: each reply is the one that a new token gets.
 
 Each token is made here, and asked for so often that a daemon that remembers has it. Then what is
 asked differs: the facts, the moment, a byte of the token, the name, the keys of the name.
 """
-import pathlib
-import sys
-import tempfile
 import time
 
-sys.path.insert(0, str(pathlib.Path(__file__).resolve().parents[1]))
-from check.changing_keys import BAD_SIGNATURE, GRANTED, NO_NAME, SECRETS, UP_WITHIN, hashed, lines, packet
-from common.daemon import connected, frame, listening, received
-from measure.load import peak_mebibytes
+from check.changing_keys import BAD_SIGNATURE, GRANTED, NO_NAME, SECRETS, UP_WITHIN, lines
+from common.daemon import connected, frame, received, reply_to, with_keys
+from common.processes import mebibytes
+from common.rows import judged
+from common.tokens import v1
 
 import request
 
@@ -25,20 +22,13 @@ AT = 1_700_000_000
 
 
 def token(secret, *caveats, identifier=b"alice"):
-    """A token of format one in binary: the chain of HMACs is not the program's."""
-    signature = hashed(hashed(b"macaroons-key-generator", SECRETS[secret]), identifier)
-    packets = [packet(b"location", b"here"), packet(b"identifier", identifier)]
-    for caveat in caveats:
-        signature = hashed(signature, caveat.encode())
-        packets.append(packet(b"cid", caveat.encode()))
-    return b"".join([*packets, packet(b"signature", signature)])
+    """A token of format one in binary."""
+    return v1(SECRETS[secret], identifier, [caveat.encode() for caveat in caveats], b"here")
 
 
 def asked(stream, name, content, *facts, moment=AT):
     """The reply to a verify: its first byte, and the others."""
-    stream.sendall(frame(request.verify(name, "hex:" + content.hex(), moment, *facts)))
-    length = int.from_bytes(received(stream, 4), "big")
-    reply = received(stream, length)
+    reply = reply_to(stream, request.verify(name, "hex:" + content.hex(), moment, *facts))
     return reply[0], reply[1:]
 
 
@@ -97,7 +87,7 @@ def keys_change(stream, replace):
 
 def flood(stream, pid):
     """More tokens than there is room for, each three times: the memory stays as it is."""
-    before = peak_mebibytes(pid)
+    before = mebibytes(pid, "VmHWM")
     for first in range(0, FLOOD, 100):
         frames = [
             frame(request.verify("bank", "hex:" + token("old", identifier=b"%d" % number).hex(), AT))
@@ -107,49 +97,25 @@ def flood(stream, pid):
             stream.sendall(b"".join(frames))
             if received(stream, 500) != (b"\0\0\0\1" + bytes([GRANTED])) * 100:
                 yield "a reply in the flood", "another", "granted"
-    grown = peak_mebibytes(pid) - before
+    grown = mebibytes(pid, "VmHWM") - before
     yield f"grown by {grown:.1f} MiB", grown <= MEBIBYTES, True
 
 
 def of_daemon(*words):
     """What a daemon with these options was asked, and what it should have answered."""
-    with tempfile.TemporaryDirectory() as folder:
-        keys = pathlib.Path(folder) / "keys"
-        keys.write_text(lines(bank=["old"], other=["other"]))
-        keys.chmod(0o600)
-
+    with with_keys(lines(bank=["old"], other=["other"]), *words) as daemon, connected(daemon.path) as stream:
         def replace(text):
-            beside = keys.with_name("keys.new")
-            beside.write_text(text)
-            beside.chmod(0o600)
-            beside.rename(keys)
+            daemon.put_keys(text)
             time.sleep(UP_WITHIN)
 
-        with listening(*words, keys=keys) as (path, run), connected(path) as stream:
-            yield from caveats_are_looked_at(stream)
-            yield from bytes_are_compared(stream)
-            yield from names_are_told_apart(stream)
-            yield from keys_change(stream, replace)
-            yield from flood(stream, run.pid)
+        yield from caveats_are_looked_at(stream)
+        yield from bytes_are_compared(stream)
+        yield from names_are_told_apart(stream)
+        yield from keys_change(stream, replace)
+        yield from flood(stream, daemon.run.pid)
 
 
 def faults():
     """What was wrong, and how many checks there were."""
-    found, count = [], 0
-    for words in ([], ["--remember", "1048576"], ["--remember", "0"]):
-        for what, got, due in of_daemon(*words):
-            count += 1
-            if got != due:
-                found.append(f"remembering: {' '.join(words)}: {what}: {got!r} where {due!r} is due")
-    return found, count
-
-
-def main():
-    found, count = faults()
-    if found:
-        raise SystemExit("\n".join(found))
-    print(count, "checks")
-
-
-if __name__ == "__main__":
-    main()
+    kinds = ([], ["--remember", "1048576"], ["--remember", "0"])
+    return judged((f"{words}: {what}", got, due) for words in kinds for what, got, due in of_daemon(*words))

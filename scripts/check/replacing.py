@@ -1,4 +1,3 @@
-#!/usr/bin/env python3
 """How `macaroond listen --replace` takes the sockets of a daemon over: under load, without a daemon, with a fault, and
 twice at once. Nobody is refused, and each request is answered."""
 import contextlib
@@ -8,15 +7,13 @@ import pathlib
 import signal
 import socket
 import subprocess
-import sys
-import tempfile
 import time
 
-sys.path.insert(0, str(pathlib.Path(__file__).resolve().parents[1]))
 from check.daemon_rows import MINT, NO_REQUEST, TOKEN
-from check.ending import Asking, ended, started
-from common import KEYS
-from common.daemon import PROGRAM, connected, frame, received
+from check.ending import Asking, ended, fill, started
+from common import KEYS, daemon
+from common.daemon import PROGRAM, awaited, come_to, connected, frame, received, refused
+from common.rows import in_folders, judged
 
 # How many requests are answered over all replacements at least, by how many clients, and how many replacements.
 ALL, CLIENTS, REPLACED = 50_000, 4, 6
@@ -45,10 +42,7 @@ def replaced(path, left, cut=0):
 
 def left_behind(folder):
     """What lies in a folder but sockets and their locks, once a daemon had time to remove what it doesn't need."""
-    until = time.monotonic() + PATIENCE
-    while (found := lying(folder)) and time.monotonic() < until:
-        time.sleep(0.05)
-    return found
+    return come_to(lambda: lying(folder), [])
 
 
 def lying(folder):
@@ -87,25 +81,18 @@ def alone(folder):
     run = started(path, "--replace")
     yield "its first line", run.first.startswith(f"listening at {path}: "), True
     yield "its turn is given back", lying(folder), []
-    command = [PROGRAM, "listen", "--socket", path, "--keys", KEYS]
-    second = subprocess.run(command, capture_output=True, text=True)
-    due = f"error: {path}: process {child_of(run)} has it; end that process first, or give another path\n"
+    second = refused(path)
+    due = f"error: {path}: process {run.pid} has it; end that process first, or give another path\n"
     yield "one without the option", (second.returncode, second.stderr), (3, due)
     run.send_signal(signal.SIGTERM)
     yield "how it ends", ended(run)[0], 0
-
-
-def child_of(run):
-    """The process that listens: that of the launcher itself."""
-    return run.pid
 
 
 def twice_spelled(folder):
     """One path that is spelled in two ways is one: there is no second socket."""
     path, again = f"{folder}/spelled", f"{folder}/./spelled"
     for words in ([], ["--replace"]):
-        command = [PROGRAM, "listen", "--socket", path, "--verify-socket", again, "--keys", KEYS, *words]
-        run = subprocess.Popen(command, stdout=subprocess.PIPE, stderr=subprocess.PIPE, text=True)
+        run = started(path, "--verify-socket", again, *words)
         _, error = run.communicate(timeout=PATIENCE)
         due = f"error: {again}: process {run.pid} has it; end that process first, or give another path\n"
         yield f"it is refused: {words}", (run.returncode, error), (3, due)
@@ -119,11 +106,9 @@ def faulty(folder):
     keys.write_text("key bank\n")
     occupied = socket.create_server(("127.0.0.1", 0))
     port = occupied.getsockname()[1]
-    rows = (["--keys", keys], 1), (["--keys", KEYS, "--http", f"127.0.0.1:{port}"], 3), (
-        ["--keys", KEYS, "--verify-socket", f"{folder}/none/side"], 3)
-    for words, status in rows:
-        again = subprocess.run([PROGRAM, "listen", "--socket", path, "--replace", *words], capture_output=True)
-        yield f"it is refused: {words[-1]}", again.returncode, status
+    rows = (keys, [], 1), (KEYS, ["--http", f"127.0.0.1:{port}"], 3), (KEYS, ["--verify-socket", f"{folder}/none/side"], 3)
+    for file, words, status in rows:
+        yield f"it is refused: {words or file}", refused(path, "--replace", *words, keys=file).returncode, status
     time.sleep(1.2)
     with connected(path) as stream:
         stream.sendall(frame(b""))
@@ -141,9 +126,7 @@ def twice(folder):
     with connected(path) as stream:
         fill(stream)
         second = started(path, "--replace")
-        third = subprocess.run(
-            [PROGRAM, "listen", "--socket", path, "--keys", KEYS, "--replace"], capture_output=True, text=True
-        )
+        third = refused(path, "--replace")
         due = f"error: {path}: another daemon is taking it over; wait until that is done\n"
         yield "a third one", (third.returncode, third.stderr), (3, due)
         yield "the turn is taken", lying(folder), ["twice" + TURN, "twice.status" + TURN]
@@ -179,12 +162,9 @@ def ended_early(folder):
 def crowded(folder):
     """Of many that start at once one is left in the end, and each other one was replaced or refused."""
     path = f"{folder}/crowded"
-    command = [PROGRAM, "listen", "--socket", path, "--keys", KEYS, "--workers", "1", "--replace"]
     for number in range(ROUNDS):
-        runs = [subprocess.Popen(command, stdout=subprocess.DEVNULL, stderr=subprocess.PIPE) for _ in range(CROWD)]
-        until = time.monotonic() + PATIENCE
-        while sum(run.poll() is None for run in runs) > 1 and time.monotonic() < until:
-            time.sleep(0.05)
+        runs = [daemon.started(path, "--replace", stdout=subprocess.DEVNULL) for _ in range(CROWD)]
+        awaited(lambda: sum(run.poll() is None for run in runs) <= 1)
         statuses = [run.poll() for run in runs]
         yield f"round {number}: one is left", statuses.count(None), 1
         yield f"round {number}: the others", set(statuses) <= {None, 0, 3}, True
@@ -212,17 +192,6 @@ def told_besides(folder):
         yield "and ends at the second", lines(run), replaced(path, 1, 1)
     second.send_signal(signal.SIGTERM)
     yield "the second one", ended(second)[0], 0
-
-
-def fill(stream):
-    """Sends requests and takes no reply, until no more goes."""
-    stream.setblocking(False)
-    until = time.monotonic() + 2
-    while time.monotonic() < until:
-        try:
-            stream.send(MINTING * 100)
-        except BlockingIOError:
-            time.sleep(0.05)
 
 
 def all_sockets(folder):
@@ -299,21 +268,5 @@ def moved(folder):
 
 
 def faults():
-    seen = []
-    for part in (under_load, alone, twice_spelled, faulty, twice, ended_early, crowded, told_besides, all_sockets,
-                 waiting, one_of_two, moved):
-        with tempfile.TemporaryDirectory() as folder:
-            seen += [(f"{part.__name__}: {what}", got, due) for what, got, due in part(folder)]
-    found = [f"replacing: {what}: {got!r} where {due!r} is due" for what, got, due in seen if got != due]
-    return found, len(seen)
-
-
-def main():
-    found, count = faults()
-    if found:
-        raise SystemExit("\n".join(found))
-    print(count, "checks")
-
-
-if __name__ == "__main__":
-    main()
+    parts = [under_load, alone, twice_spelled, faulty, twice, ended_early, crowded, told_besides, all_sockets]
+    return judged(in_folders(*parts, waiting, one_of_two, moved))

@@ -1,17 +1,15 @@
-#!/usr/bin/env python3
 """The two sockets of `macaroond listen`: what each allows, to whom, and that none but the first mints."""
 import contextlib
 import os
-import pathlib
 import random
 import stat
 import subprocess
 import sys
 import tempfile
 
-sys.path.insert(0, str(pathlib.Path(__file__).resolve().parents[1]))
 from check.daemon_rows import JSON_MAX, MINT, TOKEN, in_json
-from common.daemon import PATIENCE, PROGRAM, connected, frame, received
+from common.daemon import PATIENCE, connected, frame, put_keys, received, refused, running
+from common.rows import judged, of_each
 
 import request
 
@@ -32,23 +30,15 @@ WIDE = "f" * JSON_MAX
 @contextlib.contextmanager
 def listening(*words):
     """The paths of the two sockets of a daemon that is started with these words."""
+    lines = [request.key(name, SECRET if name == "bank" else f"the secret of {name}") for name in NAMES]
     with tempfile.TemporaryDirectory() as folder:
         os.chmod(folder, 0o755)
-        keys = pathlib.Path(folder) / "keys"
-        lines = [request.key(name, SECRET if name == "bank" else f"the secret of {name}") for name in NAMES]
-        keys.write_text("".join(f"{line}\n" for line in lines))
-        keys.chmod(0o600)
-        all_path, verify_path = folder + "/socket", folder + "/verify"
-        command = [PROGRAM, "listen", "--socket", all_path, "--keys", str(keys)]
-        command += ["--verify-socket", verify_path, *words]
-        with subprocess.Popen(command, stdout=subprocess.PIPE, stderr=subprocess.DEVNULL) as run:
-            try:
-                told = run.stdout.readline().decode()
-                if not told.startswith(f"listening at {all_path} and {verify_path}: 3 names, "):
-                    sys.exit(f"the line of two sockets is {told}")
-                yield all_path, verify_path
-            finally:
-                run.kill()
+        path, verify_path = folder + "/socket", folder + "/verify"
+        put_keys(folder + "/keys", "".join(f"{line}\n" for line in lines))
+        with running(path, "--verify-socket", verify_path, *words, keys=folder + "/keys", stderr=subprocess.DEVNULL) as run:
+            if not run.first.startswith(f"listening at {path} and {verify_path}: 3 names, "):
+                sys.exit(f"the line of two sockets is {run.first}")
+            yield path, verify_path
 
 
 def replies(stream, payloads):
@@ -119,17 +109,12 @@ def modes():
     with listening("--mode", "600", "--verify-mode", "666") as (path, verify_path):
         found = [stat.S_IMODE(os.stat(each).st_mode) for each in (path, verify_path)]
         yield "modes", found, [0o600, 0o666]
-        command = [PROGRAM, "listen", "--socket", path + "2", "--keys", path[:-6] + "keys", "--verify-socket", verify_path]
-        again = subprocess.run(command, capture_output=True, text=True, timeout=PATIENCE)
+        again = refused(path + "2", "--verify-socket", verify_path, keys=path[:-6] + "keys")
         yield "a path that is taken", again.returncode, 3
         yield "the path that is taken", f"error: {verify_path}: " in again.stderr, True
     with listening() as (path, verify_path):
         yield "mode left out", stat.S_IMODE(os.stat(verify_path).st_mode), 0o600
-    bad = subprocess.run(
-        [PROGRAM, "listen", "--socket", "x", "--keys", "y", "--verify-mode", "700"],
-        capture_output=True, text=True, timeout=PATIENCE,
-    )
-    yield "an unknown mode", bad.returncode, 2
+    yield "an unknown mode", refused("x", "--verify-mode", "700", keys="y").returncode, 2
 
 
 CONNECT = "import socket, sys; socket.socket(socket.AF_UNIX).connect(sys.argv[1])"
@@ -184,16 +169,6 @@ def at_random():
 
 def faults():
     """What is wrong, how many checks there were, and what was left out."""
-    parts = [matrix(), modes(), at_random()]
-    skipped = [] if os.geteuid() == 0 else ["only root can connect as another user"]
-    if not skipped:
-        parts.append(users())
-    rows = [row for part in parts for row in part]
-    found = [f"{name}: {told} and not {expected}" for name, told, expected in rows if told != expected]
-    return found, len(rows), skipped
-
-
-if __name__ == "__main__":
-    found, checks, skipped = faults()
-    print(*found, *skipped, f"{checks - len(found)} passed, {len(found)} failed", sep="\n")
-    sys.exit(bool(found))
+    is_root = os.geteuid() == 0
+    parts = [matrix, modes, at_random, *[users] * is_root]
+    return *judged(of_each(*parts)), [] if is_root else ["only root can connect as another user"]

@@ -11,8 +11,9 @@ import tempfile
 import time
 
 from check.daemon_rows import END_FIRST, NO_REQUEST, answer, listening_line
-from common import KEYS, runs
-from common.daemon import connected, frame
+from common import KEYS
+from common.daemon import command, connected, frame, serve_command
+from common.rows import judged
 
 # What is told where the file in the lock's place is none.
 NO_LOCK = "beside it there is a .lock that is no lock; remove that, or give another path"
@@ -26,11 +27,11 @@ ROUNDS = 60
 
 
 def listen_words(path, keys=KEYS):
-    return [runs.PROGRAM, "listen", "--socket", path, "--keys", keys, "--workers", "1"]
+    return command(path, "--workers", "1", keys=keys)
 
 
 def served_words(path, keys):
-    return [runs.PROGRAM, "serve", "--socket", path, "--keys", keys, "--workers", "1", "--accept", "1"]
+    return serve_command(path, accept=1, workers=1, keys=keys)
 
 
 def started(path, keys=KEYS, words=(), **how):
@@ -179,10 +180,10 @@ def shared_keys(folder):
     for mode in (0o644, 0o602, 0o620, 0o660, 0o604):
         keys.chmod(mode)
         why = f"{keys}: the key file has mode {mode:o}, by which others than its owner may use it; `chmod 600` mends that"
-        for command in (listen_words(f"{folder}/shared", keys), served_words(f"{folder}/served", keys)):
-            run = subprocess.run(command, capture_output=True, text=True, timeout=20)
+        for words in (listen_words(f"{folder}/shared", keys), served_words(f"{folder}/served", keys)):
+            run = subprocess.run(words, capture_output=True, text=True, timeout=20)
             due = (3, "", f"error: {why}; or take it so by --keys-of-others\n")
-            yield f"{command[1]}: keys of mode {mode:o}", (run.returncode, run.stdout, run.stderr), due
+            yield f"{words[1]}: keys of mode {mode:o}", (run.returncode, run.stdout, run.stderr), due
         with started(f"{folder}/shared", keys, words=["--keys-of-others"]) as run:
             run.stdout.readline()
             run.terminate()
@@ -237,11 +238,8 @@ def closed(folder):
 
 def faults():
     """What went otherwise than it must, how many checks there were, and what was left out."""
-    parts, skipped = [together, leftovers, linked_locks, shared_keys, closed], []
-    if os.geteuid() == 0:
-        parts.append(foreign_locks)
-    else:
-        skipped.append("locks of another user: that asks for root")
+    is_root = os.geteuid() == 0
+    parts = [together, leftovers, linked_locks, shared_keys, closed, *[foreign_locks] * is_root]
     with tempfile.TemporaryDirectory() as folder:
-        seen = [row for part in parts for row in part(folder)]
-    return [f"start: {what}: {got!r} where {due!r} is due" for what, got, due in seen if got != due], len(seen), skipped
+        found, count = judged(row for part in parts for row in part(folder))
+    return found, count, [] if is_root else ["locks of another user: that asks for root"]

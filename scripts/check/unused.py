@@ -11,7 +11,7 @@ import re
 import sys
 
 sys.path.insert(0, str(pathlib.Path(__file__).resolve().parents[1]))
-from common import TOP
+from common import TOP, crates
 from wrong_bodies.functions import HEADER, SCOPE, functions_of
 
 # Crates that try and time the others: what they alone call is not the product's.
@@ -29,13 +29,6 @@ MEANT = {
     "mac_serve::whole::serve_all": WHOLE,
 }
 WORD = re.compile(r"[^\W\d][\w'-]*")
-
-
-def crates_below():
-    """What each crate of crates.txt stands on."""
-    lines = (TOP / "crates.txt").read_text().splitlines()
-    parted = [it.partition(":") for it in lines if re.match(r"\w", it)]
-    return {name.split()[0]: rest.split() for name, _, rest in parted}
 
 
 # Functions.
@@ -108,7 +101,7 @@ def scope_of(lines, head):
 
 def uncalled():
     """Each function of a product crate that no product crate calls."""
-    below = {it: rest for it, rest in crates_below().items() if not TRIALS.match(it)}
+    below = {it: rest for it, rest in crates.uses().items() if not TRIALS.match(it)}
     codes = {crate: codes_of(crate) for crate in below}
     whole = {crate: "\n".join("\n".join(it) for it in codes[crate].values()) for crate in below}
     above = {crate: [it for it in below if crate in reached(it, below)] for crate in below}
@@ -186,7 +179,7 @@ def end_of(lines, at, name, indent):
 
 def unnamed():
     """Each lemma and definition that nothing names but its own lines, by its place."""
-    folders = [TOP / "crates" / it for it in crates_below()]
+    folders = [TOP / "crates" / it for it in crates.uses()]
     texts = {path: path.read_text() for it in folders for path in files_of(it)}
     clauses = {path: re.sub(r"//.*", "", text) for path, text in texts.items() if is_code(path)}
     named = collections.Counter()

@@ -3,17 +3,15 @@ import collections
 import concurrent.futures
 import contextlib
 import errno
-import pathlib
 import signal
 import socket
 import subprocess
 import tempfile
 import threading
-import time
 
 from check.daemon_rows import MINT, TOKEN
-from common import KEYS, runs
-from common.daemon import connected, frame, received
+from common import KEYS
+from common.daemon import Daemon, awaited, connected, frame, received, serve_command
 from faults.refusing import Ended, PATIENCE, Row, Watch, in_turn
 
 # What a client sends, a mint and an empty payload, and what is due.
@@ -92,9 +90,8 @@ def once(call, number, times, **variables):
     """A daemon that serves two clients, who talk at the same time: how it ended, and the replies of each."""
     with tempfile.TemporaryDirectory() as folder, Watch(call, number, **variables) as watch:
         path = folder + "/s"
-        words = ["serve", "--socket", path, "--keys", KEYS, "--workers", "2", "--accept", "2"]
         pipes = {"stdout": subprocess.PIPE, "stderr": subprocess.PIPE, "env": watch.environment}
-        with subprocess.Popen([runs.PROGRAM, *words], **pipes) as run:
+        with subprocess.Popen(serve_command(path, accept=2), **pipes) as run:
             first = run.stdout.readline()
             clients = [Client(path, times) for _ in range(2)] if first else []
             try:
@@ -158,7 +155,7 @@ def unremembered():
         daemon = Listening("getentropy", folder, refused=1, error=subprocess.PIPE)
         replies = daemon.two()
         daemon.run.send_signal(signal.SIGTERM)
-        first = daemon.run.stderr.readline()
+        first = daemon.run.stderr.readline().encode()
         daemon.close()
     yield warned("listen", (first, replies))
 
@@ -176,21 +173,13 @@ def stopped():
         daemon = Listening("nothing", folder, "--idle", "30")
         with connected(daemon.path) as stream:
             is_right = is_served(stream)
-            daemon.run.send_signal(signal.SIGSTOP)
-            wait_until(lambda: daemon.states() == {"T"})
+            daemon.halt()
             daemon.run.send_signal(signal.SIGCONT)
-            wait_until(lambda: daemon.states() == {"S"})
+            awaited(lambda: daemon.states() == {"S"})
             is_right &= is_served(stream)
         daemon.close()
     what = "listen with timeouts, stopped and continued"
     return Row(what, 1, collections.Counter(["served" if is_right else None])), [] if is_right else [f"{what}: the client is lost"]
-
-
-def wait_until(holds):
-    """Waits until it holds, or as long as anything may take."""
-    until = time.monotonic() + PATIENCE
-    while not holds() and time.monotonic() < until:
-        time.sleep(0.01)
 
 
 def accepts_again():
@@ -206,21 +195,13 @@ def accepts_again():
     return Row(what, failed, collections.Counter({"both served": failed})), found
 
 
-class Listening:
+class Listening(Daemon):
     """A daemon that stays up, whose calls are watched."""
 
     def __init__(self, call, folder, *words, refused=0, every=0, error=subprocess.DEVNULL, **variables):
-        self.path = folder + "/s"
         self.watch = Watch(call, refused, every, **variables)
-        words = ["listen", "--socket", self.path, "--keys", KEYS, "--workers", "2", *words]
-        pipes = {"stdout": subprocess.PIPE, "stderr": error, "env": self.watch.environment}
-        self.run = subprocess.Popen([runs.PROGRAM, *words], **pipes)
-        self.run.stdout.readline()
-
-    def states(self):
-        """What its threads are at: `S` waits, `T` is stopped (proc(5))."""
-        tasks = pathlib.Path(f"/proc/{self.run.pid}/task").glob("*/stat")
-        return {task.read_text().rpartition(")")[2].split()[0] for task in tasks}
+        super().__init__(folder, KEYS.read_bytes(), "--workers", "2", *words, stderr=error, env=self.watch.environment)
+        self.start()
 
     def refuse_behind(self, number, every=0):
         """Refuses the call that comes so many calls from now."""
@@ -241,8 +222,7 @@ class Listening:
             return sum(is_served(stream) for stream in streams)
 
     def close(self):
-        self.run.kill()
-        self.run.communicate()
+        super().close()
         self.watch.__exit__()
 
 

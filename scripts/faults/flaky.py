@@ -15,8 +15,8 @@ import time
 from check.daemon_rows import MINT, NO_REQUEST, TOKEN
 from check.http_rows import README
 from check.http_sockets import asked, bearing
-from common import KEYS, logged
-from common.daemon import PROGRAM, connected, frame, received
+from common import KEYS
+from common.daemon import Daemon, awaited, connected, frame, received, refused, serving
 from faults.refusing import PATIENCE, Row, Watch
 
 # Where the sequences begin.
@@ -74,33 +74,19 @@ def verified(stream):
     return None if status == 200 else f"status {status}"
 
 
-class Daemon:
-    """A daemon that meets a sequence, in a folder, with a key file of its own."""
+class Meeting(Daemon):
+    """A daemon that meets a sequence, with a key file of its own."""
 
     def __init__(self, folder, flaky, *words):
-        self.path, self.http, self.keys = f"{folder}/s", f"{folder}/h", pathlib.Path(folder) / "keys"
-        if not self.keys.exists():
-            self.write_keys(KEYS.read_bytes())
-        self.log = open(f"{folder}/log{time.monotonic_ns()}", "w+")
-        self.words = [PROGRAM, "listen", "--socket", self.path, "--http", f"unix:{self.http}", "--keys", self.keys]
-        self.words += ["--workers", "2", "--drain", str(DRAIN), *words]
-        self.environment = flaky.environment
-        pipes = {"stdout": subprocess.PIPE, "stderr": self.log, "env": flaky.environment, "text": True}
-        self.run = subprocess.Popen(self.words, **pipes)
-        self.first = self.run.stdout.readline()
-
-    def write_keys(self, text):
-        new = self.keys.with_suffix(".new")
-        new.touch(mode=0o600)
-        new.write_bytes(text)
-        new.rename(self.keys)
+        self.http = f"{folder}/h"
+        there = pathlib.Path(folder, "keys").exists()
+        words = ["--http", f"unix:{self.http}", "--workers", "2", "--drain", str(DRAIN), *words]
+        super().__init__(folder, None if there else KEYS.read_bytes(), *words, env=flaky.environment)
+        self.errors = pathlib.Path(folder, f"log{time.monotonic_ns()}")
+        self.start()
 
     def lines(self):
-        self.log.seek(0)
-        return [line for line in logged.read_all(self.log.read()) if line.what not in ("start", "left_out")]
-
-    def has_told(self, what):
-        return any(line.what == what for line in self.lines())
+        return [line for line in super().lines() if line.what not in ("start", "left_out")]
 
     def http_stream(self):
         return connected(self.http, PATIENCE)
@@ -113,20 +99,6 @@ class Daemon:
             return self.run.wait(DRAIN + BEYOND)
         return None
 
-    def close(self):
-        self.run.kill()
-        self.run.wait()
-        self.run.stdout.close()
-        self.log.close()
-
-
-def is_so(holds):
-    """Whether it comes to hold in the time that anything may take."""
-    until = time.monotonic() + PATIENCE
-    while not holds() and time.monotonic() < until:
-        time.sleep(0.05)
-    return holds()
-
 
 def talked(daemon, seconds):
     """What clients of both kinds met in so many seconds, while the daemon reads its key file anew."""
@@ -136,9 +108,9 @@ def talked(daemon, seconds):
         clients = [Talking(lambda it=stream: piped(it)) for stream in frames]
         clients += [Talking(lambda it=stream: verified(it)) for stream in over_http]
         until = time.monotonic() + seconds
-        daemon.write_keys(KEYS.read_bytes() + b"# changed\n")
+        daemon.put_keys(KEYS.read_bytes() + b"# changed\n")
         daemon.run.send_signal(signal.SIGHUP)
-        yield "the changed key file is read", is_so(lambda: daemon.has_told("keys_read")), True
+        yield "the changed key file is read", awaited(lambda: daemon.told("keys_read")) > 0, True
         time.sleep(max(0, until - time.monotonic()))
         for one in clients:
             one.is_over = True
@@ -148,28 +120,27 @@ def talked(daemon, seconds):
         yield "each was served", all(one.times for one in clients), True
 
 
-def refused(daemon):
+def second_one(daemon):
     """A second daemon, which meets the same, is refused the path."""
-    command = [*daemon.words[:-2], "--drain", "1"]
     with contextlib.suppress(subprocess.TimeoutExpired):
-        second = subprocess.run(command, capture_output=True, text=True, env=daemon.environment, timeout=PATIENCE)
+        second = refused(daemon.path, *daemon.words[:-2], "--drain", "1", keys=daemon.keys, **daemon.how)
         return second.returncode, second.stderr
     return None
 
 
 def kept_up(folder, flaky, seconds):
     """One daemon from its start to its end, and one that takes its place."""
-    daemon = Daemon(folder, flaky)
+    daemon = Meeting(folder, flaky)
     try:
-        yield "its first line", daemon.first.startswith(f"listening at {daemon.path}: "), True
-        if not daemon.first:
+        yield "its first line", daemon.run.first.startswith(f"listening at {daemon.path}: "), True
+        if not daemon.run.first:
             return
         yield from talked(daemon, seconds)
         due = f"error: unix:{daemon.http}: process {daemon.run.pid} has it; end that process first, or give another path\n"
-        yield "a second one", refused(daemon), (3, due)
-        other = Daemon(folder, flaky, "--replace")
+        yield "a second one", second_one(daemon), (3, due)
+        other = Meeting(folder, flaky, "--replace")
         try:
-            yield "one that takes its place", other.first.startswith(f"listening at {other.path}: "), True
+            yield "one that takes its place", other.run.first.startswith(f"listening at {other.path}: "), True
             yield "the end of the one that is replaced", daemon.ends(None), 0
             told = [line.what for line in daemon.lines() if line.what != "keys_read"]
             yield "what it told", [what for what in told if what != "system_fault"], ["replaced", "drain", "end"]
@@ -191,16 +162,11 @@ def system_faults(daemon):
 def counted(folder, flaky):
     """`serve` with its two clients."""
     path = f"{folder}/counted"
-    words = [PROGRAM, "serve", "--socket", path, "--keys", KEYS, "--workers", "2", "--accept", "2"]
-    with subprocess.Popen(words, stdout=subprocess.PIPE, env=flaky.environment, text=True) as run:
-        try:
-            run.stdout.readline()
-            for _ in range(2):
-                with connected(path, PATIENCE) as stream:
-                    yield "a client of `serve`", piped(stream), None
-            yield "how `serve` ends", (run.stdout.read(), run.wait(PATIENCE)), ("served 2 faults 0\n", 0)
-        finally:
-            run.kill()
+    with serving(path, accept=2, env=flaky.environment) as run:
+        for _ in range(2):
+            with connected(path, PATIENCE) as stream:
+                yield "a client of `serve`", piped(stream), None
+        yield "how `serve` ends", (run.stdout.read(), run.wait(PATIENCE)), ("served 2 faults 0\n", 0)
 
 
 def row_of(seed, library, seconds):

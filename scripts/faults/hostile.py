@@ -33,7 +33,8 @@ import time
 
 sys.path.insert(0, str(pathlib.Path(__file__).resolve().parents[1]))
 from common import daemon, programs
-from common.daemon import frame
+from common.daemon import awaited, come_to, frame
+from common.processes import mebibytes, status
 
 import client
 import request
@@ -128,15 +129,6 @@ def behaves(asked, until):
     return count, longest
 
 
-def status(pid):
-    lines = pathlib.Path(f"/proc/{pid}/status").read_text().splitlines()
-    return dict(line.split(":\t", 1) for line in lines if ":\t" in line)
-
-
-def mebibytes(pid, field):
-    return int(status(pid)[field].split()[0]) / 1024
-
-
 def state(pid):
     """How many descriptors and threads the daemon has."""
     return len(os.listdir(f"/proc/{pid}/fd")), int(status(pid)["Threads"])
@@ -144,19 +136,13 @@ def state(pid):
 
 def settled(pid, before):
     """The state once the last connections have ended, waited for up to ten seconds."""
-    for _ in range(100):
-        if state(pid) == before:
-            break
-        time.sleep(0.1)
-    return state(pid)
+    return come_to(lambda: state(pid), before, patience=10, pause=0.1)
 
 
 def settled_size(pid, most=SIZE_MAX):
     """How many MiB the daemon has once they are no more than `most`, waited for up to `SETTLING` seconds."""
-    until = time.monotonic() + SETTLING
-    while (size := mebibytes(pid, "VmRSS")) > most and time.monotonic() < until:
-        time.sleep(0.1)
-    return size
+    awaited(lambda: mebibytes(pid, "VmRSS") <= most, SETTLING, pause=0.1)
+    return mebibytes(pid, "VmRSS")
 
 
 def crowded(path, seconds):

@@ -10,19 +10,17 @@ without pause: no connection is answered under one and then under an older one. 
 `cc`, and for bin/macaroond.
 """
 import contextlib
-import hashlib
-import hmac
 import itertools
 import pathlib
 import signal
-import subprocess
 import sys
 import tempfile
 import threading
 import time
 
 sys.path.insert(0, str(pathlib.Path(__file__).resolve().parents[1]))
-from common.daemon import PROGRAM, connected, frame, received
+from common.daemon import Daemon, connected, frame, received
+from common.tokens import signed
 from faults.refusing import PATIENCE, Watch, has_compiler, watching
 
 import request
@@ -43,30 +41,21 @@ LONG = "a" * 1000
 WIDE = ["a" * 900] * 5
 
 
-class Moved:
+class Moved(Daemon):
     """A daemon whose requests for memory and whose moves are counted."""
 
     def __init__(self, folder):
-        self.folder, self.path = pathlib.Path(folder), folder + "/socket"
-        self.keys = self.folder / "keys"
-        self.put(0)
         self.watch = Watch("memory", SIZE=str(REFUSED))
-        words = ["listen", "--socket", self.path, "--keys", str(self.keys), "--loops", "2", "--workers", "2"]
-        pipes = {"stdout": subprocess.PIPE, "stderr": subprocess.DEVNULL, "env": self.watch.environment}
-        self.run = subprocess.Popen([PROGRAM, *words], **pipes)
-        self.run.stdout.readline()
-
-    def put(self, number):
-        """Puts the key file of a number in the place of the one before."""
-        beside = self.folder / "keys.new"
-        beside.write_text(f"key bank {b'bank'.hex()}\nkey turn {secret(number).hex()}\n")
-        beside.chmod(0o600)
-        beside.rename(self.keys)
+        super().__init__(folder, key_file(0), "--loops", "2", "--workers", "2", env=self.watch.environment)
+        self.start()
 
     def close(self):
-        self.run.kill()
-        self.run.communicate()
+        super().close()
         self.watch.__exit__()
+
+
+def key_file(number):
+    return f"key bank {b'bank'.hex()}\nkey turn {secret(number).hex()}\n"
 
 
 def secret(number):
@@ -74,15 +63,8 @@ def secret(number):
 
 
 def signature(number, identifier, caveats):
-    """What a token is signed with under a table, made here: the chain of HMACs is not the program's."""
-    key = hashed(b"macaroons-key-generator", secret(number))
-    for text in (identifier, *caveats):
-        key = hashed(key, text.encode())
-    return key
-
-
-def hashed(key, text):
-    return hmac.new(key, text, hashlib.sha256).digest()
+    """What a token is signed with under a table."""
+    return signed(secret(number), identifier.encode(), [caveat.encode() for caveat in caveats])
 
 
 class Talker(threading.Thread):
@@ -269,7 +251,7 @@ class Publishing(Talker):
 
     def talk(self):
         self.count += 1
-        self.moved.put(self.count)
+        self.moved.put_keys(key_file(self.count))
         self.moved.run.send_signal(signal.SIGHUP)
         time.sleep(0.003)
 

@@ -23,7 +23,7 @@ import time
 
 sys.path.insert(0, str(pathlib.Path(__file__).resolve().parents[1]))
 from check.clients import has_go
-from common.daemon import PATIENCE, frame
+from common.daemon import PATIENCE, awaited, frame
 from faults import scaling_asking, scaling_cluster, scaling_go
 from faults.scaling_asking import LIFE, REPLY_WITHIN
 from faults.scaling_cluster import balanced, started
@@ -120,19 +120,19 @@ class Changes:
         return sum(self.made.get(what, 0) for what in ("killed", "drained", "replaced"))
 
     def killed(self, daemon):
-        daemon.kill()
+        daemon.close()
         time.sleep(REST)
         daemon.start()
         self.note("killed")
 
     def drained(self, daemon):
-        self.check("a daemon that was told to end", daemon.drain(), 0)
+        self.check("a daemon that was told to end", daemon.end(), 0)
         time.sleep(REST)
         daemon.start()
         self.note("drained")
 
     def replaced(self, daemon):
-        self.check("a daemon that is replaced", daemon.drain(), 0)
+        self.check("a daemon that is replaced", daemon.end(), 0)
         daemon.start()
         self.note("replaced")
 
@@ -144,10 +144,10 @@ class Changes:
         """The same of a key file of which this kind of line is told."""
         counts = {daemon: daemon.told(due) + 1 for daemon in self.list}
         for daemon in self.list:
-            daemon.write_keys(text)
+            daemon.put_keys(text)
             time.sleep(STAGGER)
         for daemon, count in counts.items():
-            self.check(f"{daemon.name} tells {due}", daemon.await_told(due, count), True)
+            self.check(f"{daemon.name} tells {due}", awaited(lambda: daemon.told(due) >= count), True)
 
     def refused(self):
         """All get a key file with a fault: the keys stay, and no daemon is taken out."""
@@ -166,14 +166,14 @@ class Changes:
         time.sleep(LIFE + 1)
         self.spread(self.number)
         for daemon in self.list:
-            with Client(daemon.socket, timeout=REPLY_WITHIN) as client:
+            with Client(daemon.path, timeout=REPLY_WITHIN) as client:
                 self.check("a token of the new key", client.verify("bank", kept).code, 0)
                 self.check("one of a key that went", client.verify("bank", self.retired).code, 23)
         self.retired = kept
         self.note("keys rolled")
 
     def minted(self, daemon):
-        with Client(daemon.socket, timeout=REPLY_WITHIN) as client:
+        with Client(daemon.path, timeout=REPLY_WITHIN) as client:
             return client.mint("bank", "conductor")
 
     def all(self):

@@ -7,16 +7,14 @@ shares verifies over HTTP.
 import contextlib
 import pathlib
 import shutil
-import signal
 import subprocess
 import sys
 import time
 import typing
 
 sys.path.insert(0, str(pathlib.Path(__file__).resolve().parents[1]))
-from check.http_sockets import free_port
-from common import TOP, logged
-from common.daemon import PATIENCE, PROGRAM
+from common import TOP
+from common.daemon import PATIENCE, Daemon, free_port
 
 from macaroond import Client, MacaroondError
 
@@ -45,58 +43,18 @@ def missing():
     return [name for name in ("haproxy", "openssl") if program_of(name) is None]
 
 
-class Daemon:
-    """A daemon with sockets, a key file and a log of its own, and its successors there."""
+class Member(Daemon):
+    """A daemon with sockets, a key file and a log of its own in the folder of all, and its successors there."""
 
     def __init__(self, folder, name, text, facts="header"):
-        self.folder, self.name, self.facts, self.run, self.lives = folder, name, facts, None, 0
-        self.socket = f"{folder}/{name}.socket"
-        self.errors = folder / f"{name}.errors"
-        self.write_keys(text)
-
-    def write_keys(self, text):
-        """Puts a new key file in the place of the old one."""
-        beside = self.folder / f"{self.name}.keys.new"
-        beside.write_text(text)
-        beside.chmod(0o600)
-        beside.rename(self.folder / f"{self.name}.keys")
+        self.name, self.facts = name, facts
+        words = ["--mode", "660", "--http", f"unix:{name}.http", "--http-mode", "660", "--http-facts", facts]
+        super().__init__(folder, text, *words, name=f"{name}.socket", keys=f"{name}.keys", cwd=folder)
 
     def start(self):
-        """Starts a daemon, and waits until clients can connect."""
-        words = ["--socket", f"{self.name}.socket", "--keys", f"{self.name}.keys", "--mode", "660"]
-        words += ["--http", f"unix:{self.name}.http", "--http-mode", "660", "--http-facts", self.facts]
-        with self.errors.open("ab") as errors:
-            pipes = {"stdout": subprocess.PIPE, "stderr": errors}
-            self.run = subprocess.Popen([PROGRAM, "listen", *words], cwd=self.folder, **pipes)
-        if not self.run.stdout.readline().startswith(b"listening at "):
+        super().start()
+        if not self.run.first.startswith("listening at "):
             raise SystemExit(f"{self.name} doesn't start: {self.errors.read_text()}")
-        self.lives += 1
-
-    def kill(self):
-        if self.run is not None:
-            self.run.kill()
-            self.run.wait()
-            self.run.stdout.close()
-            self.run = None
-
-    def drain(self):
-        """Tells it to end, and gives the status with which it ended."""
-        self.run.send_signal(signal.SIGTERM)
-        status = self.run.wait(PATIENCE)
-        self.run.stdout.close()
-        self.run = None
-        return status
-
-    def told(self, what):
-        """How often the daemons here have told a line of this kind."""
-        return sum(line.what == what for line in logged.read_all(self.errors.read_text()))
-
-    def await_told(self, what, count):
-        """Whether so many lines of this kind are told in time."""
-        until = time.monotonic() + PATIENCE
-        while self.told(what) < count and time.monotonic() < until:
-            time.sleep(0.05)
-        return self.told(what) >= count
 
 
 def certificates(folder):
@@ -152,14 +110,14 @@ def balancing(folder, configuration, **variables):
 @contextlib.contextmanager
 def started(folder, text, facts="header"):
     """Three daemons by name, each with this key file."""
-    daemons = {name: Daemon(folder, name, text, facts) for name in NAMES}
+    daemons = {name: Member(folder, name, text, facts) for name in NAMES}
     try:
         for daemon in daemons.values():
             daemon.start()
         yield daemons
     finally:
         for daemon in daemons.values():
-            daemon.kill()
+            daemon.close()
 
 
 @contextlib.contextmanager

@@ -21,11 +21,12 @@ import threading
 import time
 
 sys.path.insert(0, str(pathlib.Path(__file__).resolve().parents[1]))
-from check.http_sockets import free_port
 from common import TOP, programs
+from common.daemon import free_port
+from common.processes import mebibytes
 from faults import scaling, scaling_asking, scaling_cluster
-from faults.hostile import mebibytes, settled, state
-from faults.scaling_cluster import Daemon, balanced, program_of, running, started
+from faults.hostile import settled, state
+from faults.scaling_cluster import Member, balanced, program_of, running, started
 
 from macaroond import Client
 
@@ -119,7 +120,7 @@ class Soak(scaling.Changes):
         """Each daemon refuses a token of the key that went, and grants one of the next key."""
         kept = self.minted(self.list[0])
         for daemon in self.list:
-            with Client(daemon.socket, timeout=scaling_asking.REPLY_WITHIN) as client:
+            with Client(daemon.path, timeout=scaling_asking.REPLY_WITHIN) as client:
                 self.check(f"a token of key {gone + 1}", client.verify("bank", kept).code, 0)
                 self.check(f"a token of key {gone}", client.verify("bank", self.retired).code, 23)
         self.retired = kept
@@ -159,10 +160,10 @@ class Soak(scaling.Changes):
 
 def left_over(soak, folder, text):
     """What the daemons still have beside one that has just been started, once nobody asks."""
-    fresh = Daemon(folder, "fresh", text, soak.list[0].facts)
+    fresh = Member(folder, "fresh", text, soak.list[0].facts)
     fresh.start()
     try:
-        with Client(fresh.socket, timeout=scaling_asking.REPLY_WITHIN) as client:
+        with Client(fresh.path, timeout=scaling_asking.REPLY_WITHIN) as client:
             client.mint("shop", "alice")
         time.sleep(1)
         due = state(fresh.run.pid)
@@ -170,7 +171,7 @@ def left_over(soak, folder, text):
             soak.check(f"descriptors and threads of {daemon.name}", settled(daemon.run.pid, due), due)
         print(f"soak: descriptors and threads once all have left: {due}, as of one that was just started")
     finally:
-        fresh.kill()
+        fresh.close()
 
 
 def soaked(seconds, folder):

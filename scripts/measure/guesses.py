@@ -19,7 +19,7 @@ import time
 
 sys.path.insert(0, str(pathlib.Path(__file__).resolve().parents[1]))
 from common.daemon import connected, frame, listening
-from measure.remembered import GRANTED, root_key, token
+from measure.remembered import GRANTED, secret, token
 
 import request
 
@@ -34,7 +34,7 @@ def asking(content):
 
 def timed(path, tries):
     """For each byte of the signature the times of the tries in which it is wrong."""
-    good = base64.urlsafe_b64decode(token(root_key(), 1, CAVEATS) + "==")
+    good = base64.urlsafe_b64decode(token(secret(), 1, CAVEATS) + "==")
     first = len(good) - SIGNATURE
     wrong = [asking(good[:at] + bytes([good[at] ^ 1]) + good[at + 1 :]) for at in range(first, len(good))]
     times = [[] for _ in wrong]

@@ -23,11 +23,11 @@ import time
 import typing
 
 sys.path.insert(0, str(pathlib.Path(__file__).resolve().parents[1]))
-from check.http_sockets import SECRET, asking, free_port, response
+from check.http_sockets import SECRET, asking, response
 from check.http_rows import v2
 from common import TOP
-from common.daemon import PATIENCE, PROGRAM
-from measure.idle import mebibytes, ticks
+from common.daemon import PATIENCE, begun, command, ending, free_port, put_keys
+from common.processes import mebibytes, ticks
 
 import request
 
@@ -48,8 +48,8 @@ class Figure(typing.NamedTuple):
 
 def remembering(folder, port):
     """A daemon that remembers tokens: the one that is asked for here is hashed twice."""
-    words = ["listen", "--socket", f"{folder}/socket", "--keys", f"{folder}/keys", "--http", f"127.0.0.1:{port}"]
-    return [PROGRAM, *words, "--http-facts", "header"], None
+    words = ["--http", f"127.0.0.1:{port}", "--http-facts", "header"]
+    return command(f"{folder}/socket", *words, keys=f"{folder}/keys"), None
 
 
 def macaroond(folder, port):
@@ -66,15 +66,11 @@ def go(folder, port):
 def serving(service):
     """The port of a service, and its process."""
     with tempfile.TemporaryDirectory() as folder:
-        keys = pathlib.Path(folder) / "keys"
-        keys.write_text(request.key("bank", SECRET) + "\n")
-        keys.chmod(0o600)
+        put_keys(f"{folder}/keys", request.key("bank", SECRET) + "\n")
         port = free_port()
         words, environment = service(folder, port)
-        with subprocess.Popen(words, stdout=subprocess.PIPE, stderr=subprocess.DEVNULL, env=environment) as run:
-            run.stdout.readline()
+        with ending(begun(words, stderr=subprocess.DEVNULL, env=environment)) as run:
             yield port, run.pid
-            run.kill()
 
 
 def loaded(port, pid, path, seconds, fields):

@@ -17,20 +17,10 @@ import time
 
 sys.path.insert(0, str(pathlib.Path(__file__).resolve().parents[1]))
 from common.daemon import connected, listening
+from common.processes import mebibytes, ticks
 
 ASKED, DUE = bytes(4), bytes([0, 0, 0, 1, 16])
 COUNTS, SILENT = [1000, 9950], 5
-
-
-def ticks(pid):
-    """The processor time of the process, in ticks."""
-    fields = pathlib.Path(f"/proc/{pid}/stat").read_text().rpartition(")")[2].split()
-    return int(fields[11]) + int(fields[12])
-
-
-def mebibytes(pid):
-    text = pathlib.Path(f"/proc/{pid}/status").read_text()
-    return next(int(line.split()[1]) for line in text.splitlines() if line.startswith("VmRSS")) / 1024
 
 
 def joined(path):

@@ -22,6 +22,7 @@ import time
 
 sys.path.insert(0, str(pathlib.Path(__file__).resolve().parents[1]))
 from common.daemon import frame, listening
+from common.processes import mebibytes, processor_seconds
 
 import client
 import request
@@ -99,16 +100,6 @@ def drive(job):
     return flood(path, asked, due, until)
 
 
-def processor_seconds(pid):
-    fields = pathlib.Path(f"/proc/{pid}/stat").read_text().rpartition(")")[2].split()
-    return (int(fields[11]) + int(fields[12])) / os.sysconf("SC_CLK_TCK")
-
-
-def peak_mebibytes(pid):
-    lines = pathlib.Path(f"/proc/{pid}/status").read_text().splitlines()
-    return next(int(line.split()[1]) for line in lines if line.startswith("VmHWM")) / 1024
-
-
 def told(name, count, seconds, times, processor, peak):
     print(f"{name:10} {count / seconds:12,.0f} requests a second", end="")
     if times:
@@ -141,7 +132,7 @@ def measure(path, pid, given):
             seconds = time.monotonic() - begin
             processor = processor_seconds(pid) - before
             times = [one for _, some in results for one in some]
-            told(name, sum(count for count, _ in results), seconds, times, processor, peak_mebibytes(pid))
+            told(name, sum(count for count, _ in results), seconds, times, processor, mebibytes(pid, "VmHWM"))
 
 
 if __name__ == "__main__":

@@ -9,9 +9,6 @@ one after the other, and for each the loads: 64 connections that share 1,000 tok
 their replies, and each reply is compared. A line tells the daemon's processor time for each
 request, and its greatest memory. Asks for bin/macaroond, or the program that MACAROOND names.
 """
-import base64
-import hashlib
-import hmac
 import multiprocessing
 import pathlib
 import socket
@@ -21,7 +18,8 @@ import time
 sys.path.insert(0, str(pathlib.Path(__file__).resolve().parents[1]))
 from common import KEYS
 from common.daemon import frame, listening, received
-from measure.load import peak_mebibytes, processor_seconds
+from common.processes import mebibytes, processor_seconds
+from common.tokens import text_of, v2
 
 import request
 
@@ -31,31 +29,21 @@ GRANTED = (1).to_bytes(4, "big") + bytes([0])
 LOADS = {"1,000 tokens": 1_000, "100,000 tokens": 100_000, "none twice": None}
 
 
-def hashed(key, text):
-    return hmac.new(key, text, hashlib.sha256).digest()
-
-
-def root_key():
-    """The key of the name `bank` in the key file."""
+def secret():
+    """The secret of the name `bank` in the key file."""
     lines = pathlib.Path(KEYS).read_text().splitlines()
-    secret = next(line.split()[2] for line in lines if line.startswith("key bank "))
-    return hashed(b"macaroons-key-generator", bytes.fromhex(secret))
+    return bytes.fromhex(next(line.split()[2] for line in lines if line.startswith("key bank ")))
 
 
-def token(root, number, caveats):
+def token(key, number, caveats):
     """A token of format two as base64 text, for an identifier of its own."""
-    identifier = b"user %d" % number
-    signature, fields = hashed(root, identifier), b"\2" + b"\2%c" % len(identifier) + identifier + b"\0"
-    for caveat in caveats:
-        signature = hashed(signature, caveat.encode())
-        fields += b"\2%c" % len(caveat) + caveat.encode() + b"\0"
-    return base64.urlsafe_b64encode(fields + b"\0" + b"\6\x20" + signature).decode().rstrip("=")
+    return text_of(v2(key, b"user %d" % number, [caveat.encode() for caveat in caveats]))
 
 
 def frames(job):
     """The frames of verifies of these tokens, each granted."""
-    root, numbers, caveats = job
-    return [frame(request.verify("bank", token(root, number, caveats), 0, *caveats)) for number in numbers]
+    key, numbers, caveats = job
+    return [frame(request.verify("bank", token(key, number, caveats), 0, *caveats)) for number in numbers]
 
 
 def drive(job):
@@ -80,11 +68,11 @@ def drive(job):
 def measured(pool, remember, caveats, requests):
     """Drives a daemon with each load, and tells the cost of each."""
     words = ["--remember", "0"] if remember == 0 else []
-    root, first = root_key(), 0
+    key, first = secret(), 0
     for name, size in LOADS.items():
         with listening(*words) as (path, daemon):
             count = size or requests
-            jobs = [(root, range(first + at, first + count, CLIENTS), caveats) for at in range(CLIENTS)]
+            jobs = [(key, range(first + at, first + count, CLIENTS), caveats) for at in range(CLIENTS)]
             asked = pool.map(frames, jobs)
             first += count
             if size:
@@ -95,7 +83,7 @@ def measured(pool, remember, caveats, requests):
             before, begin = processor_seconds(daemon.pid), time.monotonic()
             done = sum(pool.map(drive, [(path, some, requests // CLIENTS) for some in asked]))
             processor, seconds = processor_seconds(daemon.pid) - before, time.monotonic() - begin
-            cost, peak = processor / done * 1e6, peak_mebibytes(daemon.pid)
+            cost, peak = processor / done * 1e6, mebibytes(daemon.pid, "VmHWM")
             how = "--remember 0" if remember == 0 else "the default"
             print(f"{len(caveats):2} caveats, {name:14}, {how:12} {cost:6.2f} us of processor each", end="")
             print(f"   {done / seconds:9,.0f} requests a second   {peak:.0f} MiB at most", flush=True)

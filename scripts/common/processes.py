@@ -1,0 +1,25 @@
+"""What the system tells of a process."""
+import os
+import pathlib
+
+TICKS = os.sysconf("SC_CLK_TCK")
+
+
+def status(pid):
+    lines = pathlib.Path(f"/proc/{pid}/status").read_text().splitlines()
+    return dict(line.split(":\t", 1) for line in lines if ":\t" in line)
+
+
+def mebibytes(pid, field="VmRSS"):
+    """The memory that it has; by `VmHWM` the most that it has had."""
+    return int(status(pid)[field].split()[0]) / 1024
+
+
+def ticks(pid):
+    """Its processor time, in ticks of the system's clock."""
+    fields = pathlib.Path(f"/proc/{pid}/stat").read_text().rpartition(")")[2].split()
+    return int(fields[11]) + int(fields[12])
+
+
+def processor_seconds(pid):
+    return ticks(pid) / TICKS
