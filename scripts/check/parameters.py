@@ -18,11 +18,6 @@ SERVER = "what a server is started or run with isn't one type yet"
 MEANT = {
     "mac_daemon::connection::serve_stream": SERVER,
     "mac_daemon::crew::Crew::take_on": SERVER,
-    "mac_daemon::listening::listen": SERVER,
-    "mac_daemon::listening::open_first": SERVER,
-    "mac_daemon::serving::accept_all": SERVER,
-    "mac_gate::gate::open_gate": SERVER,
-    "mac_gate::gate::start_all": SERVER,
     "mac_loop::looping::Loop::look_after": SERVER,
     "mac_loop::looping::sharing::Loop::give": SERVER,
     "mac_loop::looping::sharing::Loop::move_to": SERVER,
@@ -44,7 +39,7 @@ MEANT = {
     "mac_serve::inbound::Inbound::read_to_end": SERVER,
     "mac_serve::inbound::Inbound::run": SERVER,
     "mac_words::saying::say_mint": "the words of a mint, one by one, and the table",
-    "mac_worker::work::turn_from": SERVER,
+    "mac_pool::work::turn_from": SERVER,
     "macaroond::key_watch::listen_and_watch": SERVER,
     "macaroond::key_watch::listen_holding": SERVER,
 }
