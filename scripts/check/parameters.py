@@ -5,8 +5,8 @@ import re
 import sys
 
 sys.path.insert(0, str(pathlib.Path(__file__).resolve().parents[1]))
-from check.unused import TRIALS, crates_below
-from common import TOP
+from check.unused import TRIALS
+from common import TOP, crates
 from wrong_bodies.functions import HEADER, functions_of
 
 # How many a function has at most, its own value counted; and one of a crate that others take as a library.
@@ -74,7 +74,7 @@ def behind_generics(text, at):
 
 def crowded():
     """Each function of the product with more parameters than its crate's may have, and how many."""
-    for crate in (it for it in crates_below() if not TRIALS.match(it)):
+    for crate in (it for it in crates.uses() if not TRIALS.match(it)):
         folder = TOP / "crates" / crate
         for path in sorted((folder / "src").rglob("*.rt")):
             lines, file = path.read_text().split("\n"), str(path.relative_to(folder))
