@@ -16,7 +16,8 @@ import (
 func TestRequireMacaroon(t *testing.T) {
 	// Answers a verify by its one fact.
 	judges := func(s *stream) {
-		replies := map[string]string{"granted": "\x00", "owned": "\x03\x00\x05carol\x00\x00", "forged": "\x17", "narrow": "\x18\x00\x07", "unknown": "\x12", "forbidden": "\x1b"}
+		replies := map[string]string{"granted": "\x00", "owned": "\x03\x00\x05carol\x00\x00", "forged": "\x17", "narrow": "\x18\x00\x07", "unknown": "\x12", "forbidden": "\x1b",
+			"untexted": "\x13", "malformed": "\x14", "third-party": "\x15", "limited": "\x16", "located": "\x1a", "clockless": "\x1c"}
 		for payload, isThere := s.request(); isThere; payload, isThere = s.request() {
 			for fact, content := range replies {
 				if strings.HasSuffix(string(payload), fact) {
@@ -61,7 +62,13 @@ func TestRequireMacaroon(t *testing.T) {
 		{"Macaroon " + token, "/forged", 401, `Macaroon error="invalid_token"`, "23", ""},
 		{"Bearer " + token, "/narrow", 403, `Bearer error="insufficient_scope"`, "24 caveat=7", "24 7"},
 		{"Macaroon " + token, "/narrow", 403, `Macaroon error="insufficient_scope"`, "24 caveat=7", "24 7"},
+		{"Bearer " + token, "/untexted", 401, `Bearer error="invalid_token"`, "19", ""},
+		{"Bearer " + token, "/malformed", 401, `Bearer error="invalid_token"`, "20", ""},
+		{"Bearer " + token, "/third-party", 401, `Bearer error="invalid_token"`, "21", ""},
+		{"Bearer " + token, "/limited", 401, `Bearer error="invalid_token"`, "22", ""},
+		{"Bearer " + token, "/located", 401, `Bearer error="invalid_token"`, "26", ""},
 		{"Bearer " + token, "/unknown", 503, "", "18", ""},
+		{"Bearer " + token, "/clockless", 503, "", "28", ""},
 		{"Bearer " + token, "/forbidden", 503, "", "27", ""},
 		{"Bearer " + token, "/many", 400, "", "facts", ""},
 	} {
