@@ -14,7 +14,17 @@ import request
 from vectors.spelling import shown
 
 PROGRAM = TOP / "bin" / "try_cases"
-REFUSALS = {16: "request", 18: "key", 19: "transport", 20: "malformed", 21: "third party", 22: "limit", 23: "signature", 24: "caveat", 26: "caveat location"}
+REFUSALS = {
+    16: "request",
+    18: "key",
+    19: "transport",
+    20: "malformed",
+    21: "third party",
+    22: "limit",
+    23: "signature",
+    24: "caveat",
+    26: "caveat location",
+}
 FORMS = {"v1-text": 1, "v2-binary": 2, "v2-json": 3, "v2-text": 4}
 # A run of `rt try` prints a MiB at most, and no answer is much longer than its case.
 PIECE = 300_000

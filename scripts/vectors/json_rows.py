@@ -106,7 +106,8 @@ def base64_members():
         for padded in (False, True):
             named = f"{'URL-safe' if alphabet == 'url' else 'standard'}, {'padded' if padded else 'unpadded'}"
             yield reading(f"V2 JSON whose signature is base64, {named}", "alphabets", object_of(s64=text(content, alphabet, padded).decode()))
-            yield reading(f"V2 JSON whose caveat is base64, {named}", "alphabets", object_of(c=[{"i64": text(b"\xfb\xff", alphabet, padded).decode()}]))
+            caveat = {"i64": text(b"\xfb\xff", alphabet, padded).decode()}
+            yield reading(f"V2 JSON whose caveat is base64, {named}", "alphabets", object_of(c=[caveat]))
     letters = coded(content)
     wrong = {
         "of both alphabets": ("mixed alphabets", letters.replace("-", "+", 1)),
@@ -181,7 +182,15 @@ def whole_texts():
     yield reading("V2 JSON with white space between all", "object", PLAIN.replace(b",", b" ,\n\t").replace(b":", b" :\r ").replace(b"{", b"{ "))
     for behind, named in ((b" ", "a space"), (b"\n", "a line feed"), (b"\r\n\t ", "white space of each kind")):
         yield reading(f"V2 JSON with {named} behind it", "object", PLAIN + behind)
-    rest = {"a brace": b"}", "a second object": b"{}", "a comma": b",", "a zero byte": b"\0", "a letter": b"x", "a vertical tab": b"\x0b", "a byte order mark": b"\xef\xbb\xbf"}
+    rest = {
+        "a brace": b"}",
+        "a second object": b"{}",
+        "a comma": b",",
+        "a zero byte": b"\0",
+        "a letter": b"x",
+        "a vertical tab": b"\x0b",
+        "a byte order mark": b"\xef\xbb\xbf",
+    }
     for named, behind in rest.items():
         yield reading(f"V2 JSON with {named} behind it", "object", PLAIN + behind)
     wrong = {
@@ -240,5 +249,7 @@ def other_members():
     yield reading("V2 JSON with a wrong identifier before the right one", "object", b'{"i":7,' + PLAIN[1:], "json")
     yield reading("V2 JSON with a wrong identifier behind the right one", "object", PLAIN[:-1] + b',"i":7}', "json")
     yield reading("V2 JSON with the caveats twice", "object", PLAIN[:-1] + b',"c":[{"i":"later"}]}', "json")
-    yield reading("V2 JSON with a caveat whose identifier stands twice", "object", object_of(c=["HERE"]).replace(b'"HERE"', b'{"i":"a","i":"b"}'), "json")
-    yield reading("V2 JSON of another version, in libmacaroons' V1 names", "json identifier", b'{"caveats":[],"location":"l","identifier":"i","signature":"' + SIGNATURE.hex().encode() + b'"}', "json")
+    twice = object_of(c=["HERE"]).replace(b'"HERE"', b'{"i":"a","i":"b"}')
+    yield reading("V2 JSON with a caveat whose identifier stands twice", "object", twice, "json")
+    other = b'{"caveats":[],"location":"l","identifier":"i","signature":"%b"}' % SIGNATURE.hex().encode()
+    yield reading("V2 JSON of another version, in libmacaroons' V1 names", "json identifier", other, "json")

@@ -126,7 +126,9 @@ def narrowed_limits():
         yield narrowing("a token narrowed by a caveat of 4,097 bytes", token, [b"c" * 4_097], form, "limits", "caveat limits")
         yield narrowing("a token narrowed by 129 caveats", token, [b"c"] * 129, form, "limits", "caveat limits")
         yield narrowing("a token narrowed past the longest token", token, [b"c" * 4_096] * 9, form, "limits", "token limit")
-    for broken, named in ((b"", "no token"), (b"!", "a text that is no base64"), (v2()[:-1], "a token that is cut"), (v1() + b"\n", "packets with a byte behind them")):
+    cut, longer = v2()[:-1], v1() + b"\n"
+    broken_ones = {b"": "no token", b"!": "a text that is no base64", cut: "a token that is cut", longer: "packets with a byte behind them"}
+    for broken, named in broken_ones.items():
         yield narrowing(f"{named} narrowed by a caveat", broken, [b"a = b"], "v2-text", "", "attenuate")
     yield narrowing("a third party's token narrowed by a caveat", v2(caveats=[(section(b"a", b"l", b"v"),)]), [b"a = b"], "v2-text", "third party")
 
@@ -134,6 +136,7 @@ def narrowed_limits():
 def rewritten():
     """A token of each form written in each other, and in its own."""
     for caveats in ([], [b"a = b", "é".encode()], [b"", b"\n"]):
+        spelled = b" ".join(caveats).hex() or "none"
         for own, token in tokens(caveats).items():
-            for form in FORMS:
-                yield narrowing(f"a token of {len(caveats)} caveats ({b' '.join(caveats).hex() or 'none'}) that came as {own}, narrowed by nothing", token, [], form)
+            about = f"a token of {len(caveats)} caveats ({spelled}) that came as {own}, narrowed by nothing"
+            yield from (narrowing(about, token, [], form) for form in FORMS)

@@ -11,28 +11,30 @@ import time
 
 sys.path.insert(0, str(pathlib.Path(__file__).resolve().parents[1]))
 from common import TOP
-from vectors import asking, bound_rows, chain_rows, json_rows, made_rows, packet_rows, reading_rows, rules, third_party_rows, verdict_rows
+from vectors import asking, bound_rows, chain_rows, json_rows, limit_rows, made_rows, packet_rows, reading_rows, rules, third_party_rows
+from vectors import v1_rows, v2_rows, verdict_rows
 from vectors.rows import LEDGER, numbered, write_ledger
 
 FOLDER = TOP / "vectors"
+# Each file, what it is about, and the modules that have its rows.
 FILES = {
-    "reading": ("Tokens read: each form, each limit, each refusal.", reading_rows.rows),
-    "json": ("V2 JSON read.", json_rows.rows),
-    "packets": ("V1 packets and V2 binary, by byte.", packet_rows.rows),
-    "third_party": ("Third-party caveats, as far as a reader has to recognise them.", third_party_rows.rows),
-    "chains": ("HMACs, root keys and signatures.", chain_rows.rows),
-    "making": ("Tokens written and narrowed.", made_rows.rows),
-    "verdicts": ("Verdicts on tokens, facts and moments.", verdict_rows.rows),
-    "bounds": ("Caveats that are bounds of time.", bound_rows.rows),
+    "reading": ("Tokens read: each form, each limit, each refusal.", [reading_rows, v1_rows, v2_rows, limit_rows]),
+    "json": ("V2 JSON read.", [json_rows]),
+    "packets": ("V1 packets and V2 binary, by byte.", [packet_rows]),
+    "third_party": ("Third-party caveats, as far as a reader has to recognise them.", [third_party_rows]),
+    "chains": ("HMACs, root keys and signatures.", [chain_rows]),
+    "making": ("Tokens written and narrowed.", [made_rows]),
+    "verdicts": ("Verdicts on tokens, facts and moments.", [verdict_rows]),
+    "bounds": ("Caveats that are bounds of time.", [bound_rows]),
 }
 
 
 def asked():
     """The rows of each file; of those that give the same the first."""
     seen, found = set(), {}
-    for name, (_, rows) in FILES.items():
+    for name, (_, modules) in FILES.items():
         fresh = []
-        for row in rows():
+        for row in (row for module in modules for row in module.rows()):
             if row.identity() not in seen:
                 fresh.append(row)
             seen.add(row.identity())

@@ -74,7 +74,14 @@ def of_bound(given, result):
     return ["secret"], [verify(moment, holds(moment)) for moment in sorted(moments) if 0 <= moment <= LARGEST]
 
 
-ASKING = {"reading": of_reading, "writing": of_writing, "narrowing": of_narrowing, "signature": of_signature, "verdict": of_verdict, "bound": of_bound}
+ASKING = {
+    "reading": of_reading,
+    "writing": of_writing,
+    "narrowing": of_narrowing,
+    "signature": of_signature,
+    "verdict": of_verdict,
+    "bound": of_bound,
+}
 
 
 def pairs(rows):
@@ -97,11 +104,15 @@ def under_keys(asked):
     return [(secrets, part) for secrets, parts in found.items() for part in parts]
 
 
+def case_of(secrets, part):
+    keys = asking.key_lines("key", list(map(bytes_of, secrets)))
+    return runs.Case(f"{keys}\n" + "".join(f"{payload.hex()}\n" for payload, *_ in part))
+
+
 def faults(rows):
     """Which rows the pipe answers otherwise, and how many requests were made."""
     asked = under_keys(pairs(rows))
-    keys = lambda secrets: asking.key_lines("key", list(map(bytes_of, secrets)))
-    cases = {f"{at:03}": runs.Case(keys(secrets) + "\n" + "".join(f"{payload.hex()}\n" for payload, *_ in part)) for at, (secrets, part) in enumerate(asked)}
+    cases = {f"{at:03}": case_of(*it) for at, it in enumerate(asked)}
     made, found = runs.of_cases(cases), []
     for name, (_, part) in zip(cases, asked):
         lines = made[name].output.splitlines()

@@ -9,6 +9,9 @@ from vectors.spelling import shown
 # Each number that a row ever had, with a digest of what the row gives: a line is never taken out.
 LEDGER = TOP / "scripts" / "vectors" / "numbers.txt"
 
+# The libraries of whose bugs rows tell.
+LIBM, GO, PY = "libmacaroons", "go-macaroon", "pymacaroons"
+
 
 class Row(typing.NamedTuple):
     """What is asked, under which rule, and what is known of it beforehand."""

@@ -68,7 +68,8 @@ def of_signatures():
         turned = signature[:at] + bytes([signature[at] ^ 1 << at % 8]) + signature[at + 1 :]
         yield verdict(f"a signature with a bit of byte {at} turned", v2(caveats=CAVEATS, signature=turned), CAVEATS)
     for size in (1, 16, 31):
-        yield verdict(f"a signature of which the first {size} bytes are right", v2(caveats=CAVEATS, signature=signature[:size] + b"\0" * (32 - size)), CAVEATS)
+        begun = signature[:size].ljust(32, b"\0")
+        yield verdict(f"a signature of which the first {size} bytes are right", v2(caveats=CAVEATS, signature=begun), CAVEATS)
     yield verdict("a signature of zero bytes", v2(caveats=CAVEATS, signature=b"\0" * 32), CAVEATS)
     yield verdict("a signature turned around", v2(caveats=CAVEATS, signature=signature[::-1]), CAVEATS)
     yield verdict("the signature before the last caveat", v2(caveats=CAVEATS, signature=signature_of(SECRET, IDENTIFIER, CAVEATS[:1])), CAVEATS)
@@ -79,7 +80,8 @@ def of_signatures():
     yield verdict("the caveats joined in one", v2(caveats=[b"".join(CAVEATS)], signature=signature), [b"".join(CAVEATS)])
     yield verdict("a caveat changed", v2(caveats=[CAVEATS[0], b"method = PUT"], signature=signature), [*CAVEATS, b"method = PUT"])
     yield verdict("the identifier changed", v2(identifier=b"another", caveats=CAVEATS, signature=signature), CAVEATS)
-    yield verdict("the identifier and the first caveat cut elsewhere", v2(identifier=IDENTIFIER + b"a", caveats=[CAVEATS[0][1:], CAVEATS[1]], signature=signature), CAVEATS)
+    elsewhere = v2(identifier=IDENTIFIER + b"a", caveats=[CAVEATS[0][1:], CAVEATS[1]], signature=signature)
+    yield verdict("the identifier and the first caveat cut elsewhere", elsewhere, CAVEATS)
     yield verdict("another location", token_of(CAVEATS, location=b"http://elsewhere/"), CAVEATS, rule="unsigned")
     yield verdict("no location", token_of(CAVEATS, location=b""), CAVEATS, rule="unsigned")
     yield verdict("a wrong signature and a caveat that is no fact", v2(caveats=CAVEATS, signature=bytes(32)), [])
@@ -92,12 +94,15 @@ def of_keys():
     for size in (1, 31, 32, 33, 55, 56, 63, 64, 65, 128):
         secret = filler(size, b"secret")
         yield verdict(f"a secret of {size} bytes", token_of(CAVEATS, secret=secret), CAVEATS, secrets=[secret])
-        yield verdict(f"a secret of {size} bytes, of which the last has a bit turned", token_of(CAVEATS, secret=secret), CAVEATS, secrets=[secret[:-1] + bytes([secret[-1] ^ 1])])
+        turned = secret[:-1] + bytes([secret[-1] ^ 1])
+        about = f"a secret of {size} bytes, of which the last has a bit turned"
+        yield verdict(about, token_of(CAVEATS, secret=secret), CAVEATS, secrets=[turned])
     yield verdict("a key that ends in zero bytes more", token_of(secret=b"secret"), secrets=[b"secret\0"], rule="root key")
-    yield verdict("the token's secret is the second of two", token_of(secret=SECOND), secrets=[SECRET, SECOND], own="two keys")
-    yield verdict("the token's secret is the first of two", token_of(), secrets=[SECRET, SECOND], own="two keys")
-    yield verdict("the token's secret is neither of two", token_of(secret=b"a third"), secrets=[SECRET, SECOND], own="two keys")
-    yield verdict("the second of two secrets, and a caveat that is no fact", token_of(CAVEATS, secret=SECOND), CAVEATS[:1], secrets=[SECRET, SECOND], own="two keys")
+    both = {"secrets": [SECRET, SECOND], "own": "two keys"}
+    yield verdict("the token's secret is the second of two", token_of(secret=SECOND), **both)
+    yield verdict("the token's secret is the first of two", token_of(), **both)
+    yield verdict("the token's secret is neither of two", token_of(secret=b"a third"), **both)
+    yield verdict("the second of two secrets, and a caveat that is no fact", token_of(CAVEATS, secret=SECOND), CAVEATS[:1], **both)
     yield verdict("the root key in the place of the secret", token_of(secret=SECRET), secrets=[bytes(32)])
     for place in range(16):
         secret = filler(24, b"key %d" % (place % 5))
@@ -105,9 +110,12 @@ def of_keys():
         yield verdict(f"token {place} of sixteen under five keys", token_of(caveats, secret=secret), caveats, secrets=[secret])
 
 
+def bound(caveat, moment, about):
+    return verdict(f"{about}: {caveat.decode()}", token_of([caveat]), moment=moment, own="bounds of time", rule="holds")
+
+
 def of_moments():
     """Bounds of time a second before, at and behind their ends."""
-    bound = lambda caveat, moment, about: verdict(f"{about}: {caveat.decode()}", token_of([caveat]), moment=moment, own="bounds of time", rule="holds")
     ends = {b"2023-11-14T22:13:20": MOMENT, b"1970-01-01T00:00": 0, b"2000-02-29T23:59:59": 951_868_799, b"9999-12-31T23:59:59Z": 253_402_300_799}
     for spelled, second in ends.items():
         for sign in (b"<", b">="):
@@ -124,7 +132,14 @@ def of_moments():
     yield verdict("a limit that is none, which is a fact", token_of([b"time < 2020-13-01T00:00"]), [b"time < 2020-13-01T00:00"], rule="believed")
     yield verdict("a limit that is none, which is no fact", token_of([b"time < 2100-13-01T00:00"]), rule="no bound")
     both = [b"time >= 2023-01-01T00:00", b"time < 2024-01-01T00:00"]
-    for moment, named in ((1_672_531_199, "before"), (1_672_531_200, "at the beginning of"), (MOMENT, "within"), (1_704_067_199, "at the last second of"), (1_704_067_200, "at the end of")):
+    moments = {
+        1_672_531_199: "before",
+        1_672_531_200: "at the beginning of",
+        MOMENT: "within",
+        1_704_067_199: "at the last second of",
+        1_704_067_200: "at the end of",
+    }
+    for moment, named in moments.items():
         yield verdict(f"a moment {named} a year that two bounds leave", token_of(both), moment=moment, own="bounds of time", rule="holds")
     yield verdict("a limit that holds and a caveat that is no fact", token_of([both[1], b"a = b"]), own="bounds of time", rule="verify")
     yield verdict("a limit that is past behind a caveat that is no fact", token_of([b"a = b", late]), own="bounds of time", rule="verify")

@@ -30,14 +30,15 @@ from wrong_bodies.wrong_runs import copy_tree
 RECORD = TOP / "docs" / "wrong-readers.txt"
 HEAD = """\
 # Which row of vectors/ finds each wrong body, by `scripts/vectors/wrong_readers.py`: the crate and the
-# edit, a digest of what was tried, and the number of the first row whose answer is another, or why none is.
+# edit, a digest of what was tried, and the number of a row whose answer is another, or why there is none.
 """
 CRATES = ["mac_hmac", "mac_token"]
 PROGRAM = "try_cases"
-# A line that is longer, or whose answer is, is asked only of those bodies that no shorter one finds.
-SHORT = 2_000
-# A run of `rt try` prints a MiB at most.
-ROOM = 900_000
+# A line that is longer, or whose answer is, is asked only of those bodies that no shorter one finds;
+# and before all short ones every few of them are asked, which find nearly all bodies.
+SHORT, EVERY = 2_000, 12
+# A run of `rt try` prints a MiB at most. One that takes longer than so many seconds hangs.
+ROOM, PATIENCE = 900_000, 600
 # Which body runs: a number in the first line of standard input, which is a file.
 CHOOSER = '''\
 //! Which wrong body runs.
@@ -56,7 +57,17 @@ pub(crate) fn chosen() -> u32 {
 }
 '''
 # Of bodies that no row can find: why.
-REASONS = {}
+BY_CALLS = "only calls over HTTP read so, which no row makes"
+UNASKED = "nothing that answers a row asks for it"
+REASONS = {
+    "mac_token/bare_reads_the_room_as_it_was": BY_CALLS,
+    "mac_token/bare_room_not_emptied": BY_CALLS,
+    "mac_token/caveat_off_by_one": "only the command line asks for a caveat by its place, to tell of it",
+    "mac_token/caveats_of_the_identifier": UNASKED,
+    "mac_token/form_has_another_number": UNASKED,
+    "mac_token/read_bare_decodes_again": BY_CALLS,
+    "mac_token/read_bare_json_refused": BY_CALLS,
+}
 
 
 class Edit(typing.NamedTuple):
@@ -167,7 +178,7 @@ def run(tree, chosen, pieces):
             for at, piece in enumerate(pieces):
                 text = f"# {edit.number:03}\n" + "".join(f"{case.line}\n" for case in piece)
                 (pathlib.Path(folder) / f"{edit.number:03}_{at}").write_text(text)
-        command = ["rt", "try", "--steps", "1", "--cases", folder]
+        command = ["rt", "try", "--steps", "1", "--seconds", str(PATIENCE), "--cases", folder]
         tried = subprocess.run(command, cwd=tree / "crates" / PROGRAM, capture_output=True, text=True)
     return Ran(asking.outputs_in(tried.stdout), tried.stderr, re.search(r"^cases=", tried.stderr, re.M) is not None)
 
@@ -185,7 +196,7 @@ def in_pieces(asked):
 
 
 def finding(edit, pieces, ran):
-    """The first row that finds the body, or nothing."""
+    """The first of these rows that finds the body, or nothing."""
     for at, piece in enumerate(pieces):
         printed = ran.outputs.get(f"{edit.number:03}_{at}", [])[1:]
         for case, line in zip(piece, printed):
@@ -197,13 +208,15 @@ def finding(edit, pieces, ran):
 
 
 def is_short(case):
-    return max(len(case.line), len(case.answer)) <= SHORT
+    """Whether the case is soon asked; those of many verdicts at once are short enough."""
+    return case.line.startswith("answers ") or max(len(case.line), len(case.answer)) <= SHORT
 
 
 def found_by(tree, chosen, asked):
-    """The first row that finds each of these bodies, by their number, and what was said; None where it doesn't build."""
+    """A row that finds each of these bodies, by the body's number, and what was said; None where it doesn't build."""
+    short = [case for case in asked if is_short(case)]
     found = {}
-    for part in ([case for case in asked if is_short(case)], [case for case in asked if not is_short(case)]):
+    for part in (short[::EVERY], short, [case for case in asked if not is_short(case)]):
         left = [edit for edit in chosen if edit.number not in found]
         if left:
             pieces = in_pieces(part)
