@@ -78,7 +78,9 @@ def told(what, begin):
 
 
 def stop(name, status, said):
-    """Ends all where the toolchain refuses a crate, and tells what it said of that."""
+    """Ends all where the toolchain refuses a crate, and tells what it said of that; where all is ending, no more is told."""
+    if rooms.ENDING.is_set():
+        raise SystemExit(f"{name} isn't proved: the run was ended")
     rooms.end_all()
     print(f"== {name}\n{said}", flush=True)
     raise SystemExit(f"{name} isn't proved: rt ended with status {status}")

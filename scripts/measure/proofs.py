@@ -130,6 +130,9 @@ def tell(watch, minutes, rested, dearest):
     work = collections.Counter()
     for crate, what in watch.spans:
         work[what] += watch.minutes((crate, what))[1]
+    if not watch.spans:
+        print("the toolchain proved nothing meanwhile")
+        return tell_dearest(dearest)
     print("processor minutes: " + ", ".join(f"{what} {spent:.1f}" for what, spent in work.most_common()))
     length, chain = longest_chain(proofs)
     print(f"the longest chain takes {length:.1f} minutes:")
@@ -140,7 +143,7 @@ def tell(watch, minutes, rested, dearest):
     for (crate, what), (first, _) in sorted(watch.spans.items(), key=lambda it: it[1]):
         took, spent = watch.minutes((crate, what))
         print(f"{crate:12} {what:9} {first / 60:6.1f} {took:8.1f} {spent:18.1f}")
-    tell_dearest(dearest)
+    return tell_dearest(dearest)
 
 
 def function_of(module):
