@@ -191,11 +191,10 @@ fn agreement(case: &mut Case<'_>) {
     let Some(token) = token_of(case, &bytes) else {
         return;
     };
-    let Some(reply) = minted(case, form, &key, token.location(), &identifier, caveats) else {
-        return;
-    };
-    let Reply::Token(made) = reply else {
-        return say_refused(case, &reply);
+    let made = match minted(case, form, &key, token.location(), &identifier, caveats) {
+        Some(Reply::Token(made)) => made,
+        Some(other) => return say_refused(case, &other),
+        None => return,
     };
     let Some(minted) = token_of(case, made.as_slice()) else {
         return;
@@ -218,8 +217,20 @@ fn minted(
     caveats: &str,
 ) -> Option<Reply> {
     let caveats = case.lists_of(caveats);
-    let caveats = case.counted_lists(&caveats);
-    let Some(caveats) = FieldList::read(&caveats) else {
+    let counted = case.counted_lists(&caveats);
+    minted_counted(case, form, key, location, identifier, &counted)
+}
+
+/// The same with counted caveats.
+fn minted_counted<'a>(
+    case: &mut Case<'_>,
+    form: Form,
+    key: &RootKey,
+    location: &'a str,
+    identifier: &'a [u8],
+    counted: &'a [u8],
+) -> Option<Reply> {
+    let Some(caveats) = FieldList::read(counted) else {
         case.fail(CaseFault::NoCase);
         return None;
     };
