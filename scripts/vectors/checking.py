@@ -1,7 +1,7 @@
 """What the gate asks of the vectors: that they are what `try_cases` answers, fit their schema, and that we pass them."""
 import json
 
-from vectors import board, make, ours, rows, rules
+from vectors import board, make, ours, rows, rules, wrong_readers
 
 MANY = 1_500
 
@@ -49,4 +49,5 @@ PARTS = {
     "schema of vectors": schema_faults,
     "pipe and vectors": pipe_faults,
     "conformance": board.faults,
+    "wrong readers": wrong_readers.faults,
 }

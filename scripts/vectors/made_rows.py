@@ -69,7 +69,8 @@ def written_lengths():
     """Tokens of the longest length that may be written, and one more."""
     for form, limit in (("v1-text", 24_576), ("v2-text", 24_576), ("v2-binary", 32_768)):
         write = v1 if form == "v1-text" else v2
-        caveats = [b"c" * 4_000] * (limit // 4_100)
+        # None of them may pass the limit of a caveat, the last one neither.
+        caveats = [b"c" * 3_900] * (limit // 4_000)
         rest = limit - len(write(b"", b"i", [*caveats, b""]))
         rest -= len(write(b"", b"i", [*caveats, b"c" * rest])) - limit
         for more in (0, 1):

@@ -58,15 +58,18 @@ pub(crate) fn chosen() -> u32 {
 '''
 # Of bodies that no row can find: why.
 BY_CALLS = "only calls over HTTP read so, which no row makes"
+ONE_ROOM = "it shows where one room is used for two tokens, and no row shows that"
 UNASKED = "nothing that answers a row asks for it"
 REASONS = {
-    "mac_token/bare_reads_the_room_as_it_was": BY_CALLS,
-    "mac_token/bare_room_not_emptied": BY_CALLS,
+    "mac_token/bare_reads_the_room_as_it_was": ONE_ROOM,
+    "mac_token/bare_room_not_emptied": ONE_ROOM,
     "mac_token/caveat_off_by_one": "only the command line asks for a caveat by its place, to tell of it",
     "mac_token/caveats_of_the_identifier": UNASKED,
     "mac_token/form_has_another_number": UNASKED,
     "mac_token/read_bare_decodes_again": BY_CALLS,
     "mac_token/read_bare_json_refused": BY_CALLS,
+    "mac_token/walk_gives_vid": "it asks for a token with a vid, and such are refused before",
+    "mac_token/write_length_of_packets_for_their_text": "the limit is told later, once memory was taken",
 }
 
 
