@@ -33,7 +33,7 @@ pub use face::Face;
 pub use finding::{Finding, find};
 pub use footing::Footing;
 pub use noted::{Asks, Noted};
-pub use page::{Page, Monitor, Told};
+pub use page::{Monitor, Page, Told};
 pub use path::{PATH_MAX, SEGMENTS_MAX};
 pub use rules::{Calls, Granted, Pages, Rules, Sources, Way};
 pub use saying::respond;

@@ -4,7 +4,7 @@ use http::StatusCode;
 use http_server::Log;
 use mac_board::Moments;
 use mac_decide::SeenTokens;
-use mac_http::{Noted, Page, Monitor, Told};
+use mac_http::{Monitor, Noted, Page, Told};
 use std::alloc::AllocError;
 
 /// The moment of each request: 2023-11-14T22:13:20Z.
