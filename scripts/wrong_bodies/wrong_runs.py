@@ -24,8 +24,6 @@ from wrong_bodies.wrong_bodies import TEXTS, stands_on, take_over
 
 # How often the right bodies run before any wrong one.
 TIMES = 10
-# How often a wrong one runs at most: a race may go well by chance.
-TRIES = 3
 # Those that the gate tries.
 OF_GATE = ["nobody_rung_at_turns_end", "answers_not_awaited"]
 
@@ -101,8 +99,15 @@ def check_right(program, words, times):
                 raise SystemExit(f"{program} {' '.join(words)}: the right bodies print what isn't due")
 
 
-def told_of(run, came):
-    """What these lines of a wrong run show, and whether it is refused by them."""
+def judged(run):
+    """What came of a wrong run, and whether it was refused."""
+    with tempfile.TemporaryDirectory(prefix="wrong-runs-") as room:
+        copy_tree(run.program, Path(room))
+        change(Path(room), run)
+        try:
+            came = run_once(Path(room), run.program, run.words)
+        except BadEdit as fault:
+            return f"BAD EDIT: {fault}", False
     if came is None:
         return "hangs", True
     due = due_lines(run.program, run.words)
@@ -110,21 +115,6 @@ def told_of(run, came):
     if wrong or len(came) != len(due):
         return wrong[0] if wrong else f"ends after {len(came)} of {len(due)} lines", True
     return "PASSES", False
-
-
-def judged(run):
-    """What came of a wrong run, and whether it was refused."""
-    with tempfile.TemporaryDirectory(prefix="wrong-runs-") as room:
-        copy_tree(run.program, Path(room))
-        change(Path(room), run)
-        try:
-            for _ in range(TRIES):
-                said, is_refused = told_of(run, run_once(Path(room), run.program, run.words))
-                if is_refused:
-                    break
-        except BadEdit as fault:
-            return f"BAD EDIT: {fault}", False
-    return said, is_refused
 
 
 def try_all(runs, times, lanes):
