@@ -104,6 +104,8 @@ def installations(folder):
     paths = "/opt/it/bin/macaroond listen" in unit, "/opt/etc/macaroond/keys" in unit, "/usr/bin" in unit
     yield "the unit's paths", paths, (True, True, False)
     yield "what the unit may start", "ExecPaths=/opt/it/bin/macaroond /opt/it/libexec/macaroond " in unit, True
+    yield "and nothing else", "\nNoExecPaths=/\n" in unit, True
+    yield "at which ports it may listen", "\nSocketBindDeny=any\n" in unit, True
     modes = {oct(path.stat().st_mode)[-3:] for path in (folder / "opt/it/libexec/macaroond").iterdir()}
     yield "who may read the programs", modes, {"711"}
     page = page_text(folder, "opt/it")
