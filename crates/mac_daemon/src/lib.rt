@@ -1,8 +1,8 @@
 //! The daemon: the connections of a Unix socket, from the first byte of each to its last.
 //!
-//! One thread accepts them ([`listen`]) and hands each to a loop of `mac_loop`, which answers what is
-//! small where it reads it. A connection that asks for more goes on wide: the
-//! keeper gives it a desk of the pool and two threads, and it comes back to a loop once it pauses.
+//! One thread accepts them ([`listen`]) and hands each to a loop of `mac_loop`, which answers what
+//! is small where it reads it. A connection that asks for more goes on wide: the keeper gives it a
+//! desk of the pool and two threads, and it comes back to a loop once it pauses.
 #![tactic(auto)]
 
 mod accepting;

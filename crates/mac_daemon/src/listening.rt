@@ -234,8 +234,8 @@ fn socket_paths(alloc: Global, terms: DaemonTerms<'_>) -> Result<Vec<String>, Al
     Ok(paths)
 }
 
-/// Starts the thread that serves the connections that come in, to their ends: so many, where so many
-/// are asked for.
+/// Starts the thread that serves the connections that come in, to their ends: so many, where so
+/// many are asked for.
 fn start_serving<R>(
     rt: R,
     alloc: Global,
@@ -283,8 +283,8 @@ where
 }
 
 /// How many connections there may be at a time: as many as were asked for, or as the system's limit
-/// of descriptors allows beside those that are reserved, which is told then. A daemon that ends after
-/// so many looks at no limit: it ends where the system gives none.
+/// of descriptors allows beside those that are reserved, which is told then. A daemon that ends
+/// after so many looks at no limit: it ends where the system gives none.
 fn allow_connections<R: Wait + Clock>(rt: &R, terms: DaemonTerms<'_>, notices: &Notices) -> u64 {
     let DaemonTerms {
         shape,

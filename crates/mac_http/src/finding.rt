@@ -33,8 +33,8 @@ pub enum Finding {
     ManyFacts,
     /// The clock told no moment.
     NoMoment,
-    /// The token is none under the name's keys, or the name has none that may be used. It came by this
-    /// scheme.
+    /// The token is none under the name's keys, or the name has none that may be used. It came by
+    /// this scheme.
     Invalid(Scheme),
     /// The index of the first caveat that isn't satisfied, from 0.
     Unsatisfied(u16),

@@ -148,8 +148,9 @@ pub fn turns_compose<S: Service>()
 {}
 
 /// A service that answers each request by one look at its tables and at one moment of its clock, as
-/// a [`Face`](crate::Face) does, has written to a connection, from its begin to the end of each of its
-/// turns, the responses to its requests, in order, each right under its table and at its moment.
+/// a [`Face`](crate::Face) does, has written to a connection, from its begin to the end of each of
+/// its turns, the responses to its requests, in order, each right under its table and at its
+/// moment.
 pub fn turns_are_faced<S: Service>()
     ensures { (tells : Bool) (known : S → Known) (rules : S → PlainRules)
         (told : S → List (Option ℕ))

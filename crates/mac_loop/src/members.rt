@@ -136,8 +136,8 @@ impl Member {
         self.note.look == looks
     }
 
-    /// It begins a turn behind so many looks. How many parts of the turn it takes: one, or `deep` of
-    /// them where it has more to be read than a turn takes.
+    /// It begins a turn behind so many looks. How many parts of the turn it takes: one, or `deep`
+    /// of them where it has more to be read than a turn takes.
     pub fn begin_turn(&mut self, deep: usize, looks: u64) -> usize {
         self.note.look = looks;
         if self.note.is_deep { deep } else { 1 }
