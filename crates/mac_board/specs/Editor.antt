@@ -1,7 +1,7 @@
 -- What a board is that follows a key file.
 use Rattle.std.specs.Prelude.{◌≡◌, List, [], ◌∷◌, ◌++◌}
 use Rattle.std.specs.FinMap.{len}
-use Rattle.mac_keys.specs.Keys.{Table}
+use Rattle.mac_keys.specs.KeyTable.{Table}
 use Rattle.mac_board.specs.Publisher.{tables}
 use Rattle.mac_board.specs.Watcher.{Sees}
 use Rattle.mac_board.specs.declared.editor.Editor.{Editor}
@@ -24,7 +24,7 @@ put_up_of (finding.Refused why) = []
 -- what is told of it
 abbrev pub news_of : Finding → News
 news_of finding.Nothing = news.Nothing
-news_of (finding.Table table) = news.Taken (len table)
+news_of (finding.Table table) = news.Taken (len table.keys)
 news_of (finding.Refused why) = news.Refused why
 
 -- one look: the watcher sees it, what it finds is put up, and what is put up or refused is told

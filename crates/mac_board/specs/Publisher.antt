@@ -4,7 +4,7 @@ use Rattle.std.specs.List.{last_or}
 use Rattle.std.specs.FinMap.{len}
 use Rattle.std.specs.Arc.{arc_value}
 use Rattle.left_right.specs.Sides.{view}
-use Rattle.mac_keys.specs.Keys.{Table}
+use Rattle.mac_keys.specs.KeyTable.{Table}
 use Rattle.mac_board.specs.Board.{history}
 use Rattle.mac_board.specs.declared.publisher.Publisher.{Publisher}
 
@@ -14,4 +14,4 @@ tables p = history (view p.writer.desk.place) (arc_value p.writer.desk.shown.val
 
 -- how many names the table has that is up, which was put up last
 abbrev pub names_up : List Table → Option ℕ
-names_up tables = option_map len (last_or None tables)
+names_up tables = option_map (λ table. len table.keys) (last_or None tables)

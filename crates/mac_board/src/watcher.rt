@@ -2,7 +2,7 @@
 
 ghost use Rattle.std.specs.Prelude.{◌≡◌, ◌≢◌, ◌↔◌, IsTrue, IfOk, OnErr, Some, None};
 ghost use Rattle.mac_board.specs.Watcher.{IsDueIn, IsNews, Sees, judged, worth};
-ghost use Rattle.mac_keys.specs.Table.{table_of};
+ghost use Rattle.mac_keys.specs.KeyTable.{table_of};
 
 use crate::access::Exposure;
 use crate::sight::{FileState, ReadFault, Sight, is_same};

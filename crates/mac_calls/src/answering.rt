@@ -1,6 +1,7 @@
 //! What a call is answered.
 
 ghost use Rattle.std.specs.Prelude.{◌≡◌, IfOk, List, ℕ};
+ghost use Rattle.mac_calls.specs.Asking.{lent_verifier};
 ghost use Rattle.mac_calls.specs.Gives.{Gives};
 ghost use Rattle.mac_calls.specs.Outcome.{attenuate_answer, check_answer, inspect_answer};
 ghost use Rattle.mac_calls.specs.Outcome.{mint_answer, outcome_of, told_outcome, verify_answer};
@@ -13,6 +14,7 @@ use crate::json::{refusal_json, token_json};
 use crate::judge::judged;
 use crate::make::{attenuated_text, minted_text};
 use crate::object::object_in;
+use crate::verifier::Verifier;
 use mac_keys::{KeyTable, Keys};
 use mac_wire::Bytes;
 use std::alloc::{AllocError, Global};
@@ -49,7 +51,15 @@ pub fn answer(
         Call::Inspect => told_outcome(alloc, inspect_answer(alloc, body)),
         Call::Check => told_outcome(alloc, check_answer(alloc, body)),
         Call::Verify => match table.find(name) {
-            Some(keys) => told_outcome(alloc, verify_answer(alloc, keys, body)),
+            Some(keys) => {
+                let revoked = &table.revoked;
+                let verifier = Verifier {
+                    keys,
+                    name,
+                    revoked,
+                };
+                told_outcome(alloc, verify_answer(alloc, verifier, body))
+            }
             None => Ok(Outcome::NoKey),
         },
     }
@@ -109,10 +119,11 @@ fn check_answer(alloc: Global, body: &[u8]) -> Result<Vec<u8>, CallFault>
     judged(alloc, None, &object)
 }
 
-/// The reply to a verify under these keys.
-fn verify_answer(alloc: Global, keys: &Keys, body: &[u8]) -> Result<Vec<u8>, CallFault>
-    ensures { Gives (λ json. json.items) result (verify_answer keys.now body.now) }
+/// The reply to a verify.
+fn verify_answer(alloc: Global, v: Verifier<'_>, body: &[u8]) -> Result<Vec<u8>, CallFault>
+    ensures { Gives (λ json. json.items) result
+        (verify_answer (lent_verifier v.entry) body.now) }
 {
     let object = object_in(alloc, Call::Verify, body)?;
-    judged(alloc, Some(keys), &object)
+    judged(alloc, Some(v), &object)
 }

@@ -86,6 +86,7 @@ pub(crate) fn reason(why: Refusal) -> &'static str
         Refusal::CaveatLocation => "a first-party caveat of the token has a location",
         Refusal::NotAllowed => "the address does not allow this request",
         Refusal::NoClock => "the clock tells no moment",
+        Refusal::Revoked => "the token was taken back",
     }
 }
 

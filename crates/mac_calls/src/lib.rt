@@ -20,6 +20,7 @@ mod members;
 mod names;
 mod object;
 mod received;
+mod verifier;
 
 pub use answering::{Outcome, answer};
 pub use call::Call;

@@ -11,7 +11,7 @@ use Rattle.mac_calls.specs.declared.call.Call.{Call}
 use Rattle.mac_calls.specs.declared.call.Call.TheVariants.{Mint}
 use Rattle.mac_calls.specs.Outcome.{outcome_of}
 use Rattle.mac_decide.specs.Terms.{is_allowed}
-use Rattle.mac_keys.specs.Table.{Table}
+use Rattle.mac_keys.specs.KeyTable.{Table}
 use Rattle.mac_http.specs.declared.rules.Rules.{Rules}
 use Rattle.mac_http.specs.declared.rules.Way.{Way}
 use Rattle.mac_http.specs.declared.rules.Way.TheVariants.{Socket, Port}

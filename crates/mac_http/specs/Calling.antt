@@ -11,7 +11,7 @@ use Rattle.mac_calls.specs.declared.answering.Outcome.TheVariants.{NoKey, Reply,
 use Rattle.mac_calls.specs.declared.call.Call.{Call}
 use Rattle.mac_calls.specs.declared.call.Call.TheVariants.{Mint, Attenuate, Inspect, Check}
 use Rattle.mac_decide.specs.Terms.{is_allowed}
-use Rattle.mac_keys.specs.Table.{Table}
+use Rattle.mac_keys.specs.KeyTable.{Table}
 use Rattle.mac_http.specs.declared.rules.Calls.{Calls}
 use Rattle.mac_http.specs.declared.rules.Rules.{Rules}
 use Rattle.mac_http.specs.Browsing.{refusal_of}

@@ -13,7 +13,7 @@ use Rattle.mac_keys.specs.Change.{AddsKey, AddsLower, DropsFirst, DropsKey, IsKe
 use Rattle.mac_keys.specs.declared.change.ChangeFault.{ChangeFault}
 use Rattle.mac_keys.specs.declared.change.ChangeFault.TheVariants as change
 use Rattle.mac_keys.specs.declared.fault.KeyFault.TheVariants as key
-use Rattle.mac_keys.specs.Table.{Table, table_of}
+use Rattle.mac_keys.specs.KeyTable.{Table, table_of}
 use Rattle.mac_wire.specs.declared.request.TokenForm.{TokenForm}
 use Rattle.mac_words.specs.Escaped.{escaped}
 use Rattle.mac_words.specs.KeyLine.{GivesLine}

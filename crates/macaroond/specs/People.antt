@@ -10,7 +10,7 @@ use Rattle.clap.specs.Words.{App, Row, Rule, Text, all_of, first_of, new_app, ne
 use Rattle.clap.specs.Words.{with_subcommand}
 use Rattle.clap.specs.declared.builder.action.ArgAction.TheVariants.{Append}
 use Rattle.clap.specs.declared.builder.value_parser.ValueParser.TheVariants.{NonEmptyString}
-use Rattle.mac_keys.specs.Table.{Table, table_of}
+use Rattle.mac_keys.specs.KeyTable.{Table, table_of}
 use Rattle.mac_wire.specs.Request.{Asked, mint, attenuate, verify}
 use Rattle.mac_wire.specs.declared.request.TokenForm.{TokenForm}
 use Rattle.mac_words.specs.Moment.{IsMoment}

@@ -97,7 +97,7 @@ fn put_up<R: Wait + Drop>(
     requires { names_up (tables publisher) ≡ Some names }
     ensures { MatchResult result.1
         (λ news. (tables_of result.0 ≡ tables publisher ++ table ∷ [])
-        × (result.0.watcher ≡ watchers.1) × (news ≡ Taken (len table)))
+        × (result.0.watcher ≡ watchers.1) × (news ≡ Taken (len table.keys)))
         (λ _. (tables_of result.0 ≡ tables publisher) × (result.0.watcher ≡ watchers.0)
         × (result.0.names ≡ names)) }
 {
