@@ -20,4 +20,5 @@ pub use door::{Gift, SideSocket, give};
 pub use fault::DaemonFault;
 pub use fleet::{Day, FOLLOWERS_MAX, Shape};
 pub use listening::{Daemon, DaemonTerms, listen};
+pub use stop::Stop;
 pub use surroundings::Surroundings;

@@ -11,8 +11,8 @@ use crate::fleet::{Day, FleetParts, Idlers, Shape, make_seen, run_fleet};
 use crate::quay::Quay;
 use crate::stop::Stop;
 use crate::surroundings::{Surroundings, heed_signals};
-use mac_board::{Followers, News};
-use mac_host::{Beginning, Call, Ending, Host, Notices, Numbers, Roster};
+use mac_board::Followers;
+use mac_host::{Beginning, Ending, Host, Notices, Numbers, Roster};
 use mac_sockets::{Doors, Entrance, Holdings, STACK};
 use mac_system::{NotifySocket, State};
 use std::alloc::{AllocError, Global};
@@ -22,6 +22,9 @@ use std::random::RandomSource;
 use std::sync::{Arc, Wait};
 use std::thread::{Builder, Promise, PromisedHandle, Threads};
 use std::time::{Clock, Duration};
+
+/// For how many seconds one wait for the end lasts at most, which is begun again.
+const LONG: u64 = 3_600;
 
 /// What a daemon is told of what it serves.
 #[derive(Clone, Copy)]
@@ -158,20 +161,18 @@ impl Daemon {
         self.serving.join(rt)
     }
 
-    /// Tells a daemon to end, at one of whose paths there is another one's socket.
-    pub fn end_replaced<R: Wait + Clock>(&self, rt: &R, path: &str) {
-        self.stop.tell_replaced(rt, self.host.notices(), path);
+    /// What tells it to end, for another thread.
+    pub fn stop(&self) -> Result<Stop, AllocError> {
+        self.stop.share()
     }
 
-    /// Waits until the daemon is told something, for so long at most.
-    pub fn await_call<R: Wait + Clock>(&self, rt: &R, patience: Duration) -> Call {
-        self.host.ending().await_call(rt, patience)
-    }
-
-    /// Tells what came of a look at its key file, if there is anything to be told.
-    pub fn tell_keys<R: Wait + Clock>(&self, rt: &R, file: &str, news: News) {
-        self.host.numbers().note_keys(rt, &news);
-        self.host.notices().tell_keys(rt, file, news);
+    /// Waits until the daemon is told to end, or has ended by itself.
+    pub fn await_told<R: Wait + Clock>(&self, rt: &R) {
+        for _ in rt.forever() {
+            if self.host.ending().await_told(rt, Duration::from_secs(LONG)) {
+                return;
+            }
+        }
     }
 
     /// What a further server has of it, whose connections are seen off with it.

@@ -25,6 +25,11 @@ impl Stop {
         })
     }
 
+    /// The same, for another thread.
+    pub fn share(&self) -> Result<Stop, AllocError> {
+        Stop::new(&self.ending, &self.shutter)
+    }
+
     /// Tells the daemon to end: once what it has read is answered, or at once where it was told
     /// before.
     pub fn tell<R: Wait>(&self, rt: &R) {

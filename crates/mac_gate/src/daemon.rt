@@ -5,7 +5,7 @@ use crate::shared::Shared;
 use http::StatusCode;
 use mac_count::{Number, append_metrics, append_status, append_version};
 use mac_decide::SeenTokens;
-use mac_host::Host;
+use mac_host::{Host, copy_told_name};
 use mac_http::{Monitor, Noted, Page, Told};
 use std::alloc::{AllocError, Global};
 use std::sync::Wait;
@@ -46,7 +46,7 @@ impl<'a, R: Wait + Clock> OwnDaemon<'a, R> {
         if !self.host().notices().has_requests() {
             return;
         }
-        let Ok(name) = Vec::from_slice(self.alloc, noted.name) else {
+        let Ok(name) = copy_told_name(self.alloc, noted.name) else {
             return;
         };
         let exchange = exchange_of(noted.asks, name, status);

@@ -1,19 +1,18 @@
 //! The daemon whose keys follow its key file.
-ghost use Rattle.macaroond.specs.Watching.{Watches};
 
 use crate::commands::LOOPS_MAX;
 use crate::http::{HttpPlan, OpenDoors, open_doors};
-use crate::key_store::{FirstKeys, KeyPlace, look_at};
+use crate::key_store::{FirstKeys, KeyPlace};
 use crate::operating::{
     OperatorsServer, open_status, operators_terms, start_operators, warn_of_no_status,
 };
+use crate::watching::{Farewell, KeyWatch, PathWatch};
 use mac_board::Editor;
 use mac_daemon::{
     Daemon, DaemonFault, DaemonTerms, FOLLOWERS_MAX, Gift, SideSocket, Surroundings, give, listen,
 };
 use mac_decide::Rights;
 use mac_gate::{Address, DoorFault, HttpServer, ServerFault};
-use mac_host::Call;
 use mac_sockets::{Door, Doors, Holdings, PathClaim, PlaceFault};
 use mac_system::handed_listener;
 use std::alloc::{Alloc, AllocError, Global};
@@ -23,16 +22,13 @@ use std::net::{Net, TcpListener, TcpStream};
 use std::os::unix::net::UnixListener;
 use std::process::Process;
 use std::random::RandomSource;
-use std::sync::Wait;
+use std::sync::{Arc, Wait};
 use std::thread::Threads;
-use std::time::{Clock, Duration};
+use std::time::Clock;
 
 /// How many followers of the key tables there are at most: the daemon's own, and one for each loop
 /// of gateways and of callers.
 const FOLLOWERS: usize = FOLLOWERS_MAX + 2 * LOOPS_MAX as usize;
-
-/// How many milliseconds pass between two looks at the key file.
-const PAUSE_MILLIS: u64 = 500;
 
 /// What `listen` listens at, beside the socket of its terms.
 #[derive(Drop)]
@@ -75,8 +71,8 @@ impl<'a> From<ServerFault> for ListenFault<'a> {
 }
 
 /// Listens until it is told to end, under the table that the key file at a path has at each moment.
-/// Other threads serve, and this one watches the file. What it made of its sockets and didn't put
-/// in their places is removed.
+/// Other threads serve, and others look at the files. What it made of its sockets and didn't put in
+/// their places is removed.
 pub(crate) fn listen_and_watch<'a, R>(
     rt: &R,
     terms: DaemonTerms<'_>,
@@ -93,21 +89,30 @@ where
 {
     let handed = handed_listener(rt, process).map_err(DaemonFault::from)?;
     let mut holdings = Holdings::new(rt.alloc(), claim, process);
-    let outcome = listen_holding(rt, terms, sockets, keys, first, handed, &mut holdings);
-    holdings.clear(rt);
-    outcome
+    match open_all(rt, terms, sockets, first, handed, &mut holdings) {
+        Ok((started, editor)) => {
+            let watched = Watched {
+                keys,
+                socket: terms.path,
+            };
+            serve_watched(rt, started, editor, watched, holdings)
+        }
+        Err(fault) => {
+            holdings.clear(rt);
+            Err(fault)
+        }
+    }
 }
 
-/// The same, with what is held of the sockets' paths.
-fn listen_holding<'a, R>(
+/// Starts a daemon, and puts its sockets in their places.
+fn open_all<'a, R>(
     rt: &R,
     terms: DaemonTerms<'_>,
     sockets: Sockets<'a>,
-    keys: KeyPlace<'_>,
     first: FirstKeys,
     handed: Option<UnixListener>,
     holdings: &mut Holdings,
-) -> Result<(), ListenFault<'a>>
+) -> Result<(Started<R>, Editor<R>), ListenFault<'a>>
 where
     R: Env + Alloc<A = Global> + Print + Eprint + Files<File = File> + Clock + RandomSource,
     R: Net<Listener = TcpListener, Stream = TcpStream>,
@@ -121,13 +126,76 @@ where
     let editor = Editor::new(rt.alloc(), *rt, read.table, FOLLOWERS, before, after)?;
     let started = start_all(rt, terms, sockets, &editor, handed, holdings)?;
     started.daemon.open(rt, terms, holdings)?;
-    let watched = Watched {
-        keys,
-        socket: terms.path,
-    };
-    let _kept_up = watch(rt, watched, editor, &started.daemon, holdings);
+    Ok((started, editor))
+}
+
+/// What a daemon looks at now and then, by their paths.
+#[derive(Clone, Copy)]
+struct Watched<'a> {
+    keys: KeyPlace<'a>,
+    socket: &'a str,
+}
+
+/// Has the files looked at while the daemon serves, and sees it off once it is told to end. A file
+/// that doesn't answer is never waited for. Without a thread to look at a file the daemon ends.
+fn serve_watched<'a, R>(
+    rt: &R,
+    started: Started<R>,
+    editor: Editor<R>,
+    watched: Watched<'_>,
+    holdings: Holdings,
+) -> Result<(), ListenFault<'a>>
+where
+    R: Alloc<A = Global> + Files<File = File> + Clock,
+    R: Threads + Wait + Drop + Copy + Send + 'static,
+{
+    let farewell = Farewell::new(rt.alloc())?;
+    let keys = key_watch(rt.alloc(), &started.daemon, editor, watched)?;
+    let paths = path_watch(rt.alloc(), &started.daemon, holdings, watched, &farewell)?;
+    let is_watched = keys.start(*rt) && paths.start(*rt);
+    if is_watched {
+        started.daemon.await_told(rt);
+    } else {
+        started.daemon.stop()?.tell(rt);
+    }
     end_all(rt, started);
+    if !is_watched {
+        return Err(ListenFault::Daemon(DaemonFault::NoThread));
+    }
+    farewell.part(rt);
     Ok(())
+}
+
+/// What looks at the key file.
+fn key_watch<R: Wait + Drop>(
+    alloc: Global,
+    daemon: &Daemon,
+    editor: Editor<R>,
+    watched: Watched<'_>,
+) -> Result<KeyWatch<R>, AllocError> {
+    Ok(KeyWatch {
+        path: String::from_str(alloc, watched.keys.path)?,
+        of_others: watched.keys.of_others,
+        editor,
+        host: daemon.host()?,
+    })
+}
+
+/// What looks at the paths of the sockets.
+fn path_watch(
+    alloc: Global,
+    daemon: &Daemon,
+    holdings: Holdings,
+    watched: Watched<'_>,
+    farewell: &Arc<Farewell, Global>,
+) -> Result<PathWatch, AllocError> {
+    Ok(PathWatch {
+        main: String::from_str(alloc, watched.socket)?,
+        holdings,
+        stop: daemon.stop()?,
+        host: daemon.host()?,
+        farewell: Arc::try_clone(farewell)?,
+    })
 }
 
 /// A daemon with its servers over HTTP.
@@ -261,55 +329,4 @@ where
     }
     let server = opened.serve(rt, editor.followers()?, loops, daemon.host()?)?;
     Ok(Some(server))
-}
-
-/// What a daemon looks at now and then, by their paths.
-#[derive(Clone, Copy)]
-struct Watched<'a> {
-    keys: KeyPlace<'a>,
-    socket: &'a str,
-}
-
-/// Watches a key file until the daemon is told to end, or another one's socket is in its place. At
-/// a call to look there are two looks, so that a file that rests between them is taken.
-fn watch<R>(
-    rt: &R,
-    watched: Watched<'_>,
-    editor: Editor<R>,
-    daemon: &Daemon,
-    holdings: &mut Holdings,
-) -> Editor<R>
-where
-    R: Alloc<A = Global> + Files<File = File> + Clock + Wait + Drop,
-{
-    let mut editor = editor;
-    for _ in rt.forever() {
-        match daemon.await_call(rt, Duration::from_millis(PAUSE_MILLIS)) {
-            Call::End => return editor,
-            Call::Look => editor = look_once(rt, watched.keys, editor, daemon),
-            Call::Nothing => {}
-        }
-        if let Some(path) = holdings.look(rt, watched.socket) {
-            daemon.end_replaced(rt, path);
-        }
-        editor = look_once(rt, watched.keys, editor, daemon);
-    }
-    unreachable!()
-}
-
-/// Looks at a key file once: a table that is to be taken is put up, and what came of it is told.
-/// Where memory runs out, the next look finds the same.
-fn look_once<R>(rt: &R, keys: KeyPlace<'_>, editor: Editor<R>, daemon: &Daemon) -> Editor<R>
-where
-    R: Alloc<A = Global> + Files<File = File> + Clock + Wait + Drop,
-    ensures { Watches editor result }
-{
-    let Ok(sight) = look_at(rt, keys, &editor) else {
-        return editor;
-    };
-    let (editor, told) = editor.look(rt.alloc(), sight);
-    if let Ok(news) = told {
-        daemon.tell_keys(rt, keys.path, news);
-    }
-    editor
 }

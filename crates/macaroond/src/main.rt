@@ -38,6 +38,7 @@ mod rights;
 mod serving;
 mod status;
 mod telling;
+mod watching;
 
 pub use choices::{Choice, Chosen, HttpOptions, ListenOptions, Mode, PageOptions, ServeOptions};
 pub use command_line::{choose, read_words};
