@@ -1,6 +1,7 @@
 """The lines of the daemon's log: each line of the table in docs/OPERATING.md is provoked here, or named as one that
 isn't."""
 import contextlib
+import json
 import os
 import pathlib
 import re
@@ -10,7 +11,7 @@ import time
 
 from check.daemon_rows import HELLO, MINT, NO_REQUEST, SLOW_TOKEN, TOKEN, placed
 from common import KEYS, TOP, daemon, logged
-from common.daemon import awaited, connected, frame, received
+from common.daemon import awaited, connected, frame, received, reply_to
 from common.rows import in_folders, judged
 
 import request
@@ -26,6 +27,8 @@ EACH = 1_000
 FLOOD = 5_000
 # How many connections end at once inside a frame; of each kind so many lines a second are printed.
 TORN, LINES_MAX = 300, 10
+# The most bytes of a line, and how many of them the value of a lone field has at least, where it is cut.
+LINE_MAX, FIELD_LEAST = 1_024, 900
 # The kinds that were seen, over all tests here.
 SEEN = set()
 
@@ -33,8 +36,8 @@ SEEN = set()
 class Log:
     """What a daemon's standard error has, a file."""
 
-    def __init__(self, folder):
-        self.path = pathlib.Path(folder) / "log"
+    def __init__(self, folder, name="log"):
+        self.path = pathlib.Path(folder) / name
         self.file = open(self.path, "w")
 
     def text(self):
@@ -141,6 +144,27 @@ def key_files(folder):
         path.write_text("key bank\n")
         due = ("error", str(path), "line 1: the line is not of the form `key NAME HEX`")
         yield "keys_refused", told(log.first("keys_refused"), "file", "fault"), due
+
+
+def long_path(folder):
+    """A key file whose path has more bytes than a line may have, with bytes that are escaped."""
+    path = pathlib.Path(folder).joinpath(*["=" * 200] * 8, "keys")
+    path.parent.mkdir(parents=True)
+    path.write_text(KEYS.read_text())
+    path.chmod(0o600)
+    log = Log(folder)
+    with listening(log, keys=str(path)):
+        with open(path, "a") as file:
+            file.write("# changed\n")
+        text = awaited(lambda: next((line for line in log.text().splitlines() if " keys_read " in line), None))
+    yield "no longer than a line", len(text) < LINE_MAX, True
+    shown = str(path).replace("=", r"\x3d")
+    front = text.split(' file="')[1]
+    yield "cut with a mark", front.endswith('" ...'), True
+    front = front.removesuffix('" ...')
+    yield "a front of the path", shown.startswith(front), True
+    yield "as much as fits", len(front) > FIELD_LEAST, True
+    yield "no escape in part", front.replace(r"\x3d", "").count("\\"), 0
 
 
 def journal(folder):
@@ -272,7 +296,7 @@ def requests_over_http(folder):
             ("verify", "bank", "unsatisfied", None),
         ),
         (posts(b"/mint/bank", b'{"identifier":"x"}'), ("mint", "bank", "token", None)),
-        (posts(b"/mint/bank", b"{}"), ("mint", "bank", "refused", "400")),
+        (posts(b"/mint/bank", b"[]"), ("mint", "bank", "refused", "400")),
         (posts(b"/inspect", b'{"token":"' + TOKEN + b'"}'), ("inspect", None, "told", None)),
         (posts(b"/attenuate", b"{}"), ("verify", None, "refused", "404")),
         (b"GET /healthz HTTP/1.1\r\nHost: x\r\nConnection: close\r\n\r\n", None),
@@ -283,6 +307,55 @@ def requests_over_http(folder):
         while stream.recv(65_536):
             pass
         yield "a line for each request", await_said(log, None, len(due)), due
+
+
+# Identifiers with the value that a line has for each: bytes that are not plain, and none at all.
+MINTED = {b"alice:5f3c": "alice:5f3c", b"a b=\"\n\xff": 'a b="\n\xff', b"": "", b"name=x": "name=x"}
+
+
+def minted_of(lines):
+    """What lines say of tokens that were minted: the connection, the name and the identifier."""
+    return [tuple(map(it.fields.get, ("connection", "name", "identifier"))) for it in lines if it.what == "mint"]
+
+
+def mints(folder):
+    """Where that is asked for, each token that is minted has its line, and no other request; at every face."""
+    log, web = Log(folder), f"{folder}/web"
+    words = ["--log", "mints", "--http-calls", f"unix:{web}", "--http-calls-allow", "mint"]
+    caveats = ["c" * 4000, "d" * 1000]
+    with listening(log, *words) as (path, _):
+        with connected(path) as stream:
+            for identifier in MINTED:
+                reply = reply_to(stream, request.mint("v2-binary", "bank", "here", f"hex:{identifier.hex()}"))
+                yield f"{identifier}: a token", reply[:1], b"\x01"
+            for refused in (request.mint("v2-binary", "none", "", "x"), request.mint("v2-binary", "bank", "", "i" * 5000), b""):
+                yield "no token", reply_to(stream, refused)[0] >= 16, True
+            reply_to(stream, request.verify("bank", SLOW_TOKEN, 0))
+            wide = reply_to(stream, request.mint("v2-json", "bank", "", "wide", *caveats))
+            yield "a wide one", wide[:1], b"\x01"
+            reply_to(stream, request.mint("v2-binary", "bank", "", "i" * 4000))
+            reply_to(stream, request.mint("v2-binary", "bank", "", "last"))
+        due = [*MINTED.values(), "wide", None, "last"]
+        awaited(lambda: len(minted_of(log.lines())) >= len(due))
+        told = minted_of(log.lines())
+        long = told[-2][2] or ""
+        yield "a line for each token", [it[2] if it[2] != long else None for it in told], due
+        yield "the longest is cut", (long == "i" * len(long), 800 < len(long) < 1000), (True, True)
+        yield "with the connection and the name", {it[:2] for it in told}, {("1", "bank")}
+        yield "and no other line", said_of(log.lines(), "1"), []
+        with connected(web) as stream:
+            drawn = []
+            for body in (b'{"identifier":"over http"}', b"{}", b"[]"):
+                head = b"POST /mint/bank HTTP/1.1\r\nHost: x\r\nContent-Length: %d\r\n\r\n" % len(body)
+                stream.sendall(head + body)
+                drawn.append(json.loads(stream.recv(65_536).partition(b"\r\n\r\n")[2]).get("identifier"))
+        awaited(lambda: len(minted_of(log.lines())) >= len(due) + 2)
+        yield "of HTTP too", minted_of(log.lines())[len(due) :], [(None, "bank", "over http"), (None, "bank", drawn[1])]
+    both = Log(folder, "both")
+    with listening(both, "--log", "mints,requests") as (path, _), connected(path) as stream:
+        reply_to(stream, request.mint("v2-binary", "bank", "", "alice"))
+        awaited(lambda: len(said_of(both.lines(), "1")) >= 1)
+        yield "both kinds", (minted_of(both.lines()), said_of(both.lines(), "1")), ([("1", "bank", "alice")], [("mint", "bank", "token", None)])
 
 
 def no_requests(folder):
@@ -296,7 +369,7 @@ def no_requests(folder):
         log.first("end")
     yield "no line", said_of(log.lines(), "1"), []
     run = daemon.refused(f"{folder}/socket", "--log", "all")
-    yield "another word", (run.returncode, run.stderr), (2, "error: what is logged besides is requests\n")
+    yield "another word", (run.returncode, run.stderr), (2, "error: what is logged besides is requests, mints or both with a comma between them\n")
 
 
 def replaced(folder):
@@ -326,6 +399,6 @@ def page():
 
 
 def faults():
-    parts = [connections, many_torn, few_descriptors, replaced, refused_step, key_files, journal]
-    seen = list(in_folders(*parts, requests, unread, requests_over_http, no_requests))
+    parts = [connections, many_torn, few_descriptors, replaced, refused_step, key_files, long_path, journal]
+    seen = list(in_folders(*parts, requests, unread, requests_over_http, mints, no_requests))
     return judged([*seen, *page()])

@@ -2,7 +2,7 @@
 //! nothing.
 
 ghost use Rattle.std.specs.Prelude.{◌≡◌, ◌≤◌, ℕ, [], ◌∷◌, ◌++◌, Bool, List, All};
-ghost use Rattle.mac_keys.specs.Keys.{Table};
+ghost use Rattle.mac_keys.specs.KeyTable.{Table};
 ghost use Rattle.mac_board.specs.Follows.{AreInOrder, Begins, Known, StandIn, Takes};
 ghost use Rattle.mac_board.specs.Watcher.{AreIdle, AreOf, Goes, HasRested, IsNews, NeverRests, Sees};
 ghost use Rattle.mac_board.specs.declared.sight.FileState.{FileState};

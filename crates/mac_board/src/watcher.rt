@@ -1,10 +1,13 @@
 //! When a key file that changes is read, taken and told of.
 
-ghost use Rattle.std.specs.Prelude.{◌≡◌, ◌≢◌, ◌↔◌, IsTrue, IfOk, OnErr, Some, None};
+ghost use Rattle.std.specs.Prelude.{◌≡◌, ◌≢◌, ◌↔◌, ◌⊎◌, IsTrue, IfOk, OnErr, Some, None};
+ghost use Rattle.mac_board.specs.Sight.{state_after, state_before};
 ghost use Rattle.mac_board.specs.Watcher.{IsDueIn, IsNews, Sees, judged, worth};
-ghost use Rattle.mac_keys.specs.Table.{table_of};
+ghost use Rattle.mac_board.specs.declared.listing.ListFinding.TheVariants as list;
+ghost use Rattle.mac_keys.specs.KeyTable.{table_of};
 
 use crate::access::Exposure;
+use crate::listing::{ListFinding, ListUp, list_value};
 use crate::sight::{FileState, ReadFault, Sight, is_same};
 use mac_keys::{KeyFault, KeyTable, LineFault, wipe};
 use std::alloc::{AllocError, Global};
@@ -98,6 +101,32 @@ impl Watcher {
         self.last = after;
         if is_news(&finding) {
             self.settled = Some(before);
+        }
+        Ok(finding)
+    }
+
+    /// The same of a list of tokens that were taken back, where this one is up.
+    pub fn look_at_list(
+        &mut self,
+        alloc: Global,
+        up: ListUp,
+        sight: &Sight,
+    ) -> Result<ListFinding, AllocError>
+        ensures last { IfOk result (λ _. self.new.last ≡ state_after sight.now) }
+        ensures due { IfOk result (λ finding. (finding ≡ list.Nothing)
+            ⊎ IsDueIn self.old (state_before sight.now) (state_after sight.now)) }
+        ensures err { OnErr result (self.new ≡ self.old) }
+    {
+        let (before, after) = (sight.before(), sight.after());
+        let finding = if self.is_due(before, after) {
+            list_value(alloc, up, sight)?
+        } else {
+            ListFinding::Nothing
+        };
+        self.last = after;
+        match finding {
+            ListFinding::Nothing => {}
+            ListFinding::List(_) | ListFinding::Refused(_) => self.settled = Some(before),
         }
         Ok(finding)
     }

@@ -14,6 +14,7 @@ mod content;
 mod daemon;
 mod devices;
 mod door;
+mod draws;
 mod limit;
 mod looping;
 mod noting;

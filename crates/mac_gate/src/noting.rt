@@ -2,8 +2,9 @@
 
 use http::StatusCode;
 use mac_count::{Asked, Request, Told};
-use mac_host::Exchange;
-use mac_http::Asks;
+use mac_host::{Exchange, copy_told_identifier};
+use mac_http::{Asks, Noted};
+use std::alloc::{AllocError, Global};
 
 /// What a request is counted as, if it is counted: what needs no key isn't.
 pub fn request_of(asks: Asks, status: StatusCode) -> Option<Request> {
@@ -22,8 +23,18 @@ pub fn request_of(asks: Asks, status: StatusCode) -> Option<Request> {
     Some(Request { asked, told })
 }
 
-/// What is logged of a request that names a key so.
-pub fn exchange_of(asks: Asks, name: Vec<u8>, status: StatusCode) -> Exchange {
+/// What is logged of a request that was answered with this status.
+pub fn exchange_of(
+    alloc: Global,
+    noted: Noted<'_>,
+    status: StatusCode,
+) -> Result<Exchange, AllocError> {
+    let name = Vec::from_slice(alloc, noted.name)?;
+    let minted = match noted.minted {
+        Some(identifier) => Some(copy_told_identifier(alloc, identifier)?),
+        None => None,
+    };
+    let asks = noted.asks;
     let what = match asks {
         Asks::Verify => "verify",
         Asks::Mint => "mint",
@@ -38,12 +49,13 @@ pub fn exchange_of(asks: Asks, name: Vec<u8>, status: StatusCode) -> Exchange {
         (_, true) => ("token", None),
         (_, false) => ("refused", Some(status.as_u16())),
     };
-    Exchange {
+    Ok(Exchange {
         asks: what,
         name,
         verdict,
         code,
-    }
+        minted,
+    })
 }
 
 /// Whether a status says that what was asked for was done.

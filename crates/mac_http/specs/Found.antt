@@ -5,9 +5,11 @@ use Rattle.http.specs.declared.request.Parts.{Parts}
 use Rattle.http_uri.specs.Uri.{uri_path}
 use Rattle.mac_calls.specs.Counted.{are_few}
 use Rattle.mac_decide.specs.Answer.{IsGranted, answer_to, keys_of}
+use Rattle.mac_decide.specs.Revocation.{is_listed_read}
+use Rattle.mac_token.specs.Read.{read_of}
 use Rattle.mac_decide.specs.Terms.{Terms}
 use Rattle.mac_decide.specs.declared.context.Context.{Context}
-use Rattle.mac_keys.specs.Table.{Table}
+use Rattle.mac_keys.specs.KeyTable.{Table}
 use Rattle.mac_wire.specs.Request.{verify_now}
 use Rattle.mac_wire.specs.declared.reply.Reply.{Reply}
 use Rattle.mac_wire.specs.declared.reply.Reply.TheVariants as reply
@@ -83,7 +85,8 @@ IsHeld (Granted identifier location) = Unit {0}
 IsHeld (Unsatisfied index) = Unit {0}
 IsHeld _ = ⊥
 
--- the request names keys that may be used and grant its token at the moment with its facts
+-- the request names keys that may be used and grant its token at the moment with its facts, and the
+-- token was not taken back
 pub record IsGrantedBy (table : Table) (rules : Rules) (moment : Option ℕ) (head : Parts)
     : Type 0 where
   pub name : List ℕ
@@ -99,3 +102,4 @@ pub record IsGrantedBy (table : Table) (rules : Rules) (moment : Option ℕ) (he
   pub told : moment ≡ Some second
   pub granted : IsGranted (keys_of (terms_of table rules moment) name) token
       (context_of rules.sources second head behind)
+  pub kept : is_listed_read table.revoked name (read_of token) ≡ false

@@ -26,10 +26,12 @@ pub struct Noted<'a> {
     pub asks: Asks,
     /// The name of the key that it names, empty where it names none.
     pub name: &'a [u8],
+    /// The identifier of the token that was minted for it.
+    pub minted: Option<&'a [u8]>,
 }
 
-/// That of a call.
-pub(crate) fn note_of_call(asked: Asked<'_>) -> Noted<'_> {
+/// That of a call, for which a token with this identifier was minted, if one was.
+pub(crate) fn note_of_call<'a>(asked: Asked<'a>, minted: Option<&'a [u8]>) -> Noted<'a> {
     let asks = match asked.call {
         Call::Mint => Asks::Mint,
         Call::Attenuate => Asks::Attenuate,
@@ -40,6 +42,7 @@ pub(crate) fn note_of_call(asked: Asked<'_>) -> Noted<'_> {
     Noted {
         asks,
         name: asked.name,
+        minted,
     }
 }
 
@@ -52,5 +55,6 @@ pub(crate) fn note_of_path(path: &[u8]) -> Noted<'_> {
     Noted {
         asks: Asks::Verify,
         name,
+        minted: None,
     }
 }

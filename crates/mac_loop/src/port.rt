@@ -1,16 +1,21 @@
 //! A connection's socket as a loop has it: reads and writes don't wait.
 
-ghost use Rattle.std.specs.Prelude.{length};
+ghost use Rattle.std.specs.Prelude.{◌≡◌, ◌++◌, [], IfOk, length};
 ghost use Rattle.mac_plain.specs.Port.{FitsCame, FitsWent};
 
 use crate::transcript::Transcript;
 use mac_host::{Exchange, Traffic};
+use mac_mail::History;
 use mac_plain::{Came, Port, Went};
 use mac_sockets::Stream;
+use std::alloc::AllocError;
 use std::cell::RefCell;
 use std::io;
 use std::io::ErrorKind;
 use std::net::Shutdown;
+
+/// How many bytes one read behind a frame that is too long drops at most.
+const DROPPED_PIECE: usize = 16_384;
 
 /// A socket that a loop reads and writes.
 #[derive(Drop)]
@@ -18,7 +23,12 @@ pub struct SocketPort {
     stream: Stream,
     // Whether the last read gave bytes.
     has_read: bool,
+    // Whether the last read was put off, since too many requests wait for their replies.
+    is_put_off: bool,
     traffic: Traffic,
+    // All bytes that reads gave, and that writes took. For contracts: they take no room.
+    pub(crate) came: History<u8>,
+    pub(crate) went: History<u8>,
     // What comes and goes on it, where that is logged: apart, since most have none.
     transcript: Option<Box<RefCell<Transcript>>>,
 }
@@ -26,33 +36,44 @@ pub struct SocketPort {
 impl SocketPort {
     /// A port at a stream, whose reads and writes wait no more, and which goes on with a transcript
     /// where there is one.
-    pub fn new(stream: Stream, transcript: Option<Transcript>) -> io::Result<SocketPort> {
+    pub fn new(stream: Stream, transcript: Option<Transcript>) -> io::Result<SocketPort>
+        ensures { IfOk result (λ port. (port.came ≡ []) × (port.went ≡ [])) }
+    {
         stream.hurry()?;
         Ok(SocketPort {
             stream,
             has_read: false,
+            is_put_off: false,
             traffic: Traffic::NONE,
+            came: History::new(),
+            went: History::new(),
             transcript: transcript.and_then(|transcript| transcript.apart()),
         })
     }
 
-    /// The stream, whose reads and writes still don't wait, and the transcript.
-    pub fn into_stream(self) -> (Stream, Option<Transcript>) {
-        let SocketPort {
-            stream,
-            has_read: _,
-            traffic: _,
-            transcript,
-        } = self;
-        let transcript = transcript.map(|apart| Box::into_inner(apart).into_inner());
-        (stream, transcript)
-    }
-
-    /// The next request whose reply has gone out whole, where that is logged.
-    pub fn next_exchange(&self) -> Option<Exchange> {
+    /// The next request whose reply has gone out whole, where that is logged; or that there was no
+    /// memory to note one.
+    pub fn next_exchange(&self) -> Option<Result<Exchange, AllocError>> {
         let transcript = self.transcript.as_ref()?;
         let mut transcript = transcript.try_borrow_mut().ok()?;
         transcript.next_exchange()
+    }
+
+    /// Whether its requests are noted, and as many wait for their replies as may be: then it isn't
+    /// read.
+    pub fn is_full(&self) -> bool {
+        let Some(transcript) = &self.transcript else {
+            return false;
+        };
+        match transcript.try_borrow() {
+            Ok(transcript) => transcript.is_full(),
+            Err(_) => false,
+        }
+    }
+
+    /// Whether the last read was put off, since it was full.
+    pub fn is_put_off(&self) -> bool {
+        self.is_put_off
     }
 
     /// Takes note of bytes that came, or went.
@@ -81,6 +102,17 @@ impl SocketPort {
         self.stream.shut(Shutdown::Read);
     }
 
+    /// Writes nothing more: the peer reads an end behind what was written.
+    pub fn end_writing(&self) {
+        self.stream.shut(Shutdown::Write);
+    }
+
+    /// Reads what has come, once, and drops it.
+    pub fn drop_piece(&self) -> Came {
+        let mut piece = [0u8; DROPPED_PIECE];
+        read(&self.stream, &mut piece)
+    }
+
     /// Its stream.
     pub fn stream(&self) -> &Stream {
         &self.stream
@@ -88,20 +120,27 @@ impl SocketPort {
 }
 
 impl Port for SocketPort {
-    ghost use Rattle.std.specs.Prelude.{[], false};
+    ghost use Rattle.std.specs.Prelude.{true};
 
-    ghost tells = { false };
+    ghost tells = { true };
 
-    ghost taken = { λ _. [] };
+    ghost taken = { λ port. port.came };
 
-    ghost written = { λ _. [] };
+    ghost written = { λ port. port.went };
 
     fn read(&mut self, buf: &mut [u8]) -> Came {
+        self.is_put_off = self.is_full();
+        if self.is_put_off {
+            self.has_read = false;
+            return Came::Later;
+        }
         let came = read(&self.stream, buf);
         self.has_read = matches!(came, Came::Bytes(_));
         if let Came::Bytes(count) = came {
             self.traffic.came = self.traffic.came.saturating_add(count as u64);
-            self.note(buf.get(..count).unwrap_or(&[]), &[]);
+            let bytes = &buf[..count];
+            add_all(&mut self.came, bytes);
+            self.note(bytes, &[]);
         }
         came
     }
@@ -110,9 +149,20 @@ impl Port for SocketPort {
         let went = write(&self.stream, buf);
         if let Went::Bytes(count) = went {
             self.traffic.went = self.traffic.went.saturating_add(count as u64);
-            self.note(&[], buf.get(..count).unwrap_or(&[]));
+            let bytes = &buf[..count];
+            add_all(&mut self.went, bytes);
+            self.note(&[], bytes);
         }
         went
+    }
+}
+
+/// So many entries more, in their order.
+fn add_all(history: &mut History<u8>, bytes: &[u8])
+    ensures { history.new ≡ history.old ++ bytes.now }
+{
+    for byte in bytes {
+        history.add(byte);
     }
 }
 

@@ -1,7 +1,7 @@
 -- What is said to a person who asks a request in words.
 use Rattle.std.specs.Prelude.{◌≡◌, ◌⊎◌, ℕ, Bool, true, false, List, [], ◌∷◌, ◌++◌, Option, Some, None, Result, Ok, Err}
 use Rattle.mac_decide.specs.Answer.{full_answer, refusal_of}
-use Rattle.mac_keys.specs.Table.{Table, table_of}
+use Rattle.mac_keys.specs.KeyTable.{Table, table_of}
 use Rattle.mac_token.specs.RawToken.{RawParts}
 use Rattle.mac_token.specs.Read.{raw_read_of}
 use Rattle.mac_token.specs.declared.fault.TokenRefusal.{TokenRefusal}

@@ -2,7 +2,7 @@
 
 ghost use Rattle.std.specs.Prelude.{◌≡◌, [], IfOk};
 ghost use Rattle.mac_decide.specs.Answer.{full_answer};
-ghost use Rattle.mac_keys.specs.Table.{table_of};
+ghost use Rattle.mac_keys.specs.KeyTable.{table_of};
 ghost use Rattle.mac_wire.specs.Request.{mint, attenuate, verify};
 ghost use Rattle.mac_wire.specs.declared.arrival.Arrival.TheVariants as arrival;
 ghost use Rattle.mac_words.specs.Payload.{texts_of};

@@ -100,6 +100,8 @@ listen_command = with_rules (with_rules (with_rules (new_app (codes "listen"))
     ∷ flag (codes "replace")
     ∷ option (codes "log")
     ∷ flag (codes "keys-of-others")
+    ∷ option (codes "revoked")
+    ∷ flag (codes "allow-empty-revoked")
     ∷ [])) gateway_rules) calls_rules
 
 -- the subcommand `page`, both of whose options may be left out
@@ -224,6 +226,8 @@ HasListen options rows = IsText options.socket (first_of (codes "socket") rows)
     × (options.replace ≡ is_set (codes "replace") rows)
     × IsOptionalText options.log (codes "log") rows
     × (options.keys_of_others ≡ is_set (codes "keys-of-others") rows)
+    × IsOptionalText options.revoked (codes "revoked") rows
+    × (options.allow_empty_revoked ≡ is_set (codes "allow-empty-revoked") rows)
     × HasHttp options.http rows
 
 -- the values of the options of `page`

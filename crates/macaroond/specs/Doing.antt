@@ -8,17 +8,21 @@ use Rattle.std.specs.Option.{is_some}
 use Rattle.std.specs.declared.alloc.Global.{Global}
 use Rattle.std.specs.declared.string.String.{String}
 use Rattle.std.specs.declared.vec.Vec.{Vec}
+use Rattle.hex.specs.Hex.{encode_lower}
 use Rattle.mac_hmac.specs.Chain.{root_of}
 use Rattle.mac_keys.specs.Change.{AddsKey, AddsLower, DropsFirst, DropsKey, IsKeyLine, SwapsKeys}
 use Rattle.mac_keys.specs.declared.change.ChangeFault.{ChangeFault}
 use Rattle.mac_keys.specs.declared.change.ChangeFault.TheVariants as change
 use Rattle.mac_keys.specs.declared.fault.KeyFault.TheVariants as key
-use Rattle.mac_keys.specs.Table.{Table, table_of}
+use Rattle.mac_keys.specs.KeyTable.{Table, table_of}
 use Rattle.mac_wire.specs.declared.request.TokenForm.{TokenForm}
 use Rattle.mac_words.specs.Escaped.{escaped}
 use Rattle.mac_words.specs.KeyLine.{GivesLine}
 use Rattle.mac_words.specs.Moment.{IsMoment}
+use Rattle.mac_token.specs.RawToken.{RawParts}
+use Rattle.mac_token.specs.Read.{raw_read_of}
 use Rattle.mac_words.specs.NameList.{names_text}
+use Rattle.mac_words.specs.Revoked.{revoked_text}
 use Rattle.mac_words.specs.Said.{Says, SaysAlone, SaysBytes}
 use Rattle.mac_words.specs.TokenText.{bytes_told}
 use Rattle.mac_words.specs.declared.saying.Said.{Said}
@@ -34,7 +38,8 @@ use Rattle.macaroond.specs.declared.people.asking.VerifyWords.{VerifyWords}
 use Rattle.macaroond.specs.declared.people.asking.Task.{Task}
 use Rattle.macaroond.specs.declared.people.asking.Task.TheVariants.{Keygen, Check, Mint, Attenuate}
 use Rattle.macaroond.specs.declared.people.asking.Task.TheVariants.{Verify}
-use Rattle.macaroond.specs.declared.people.asking.Task.TheVariants.{Inspect, Status as TellStatus}
+use Rattle.macaroond.specs.declared.people.asking.Task.TheVariants.{Inspect, Revoke, Status as TellStatus}
+use Rattle.macaroond.specs.declared.people.asking.RevokeWords.{RevokeWords}
 use Rattle.macaroond.specs.declared.people.fault.PersonFault.{PersonFault}
 use Rattle.macaroond.specs.declared.people.fault.PersonFault.TheVariants as fault
 use Rattle.macaroond.specs.declared.people.status_page.AskedPage.{AskedPage}
@@ -63,6 +68,16 @@ StandsFor word bytes = ((word ≢ codes "-") × (bytes_told word ≡ Ok bytes))
 abbrev pub IsMomentGiven : Option (List ℕ) → ℕ → Type 0
 IsMomentGiven (Some given) moment = IsMoment given moment
 IsMomentGiven None moment = Unit {0}
+
+-- the digits of 16 bytes, whichever the system gave
+abbrev pub IsDrawn : List ℕ → Type 0
+IsDrawn identifier =
+    (drawn : List ℕ) × (length drawn ≡ 16) × (identifier ≡ encode_lower drawn)
+
+-- the identifier is the one that was given, or where none was, one that was drawn
+abbrev pub IsIdentifier : Option (List ℕ) → List ℕ → Type 0
+IsIdentifier (Some given) identifier = identifier ≡ given
+IsIdentifier None identifier = IsDrawn identifier
 
 -- ---- what is said
 
@@ -164,11 +179,13 @@ ChecksText text (Err _) = ⊥
 abbrev pub DoesCheck : Said → Type 0
 DoesCheck said = (text : List ℕ) × ChecksText text (Ok said)
 
--- what is said of the words under the keys of some file, in the form that they name
+-- what is said of the words under the keys of some file, in the form and with the identifier that
+-- they say, or one that is drawn
 abbrev pub DoesMint : MintWords → Said → Type 0
-DoesMint words said = (form : Option TokenForm) × (table : Table)
+DoesMint words said = (form : Option TokenForm) × (table : Table) × (identifier : List ℕ)
     × GivesForm (option_map string_bytes words.form) (Ok form) × IsKeyTable table
-    × Says table [] (mint_asked form words) (Ok said)
+    × IsIdentifier (option_map string_bytes words.identifier) identifier
+    × Says table [] (mint_asked form identifier words) (Ok said)
 
 -- what is said of the words about the bytes of their token, in the form that they name
 abbrev pub DoesAttenuate : AttenuateWords → Said → Type 0
@@ -218,6 +235,20 @@ abbrev pub DoesStatus : StatusWords → Said → Type 0
 DoesStatus words said =
     ((words.prometheus && words.connections) ≡ false) × ((reply : List ℕ) × IsPageOf reply said)
 
+-- the identifier that the words say, or that of the token that they bring
+abbrev pub IsRevoked : RevokeWords → List ℕ → Type 0
+IsRevoked words identifier = (option_map string_bytes words.identifier ≡ Some identifier)
+    ⊎ ((word : List ℕ) × (token : List ℕ) × (raw : RawParts)
+    × (option_map string_bytes words.token ≡ Some word) × StandsFor word token
+    × (raw_read_of token ≡ Ok raw) × (identifier ≡ raw.identifier))
+
+-- the line, where no list is named; else nothing, or what is told of bytes that are no token
+abbrev pub DoesRevoke : RevokeWords → Said → Type 0
+DoesRevoke words said =
+    ((identifier : List ℕ) × IsRevoked words identifier
+    × (SaysOf (revoked_text (string_bytes words.name) identifier) said ⊎ SaysNothing said))
+    ⊎ ((word : List ℕ) × (token : List ℕ) × StandsFor word token × SaysBytes token said)
+
 -- what is said where a task is done
 abbrev pub DoesTask : Task → Said → Type 0
 DoesTask (Keygen words) said = DoesKeygen words said
@@ -227,6 +258,7 @@ DoesTask (Attenuate words) said = DoesAttenuate words said
 DoesTask (Verify words) said = DoesVerify words said
 DoesTask (Inspect token) said = DoesInspect (string_bytes token) said
 DoesTask (TellStatus words) said = DoesStatus words said
+DoesTask (Revoke words) said = DoesRevoke words said
 
 -- ---- how a run ends
 

@@ -10,7 +10,7 @@ use Rattle.clap.specs.Words.{App, Row, Rule, Text, all_of, first_of, new_app, ne
 use Rattle.clap.specs.Words.{with_subcommand}
 use Rattle.clap.specs.declared.builder.action.ArgAction.TheVariants.{Append}
 use Rattle.clap.specs.declared.builder.value_parser.ValueParser.TheVariants.{NonEmptyString}
-use Rattle.mac_keys.specs.Table.{Table, table_of}
+use Rattle.mac_keys.specs.KeyTable.{Table, table_of}
 use Rattle.mac_wire.specs.Request.{Asked, mint, attenuate, verify}
 use Rattle.mac_wire.specs.declared.request.TokenForm.{TokenForm}
 use Rattle.mac_words.specs.Moment.{IsMoment}
@@ -31,12 +31,13 @@ use Rattle.macaroond.specs.declared.people.fault.PersonFault.TheVariants as faul
 use Rattle.macaroond.specs.declared.people.asking.AttenuateWords.{AttenuateWords}
 use Rattle.macaroond.specs.declared.people.asking.KeygenWords.{KeygenWords}
 use Rattle.macaroond.specs.declared.people.asking.MintWords.{MintWords}
+use Rattle.macaroond.specs.declared.people.asking.RevokeWords.{RevokeWords}
 use Rattle.macaroond.specs.declared.people.asking.StatusWords.{StatusWords}
 use Rattle.macaroond.specs.declared.people.asking.VerifyWords.{VerifyWords}
 use Rattle.macaroond.specs.declared.people.asking.Task.{Task}
 use Rattle.macaroond.specs.declared.people.asking.Task.TheVariants.{Keygen, Check, Mint, Attenuate}
 use Rattle.macaroond.specs.declared.people.asking.Task.TheVariants.{Verify}
-use Rattle.macaroond.specs.declared.people.asking.Task.TheVariants.{Inspect, Status as TellStatus}
+use Rattle.macaroond.specs.declared.people.asking.Task.TheVariants.{Inspect, Revoke, Status as TellStatus}
 
 -- ---- what `clap` is told
 
@@ -67,7 +68,7 @@ with_key app = with_rule (with_rule app (required (option (codes "keys"))))
 -- the subcommand `mint`, with six options
 abbrev pub mint_command : App
 mint_command = with_rule (with_rule (with_rule (with_rule (with_key (new_app (codes "mint")))
-    (option (codes "location"))) (required (option (codes "identifier"))))
+    (option (codes "location"))) (option (codes "identifier")))
     (repeated (option (codes "caveat")))) (option (codes "form"))
 
 -- the subcommand `attenuate`, with two options and a word
@@ -91,12 +92,19 @@ status_command = with_rule (with_rule (with_rule (new_app (codes "status"))
     (required (option (codes "socket")))) (flag (codes "prometheus")))
     (flag (codes "connections"))
 
+-- the subcommand `revoke`, with three options, the word of a name, and that of a token, which may
+-- be left out
+abbrev pub revoke_command : App
+revoke_command = with_rule (with_rule (with_rule (with_rule (with_rule
+    (new_app (codes "revoke")) (option (codes "into"))) (option (codes "drop")))
+    (option (codes "identifier"))) (required (word (codes "name")))) (word (codes "token"))
+
 -- a program with the subcommands for people
 abbrev pub with_people : App → App
 with_people program = with_subcommand (with_subcommand (with_subcommand (with_subcommand
-    (with_subcommand (with_subcommand (with_subcommand program keygen_command.top)
-    check_command.top) mint_command.top) attenuate_command.top) verify_command.top)
-    inspect_command.top) status_command.top
+    (with_subcommand (with_subcommand (with_subcommand (with_subcommand program
+    keygen_command.top) check_command.top) mint_command.top) attenuate_command.top)
+    verify_command.top) inspect_command.top) status_command.top) revoke_command.top
 
 -- ---- what the task says of the words
 
@@ -134,7 +142,7 @@ abbrev pub HasMint : MintWords → List Row → Type 0
 HasMint words rows = IsGivenText words.keys (codes "keys") rows
     × IsGivenText words.key (codes "key") rows
     × IsGivenText words.location (codes "location") rows
-    × IsGivenText words.identifier (codes "identifier") rows
+    × IsOptionalText words.identifier (codes "identifier") rows
     × AreGivenTexts words.caveats.items (codes "caveat") rows
     × IsOptionalText words.form (codes "form") rows
 
@@ -155,6 +163,13 @@ HasStatus words rows = IsGivenText words.socket (codes "socket") rows
     × (words.prometheus ≡ is_set (codes "prometheus") rows)
     × (words.connections ≡ is_set (codes "connections") rows)
 
+abbrev pub HasRevoke : RevokeWords → List Row → Type 0
+HasRevoke words rows = IsGivenText words.name (codes "name") rows
+    × IsOptionalText words.into (codes "into") rows
+    × IsOptionalText words.drop (codes "drop") rows
+    × IsOptionalText words.identifier (codes "identifier") rows
+    × IsOptionalText words.token (codes "token") rows
+
 -- the task has the values of a subcommand's arguments
 abbrev pub HasTask : Task → List Row → Type 0
 HasTask (Keygen words) rows = HasKeygen words rows
@@ -164,6 +179,7 @@ HasTask (Attenuate words) rows = HasAttenuate words rows
 HasTask (Verify words) rows = HasVerify words rows
 HasTask (Inspect token) rows = IsGivenText token (codes "token") rows
 HasTask (TellStatus words) rows = HasStatus words rows
+HasTask (Revoke words) rows = HasRevoke words rows
 
 -- the subcommand that the task stands for
 abbrev pub task_name : Task → Text
@@ -174,6 +190,7 @@ task_name (Attenuate words) = codes "attenuate"
 task_name (Verify words) = codes "verify"
 task_name (Inspect token) = codes "inspect"
 task_name (TellStatus words) = codes "status"
+task_name (Revoke words) = codes "revoke"
 
 -- the task is the one that a subcommand of this name, with these arguments, stands for
 abbrev pub IsTask : Task → Option (Text × List Row) → Type 0
@@ -183,13 +200,13 @@ IsTask task met = (rows : List Row) × (met ≡ Some (task_name task, rows)) × 
 abbrev pub IsTaskName : Text → Type 0
 IsTaskName name = (name ≡ codes "keygen") ⊎ ((name ≡ codes "check") ⊎ ((name ≡ codes "mint")
     ⊎ ((name ≡ codes "attenuate") ⊎ ((name ≡ codes "verify") ⊎ ((name ≡ codes "inspect")
-    ⊎ (name ≡ codes "status"))))))
+    ⊎ ((name ≡ codes "status") ⊎ (name ≡ codes "revoke")))))))
 
 -- ---- what the words ask
 
-abbrev pub mint_asked : Option TokenForm → MintWords → Asked
-mint_asked form words = mint (mint_form form) (string_bytes words.key)
-    (string_bytes words.location) (string_bytes words.identifier) (texts_of words.caveats.items)
+abbrev pub mint_asked : Option TokenForm → List ℕ → MintWords → Asked
+mint_asked form identifier words = mint (mint_form form) (string_bytes words.key)
+    (string_bytes words.location) identifier (texts_of words.caveats.items)
 
 abbrev pub attenuate_asked : Option TokenForm → List ℕ → AttenuateWords → Asked
 attenuate_asked form token words =
@@ -237,6 +254,8 @@ person_status fault.Form = status.BadLine
 person_status fault.Moment = status.BadLine
 person_status fault.Options = status.BadLine
 person_status fault.Pages = status.BadLine
+person_status fault.RevokeOptions = status.BadLine
+person_status fault.WhichToken = status.BadLine
 person_status (fault.Checked path line kind) = status.Refused
 person_status (fault.Change path why) = status.Refused
 person_status (fault.Exists path) = status.Refused

@@ -73,10 +73,14 @@ pub struct ListenOptions {
     pub verify_names: Option<String>,
     /// Whether it takes its sockets over from a daemon that listens there.
     pub replace: bool,
-    /// What is logged beside the usual: the word `requests`.
+    /// What is logged beside the usual: the words `requests` and `mints`, with a comma between them.
     pub log: Option<String>,
     /// Whether the key file may be one that others may use.
     pub keys_of_others: bool,
+    /// The path of a list of tokens that were taken back.
+    pub revoked: Option<String>,
+    /// Whether a list that has lost all its lines is taken.
+    pub allow_empty_revoked: bool,
     /// Its sockets over HTTP.
     pub http: HttpOptions,
 }

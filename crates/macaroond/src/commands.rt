@@ -178,8 +178,8 @@ const VERIFY_NAMES_HELP: &str =
 const REPLACE_HELP: &str =
     "Takes the sockets over from a daemon that listens there; that one ends without loss";
 
-const LOG_HELP: &str =
-    "What is logged besides: requests, a line for each request [default: nothing]";
+const LOG_HELP: &str = "What is logged besides: requests, mints or both, with a comma between, \
+    a line for each [default: nothing]";
 
 const OTHERS_HELP: &str = "Takes a key file that others may use too, which is refused without this";
 
@@ -230,6 +230,11 @@ const PAGE_KEYS_HELP: &str = "A key file, under whose names the page mints and v
 
 const HTTP_ADMIN_HELP: &str =
     "Where operators ask over HTTP, at addresses of this machine; gateways get no page then";
+
+const REVOKED_HELP: &str =
+    "A list of tokens that were taken back, with lines `revoked NAME HEX`; it may change";
+
+const EMPTY_REVOKED_HELP: &str = "Takes a list that has lost all its lines";
 
 /// The whole command line.
 pub fn build_command<'a>(alloc: Global) -> Result<Command<'a>, AllocError>
@@ -312,6 +317,9 @@ fn build_listen<'a>(alloc: Global) -> Result<Command<'a>, AllocError>
     let listen = add_arg(listen, build_flag(alloc, "replace", REPLACE_HELP))?;
     let listen = add_arg(listen, build_option(alloc, "log", "WORDS", LOG_HELP))?;
     let listen = add_arg(listen, build_flag(alloc, "keys-of-others", OTHERS_HELP))?;
+    let listen = add_arg(listen, build_option(alloc, "revoked", "FILE", REVOKED_HELP))?;
+    let emptied = build_flag(alloc, "allow-empty-revoked", EMPTY_REVOKED_HELP);
+    let listen = add_arg(listen, emptied)?;
     add_http(alloc, listen)
 }
 

@@ -25,6 +25,7 @@ mod key_store;
 mod key_watch;
 pub mod laws;
 mod lines;
+mod list_store;
 mod logging;
 mod operating;
 mod options;
@@ -51,9 +52,11 @@ pub use fault::PipeFault;
 use http::plan_http;
 pub use input::INPUT_MAX;
 use key_store::{KeyPlace, read_first};
-use key_watch::{Sockets, listen_and_watch};
+use key_watch::{Followed, Found, Sockets, listen_and_watch};
+use list_store::{ListPlace, read_first_list};
 use logging::read_log;
 use mac_daemon::{DaemonTerms, Shape};
+use mac_host::Logged;
 use mac_pool::WORKERS_MAX;
 use mac_sockets::PathClaim;
 use mac_system::SystemMoments;
@@ -76,7 +79,7 @@ use std::thread::Threads;
 use std::time::Clock;
 use std::{io, thread};
 use telling::{
-    show, tell_ending, tell_fault, tell_http, tell_key_file, tell_listen, tell_log, tell_nowhere,
+    show, tell_ending, tell_fault, tell_http, tell_key_file, tell_list, tell_listen, tell_log, tell_nowhere,
     warn_of_minting,
 };
 
@@ -189,7 +192,7 @@ where
         Ok(http) => http,
         Err(fault) => return tell_http(rt, fault),
     };
-    let Some(has_requests) = read_log(&options.log) else {
+    let Some(logged) = read_log(&options.log) else {
         return tell_log(rt);
     };
     if let Err(refused) = open_standard(rt) {
@@ -206,16 +209,31 @@ where
     if !admit_keys(rt, keys.path, &first.read, keys.of_others) {
         return Status::DeviceFault;
     }
+    let list = options.revoked.as_deref().map(|path| ListPlace {
+        path,
+        of_others: options.keys_of_others,
+        may_empty: options.allow_empty_revoked,
+    });
+    let revoked = match list {
+        Some(place) => match read_first_list(rt, place) {
+            Ok(Ok(first)) => Some(first),
+            Ok(Err(why)) => return tell_list(rt, place.path, why),
+            Err(_) => return tell_fault(rt, Status::NoMemory),
+        },
+        None => None,
+    };
+    let watched = Followed { keys, list };
     warn_of_minting(rt, http.minting_port());
     let names = first.read.table.len();
     let reserved = http.descriptors(count_loops(rt, options.loops));
-    let terms = name_terms(rt, options, names, reserved, has_requests);
+    let terms = name_terms(rt, options, names, reserved, logged);
     let Ok((rights, side)) = read_sockets(rt.alloc(), options) else {
         return tell_fault(rt, Status::NoMemory);
     };
     let sockets = Sockets { rights, side, http };
     let claim = claim_of(options.replace);
-    match listen_and_watch(rt, terms, sockets, keys, first, claim, process) {
+    let found = Found { first, revoked };
+    match listen_and_watch(rt, terms, sockets, watched, found, claim, process) {
         Ok(()) => Status::Done,
         Err(fault) => tell_listen(rt, options, fault),
     }
@@ -238,7 +256,7 @@ fn name_terms<'a, R: Threads>(
     options: &'a ListenOptions,
     names: usize,
     reserved: u64,
-    has_requests: bool,
+    logged: Logged,
 ) -> DaemonTerms<'a>
     ensures mode { result.permissions ≡ permissions options.now.mode }
     ensures idle { result.shape.idle ≡ options.now.idle }
@@ -247,7 +265,7 @@ fn name_terms<'a, R: Threads>(
     ensures remembered { result.shape.remembered ≡ remember_of options.now.remember }
     ensures loops { HasCount LOOPS_MAX options.now.loops result.shape.loops }
     ensures workers { HasCount WORKERS_MAX options.now.workers result.shape.workers }
-    ensures requests { result.has_requests ≡ has_requests }
+    ensures logged { result.logged ≡ logged }
     ensures endless { result.accept ≡ None }
 {
     DaemonTerms {
@@ -265,7 +283,7 @@ fn name_terms<'a, R: Threads>(
         },
         drain: options.drain.unwrap_or(DRAIN),
         reserved,
-        has_requests,
+        logged,
         accept: None,
     }
 }

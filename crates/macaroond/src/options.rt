@@ -90,6 +90,8 @@ fn read_listen(alloc: Global, options: &ArgMatches<'_>) -> Result<Choice, Option
         replace: read_flag(options, "replace"),
         log: read_optional_text(alloc, options, "log")?,
         keys_of_others: read_flag(options, "keys-of-others"),
+        revoked: read_optional_text(alloc, options, "revoked")?,
+        allow_empty_revoked: read_flag(options, "allow-empty-revoked"),
         http,
     }))
 }

@@ -7,6 +7,7 @@ mod key_files;
 mod keygen;
 mod new_file;
 mod readers;
+mod revoke;
 mod status_page;
 mod subcommands;
 

@@ -1,6 +1,6 @@
 //! The pipe: key lines, an empty line and request lines in, a line for each answer out.
 ghost use Rattle.std.specs.Prelude.{◌≡◌, ◌⊎◌, ◌+◌, ◌<◌, ◌≤◌, ◌++◌, [], ◌∷◌, List, Option, ℕ, length, map, IsTrue, IfOk, IfErr, OnOk};
-ghost use Rattle.mac_keys.specs.Table.{table_of};
+ghost use Rattle.mac_keys.specs.KeyTable.{table_of};
 ghost use Rattle.mac_keys.specs.declared.fault.KeyFault.TheVariants as key;
 ghost use Rattle.mac_keys.specs.declared.fault.LineFault.{LineFault};
 ghost use Rattle.mac_wire.specs.declared.arrival.Arrival.{Arrival};
@@ -147,5 +147,6 @@ fn reply_to(
         rights,
         moment,
     };
-    answer(alloc, &job_of(terms, arrival))
+    let job = job_of(alloc, terms, arrival)?;
+    answer(alloc, &job)
 }

@@ -15,6 +15,7 @@ use crate::{DRAIN, REMEMBER, count_loops, count_workers};
 use mac_board::Publisher;
 use mac_daemon::{DaemonFault, DaemonTerms, Day, FOLLOWERS_MAX, Shape, Surroundings, give, listen};
 use mac_decide::Rights;
+use mac_host::Logged;
 use mac_keys::KeyTable;
 use mac_sockets::{Door, Doors, bind_new};
 use mac_wire::{Sink, WriterSink, send_all};
@@ -105,7 +106,7 @@ fn counted_terms<'a, R: Threads>(rt: &R, options: &'a ServeOptions, names: usize
         },
         drain: DRAIN,
         reserved: 0,
-        has_requests: false,
+        logged: Logged::NOTHING,
         accept: Some(options.accept),
     }
 }

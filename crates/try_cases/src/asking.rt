@@ -1,7 +1,7 @@
 //! Requests that are asked as HTTP and JSON calls ask them.
 
 use crate::case::{Case, CaseFault};
-use mac_decide::{Asking, SeenTokens, answer_request};
+use mac_decide::{Asking, Revocation, SeenTokens, answer_request};
 use mac_keys::Keys;
 use mac_token::Form;
 use mac_wire::{Reply, Request, TokenForm};
@@ -11,6 +11,7 @@ pub(crate) fn ask(case: &mut Case<'_>, keys: Option<&Keys>, request: Request<'_>
     let asking = Asking {
         request,
         keys,
+        revoked: Revocation::Known(false),
         may_mint: true,
         moment: None,
     };

@@ -1,14 +1,16 @@
 //! Doing what a person asks.
-ghost use Rattle.std.specs.Prelude.{◌≡◌, [], IfOk};
+ghost use Rattle.std.specs.Prelude.{◌≡◌, ℕ, [], List, IfOk, Ok};
+ghost use Rattle.mac_words.specs.Said.{Says};
 ghost use Rattle.macaroond.specs.Doing.{DoesAttenuate, DoesInspect, DoesMint, DoesTask};
-ghost use Rattle.macaroond.specs.Doing.{DoesVerify, EndsTask};
+ghost use Rattle.macaroond.specs.Doing.{DoesVerify, EndsTask, IsDrawn};
 ghost use Rattle.macaroond.specs.People.{IsToldSo, SaysWords, SaysWordsAlone, attenuate_asked};
 ghost use Rattle.macaroond.specs.People.{mint_asked, person_status, said_status, verify_asked};
 
 use super::asking::{AttenuateWords, MintWords, VerifyWords};
-use super::given::{load_keys, read_form, read_moment, read_token};
+use super::given::{draw_identifier, load_keys, read_form, read_moment, read_token};
 use super::keygen::{do_check, do_keygen};
 use super::readers::{warn_of_no_keys, warn_of_readers};
+use super::revoke::do_revoke;
 use super::status_page::do_status;
 use super::{PersonFault, Task};
 use crate::status::Status;
@@ -54,19 +56,51 @@ where
         Task::Verify(words) => do_verify(rt, words),
         Task::Inspect { token } => do_inspect(rt, token.as_str()),
         Task::Status(words) => do_status(rt, words),
+        Task::Revoke(words) => do_revoke(rt, words),
     }
 }
 
-/// What is said of a mint: first its form is read, then its key file.
+/// What is said of a mint: first its form is read, then its key file. An identifier that the words
+/// don't say is drawn.
 fn do_mint<'a, R>(rt: &R, words: &'a MintWords) -> Result<Said, PersonFault<'a>>
 where
-    R: Alloc<A = Global> + Files,
+    R: Alloc<A = Global> + Eprint + Files + RandomSource,
     R::File: Send,
     ensures { IfOk result (DoesMint words.now) }
 {
     let form = read_form(&words.form)?;
     let table = load_keys(rt, words.keys.as_str())?;
-    say_mint_under(rt.alloc(), &table, form, words)
+    match &words.identifier {
+        Some(identifier) => {
+            say_mint_under(rt.alloc(), &table, form, identifier.as_str(), words)
+        },
+        None => say_drawn(rt, &table, form, words),
+    }
+}
+
+/// What is said of a mint with an identifier that is drawn.
+fn say_drawn<'a, R>(
+    rt: &R,
+    table: &KeyTable,
+    form: Option<TokenForm>,
+    words: &MintWords,
+) -> Result<Said, PersonFault<'a>>
+where
+    R: Alloc<A = Global> + Eprint + RandomSource,
+    ensures { IfOk result (λ said. (identifier : List ℕ) × IsDrawn identifier
+        × Says table.now [] (mint_asked form identifier words.now) (Ok said)) }
+{
+    let drawn = draw_identifier(rt)?;
+    let said = say_mint_under(rt.alloc(), table, form, drawn.as_str(), words)?;
+    tell_drawn(rt, drawn.as_str(), &said);
+    Ok(said)
+}
+
+/// Tells on standard error which identifier was drawn for a token that was minted.
+fn tell_drawn<R: Eprint>(rt: &R, identifier: &str, said: &Said) {
+    if !said.is_refusal {
+        let _ = eprintln!(rt; "identifier {identifier}");
+    }
 }
 
 /// What is said of an attenuate: first its form is read, then its token.
@@ -106,14 +140,15 @@ where
     Ok(say_inspect(rt.alloc(), token.as_slice())?)
 }
 
-/// What is said of the words of a mint under the keys of a table.
+/// What is said of the words of a mint with this identifier, under the keys of a table.
 fn say_mint_under<'a>(
     alloc: Global,
     table: &KeyTable,
     form: Option<TokenForm>,
+    identifier: &str,
     words: &MintWords,
 ) -> Result<Said, PersonFault<'a>>
-    ensures { SaysWords table.now [] (mint_asked form words.now) result }
+    ensures { SaysWords table.now [] (mint_asked form identifier.now words.now) result }
 {
     Ok(say_mint(
         alloc,
@@ -121,7 +156,7 @@ fn say_mint_under<'a>(
         form,
         words.key.as_str(),
         words.location.as_str(),
-        words.identifier.as_str(),
+        identifier,
         words.caveats.as_slice(),
     )?)
 }
@@ -176,7 +211,7 @@ fn warn<R: Alloc<A = Global> + Eprint + Files>(rt: &R, task: &Task, said: &Said)
             warn_of_no_keys(rt, keys.as_str(), said.text.len());
         },
         Task::Verify(words) => warn_of_readers(rt, words.keys.as_str()),
-        Task::Keygen(_) | Task::Inspect { .. } | Task::Status(_) => {},
+        Task::Keygen(_) | Task::Inspect { .. } | Task::Status(_) | Task::Revoke(_) => {},
     }
 }
 

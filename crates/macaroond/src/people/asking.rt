@@ -3,7 +3,7 @@ ghost use Rattle.std.specs.Prelude.{◌≡◌, codes, map, option_map, string_by
 ghost use Rattle.clap.specs.Words.{all_of, first_of, found_of, rows_of};
 ghost use Rattle.mac_words.specs.Payload.{texts_of};
 ghost use Rattle.macaroond.specs.People.{HasAttenuate, HasKeygen, HasMint, HasTask, HasVerify};
-ghost use Rattle.macaroond.specs.People.{HasStatus, IsTaskName, is_set};
+ghost use Rattle.macaroond.specs.People.{HasRevoke, HasStatus, IsTaskName, is_set};
 ghost use Rattle.macaroond.specs.People.{task_name, text_given, texts_given};
 
 use clap::ArgMatches;
@@ -32,6 +32,8 @@ pub enum Task {
     },
     /// Tell how a daemon is.
     Status(StatusWords),
+    /// Make a line that takes a token back, or drop it.
+    Revoke(RevokeWords),
 }
 
 /// The words of a keygen: of the paths one at most is to be given.
@@ -63,7 +65,7 @@ pub struct MintWords {
     /// The token's location.
     pub location: String,
     /// The token's identifier.
-    pub identifier: String,
+    pub identifier: Option<String>,
     /// The token's caveats, in order.
     pub caveats: Vec<String>,
     /// The form of the token.
@@ -107,6 +109,22 @@ pub struct StatusWords {
     pub connections: bool,
 }
 
+/// The words of a revoke: of the paths one at most is to be given, and of identifier and token
+/// exactly one.
+#[derive(Drop)]
+pub struct RevokeWords {
+    /// The name of the key.
+    pub name: String,
+    /// The path of a list into which the line is put.
+    pub into: Option<String>,
+    /// The path of a list from which it is dropped.
+    pub drop: Option<String>,
+    /// The token's identifier.
+    pub identifier: Option<String>,
+    /// The token.
+    pub token: Option<String>,
+}
+
 /// The task that a subcommand with these options stands for. An argument that was left out is the
 /// empty text; `clap` takes no line that leaves out one that it asks for.
 pub fn read_task(alloc: Global, name: &str, options: &ArgMatches<'_>) -> Result<Task, AllocError>
@@ -122,6 +140,7 @@ pub fn read_task(alloc: Global, name: &str, options: &ArgMatches<'_>) -> Result<
         "verify" => Ok(Task::Verify(read_verify(alloc, options)?)),
         "inspect" => read_inspect(alloc, options),
         "status" => Ok(Task::Status(read_status(alloc, options)?)),
+        "revoke" => Ok(Task::Revoke(read_revoke(alloc, options)?)),
         _ => unreachable!("the subcommand is one of those above"),
     }
 }
@@ -167,7 +186,7 @@ fn read_mint(alloc: Global, options: &ArgMatches<'_>) -> Result<MintWords, Alloc
         keys: read_text_or_empty(alloc, options, "keys")?,
         key: read_text_or_empty(alloc, options, "key")?,
         location: read_text_or_empty(alloc, options, "location")?,
-        identifier: read_text_or_empty(alloc, options, "identifier")?,
+        identifier: read_optional_text(alloc, options, "identifier")?,
         caveats: read_texts(alloc, options, "caveat")?,
         form: read_optional_text(alloc, options, "form")?,
     })
@@ -205,6 +224,20 @@ fn read_status(alloc: Global, options: &ArgMatches<'_>) -> Result<StatusWords, A
         socket: read_text_or_empty(alloc, options, "socket")?,
         prometheus: read_flag(options, "prometheus"),
         connections: read_flag(options, "connections"),
+    })
+}
+
+/// The words of the arguments of `revoke`.
+fn read_revoke(alloc: Global, options: &ArgMatches<'_>) -> Result<RevokeWords, AllocError>
+    ensures { IfOk result (λ words. HasRevoke words (rows_of (found_of options.now))) }
+{
+    let into = read_optional_text(alloc, options, "into")?;
+    Ok(RevokeWords {
+        name: read_text_or_empty(alloc, options, "name")?,
+        into,
+        drop: read_optional_text(alloc, options, "drop")?,
+        identifier: read_optional_text(alloc, options, "identifier")?,
+        token: read_optional_text(alloc, options, "token")?,
     })
 }
 

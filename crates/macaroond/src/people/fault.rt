@@ -6,7 +6,7 @@ ghost use Rattle.macaroond.specs.declared.people.fault.PersonFault.TheVariants a
 use crate::fault::PipeFault;
 use crate::key_fault::TextlessFile;
 use crate::status::Status;
-use mac_keys::{ChangeFault, LineFault};
+use mac_keys::{ChangeFault, LineFault, RevokedLineFault};
 use mac_words::{FieldFault, NameFault, TextFault};
 use std::alloc::AllocError;
 use std::fs::Files;
@@ -97,6 +97,24 @@ pub enum PersonFault<'a> {
     #[error("of `--into`, `--above`, `--below`, `--raise`, `--drop` and `--drop-first` one alone \
         may be given")]
     Options,
+    /// Two options name lists.
+    #[error("of `--into` and `--drop` one alone may be given")]
+    RevokeOptions,
+    /// There is no identifier and no token, or both.
+    #[error("either `--identifier` or a token has to be given, and not both")]
+    WhichToken,
+    /// There is no list from which a line might be dropped.
+    #[error("{path}: there is no such list")]
+    NoList {
+        path: &'a str,
+    },
+    /// A line of the list, counted from 1, and what is wrong with it.
+    #[error("{path}: line {line}: {kind}")]
+    RevokedLine {
+        path: &'a str,
+        line: u64,
+        kind: RevokedLineFault,
+    },
     /// Two flags name pages.
     #[error("of `--prometheus` and `--connections` one alone may be given")]
     Pages,
@@ -150,6 +168,8 @@ impl<'a> PersonFault<'a> {
             | PersonFault::Form
             | PersonFault::Moment
             | PersonFault::Options
+            | PersonFault::RevokeOptions
+            | PersonFault::WhichToken
             | PersonFault::Pages => Status::BadLine,
             PersonFault::Checked { .. }
             | PersonFault::Change { .. }

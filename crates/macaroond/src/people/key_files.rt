@@ -65,11 +65,20 @@ where
     R: Files<File = File> + Alloc<A = Global>,
     requires { IsSomeLine line.now }
 {
+    make_file(rt, path, line)
+}
+
+/// Makes a file that isn't there yet, for its owner alone, of this text. Where that fails, no file
+/// is left.
+pub(super) fn make_file<'a, R>(rt: &R, path: &'a str, text: &[u8]) -> Result<(), PersonFault<'a>>
+where
+    R: Files<File = File> + Alloc<A = Global>,
+{
     if fs::symlink_metadata(rt, path).is_ok() {
         return Err(PersonFault::Exists { path });
     }
     let beside = Beside::take(rt, path)?;
-    let made = match beside.write(None, line) {
+    let made = match beside.write(None, text) {
         Ok(()) => beside.link(rt, path),
         Err(fault) => Err(fault),
     };
@@ -97,6 +106,19 @@ pub(super) fn replace_file<'a, R>(
 where
     R: Files<File = File> + Alloc<A = Global>,
     requires { IsChanged change name.now kept.now.text.items changed.now }
+{
+    put_in_place(rt, path, kept, changed)
+}
+
+/// Puts a text in the place of that of a file, as above.
+pub(super) fn put_in_place<'a, R>(
+    rt: &R,
+    path: &'a str,
+    kept: &Kept,
+    changed: &[u8],
+) -> Result<(), PersonFault<'a>>
+where
+    R: Files<File = File> + Alloc<A = Global>,
 {
     let by_hand = format!(in rt.alloc(); "{path}.new")?;
     if fs::symlink_metadata(rt, by_hand.as_str()).is_ok() {

@@ -4,7 +4,8 @@ ghost use Rattle.clap.specs.Words.{app_of, rule_of};
 ghost use Rattle.macaroond.specs.Arguments.{option, required};
 ghost use Rattle.macaroond.specs.People.{attenuate_command, check_command, inspect_command};
 ghost use Rattle.macaroond.specs.People.{keygen_command, mint_command, repeated, verify_command};
-ghost use Rattle.macaroond.specs.People.{status_command, with_key, with_people, word};
+ghost use Rattle.macaroond.specs.People.{revoke_command, status_command, with_key, with_people};
+ghost use Rattle.macaroond.specs.People.{word};
 
 use crate::parts::{
     KEYS_HELP, add_arg, add_subcommand, build_flag, build_option, build_subcommand,
@@ -62,8 +63,10 @@ Exit status:
 
 /// What the help of `mint` says below its options.
 const MINT_HELP: &str = "\
-Prints a new token, one of form v2 as `hex:` and its digits. A refusal is told on standard error,
-and so is a caveat that begins as a bound of time does and is none: it holds only as a fact.
+Prints a new token, one of form v2 as `hex:` and its digits. Without --identifier the token gets 128
+random bits in hexadecimal, which standard error tells as `identifier DIGITS`. A refusal is told
+there too, and so is a caveat that begins as a bound of time does and is none: it holds only as a
+fact.
 
 Example:
   macaroond mint --keys keys --key bank --identifier alice --caveat 'time < 2030-01-01T00:00'
@@ -72,7 +75,8 @@ Exit status:
   0  the token was printed
   1  refused: the key file has no such key, or a limit is passed
   2  a bad command line
-  3  the key file or standard output failed, or a key line has a fault
+  3  the key file or standard output failed, a key line has a fault, or the system gives no random
+     bytes
   4  memory ran out";
 
 /// What the help of `attenuate` says below its options.
@@ -162,9 +166,15 @@ const DROP_HELP: &str = "Drops the name's second line from this key file";
 
 const FIRST_HELP: &str = "Drops the name's first line, whose key mints, from this key file";
 
+const REVOKE_INTO_HELP: &str = "Puts the line into this list, which is made where it isn't there";
+
+const REVOKE_DROP_HELP: &str = "Drops the line from this list";
+
 const KEY_HELP: &str = "The name of the key";
 
 const TOKEN_HELP: &str = "The token, or - for a line of standard input";
+
+const IDENTIFIER_HELP: &str = "What the token is about [default: 32 random digits]";
 
 const CAVEAT_HELP: &str = "A caveat; may be given often";
 
@@ -173,6 +183,31 @@ const FACT_HELP: &str = "What is known of the request; may be given often";
 const MINT_FORM_HELP: &str = "The form: v1, v2, json or v2-text [default: v2-text]";
 
 const NEXT_FORM_HELP: &str = "The form: v1, v2, json or v2-text [default: that of the token]";
+
+/// What the help of `revoke` says below its options.
+const REVOKE_HELP: &str = "\
+Prints a line of a list of tokens that were taken back, `revoked NAME HEX`: tokens of that name with
+that identifier are refused by a daemon that has the list (--revoked), and with them all that were
+narrowed from one. The identifier is that of --identifier, as `mint` takes it, or that of TOKEN: the
+token's text, `hex:` and its digits, or - for one line of standard input. Whose the token is, as it
+says itself, is told on standard error first; no key is asked for.
+  --into puts the line behind those of FILE, or makes FILE with mode 600. A line that is there
+  already isn't put there again.
+  --drop takes each such line out of FILE.
+Both look at the whole of FILE first, and change nothing where a line of it has a fault. They keep
+the owner, the group and the mode of FILE, write FILE.keygen and move it over FILE.
+
+Example:
+  macaroond revoke bank --identifier alice:5f3c --into revoked
+  macaroond revoke bank --into revoked - < token
+
+Exit status:
+  0  the line was printed, or the list has it, or has it no more
+  1  refused, and nothing was changed: TOKEN is none, FILE.new is there, FILE is a link or was
+     changed meanwhile, or another run changes it
+  2  a bad command line
+  3  a file, standard input or standard output failed, or a line of FILE has a fault
+  4  memory ran out";
 
 /// Adds the subcommands for people.
 pub(crate) fn add_people<'a>(alloc: Global, program: Command<'a>) -> Result<Command<'a>, AllocError>
@@ -184,7 +219,8 @@ pub(crate) fn add_people<'a>(alloc: Global, program: Command<'a>) -> Result<Comm
     let program = add_subcommand(program, build_attenuate(alloc)?)?;
     let program = add_subcommand(program, build_verify(alloc)?)?;
     let program = add_subcommand(program, build_inspect(alloc)?)?;
-    add_subcommand(program, build_status(alloc)?)
+    let program = add_subcommand(program, build_status(alloc)?)?;
+    add_subcommand(program, build_revoke(alloc)?)
 }
 
 /// The subcommand `keygen`, with six options and the name of the key.
@@ -217,7 +253,7 @@ fn build_check<'a>(alloc: Global) -> Result<Command<'a>, AllocError>
     add_arg(command, build_required(alloc, "keys", "FILE", KEYS_HELP))
 }
 
-/// The subcommand `mint`: of its six options three have to be given.
+/// The subcommand `mint`: of its six options two have to be given.
 fn build_mint<'a>(alloc: Global) -> Result<Command<'a>, AllocError>
     ensures { IfOk result (λ whole. app_of whole ≡ mint_command) }
 {
@@ -230,7 +266,7 @@ fn build_mint<'a>(alloc: Global) -> Result<Command<'a>, AllocError>
         "Where the token is for [default: empty]",
     );
     let command = add_arg(command, location)?;
-    let identifier = build_required(alloc, "identifier", "TEXT", "What the token is about");
+    let identifier = build_option(alloc, "identifier", "TEXT", IDENTIFIER_HELP);
     let command = add_arg(command, identifier)?;
     let command = add_arg(command, build_repeated(alloc, "caveat", CAVEAT_HELP))?;
     add_arg(command, build_option(alloc, "form", "FORM", MINT_FORM_HELP))
@@ -293,6 +329,23 @@ fn build_status<'a>(alloc: Global) -> Result<Command<'a>, AllocError>
     )?;
     let command = add_arg(command, build_flag(alloc, "prometheus", PROMETHEUS_HELP))?;
     add_arg(command, build_flag(alloc, "connections", LISTED_HELP))
+}
+
+/// The subcommand `revoke`, with three options, the name of the key, and a token.
+fn build_revoke<'a>(alloc: Global) -> Result<Command<'a>, AllocError>
+    ensures { IfOk result (λ whole. app_of whole ≡ revoke_command) }
+{
+    let about = "Makes a line that takes a token back";
+    let command = build_subcommand(alloc, "revoke", about, REVOKE_HELP);
+    let into = build_option(alloc, "into", "FILE", REVOKE_INTO_HELP);
+    let command = add_arg(command, into)?;
+    let drop = build_option(alloc, "drop", "FILE", REVOKE_DROP_HELP);
+    let command = add_arg(command, drop)?;
+    let identifier = build_option(alloc, "identifier", "TEXT", "What the token is about");
+    let command = add_arg(command, identifier)?;
+    let command = add_arg(command, build_word(alloc, "name", "NAME", KEY_HELP))?;
+    let token = Arg::new(alloc, "token").value_name("TOKEN").help(TOKEN_HELP);
+    add_arg(command, token)
 }
 
 /// The subcommand with the options `--keys` and `--key`.

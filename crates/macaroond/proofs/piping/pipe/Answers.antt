@@ -1,7 +1,7 @@
 use Rattle.std.proofs.Common.{◌≡◌, ◌∙◌, ◌++◌, ◌∷◌, [], ℕ, List, Option, ap, sym, subst}
 use Rattle.std.proofs.lemmas.List.{append_cancel_left}
 use Rattle.std.specs.Prelude.{Err}
-use Rattle.mac_keys.specs.Table.{table_of}
+use Rattle.mac_keys.specs.KeyTable.{table_of}
 use Rattle.mac_decide.specs.Answer.{full_answer}
 use Rattle.macaroond.specs.Lines.{lines, key_text, request_lines}
 use Rattle.macaroond.specs.Pipe.{GivesOutput}

@@ -1,0 +1,156 @@
+//! A list of tokens that were taken back, as the system shows it.
+
+use crate::key_file::access_of;
+use crate::key_store::{exposure_told, find_state, state_of};
+use mac_board::{Editor, Exposure, FileState, ListFinding, ListRefusal, ListUp, ReadFault, Sight};
+use mac_board::judge_list;
+use mac_keys::RevokedList;
+use std::alloc::{Alloc, AllocError, Global};
+use std::fs::{File, Files};
+use std::io::{ErrorKind, Read};
+use std::sync::Wait;
+
+/// The greatest number of bytes in a list.
+const LIST_MAX: usize = 268_435_456;
+
+/// How many bytes a read asks for.
+const PIECE: usize = 65_536;
+
+/// A list that a daemon follows.
+#[derive(Clone, Copy)]
+pub(crate) struct ListPlace<'a> {
+    /// Its path.
+    pub(crate) path: &'a str,
+    /// Whether others may use it.
+    pub(crate) of_others: bool,
+    /// Whether one that has lost all its lines is taken.
+    pub(crate) may_empty: bool,
+}
+
+/// What a list gave first.
+#[derive(Drop)]
+pub(crate) struct FirstList {
+    /// What it takes back.
+    pub(crate) list: RevokedList,
+    /// The state of the file before it was read.
+    pub(crate) before: FileState,
+    /// Its state after.
+    pub(crate) after: FileState,
+}
+
+/// Reads a list for the first time. One without lines is taken.
+pub(crate) fn read_first_list<R>(
+    rt: &R,
+    place: ListPlace<'_>,
+) -> Result<Result<FirstList, ListRefusal>, AllocError>
+where
+    R: Files<File = File> + Alloc<A = Global>,
+{
+    let found = find_state(rt, place.path);
+    let sight = read_list_sight(rt, place, found)?;
+    let Sight::Read {
+        before,
+        text,
+        after,
+    } = sight
+    else {
+        return Ok(Err(ListRefusal::Missing));
+    };
+    let text = match text {
+        Ok(text) => text,
+        Err(ReadFault::Unreadable) => return Ok(Err(unread(found))),
+        Err(ReadFault::TooLong) => return Ok(Err(ListRefusal::TooLong)),
+        Err(ReadFault::Exposed(why)) => return Ok(Err(ListRefusal::Exposed(why))),
+    };
+    let up = ListUp {
+        lines: 0,
+        may_empty: true,
+    };
+    match judge_list(rt.alloc(), up, text.as_slice())? {
+        ListFinding::List(list) => Ok(Ok(FirstList {
+            list,
+            before,
+            after,
+        })),
+        ListFinding::Refused(why) => Ok(Err(why)),
+        ListFinding::Nothing => Ok(Err(ListRefusal::Unreadable)),
+    }
+}
+
+/// Why a list that was found in a state has no text.
+fn unread(found: FileState) -> ListRefusal {
+    match found {
+        FileState::Missing => ListRefusal::Missing,
+        _ => ListRefusal::Unreadable,
+    }
+}
+
+/// Looks at a list, and reads it where its editor wants that.
+pub(crate) fn look_at_list<R, K>(
+    rt: &R,
+    place: ListPlace<'_>,
+    editor: &Editor<K>,
+) -> Result<Sight, AllocError>
+where
+    R: Files<File = File> + Alloc<A = Global>,
+    K: Wait + Drop,
+{
+    let found = find_state(rt, place.path);
+    match found {
+        FileState::Marked(_) if editor.wants_list(found) => read_list_sight(rt, place, found),
+        _ => Ok(Sight::Glance(found)),
+    }
+}
+
+/// Reads a list that was found in a state, between two looks at the very file that is read.
+fn read_list_sight<R>(
+    rt: &R,
+    place: ListPlace<'_>,
+    found: FileState,
+) -> Result<Sight, AllocError>
+where
+    R: Files<File = File> + Alloc<A = Global>,
+{
+    let Ok(file) = File::open(rt, place.path) else {
+        return Ok(Sight::Read {
+            before: found,
+            text: Err(ReadFault::Unreadable),
+            after: find_state(rt, place.path),
+        });
+    };
+    let told = file.metadata();
+    let text = match exposure_told(&told) {
+        Some(why) if !place.of_others => Err(ReadFault::Exposed(why)),
+        _ => read_list_text(rt.alloc(), &file)?,
+    };
+    let before = state_of(told);
+    let after = state_of(file.metadata());
+    Ok(Sight::Read {
+        before,
+        text,
+        after,
+    })
+}
+
+/// The text of a list, if it can be read and isn't too long.
+fn read_list_text(
+    alloc: Global,
+    file: &File,
+) -> Result<Result<Vec<u8>, ReadFault>, AllocError> {
+    let mut text = Vec::new(alloc);
+    let mut piece = Vec::new(alloc);
+    piece.resize(PIECE, 0u8)?;
+    let mut file = file;
+    for _ in 0..=LIST_MAX {
+        match file.read(piece.as_mut_slice()) {
+            Ok(0) => return Ok(Ok(text)),
+            Ok(count) => text.extend_from_slice(&piece[..count.min(PIECE)])?,
+            Err(refused) if refused.kind() == ErrorKind::Interrupted => {}
+            Err(_) => return Ok(Err(ReadFault::Unreadable)),
+        }
+        if text.len() > LIST_MAX {
+            return Ok(Err(ReadFault::TooLong));
+        }
+    }
+    Ok(Err(ReadFault::TooLong))
+}
