@@ -27,12 +27,14 @@ from check import (
     draw,
     edges,
     ending,
+    fleet,
     forgetting,
     gateways,
     http_rows,
     http_sockets,
     installing,
     key_lines,
+    kubernetes,
     lasting,
     life_cycle,
     linting,
@@ -127,8 +129,9 @@ OF_PROGRAM = {
     "who asks the page": page_asking.faults,
     "hostile": lambda: hostile.faults(HOSTILE_SECONDS),
     "clients": clients.daemon_faults,
+    "fleet": fleet.faults,
 }
-OF_CLIENTS = {"Python client": clients.python_faults, "Go client": clients.go_faults}
+OF_CLIENTS = {"Python client": clients.python_faults, "Go client": clients.go_faults, "fleet by itself": fleet.test_faults}
 OF_VECTORS = checking.PARTS
 OF_COMPILER = {
     "allocations": allocations.faults,
@@ -150,6 +153,7 @@ OF_TEXTS = {
     "HTTP rows": http_rows.faults,
     "building": building.faults,
     "monitoring": monitoring.faults,
+    "Kubernetes": kubernetes.faults,
     "unused": unused.faults,
     "parameters": parameters.faults,
     "newcomer": newcomer.faults,

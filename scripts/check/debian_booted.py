@@ -28,7 +28,7 @@ def debian(folder):
     """A plain Debian 12 in a folder."""
     if os.geteuid() != 0:
         raise CannotBe("only root can")
-    command = ["mmdebstrap", "--quiet", "--mode=root", "--variant=apt", "--include=systemd,python3", "bookworm", folder]
+    command = ["mmdebstrap", "--quiet", "--mode=root", "--variant=apt", "--include=systemd,python3,openssl", "bookworm", folder]
     made = subprocess.run(command, capture_output=True, text=True)
     if made.returncode != 0:
         raise CannotBe(f"mmdebstrap: {last_line(made.stderr)}")
@@ -85,7 +85,7 @@ class System:
     def install(self, *packages):
         for package in packages:
             shutil.copy(package, self.folder / "root")
-        command = ["DEBIAN_FRONTEND=noninteractive", "apt-get", "-qq", "install", "-y"]
+        command = ["DEBIAN_FRONTEND=noninteractive", "apt-get", "-qq", "install", "-y", "--no-install-recommends"]
         return self.did(*command, *(f"/root/{package.name}" for package in packages))
 
     def group(self, name):

@@ -54,7 +54,7 @@ def packages_of(folder, version=None):
 def first_release(folder):
     """The package of 0.1.0, but for its programs, which are built elsewhere now."""
     laid = packaging.lay_out(folder)
-    for path in (laid / "debian").glob("*-macaroond*"):
+    for path in (*(laid / "debian").glob("*-macaroond*"), *(laid / "debian").glob("macaroond-fleet*")):
         path.unlink()
     (laid / "debian" / "macaroond.preinst").unlink()
     shutil.copytree(RELEASED, laid, dirs_exist_ok=True)

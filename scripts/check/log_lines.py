@@ -26,6 +26,8 @@ EACH = 1_000
 FLOOD = 5_000
 # How many connections end at once inside a frame; of each kind so many lines a second are printed.
 TORN, LINES_MAX = 300, 10
+# The most bytes of a line, and how many of them the value of a lone field has at least, where it is cut.
+LINE_MAX, FIELD_LEAST = 1_024, 900
 # The kinds that were seen, over all tests here.
 SEEN = set()
 
@@ -141,6 +143,27 @@ def key_files(folder):
         path.write_text("key bank\n")
         due = ("error", str(path), "line 1: the line is not of the form `key NAME HEX`")
         yield "keys_refused", told(log.first("keys_refused"), "file", "fault"), due
+
+
+def long_path(folder):
+    """A key file whose path has more bytes than a line may have, with bytes that are escaped."""
+    path = pathlib.Path(folder).joinpath(*["=" * 200] * 8, "keys")
+    path.parent.mkdir(parents=True)
+    path.write_text(KEYS.read_text())
+    path.chmod(0o600)
+    log = Log(folder)
+    with listening(log, keys=str(path)):
+        with open(path, "a") as file:
+            file.write("# changed\n")
+        text = awaited(lambda: next((line for line in log.text().splitlines() if " keys_read " in line), None))
+    yield "no longer than a line", len(text) < LINE_MAX, True
+    shown = str(path).replace("=", r"\x3d")
+    front = text.split(' file="')[1]
+    yield "cut with a mark", front.endswith('" ...'), True
+    front = front.removesuffix('" ...')
+    yield "a front of the path", shown.startswith(front), True
+    yield "as much as fits", len(front) > FIELD_LEAST, True
+    yield "no escape in part", front.replace(r"\x3d", "").count("\\"), 0
 
 
 def journal(folder):
@@ -326,6 +349,6 @@ def page():
 
 
 def faults():
-    parts = [connections, many_torn, few_descriptors, replaced, refused_step, key_files, journal]
+    parts = [connections, many_torn, few_descriptors, replaced, refused_step, key_files, long_path, journal]
     seen = list(in_folders(*parts, requests, unread, requests_over_http, no_requests))
     return judged([*seen, *page()])

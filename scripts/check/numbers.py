@@ -77,10 +77,11 @@ def requests_and_bytes(daemon):
 
 def wide(daemon):
     """A request that is dear is counted beside the others."""
-    before = numbers(daemon)
+    before, refused = numbers(daemon), 'requests_total{asked="verify",told="refused"}'
     with connected(daemon.path) as stream:
         replies = [reply_to(stream, WIDE) for _ in range(3)]
     yield "its replies", replies, [b"\x14"] * 3
+    yield "by their kind", await_number(daemon, refused, before.get(refused, 0) + 3), before.get(refused, 0) + 3
     yield "requests_wide_total", await_number(daemon, "requests_wide_total", before["requests_wide_total"] + 3), 3
     yield "connections_wide", await_number(daemon, "connections_wide", 0), 0
     after = numbers(daemon)

@@ -15,9 +15,9 @@ from common import TOP
 
 UNITS = "lib/systemd/system"
 PYTHON, GO = "usr/lib/python3/dist-packages", "usr/share/gocode/src/macaroond"
-NAMES = ["macaroond", "golang-macaroond-dev", "python3-macaroond"]
-# The most that `systemd-analyze security` may find, in tenths.
-EXPOSURE = 10
+NAMES = ["macaroond", "golang-macaroond-dev", "macaroond-fleet", "python3-macaroond"]
+# The most that `systemd-analyze security` may find, in tenths; and of an agent, which asks a store over the network.
+EXPOSURE, OF_AGENT = 10, 12
 NOBODY = 65534
 COMMANDS = {
     "dpkg-buildpackage": "package dpkg-dev",
@@ -148,6 +148,18 @@ def upgrades(folder):
     yield "a key file that is a link", "\nInaccessiblePaths=\n" in files[kept], True
 
 
+def fleet(package, folder):
+    """The agent's unit, and the command, from their package alone."""
+    tree = unpacked(package, folder)
+    found = exposure(tree / UNITS / "macaroond-fleet.service")
+    yield f"an exposure of the agent of {found} tenths, at most {OF_AGENT}", isinstance(found, int) and found <= OF_AGENT, True
+    yield "what systemd says of the agent's unit", verified(tree / UNITS / "macaroond-fleet.service"), []
+    run = subprocess.run(["python3", tree / "usr/share/macaroond-fleet/macaroond-fleet", "--help"], capture_output=True, text=True)
+    yield "macaroond-fleet runs", (run.returncode, run.stdout[:22]), (0, "usage: macaroond-fleet")
+    depends = field(package, "Depends").split(", ")
+    yield "what it needs", {it.split()[0] for it in depends} >= {"openssl", "python3:any"} or depends, True
+
+
 def clients(python, go, folder):
     """Both clients, from their packages alone."""
     path = unpacked(python, folder / "python") / PYTHON
@@ -180,7 +192,9 @@ def rows(one, another):
         yield f"what systemd says of {name}", verified(tree / UNITS / name), []
     run = subprocess.run([tree / "usr/bin/macaroond", "--version"], capture_output=True, text=True)
     yield "its program runs", (run.returncode, run.stdout[:10]), (0, "macaroond ")
-    yield from clients(first[2], first[1], pathlib.Path(another))
+    named = dict(zip(NAMES, first))
+    yield from fleet(named["macaroond-fleet"], pathlib.Path(another) / "fleet")
+    yield from clients(named["python3-macaroond"], named["golang-macaroond-dev"], pathlib.Path(another))
 
 
 def snapshots():

@@ -1,5 +1,5 @@
 #!/usr/bin/env python3
-"""Connections that go from loop to loop of `macaroond listen`, and to desks, while they are asked much.
+"""Connections that go from loop to loop of `macaroond listen`, while they are asked much.
 
     moving.py [SECONDS]    each part lasts so long
 

@@ -17,9 +17,9 @@ pub enum Number {
     StartedAt,
     /// How many connections there are.
     Connections,
-    /// How many of them a loop answers.
+    /// How many of them wait for no worker.
     ConnectionsPlain,
-    /// How many of them have a desk and two threads.
+    /// How many of them wait for a worker's answer.
     ConnectionsWide,
     /// How many there have been.
     ConnectionsTotal,
@@ -27,7 +27,7 @@ pub enum Number {
     ConnectionsAtLimit,
     /// How many ended in a fault.
     ConnectionsFaulty,
-    /// How many requests were answered on wide connections, which are counted by nothing else.
+    /// How many requests workers answered, which are counted by their kinds too.
     RequestsWide,
     /// How many bytes came in.
     BytesIn,

@@ -7,7 +7,7 @@ use crate::accepting::{AsAsked, Limits};
 use crate::descriptors::most_connections;
 use crate::door::Gift;
 use crate::fault::DaemonFault;
-use crate::fleet::{Day, Fleet, FleetParts, Idlers, Shape, make_seen};
+use crate::fleet::{Day, FleetParts, Idlers, Shape, make_seen, run_fleet};
 use crate::quay::Quay;
 use crate::stop::Stop;
 use crate::surroundings::{Surroundings, heed_signals};
@@ -252,7 +252,7 @@ where
     let work = move || -> Result<Day, DaemonFault>
         ensures { IfOk result (λ day. MeetsCount service.limits.count day.served) }
     {
-        let outcome = serve_all(&rt, alloc, service, &followers, &ending);
+        let outcome = run_fleet(&rt, alloc, service, &followers, &ending);
         ending.finish(&rt);
         outcome
     };
@@ -263,23 +263,6 @@ where
         Ok(serving) => Ok(serving),
         Err(_) => Err(DaemonFault::NoThread),
     }
-}
-
-/// Serves the connections that come in, to their ends, in threads that it starts for them.
-fn serve_all<R>(
-    rt: &R,
-    alloc: Global,
-    service: FleetParts,
-    followers: &Followers,
-    ending: &Ending,
-) -> Result<Day, DaemonFault>
-where
-    R: Threads + Wait + Clock + Sync + Copy + Send + 'static,
-    ensures { IfOk result (λ day. MeetsCount service.limits.count day.served) }
-{
-    let fleet = Fleet::start(rt, alloc, service, followers)?;
-    ending.begin(rt);
-    fleet.run(rt, alloc, followers)
 }
 
 /// How many connections there may be at a time: as many as were asked for, or as the system's limit

@@ -19,7 +19,7 @@ mod traffic;
 pub use badge::{Badge, Life};
 pub use clock::{microseconds, microseconds_of};
 pub use ending::Ending;
-pub use exchange::Exchange;
+pub use exchange::{Exchange, copy_told_name};
 pub use host::Host;
 pub use notices::{Beginning, Notices};
 pub use numbers::Numbers;

@@ -44,7 +44,7 @@ impl Numbers {
         }
     }
 
-    /// A connection has ended, which no desk has.
+    /// A connection has ended, which waits for no worker.
     pub fn count_ended(&self, is_faulty: bool) {
         self.counters.take(Number::Connections, 1);
         self.counters.take(Number::ConnectionsPlain, 1);
@@ -61,27 +61,19 @@ impl Numbers {
         self.add_some(Number::BytesOut, traffic.went);
     }
 
-    /// A connection got a desk.
+    /// A connection waits for a worker's answer.
     pub fn count_widened(&self) {
         self.counters.take(Number::ConnectionsPlain, 1);
         self.counters.add(Number::ConnectionsWide, 1);
     }
 
-    /// A connection gave its desk back.
-    pub fn count_narrowed(&self) {
+    /// A connection waits for a worker no more. Whether it has the answer.
+    pub fn count_narrowed(&self, is_answered: bool) {
         self.counters.take(Number::ConnectionsWide, 1);
         self.counters.add(Number::ConnectionsPlain, 1);
-    }
-
-    /// A wide connection was sent so many replies, of so many bytes.
-    pub fn count_wide(&self, sent: u64, written: u64) {
-        self.add_some(Number::RequestsWide, sent);
-        self.add_some(Number::BytesOut, written);
-    }
-
-    /// So many bytes came on a wide connection.
-    pub fn count_came(&self, count: usize) {
-        self.add_some(Number::BytesIn, count as u64);
+        if is_answered {
+            self.counters.add(Number::RequestsWide, 1);
+        }
     }
 
     /// A connection over HTTP has begun.

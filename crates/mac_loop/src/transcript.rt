@@ -1,15 +1,19 @@
 //! What a connection is asked and answered, read off the bytes of its socket, for who logs that. No
 //! contract speaks of it.
 
-use mac_host::Exchange;
+use mac_host::{Exchange, copy_told_name};
 use mac_wire::{
     Arrival, Cut, FeedFault, FrameReader, ReplyKind, RequestKind, Version, key_name, next_frame,
-    reply_kind, request_kind,
+    parse_request, reply_kind, request_kind,
 };
 use std::alloc::{AllocError, Global};
 use std::cell::RefCell;
 use std::collections::VecDeque;
 use std::mem;
+
+/// How many requests may wait for their replies, where they are noted, and their connection is
+/// still read. What one read brings may pass it.
+pub const NOTES_MAX: usize = 4_096;
 
 /// A request that has come, and waits for its reply.
 #[derive(Drop)]
@@ -47,6 +51,12 @@ impl Transcript {
     /// The same in memory of its own, unless that is refused.
     pub(crate) fn apart(self) -> Option<Box<RefCell<Transcript>>> {
         Box::new(self.alloc, RefCell::new(self)).ok()
+    }
+
+    /// Whether as many requests wait for their replies as may be, so that nothing more is to be read
+    /// until some have gone out.
+    pub fn is_full(&self) -> bool {
+        !self.is_broken && self.asked.len() >= NOTES_MAX
     }
 
     /// Takes note of bytes that came.
@@ -116,7 +126,7 @@ impl Transcript {
     }
 }
 
-/// What an arrival asks for, and under which name.
+/// What an arrival asks for, and under which name where it is a whole request.
 fn asked_by(alloc: Global, arrival: &Arrival) -> Result<Asked, AllocError> {
     let payload: &[u8] = match arrival {
         Arrival::Payload(payload) => payload.as_slice(),
@@ -128,8 +138,14 @@ fn asked_by(alloc: Global, arrival: &Arrival) -> Result<Asked, AllocError> {
         Some(RequestKind::Verify) => "verify",
         None => "nothing",
     };
-    let name = Vec::from_slice(alloc, key_name(payload).unwrap_or(&[]))?;
-    Ok(Asked { what, name })
+    let name = match parse_request(payload) {
+        Some(_) => key_name(payload).unwrap_or(&[]),
+        None => &[],
+    };
+    Ok(Asked {
+        what,
+        name: copy_told_name(alloc, name)?,
+    })
 }
 
 /// A request with what its reply tells.

@@ -1,5 +1,6 @@
 -- what the contracts mean
 pub mod Port
+pub mod Asking
 pub mod Client
 pub mod Dear
 pub mod Pairs

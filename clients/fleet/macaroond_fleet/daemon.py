@@ -1,0 +1,142 @@
+"""What the daemon tells of itself at its status socket, and whether a file that was put is up there.
+
+That a file was written says nothing: what the daemon tells has to have become another thing since.
+"""
+from __future__ import annotations
+
+import http.client
+import re
+import socket
+import time
+from typing import Callable, Dict, Optional
+
+from .files import Target
+from .https import Deadline
+
+NUMBER = re.compile(r"^macaroond_([a-z_]+) (\d{1,18})$", re.MULTILINE)
+# How many seconds the daemon has for an answer, and the most bytes of one.
+PATIENCE, ANSWER_MAX = 3.0, 1 << 20
+# Within how many seconds the daemon takes a file, whatever it does besides.
+TAKEN_WITHIN = 3
+# Behind so many seconds a file that isn't up is touched, so that the daemon reads it once more.
+AGAIN = 5.0
+
+Numbers = Dict[str, int]
+
+
+class StatusSocket(http.client.HTTPConnection):
+    """A connection to the socket of what the daemon counts."""
+
+    def __init__(self, path: str) -> None:
+        super().__init__("localhost", timeout=PATIENCE)
+        self.path = path
+
+    def connect(self) -> None:
+        self.sock = socket.socket(socket.AF_UNIX)
+        self.sock.settimeout(PATIENCE)
+        self.sock.connect(self.path)
+
+
+def numbers(path: str) -> Optional[Numbers]:
+    """What the daemon at this socket counts, or None where it doesn't answer."""
+    connection = StatusSocket(f"{path}.status")
+    try:
+        with Deadline(connection, PATIENCE):
+            connection.request("GET", "/metrics")
+            response = connection.getresponse()
+            text = response.read(ANSWER_MAX).decode("ascii", "replace")
+        return {name: int(value) for name, value in NUMBER.findall(text)} if response.status == 200 else None
+    except (OSError, http.client.HTTPException):
+        return None
+    finally:
+        connection.close()
+
+
+class Reading:
+    """A file of the daemon's: which serial it has, and which one the daemon is known to have read."""
+
+    def __init__(self, target: Target, ask: Callable[[], Optional[Numbers]]) -> None:
+        self.target, self.ask = target, ask
+        self.serial, self.up, self.is_up = 0, 0, False
+        self.why = "nothing is known of it yet"
+        # When the file came there, what the daemon told before, and when to have it read once more.
+        self.put_at, self.before, self.again_at = -1, -1, 0.0
+
+    def number(self, told: Numbers) -> int:
+        """What the daemon tells of its reading of the file, or -1."""
+        raise NotImplementedError
+
+    def is_read(self, at: int) -> bool:
+        """Whether by this number it has read the file that is there."""
+        raise NotImplementedError
+
+    def is_ambiguous(self, told: Optional[Numbers]) -> bool:
+        """Whether a reading that came now couldn't be told from the last one."""
+        return False
+
+    def bring(self, text: bytes, serial: int, told: Optional[Numbers]) -> None:
+        """Has the file be as it is wanted. One that the daemon is about to read isn't replaced before it was."""
+        if self.target.content() != text:
+            is_reading = not self.is_up and self.put_at >= 0 and told is not None and time.monotonic() < self.again_at
+            if is_reading or self.is_ambiguous(told):
+                return
+            self.target.put(text)
+            self.begin()
+        self.serial = serial
+
+    def begin(self) -> None:
+        """From now on another reading is one of the file that is there: the daemon looks at it twice before it reads it."""
+        told = self.ask()
+        self.put_at, self.before = int(time.time()), self.number(told) if told else -1
+        self.again_at = time.monotonic() + AGAIN
+        self.is_up, self.why = False, "its daemon hasn't read it yet"
+
+    def look(self, told: Optional[Numbers]) -> None:
+        """Learns from what the daemon tells now."""
+        self.is_up = False
+        if self.put_at < 0:
+            # Of a file that was there before this agent the daemon's reading is known to be later, or is had once more.
+            self.put_at = self.target.changed_at()
+        if told is None:
+            self.why = "its daemon doesn't answer"
+        elif told.get("keys_refused", 0):
+            self.why = f"its daemon refuses the file {self.target.path.name}"
+        elif self.is_read(self.number(told)):
+            self.is_up, self.why, self.up = True, "", self.serial
+        elif time.monotonic() > self.again_at and not self.is_ambiguous(told):
+            self.target.touch()
+            self.begin()
+
+
+class KeysReading(Reading):
+    """The key file. The daemon tells when it took one last, to the second; so none is put in a second in which it did."""
+
+    def number(self, told: Numbers) -> int:
+        return told.get("keys_read_seconds", -1)
+
+    def is_read(self, at: int) -> bool:
+        return at > self.put_at if self.before < 0 else at != self.before
+
+    def is_ambiguous(self, told: Optional[Numbers]) -> bool:
+        return told is not None and self.number(told) == int(time.time())
+
+
+class RevokedReading(Reading):
+    """The revocations. The daemon tells how many lines it has up, which is another number where some were added.
+
+    Where a list is replaced by another one of as many lines, the daemon's number stays as it is. Then it
+    counts as up once the daemon has had the time in which it promises to take a file.
+    """
+
+    def number(self, told: Numbers) -> int:
+        return told.get("revoked", -1)
+
+    def is_read(self, at: int) -> bool:
+        lines = (self.target.content() or b"").count(b"revoked ")
+        is_late = time.time() > self.put_at + TAKEN_WITHIN
+        return at == lines and (lines == 0 or at != self.before or is_late)
+
+    def look(self, told: Optional[Numbers]) -> None:
+        super().look(told)
+        if told is not None and not self.is_up and self.number(told) < 0:
+            self.why = "its daemon tells of no revocations; is it started with `--revoked FILE`?"

@@ -1,0 +1,338 @@
+"""What an operator does: keys and revocations for all, signed, and each step only once the one before is up everywhere."""
+from __future__ import annotations
+
+import secrets
+import time
+from typing import Callable, Dict, List, NamedTuple, Optional, Sequence, Tuple
+
+from . import form, sealing
+from .agent import Objects, Taken
+from .errors import FleetError, Lacking, NotTaken, StoreAway
+from .form import HEAD_MAX, TOLD_MAX, Head, KeyFile, Step, Told, key_of
+from .sealing import digest_of
+from .settings import Settings
+from .store import Change, Entry, Store
+
+# How many bytes a new secret has.
+SECRET_BYTES = 32
+# The pause between two looks at what members tell, in seconds.
+PAUSE = 0.15
+# The most bytes of all that members tell.
+MEMBERS_MAX = 2 << 20
+# For how many seconds a store may be away, and the pause between two tries.
+AWAY, AWAY_PAUSE = 10.0, 0.5
+# How often a change is tried again where somebody else has changed something meanwhile.
+TRIES = 20
+# The most bytes of an object that etcd takes together with the head, by its own limit of 1.5 MiB.
+SENT_MAX = 900 << 10
+
+
+class State(NamedTuple):
+    """What the store has: the head as it is signed, in which revision, and its objects."""
+
+    head: Head
+    digest: str
+    revision: int
+    objects: Dict[str, bytes]
+
+    def revocations(self) -> List[Tuple[str, str]]:
+        return form.revocations([self.objects[it] for it in self.head.revoked])
+
+
+class Member(NamedTuple):
+    """What is known of a member: whether its agent is there, and what that told last."""
+
+    name: str
+    is_here: bool
+    is_fresh: bool
+    told: Optional[Told]
+    fault: str
+
+    def is_up(self, serial: int) -> bool:
+        return self.is_here and self.is_fresh and self.told is not None and self.told.serial >= serial
+
+    def state(self, serial: int) -> str:
+        """In words, whether it counts, and why it doesn't."""
+        if self.fault:
+            return self.fault
+        if not self.is_here:
+            return "away"
+        if self.told is None or not self.is_fresh:
+            return "it has told nothing yet"
+        if self.is_up(serial):
+            return "up"
+        return "; ".join(filter(None, [f"it is at serial {self.told.serial}", self.told.why]))
+
+
+class Fleet:
+    """The fleet of an operator's settings."""
+
+    def __init__(self, settings: Settings, store: Store, say: Callable[[str], None]) -> None:
+        self.settings, self.store, self.say = settings, store, say
+        self.operators = settings.operator_certificates()
+        self.objects = Objects(store, settings.fleet)
+        self.taken = Taken(settings.state, settings.fleet)
+        self.seen: Dict[str, Told] = {}
+        self.last: Optional[State] = None
+        self.opened: Dict[str, KeyFile] = {}
+
+    def key(self, *parts: str) -> str:
+        return key_of(self.settings.fleet, *parts)
+
+    # What there is.
+
+    def look(self) -> Tuple[State, List[Member]]:
+        """What the store has, and what is known of each member, at one moment. A store that is away may come back."""
+        until = time.monotonic() + AWAY
+        while True:
+            try:
+                return self.look_once()
+            except (StoreAway, Lacking):
+                if time.monotonic() > until:
+                    raise
+                time.sleep(AWAY_PAUSE)
+
+    def look_once(self) -> Tuple[State, List[Member]]:
+        """The same. A store that is rolled back, by what was seen here or by what members have told, is a fault."""
+        prefixes = [self.key("here", ""), self.key("told", "")]
+        found = {entry.key: entry for entry in self.store.together(self.key("head"), prefixes, HEAD_MAX + MEMBERS_MAX)}
+        entry = found.get(self.key("head"))
+        if entry is None:
+            raise NotTaken("the store has nothing of this fleet; `macaroond-fleet publish --first` begins it")
+        state = self.state_of(entry)
+        values = {key: it.value for key, it in found.items()}
+        members = [self.member(state.head, name, values) for name in sorted(state.head.members)]
+        if later := [it for it in members if it.told is not None and it.told.serial > state.head.serial]:
+            raise NotTaken(f"the store is rolled back: it has serial {state.head.serial}, and {later[0].name} has a later one up")
+        return state, members
+
+    def state(self) -> State:
+        return self.look()[0]
+
+    def state_of(self, entry: Entry) -> State:
+        """What a head says; that of the last look is known already."""
+        digest = digest_of(entry.value)
+        if self.last is None or self.last.digest != digest:
+            head = form.head_in(sealing.signed(entry.value, self.operators), self.settings.fleet)
+            self.taken.require_new(head, digest)
+            self.last = State(head, digest, entry.revision, self.objects.of(head))
+            self.taken.keep(head, digest)
+        return self.last._replace(revision=entry.revision)
+
+    def keys_of(self, state: State) -> KeyFile:
+        """The key file, as the operator may decrypt it."""
+        digest = state.head.keys
+        if digest not in self.opened:
+            self.opened = {digest: KeyFile(sealing.decrypt(state.objects[digest], self.settings.identity))}
+        return self.opened[digest]
+
+    def member(self, head: Head, name: str, values: Dict[str, bytes]) -> Member:
+        """What is known of a member. What an earlier run of its agent told isn't known to hold still."""
+        fault, told = "", None
+        here, message = values.get(self.key("here", name)), values.get(self.key("told", name))
+        if message is not None:
+            try:
+                told = self.told(head, name, message)
+            except FleetError as why:
+                fault = f"what it tells isn't believed: {why}"
+        is_fresh = told is not None and here == told.run.encode()
+        return Member(name, here is not None, is_fresh, told, fault)
+
+    def told(self, head: Head, name: str, message: bytes) -> Told:
+        """What a member told, by the certificate that the head has of it."""
+        where = " ".join((name, digest_of(head.members[name].encode()), digest_of(message)))
+        if where not in self.seen:
+            if len(message) > TOLD_MAX:
+                raise NotTaken("it is too long")
+            self.seen[where] = form.told_in(sealing.signed(message, [head.members[name]]), self.settings.fleet, name)
+        return self.seen[where]
+
+    # What is changed.
+
+    def publish(self, was: Optional[State], head: Head, objects: Sequence[bytes]) -> Optional[Head]:
+        """Signs a head with its objects, and puts it in the place of what was; None where somebody else was faster."""
+        head = head._replace(serial=max(self.taken.serial + 1, was.head.serial + 1 if was else 1, int(time.time())))
+        signed = sealing.sign(head.text(), self.settings.identity)
+        if len(signed) > HEAD_MAX:
+            raise FleetError("the head is too long: the fleet has too many members")
+        held = set(was.head.objects()) if was else set()
+        puts = {digest_of(it): it for it in objects if digest_of(it) not in held}
+        self.upload(puts, len(signed))
+        gone = [self.key("objects", it) for it in sorted(held - set(head.objects()))]
+        change = Change({**{self.key("objects", name): it for name, it in puts.items()}, self.key("head"): signed}, gone)
+        if not self.is_changed(change, was.revision if was else 0):
+            return None
+        digest, whole = digest_of(signed), {**(was.objects if was else {}), **{digest_of(it): it for it in objects}}
+        self.taken.keep(head, digest)
+        self.last = State(head, digest, 0, {name: whole[name] for name in head.objects()})
+        return head
+
+    def is_changed(self, change: Change, revision: int) -> bool:
+        """Whether the change was made. Where the answer is lost it may have been: who looks again sees."""
+        try:
+            return self.store.change(change, (self.key("head"), revision))
+        except StoreAway as why:
+            self.say(f"{why}; looking again")
+            return False
+
+    def upload(self, puts: Dict[str, bytes], room: int) -> None:
+        """Puts so many of these objects first, one by one, that the others fit one transaction."""
+        while sum(map(len, puts.values())) + room > SENT_MAX and puts:
+            name, data = puts.popitem()
+            self.store.put(Change({self.key("objects", name): data}))
+
+    def changed(self, change: Callable[[State], Tuple[Head, Sequence[bytes]]]) -> Head:
+        """Makes a change of what the store has now, again where somebody else was faster."""
+        for _ in range(TRIES):
+            was = self.state()
+            head, objects = change(was)
+            if (head, list(objects)) == (was.head, []):
+                return head
+            if (made := self.publish(was, head, objects)) is not None:
+                return made
+        raise FleetError("others change the fleet without pause; try again")
+
+    def with_keys(self, state: State, keys: KeyFile, **fields: object) -> Tuple[Head, Sequence[bytes]]:
+        """The head with these keys, encrypted for its members and the operators."""
+        head = state.head._replace(**fields)  # type: ignore[arg-type]
+        sealed = self.sealed(keys, head.members)
+        self.opened = {digest_of(sealed): keys}
+        return head._replace(keys=digest_of(sealed)), [sealed]
+
+    def sealed(self, keys: KeyFile, members: Dict[str, str]) -> bytes:
+        return sealing.encrypt(keys.text(), [*members.values(), *self.operators])
+
+    # Until it is up.
+
+    def await_up(self, serial: int, without: Sequence[str], patience: float) -> None:
+        """Waits until every member has told that this serial is up; who hasn't in time is named, and it is a fault."""
+        until, said = time.monotonic() + patience, ""
+        while True:
+            waited = [it for it in self.look()[1] if it.name not in without and not it.is_up(serial)]
+            if not waited:
+                return
+            told = "; ".join(f"{it.name}: {it.state(serial)}" for it in waited)
+            if time.monotonic() > until:
+                raise FleetError(f"it isn't up everywhere: {told}")
+            if any(not it.is_here for it in waited) and told != said:
+                self.say(f"waiting for {told}")
+                said = told
+            time.sleep(PAUSE)
+
+
+# The key file, the members, a key's change, and revocations.
+
+
+def begin(fleet: Fleet, keys: KeyFile, revoked: List[Tuple[str, str]], is_first: bool) -> Head:
+    """Publishes a key file and revocations in the place of those that are there, or as the first ones."""
+    pieces = form.pieces_of(revoked)
+    digests = tuple(map(digest_of, pieces))
+
+    def change(state: State) -> Tuple[Head, Sequence[bytes]]:
+        kept = {name: step for name, step in state.head.steps.items() if name in keys.names()}
+        head, objects = fleet.with_keys(state, keys, revoked=digests, steps=kept)
+        return head, [*objects, *pieces]
+
+    if not is_first:
+        return fleet.changed(change)
+    sealed = fleet.sealed(keys, {})
+    head = fleet.publish(None, Head(fleet.settings.fleet, 0, digest_of(sealed), digests, {}, {}), [sealed, *pieces])
+    if head is None:
+        raise FleetError("the store has this fleet already; publish without --first to change it")
+    return head
+
+
+def add_member(fleet: Fleet, name: str, certificate: str) -> Head:
+    """From now on this owner of a certificate gets the keys."""
+    if not form.is_name(name):
+        raise FleetError("a member's name has 1 to 64 letters, digits, dots, underscores or dashes")
+    found = sealing.certificates_in(certificate)
+    if len(found) != 1:
+        raise FleetError("there is not one certificate in the file")
+    sealing.is_elliptic(found[0])
+
+    def change(state: State) -> Tuple[Head, Sequence[bytes]]:
+        return fleet.with_keys(state, fleet.keys_of(state), members={**state.head.members, name: found[0]})
+
+    return fleet.changed(change)
+
+
+def remove_member(fleet: Fleet, name: str) -> Head:
+    """From now on a member gets no keys; those that it has it keeps."""
+
+    def change(state: State) -> Tuple[Head, Sequence[bytes]]:
+        if name not in state.head.members:
+            raise FleetError(f"{name} is no member")
+        left = {it: certificate for it, certificate in state.head.members.items() if it != name}
+        return fleet.with_keys(state, fleet.keys_of(state), members=left)
+
+    head = fleet.changed(change)
+    fleet.store.put(Change({}, [fleet.key(part, name) for part in ("here", "told")]))
+    return head
+
+
+def revoke(fleet: Fleet, name: str, identifiers: Sequence[str]) -> Head:
+    """Adds these identifiers, in hexadecimal, to the revocations."""
+
+    def change(state: State) -> Tuple[Head, Sequence[bytes]]:
+        if name not in fleet.keys_of(state).names():
+            raise FleetError(f"there is no key {name}")
+        lines = state.revocations()
+        held = set(lines)
+        more = [(name, it) for it in dict.fromkeys(identifiers) if (name, it) not in held]
+        if not more:
+            return state.head, []
+        pieces = form.pieces_of([*lines, *more])
+        return state.head._replace(revoked=tuple(map(digest_of, pieces))), pieces
+
+    return fleet.changed(change)
+
+
+class Rotation:
+    """A key's change. How far it has come stands in the store, so that it goes on where it was, from anywhere."""
+
+    def __init__(self, fleet: Fleet, name: str, old_for: int) -> None:
+        self.fleet, self.name, self.old_for = fleet, name, old_for
+
+    def at(self, state: State) -> Tuple[Optional[Step], List[str]]:
+        """The step that it is at, and the name's secrets."""
+        return state.head.steps.get(self.name), self.fleet.keys_of(state).of(self.name)
+
+    def next_word(self, state: State) -> str:
+        """What comes next: `below`, `above`, `kept` or `dropped`."""
+        step, held = self.at(state)
+        if not held:
+            raise FleetError(f"there is no key {self.name}")
+        if step is not None:
+            return {"below": "above", "above": "kept", "kept": "dropped"}[step.word]
+        if len(held) == 2:
+            raise FleetError(f"{self.name} has two keys, and no change of it is under way; drop one by `publish` first")
+        return "below"
+
+    def advance(self, was: State) -> Head:
+        """Makes the next step, unless somebody has made it since."""
+        word, at = self.next_word(was), self.at(was)
+
+        def change(state: State) -> Tuple[Head, Sequence[bytes]]:
+            return getattr(self, word)(state, at[1]) if self.at(state) == at else (state.head, [])
+
+        return self.fleet.changed(change)
+
+    def below(self, state: State, held: List[str]) -> Tuple[Head, Sequence[bytes]]:
+        return self.with_step(state, [*held, secrets.token_hex(SECRET_BYTES)], Step("below"))
+
+    def above(self, state: State, held: List[str]) -> Tuple[Head, Sequence[bytes]]:
+        return self.with_step(state, held[::-1], Step("above"))
+
+    def kept(self, state: State, held: List[str]) -> Tuple[Head, Sequence[bytes]]:
+        until = int(time.time()) + self.old_for
+        return state.head._replace(steps={**state.head.steps, self.name: Step("kept", until)}), []
+
+    def dropped(self, state: State, held: List[str]) -> Tuple[Head, Sequence[bytes]]:
+        return self.with_step(state, held[:1], None)
+
+    def with_step(self, state: State, held: List[str], step: Optional[Step]) -> Tuple[Head, Sequence[bytes]]:
+        steps = {name: it for name, it in state.head.steps.items() if name != self.name}
+        if step is not None:
+            steps[self.name] = step
+        return self.fleet.with_keys(state, self.fleet.keys_of(state).with_secrets(self.name, held), steps=steps)

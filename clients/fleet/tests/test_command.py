@@ -1,0 +1,95 @@
+"""The words of an operator, over a store in memory."""
+import contextlib
+import io
+import unittest
+import unittest.mock
+
+from macaroond_fleet import command, operate
+from macaroond_fleet.settings import Settings
+
+from .rooms import KEYS, SECRET, Room, up
+
+
+class Commands(unittest.TestCase):
+    def setUp(self):
+        self.room = Room(self, "one", "two")
+        self.fleet = self.room.begun("one", "two")
+        self.agents = [up(self.room, self.room.agent(name)) for name in ("one", "two")]
+        for name, value in (("settings_in", lambda _: self.room.settings("operator")),):
+            patched = unittest.mock.patch.object(command, name, value)
+            patched.start()
+            self.addCleanup(patched.stop)
+        patched = unittest.mock.patch.object(Settings, "store", lambda _: self.room.store)
+        patched.start()
+        self.addCleanup(patched.stop)
+
+    def run_words(self, *words):
+        """How the command ends, and what it prints."""
+        with contextlib.redirect_stdout(io.StringIO()) as out, contextlib.redirect_stderr(io.StringIO()) as err:
+            status = command.main(list(words))
+        return status, out.getvalue(), err.getvalue()
+
+    def file(self, text):
+        path = self.room.folder / "published"
+        path.write_bytes(text)
+        return str(path)
+
+    def test_status(self):
+        status, out, _ = self.run_words("status")
+        self.assertEqual(status, 0)
+        self.assertIn("2 names, 0 revocations", out)
+        self.agents[1].leave()
+        status, out, err = self.run_words("status")
+        self.assertEqual(status, 1)
+        self.assertRegex(out, r"two +\d+ +\d+ s ago +away")
+        self.assertIn("not every member has it up", err)
+
+    def test_dry_runs_change_nothing(self):
+        held = self.room.store.copy()
+        for words in (["rotate", "bank", "--old-for", "1h"], ["revoke", "bank", "alice"], ["publish", "--keys", self.file(KEYS)],
+                      ["add-member", "three", self.room.identities["one"].certificate], ["remove-member", "one"]):
+            with self.subTest(words[0]):
+                self.assertEqual(self.run_words(*words, "--dry-run")[0], 0)
+                self.assertEqual(self.room.store.copy(), held)
+
+    def test_a_dry_run_names_who_is_away(self):
+        self.agents[0].leave()
+        status, out, _ = self.run_words("rotate", "bank", "--old-for", "1h", "--dry-run")
+        self.assertEqual(out.splitlines()[0], "one: away")
+        self.assertEqual(len(out.splitlines()), 5)
+
+    def test_a_key_that_is_lost(self):
+        kept = self.file(f"key bank {SECRET}\n".encode())
+        status, _, err = self.run_words("publish", "--keys", kept)
+        self.assertEqual(status, 1)
+        self.assertIn("keys of shop aren't in this file", err)
+        self.assertEqual(self.fleet.keys_of(self.fleet.state()).text(), KEYS)
+        self.run_words("publish", "--keys", kept, "--drop", "--patience", "0")
+        self.assertEqual(self.fleet.keys_of(self.fleet.state()).names(), ["bank"])
+
+    def test_identifiers(self):
+        self.run_words("revoke", "bank", "alice", "--patience", "0")
+        self.run_words("revoke", "bank", "FF00", "--hex", "--patience", "0")
+        self.assertEqual(self.fleet.state().revocations(), [("bank", b"alice".hex()), ("bank", "ff00")])
+        self.assertIn("isn't in hexadecimal", self.run_words("revoke", "bank", "xyz", "--hex")[2])
+
+    def test_without_somebody_who_is_no_member(self):
+        self.assertIn("four is no member", self.run_words("revoke", "bank", "a", "--without", "four")[2])
+
+    def test_it_isn_t_up(self):
+        status, _, err = self.run_words("revoke", "bank", "alice", "--patience", "0")
+        self.assertEqual(status, 1)
+        self.assertIn("one: it is at serial", err)
+
+    def test_keys(self):
+        self.assertEqual(self.run_words("keys"), (0, KEYS.decode(), ""))
+
+    def test_a_fleet_that_is_there_isn_t_begun(self):
+        status, _, err = self.run_words("publish", "--keys", self.file(KEYS), "--first")
+        self.assertEqual(status, 1)
+        self.assertIn("has this fleet already", err)
+        self.assertEqual(self.fleet.state().head.members.keys(), {"one", "two"})
+        self.room.store.held = {}
+        self.assertIn("publish --first", self.run_words("status")[2])
+        self.assertEqual(self.run_words("publish", "--keys", self.file(KEYS), "--first")[0], 0)
+        self.assertIsNotNone(operate)

@@ -1,3 +1,0 @@
-pub mod CrewLemmas
-pub mod DeskLemmas
-pub mod ManningLemmas
