@@ -1,7 +1,11 @@
 //! The threads of a daemon: its loops, its workers, and who accepts.
-ghost use Rattle.std.specs.Prelude.{◌≡◌, IfOk};
+ghost use Rattle.std.specs.Prelude.{◌≡◌, ◌+◌, IfOk, OnOk, length};
 ghost use Rattle.mac_daemon.specs.Day.{MeetsCount};
 ghost use Rattle.mac_loop.specs.Asks.{home_of};
+ghost use Rattle.mac_pool.specs.Pool.{IsGiven, IsStopped, at_home};
+ghost use Rattle.mac_queue.specs.Putting.{pass_of};
+ghost use Rattle.mac_queue.specs.declared.queue.TheConstants.{PASSES};
+ghost use Rattle.mac_serve.specs.Seating.{IsSamePool};
 
 use crate::accepting::{Limits, accept_to_end};
 use crate::door::Gift;
@@ -11,7 +15,7 @@ use mac_board::{Followers, TimedTables};
 use mac_decide::{Macaroons, SeenTokens};
 use mac_host::Ending;
 use mac_loop::{Loop, Loops, make_loops};
-use mac_pool::{Desk, Pool};
+use mac_pool::{Desk, Pool, Tally};
 use mac_sockets::{Entrance, STACK, has_roomy_stacks};
 use mac_system::SystemMoments;
 use std::alloc::Global;
@@ -163,16 +167,32 @@ where
         ending,
         limits,
     };
-    let served = run_loops(rt, alloc, &mut pool, made, &mut entrance, fleet);
-    let _books = pool.stop(rt);
-    Ok(Day {
-        served: served?,
-        faults: quay.faults(),
-    })
+    match run_loops(rt, alloc, &mut pool, made, &mut entrance, fleet) {
+        Ok(served) => {
+            end_workers(rt, pool);
+            let faults = quay.faults();
+            Ok(Day { served, faults })
+        }
+        Err(fault) => {
+            let _ = pool.stop(rt);
+            Err(fault)
+        }
+    }
+}
+
+/// Ends the workers of a pool whose desks are all at home, and tells the books of its queue.
+fn end_workers<R: Threads + Wait>(rt: &R, pool: Pool<Macaroons>) -> Tally
+    requires { length (at_home pool.passes) + pool.workers ≡ PASSES }
+    ensures { IsStopped pool result }
+{
+    let Ok(books) = pool.stop(rt) else {
+        unreachable!()
+    };
+    books
 }
 
 /// Runs these loops, each in a thread at a desk of the pool, while connections come in. Each desk
-/// goes home.
+/// goes home; where a thread is refused its desk is lost, and no connection comes in.
 fn run_loops<R>(
     rt: &R,
     alloc: Global,
@@ -184,6 +204,7 @@ fn run_loops<R>(
 where
     R: Threads + Wait + Clock + Sync + Copy + Send + 'static,
     ensures served { IfOk result (λ served. MeetsCount fleet.limits.count served) }
+    ensures home { OnOk result (IsSamePool pool.old pool.new) }
     ensures queue { pool.new.queue ≡ pool.old.queue }
 {
     let Some(one) = made.pop() else {
@@ -214,8 +235,8 @@ fn start_loop<R>(
 ) -> Result<LoopThread, DaemonFault>
 where
     R: Threads + Wait + Clock + Sync + Copy + Send + 'static,
-    ensures desk { IfOk result (λ thread.
-        thread.promise.0.value.putter.queue ≡ pool.old.queue) }
+    ensures desk { IfOk result (λ thread. IsGiven pool.old
+        (pass_of thread.promise.0.value.putter) pool.new) }
     ensures queue { pool.new.queue ≡ pool.old.queue }
 {
     let keys = fleet.followers.follower()?;
