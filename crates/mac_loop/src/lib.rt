@@ -7,6 +7,8 @@
 //! from other loops: few clients share a loop for as long as it keeps up.
 #![tactic(auto)]
 
+mod batch;
+mod ended;
 mod handover;
 mod inbox;
 mod looping;
@@ -16,6 +18,7 @@ mod port;
 mod transcript;
 mod watch;
 
+pub use ended::EndedLife;
 pub use handover::Handover;
 pub use inbox::Loops;
 pub use looping::{Loop, make_loops};

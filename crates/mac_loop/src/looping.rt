@@ -6,11 +6,12 @@ ghost use Rattle.mac_plain.specs.Client.{may_move};
 mod sharing;
 mod sweeping;
 
+use crate::batch::Batch;
+use crate::ended::EndedLife;
 use crate::handover::Handover;
 use crate::inbox::Loops;
-use crate::members::{Lent, Member};
+use crate::members::Member;
 use crate::meter::Shares;
-use crate::port::SocketPort;
 use crate::watch::{PlainFault, Turn, Watch};
 use mac_board::Outlook;
 use mac_decide::SeenTokens;
@@ -41,9 +42,8 @@ const TURN_SHORT: u64 = 500;
 pub struct Loop {
     number: usize,
     members: Connections<Member>,
-    // The slots and the clients of a turn.
-    turn: Vec<Lent>,
-    batch: Vec<Client<SocketPort>>,
+    // The clients of a turn.
+    batch: Batch,
     round: Round,
     parts: usize,
     shares: Shares,
@@ -85,8 +85,7 @@ pub fn make_loops<R: Net>(
         made.push(Loop {
             number,
             members,
-            turn: Vec::with_capacity(alloc, PARTS_MAX)?,
-            batch: Vec::with_capacity(alloc, PARTS_MAX)?,
+            batch: Batch::with_capacity(alloc, PARTS_MAX)?,
             round: Round::new(alloc, seen.share()?)?,
             parts: PARTS_MAX,
             shares: Shares::new(alloc, count)?,
@@ -161,13 +160,14 @@ impl Loop {
         outlook: &mut K,
         watch: &W,
     ) {
-        let life = client.life();
-        if outlook.reach(client.place) {
-            if self.take_in(client, loops, outlook) {
-                return;
-            }
+        let refused = if outlook.reach(client.place) {
+            self.take_in(client, loops, outlook)
+        } else {
+            Err(client)
+        };
+        if let Err(client) = refused {
+            watch.end(rt, EndedLife::on_the_way(client, PlainFault::NoMemory));
         }
-        watch.end(rt, life, Some(PlainFault::NoMemory));
     }
 
     /// Once the loops are draining, takes nothing more from its clients than what has come.
@@ -189,10 +189,23 @@ impl Loop {
         self.members.slots.list(slot);
     }
 
-    /// Whether there was memory to take a client in.
-    fn take_in<K: Outlook>(&mut self, client: Handover, loops: &Loops, outlook: &K) -> bool
+    /// Takes a client in. Without memory it comes back.
+    fn take_in<K: Outlook>(
+        &mut self,
+        client: Handover,
+        loops: &Loops,
+        outlook: &K,
+    ) -> Result<(), Handover>
         requires { client.place ≤ (K.known outlook.now).tables.place }
     {
+        let Ok(slot) = self.members.slots.reserve() else {
+            return Err(client);
+        };
+        let registry = self.members.registry();
+        if client.port.stream().join(registry, Token(slot)).is_err() {
+            let _ = self.members.slots.release(slot);
+            return Err(client);
+        }
         let Handover {
             port,
             session,
@@ -201,14 +214,6 @@ impl Loop {
             since,
             badge,
         } = client;
-        let Ok(slot) = self.members.slots.reserve() else {
-            return false;
-        };
-        let registry = self.members.registry();
-        if port.stream().join(registry, Token(slot)).is_err() {
-            let _ = self.members.slots.release(slot);
-            return false;
-        }
         let client = Client::new(port, session, rights);
         // Who has to go on wide waits for bytes first.
         let is_ready = client.course() == Course::Open || client.unsent() > 0;
@@ -222,7 +227,7 @@ impl Loop {
         } else if is_ready {
             self.members.slots.list(slot);
         }
-        true
+        Ok(())
     }
 
     /// Answers what clients that are ready have sent.
@@ -238,18 +243,15 @@ impl Loop {
         let spare = loops.begin_turn();
         // What makes turns long is read in small pieces.
         let threads = if self.parts < PARTS_MAX { 1 } else { spare };
-        let batch = self.batch.as_mut_slice();
-        self.round
-            .serve(rt, threads, outlook, batch, self.unsent_max);
+        self.batch
+            .serve(rt, &mut self.round, threads, outlook, self.unsent_max);
         loops.end_turn();
         let mut traffic = Traffic::NONE;
         for _ in rt.forever() {
-            let (Some(client), Some(Lent { slot, note })) = (self.batch.pop(), self.turn.pop())
-            else {
+            let Some((slot, mut member)) = self.batch.pop() else {
                 break;
             };
-            loops.count_unsent(0, client.unsent());
-            let mut member = Member { client, note };
+            loops.count_unsent(0, member.client.unsent());
             traffic = traffic.plus(member.count_traffic());
             self.look_after(rt, slot, member, loops, outlook, watch);
         }
@@ -279,15 +281,8 @@ impl Loop {
 
     /// Adds a client to a turn.
     fn add(&mut self, slot: usize, member: Member) {
-        let Member { client, note } = member;
-        if self.turn.push(Lent { slot, note }).is_err() {
-            let _ = self.members.slots.put(slot, Member { client, note });
-            return;
-        }
-        if let Err(refused) = self.batch.push(client) {
-            let client = refused.value;
-            let _ = self.members.slots.put(slot, Member { client, note });
-            let _ = self.turn.pop();
+        if let Err(member) = self.batch.push(slot, member) {
+            let _ = self.members.slots.put(slot, member);
         }
     }
 
@@ -305,7 +300,7 @@ impl Loop {
         if member.client.is_over() {
             loops.count_unsent(member.client.unsent(), 0);
             let _ = self.members.slots.release(slot);
-            watch.end(rt, member.life(), PlainFault::of(&member.client));
+            watch.end(rt, EndedLife::of(member));
             return;
         }
         if member.client.course() == Course::Wide {
@@ -345,12 +340,13 @@ impl Loop {
 
     /// Notes what a client waits for after its turn.
     fn note_turn(&mut self, slot: usize, member: &mut Member) {
-        let client = &mut member.client;
-        let awaits = client.unsent() > 0;
         // A read that ends within a request may have left some of it.
-        if member.note.is_closing || (client.has_begun() && client.port().has_read()) {
-            client.wake_reading();
+        let has_more = member.client.has_begun() && member.client.port().has_read();
+        if member.note.is_closing || has_more {
+            member.wake_reading();
         }
+        let client = &member.client;
+        let awaits = client.unsent() > 0;
         member.note.is_deep = client.is_busy(self.unsent_max);
         if awaits != member.note.awaits_room {
             member.note.awaits_room = awaits;

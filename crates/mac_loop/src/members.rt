@@ -1,6 +1,7 @@
 //! A client of a loop, and what the loop knows of it.
 
 ghost use Rattle.std.specs.Prelude.{◌≡◌};
+ghost use Rattle.mac_loop.specs.Alive.{IsAlive};
 
 use crate::port::SocketPort;
 use crate::watch::Watch;
@@ -39,18 +40,12 @@ pub struct Note {
     pub traffic: Traffic,
 }
 
-/// What a slot of a loop holds.
+/// What a slot of a loop holds: all that came and went on its socket is its client's life.
 #[derive(Drop)]
 pub struct Member {
     pub client: Client<SocketPort>,
     pub note: Note,
-}
-
-/// What a loop keeps of a slot whose client is in a turn.
-#[derive(Clone, Copy)]
-pub struct Lent {
-    pub slot: usize,
-    pub note: Note,
+    pub ghost alive: { IsAlive client },
 }
 
 impl Progress {
@@ -67,7 +62,10 @@ impl Progress {
 impl Member {
     /// A client that begins behind so many looks at how busy loops are, and made its last progress
     /// then.
-    pub fn new(client: Client<SocketPort>, since: u64, badge: Badge, look: u64) -> Member {
+    pub fn new(client: Client<SocketPort>, since: u64, badge: Badge, look: u64) -> Member
+        requires { IsAlive client }
+        ensures { result.client ≡ client }
+    {
         let note = Note {
             is_closing: false,
             awaits_room: false,
@@ -129,6 +127,11 @@ impl Member {
             };
             watch.tell(rt, self.note.badge, exchange);
         }
+    }
+
+    /// Something may be left to be read.
+    pub fn wake_reading(&mut self) {
+        self.client.wake_reading();
     }
 
     /// Whether it had a turn, or came, since the last of so many looks.

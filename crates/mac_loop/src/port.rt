@@ -1,10 +1,11 @@
 //! A connection's socket as a loop has it: reads and writes don't wait.
 
-ghost use Rattle.std.specs.Prelude.{length};
+ghost use Rattle.std.specs.Prelude.{◌≡◌, ◌++◌, [], IfOk, length};
 ghost use Rattle.mac_plain.specs.Port.{FitsCame, FitsWent};
 
 use crate::transcript::Transcript;
 use mac_host::{Exchange, Traffic};
+use mac_mail::History;
 use mac_plain::{Came, Port, Went};
 use mac_sockets::Stream;
 use std::cell::RefCell;
@@ -19,6 +20,9 @@ pub struct SocketPort {
     // Whether the last read gave bytes.
     has_read: bool,
     traffic: Traffic,
+    // All bytes that reads gave, and that writes took. For contracts: they take no room.
+    pub(crate) came: History<u8>,
+    pub(crate) went: History<u8>,
     // What comes and goes on it, where that is logged: apart, since most have none.
     transcript: Option<Box<RefCell<Transcript>>>,
 }
@@ -26,12 +30,16 @@ pub struct SocketPort {
 impl SocketPort {
     /// A port at a stream, whose reads and writes wait no more, and which goes on with a transcript
     /// where there is one.
-    pub fn new(stream: Stream, transcript: Option<Transcript>) -> io::Result<SocketPort> {
+    pub fn new(stream: Stream, transcript: Option<Transcript>) -> io::Result<SocketPort>
+        ensures { IfOk result (λ port. (port.came ≡ []) × (port.went ≡ [])) }
+    {
         stream.hurry()?;
         Ok(SocketPort {
             stream,
             has_read: false,
             traffic: Traffic::NONE,
+            came: History::new(),
+            went: History::new(),
             transcript: transcript.and_then(|transcript| transcript.apart()),
         })
     }
@@ -42,10 +50,27 @@ impl SocketPort {
             stream,
             has_read: _,
             traffic: _,
+            came: _,
+            went: _,
             transcript,
         } = self;
         let transcript = transcript.map(|apart| Box::into_inner(apart).into_inner());
         (stream, transcript)
+    }
+
+    /// Closes the stream. All that came and went on it.
+    pub fn end(self) -> (History<u8>, History<u8>)
+        ensures { result ≡ (self.came, self.went) }
+    {
+        let SocketPort {
+            stream: _,
+            has_read: _,
+            traffic: _,
+            came,
+            went,
+            transcript: _,
+        } = self;
+        (came, went)
     }
 
     /// The next request whose reply has gone out whole, where that is logged.
@@ -88,20 +113,22 @@ impl SocketPort {
 }
 
 impl Port for SocketPort {
-    ghost use Rattle.std.specs.Prelude.{[], false};
+    ghost use Rattle.std.specs.Prelude.{true};
 
-    ghost tells = { false };
+    ghost tells = { true };
 
-    ghost taken = { λ _. [] };
+    ghost taken = { λ port. port.came };
 
-    ghost written = { λ _. [] };
+    ghost written = { λ port. port.went };
 
     fn read(&mut self, buf: &mut [u8]) -> Came {
         let came = read(&self.stream, buf);
         self.has_read = matches!(came, Came::Bytes(_));
         if let Came::Bytes(count) = came {
             self.traffic.came = self.traffic.came.saturating_add(count as u64);
-            self.note(buf.get(..count).unwrap_or(&[]), &[]);
+            let bytes = &buf[..count];
+            add_all(&mut self.came, bytes);
+            self.note(bytes, &[]);
         }
         came
     }
@@ -110,9 +137,20 @@ impl Port for SocketPort {
         let went = write(&self.stream, buf);
         if let Went::Bytes(count) = went {
             self.traffic.went = self.traffic.went.saturating_add(count as u64);
-            self.note(&[], buf.get(..count).unwrap_or(&[]));
+            let bytes = &buf[..count];
+            add_all(&mut self.went, bytes);
+            self.note(&[], bytes);
         }
         went
+    }
+}
+
+/// So many entries more, in their order.
+fn add_all(history: &mut History<u8>, bytes: &[u8])
+    ensures { history.new ≡ history.old ++ bytes.now }
+{
+    for byte in bytes {
+        history.add(byte);
     }
 }
 

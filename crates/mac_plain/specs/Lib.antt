@@ -1,6 +1,7 @@
 -- what the contracts mean
 pub mod Port
 pub mod Client
+pub mod Lives
 pub mod Dear
 pub mod Pairs
 pub mod Goes

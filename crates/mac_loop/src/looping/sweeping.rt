@@ -1,6 +1,7 @@
 //! Clients that make no progress: a loop looks for them from time to time, and ends them. One that is
 //! owed something is looked at again, whether or not an event told of it.
 
+use crate::ended::EndedLife;
 use crate::inbox::Loops;
 use crate::looping::Loop;
 use crate::members::Progress;
@@ -35,7 +36,7 @@ impl Loop {
             if self.is_idle(slot) {
                 if let Some(member) = self.members.slots.release(slot) {
                     loops.count_unsent(member.client.unsent(), 0);
-                    watch.end(rt, member.life(), Some(PlainFault::Idle));
+                    watch.end(rt, EndedLife::by(member, PlainFault::Idle));
                 }
             } else if self.is_owed(slot) {
                 self.is_owing = true;

@@ -1,0 +1,2 @@
+-- what the contracts mean
+pub mod Alive
