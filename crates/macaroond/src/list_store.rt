@@ -49,7 +49,7 @@ pub(crate) fn take_list<R>(
 ) -> Result<(), Status>
 where
     R: Files<File = File> + Alloc<A = Global> + Eprint,
-    ensures { OnOk result (TakesList place table.old table.new) }
+    ensures { OnOk result (TakesList place.entry table.old table.new) }
 {
     let Some(place) = place else {
         return Ok(());
