@@ -14,7 +14,6 @@ import multiprocessing
 import os
 import pathlib
 import re
-import statistics
 import sys
 import tempfile
 import time
@@ -29,8 +28,8 @@ from measure import load
 
 import request
 
-# The refusal of a token that was taken back, and what a status over HTTP stands for here.
-REVOKED = 29
+# The refusals of a token that was taken back, and of a caveat; and what a status over HTTP stands for here.
+REVOKED, UNSATISFIED = 29, 24
 MEANT = {b"200": GRANTED, b"401": REVOKED}
 # How many requests go on while tokens are taken back, at least: in the gate, and else.
 ASKED_IN_GATE, ASKED = 10_000, 100_000
@@ -115,16 +114,20 @@ def requests_of(verify, gone, stays):
 
 
 class FrameAsker(Asker):
-    """A connection that notes when each of its requests was last granted."""
+    """A connection that notes when it sent the last of each of its requests that were granted."""
 
     def __init__(self, path, requests, batch):
-        self.granted = [0.0] * len(requests)
+        self.sent, self.granted = 0.0, [0.0] * len(requests)
         super().__init__(path, requests, batch)
+
+    def ask(self):
+        self.sent = time.monotonic()
+        super().ask()
 
     def look(self, one, codes, may):
         super().look(one, codes, may)
         if GRANTED in codes:
-            self.granted[one] = time.monotonic()
+            self.granted[one] = self.sent
 
 
 class WebAsker(FrameAsker):
@@ -133,7 +136,7 @@ class WebAsker(FrameAsker):
     HELLO = b""
 
     def ask(self):
-        count = self.rounds * len(self.requests)
+        count, self.sent = self.rounds * len(self.requests), time.monotonic()
         self.stream.sendall(b"".join(self.requests) * self.rounds)
         data = b""
         while data.count(b"\r\n\r\n") < count and (piece := self.stream.recv(65_536)):
@@ -156,6 +159,10 @@ class Load(changing_keys.Load):
         ]
         self.begin([maker(path, requests, batch) for maker, path, requests, batch in makers])
 
+    def await_each(self):
+        """Once each connection was answered."""
+        return awaited(lambda: all(one.asked for one in self.askers) or self.wrong())
+
     def await_turned(self):
         """Once each connection was told by its last replies that the tokens are gone."""
         return awaited(lambda: all(one.last[:2] == [REVOKED] * 2 for one in self.askers) or self.wrong())
@@ -167,6 +174,7 @@ def under_load(asked):
     with folder:
         running = Load(daemon)
         try:
+            running.await_each()
             running.await_asked(asked // 3)
             begin = time.monotonic()
             daemon.take_back(NONE + taken_back(("bank", GONE)))
@@ -207,7 +215,7 @@ def order_of_refusals():
         probe = Probe(daemon.path)
         try:
             yield "before a caveat", probe.ask(plain_verify("bank", "old", GONE, "b = 2", facts=())), REVOKED
-            yield "another one's caveat", Probe(daemon.path).ask(plain_verify("bank", "old", STAYS, "b = 2", facts=())), 0
+            yield "another one's caveat", Probe(daemon.path).ask(plain_verify("bank", "old", STAYS, "b = 2", facts=())), UNSATISFIED
             yield "behind the signature", Probe(daemon.path).ask(plain_verify("bank", "new", GONE)), changing_keys.BAD_SIGNATURE
             yield "behind the name", Probe(daemon.path).ask(plain_verify("none", "old", GONE)), changing_keys.NO_NAME
         finally:
@@ -286,7 +294,7 @@ def compare(rounds):
             without, with_list = rate(clients), rate(clients, "--revoked", path)
             ratios.append(with_list / without)
             print(f"round {number + 1}: {without:,.0f} without, {with_list:,.0f} with a million lines: {ratios[-1]:.3f}", flush=True)
-    print(f"the median of {rounds} rounds: {statistics.median(ratios):.3f}")
+    print(f"the median of {rounds} rounds: {sorted(ratios)[rounds // 2]:.3f}")
 
 
 def main():

@@ -1,6 +1,7 @@
 -- Lines of a list of tokens that were taken back, as they are made and taken out.
-use Rattle.std.specs.Prelude.{◌≡◌, ◌==◌, ℕ, Bool, true, false, not, List, [], ◌∷◌, ◌++◌, codes, filter, if◌then◌else◌, IsTrue, Result, Ok, Err}
-use Rattle.std.specs.List.{ends_with}
+use Rattle.std.specs.Prelude.{◌≡◌, ◌==◌, ℕ, Bool, true, false, not, List, [], ◌∷◌, ◌++◌, codes, filter, if◌then◌else◌, length, nat_eq, IsTrue, Result, Ok, Err}
+use Rattle.std.specs.Fmt.{decimal}
+use Rattle.std.specs.List.{ends_with, starts_with}
 use Rattle.std.specs.declared.alloc.Global.{Global}
 use Rattle.std.specs.declared.vec.Vec.{Vec}
 use Rattle.hex.specs.Hex.{encode_lower}
@@ -22,6 +23,15 @@ GivesRevoked name identifier (Ok line) =
     IsTrue (is_name name) × (line.items ≡ revoked_text name identifier)
 GivesRevoked name identifier (Err fault.BadName) = ¬ IsTrue (is_name name)
 GivesRevoked name identifier (Err fault.Memory) = Unit {0}
+
+-- in a list that has no fault, the line takes tokens back
+abbrev pub is_said : List ℕ → Bool
+is_said line = starts_with nat_eq line (codes "revoked ")
+
+-- how many lines of such a list do
+abbrev pub count_text : List ℕ → List ℕ
+count_text text = codes "revoked lines: "
+    ++ (decimal (length (filter is_said (lines_of text))) ++ 10 ∷ [])
 
 -- the text with its last line ended
 abbrev pub ended : List ℕ → List ℕ

@@ -211,12 +211,12 @@ dashes_first (word ∷ rest) = (refl, (refl, tt))
 abbrev IsNoName : Text → Type 0
 IsNoName word = (bytes_eq (codes "pipe") word ≡ false) × (bytes_eq (codes "serve") word ≡ false) × (bytes_eq (codes "listen") word ≡ false)
     × (bytes_eq (codes "page") word ≡ false) × (bytes_eq (codes "keygen") word ≡ false) × (bytes_eq (codes "check") word ≡ false) × (bytes_eq (codes "mint") word ≡ false) × (bytes_eq (codes "attenuate") word ≡ false)
-    × (bytes_eq (codes "verify") word ≡ false) × (bytes_eq (codes "inspect") word ≡ false) × (bytes_eq (codes "status") word ≡ false)
+    × (bytes_eq (codes "verify") word ≡ false) × (bytes_eq (codes "inspect") word ≡ false) × (bytes_eq (codes "status") word ≡ false) × (bytes_eq (codes "revoke") word ≡ false)
 
 other_first : (word : Text) (rest : List Text) → IsNoName word → bytes_eq word (codes "--") ≡ false → Refuses (flag_status true word (long_of word)) (line_faults (word ∷ rest))
 unfolding walk_fault
-other_first word rest (no_pipe, no_serve, no_listen, no_page, no_keygen, no_check, no_mint, no_attenuate, no_verify, no_inspect, no_status) e =
-    let turn : turn_fault top names (walk_from nothing_held) word ≡ faults_at true top word (long_of word) = rw (no_pipe, no_serve, no_listen, no_page, no_keygen, no_check, no_mint, no_attenuate, no_verify, no_inspect, no_status, e) refl in
+other_first word rest (no_pipe, no_serve, no_listen, no_page, no_keygen, no_check, no_mint, no_attenuate, no_verify, no_inspect, no_status, no_revoke) e =
+    let turn : turn_fault top names (walk_from nothing_held) word ≡ faults_at true top word (long_of word) = rw (no_pipe, no_serve, no_listen, no_page, no_keygen, no_check, no_mint, no_attenuate, no_verify, no_inspect, no_status, no_revoke, e) refl in
     let refused = subst (Refuses (flag_status true word (long_of word))) (sym turn) (word_refused true top word (long_of word)) in
     refuses_first _ _ _ (refuses_first _ (turn_fault top names (walk_from nothing_held) word) _ refused)
 
@@ -237,7 +237,8 @@ no_name word rest differ unnamed =
     let mint = neither (bytes_eq word (codes "mint")) _ check.1 in
     let attenuate = neither (bytes_eq word (codes "attenuate")) _ mint.1 in
     let verify = neither (bytes_eq word (codes "verify")) _ attenuate.1 in
-    let inspect = neither (bytes_eq word (codes "inspect")) _ verify.1 in (
+    let inspect = neither (bytes_eq word (codes "inspect")) _ verify.1 in
+    let status = neither (bytes_eq word (codes "status")) _ inspect.1 in (
       other_way word (codes "pipe") differ,
       other_way word (codes "serve") serve.0,
       other_way word (codes "listen") listen.0,
@@ -248,7 +249,8 @@ no_name word rest differ unnamed =
       other_way word (codes "attenuate") attenuate.0,
       other_way word (codes "verify") verify.0,
       other_way word (codes "inspect") inspect.0,
-      other_way word (codes "status") inspect.1,
+      other_way word (codes "status") status.0,
+      other_way word (codes "revoke") status.1,
     )
 
 unnamed_leads : (word : Text) (rest : List Text) → bytes_eq word (codes "pipe") ≡ false → names_another (word ∷ rest) ≡ false → Refuses (flag_status true word (long_of word)) (line_faults (word ∷ rest))

@@ -54,9 +54,10 @@ served_app = with_rules (new_app (codes "serve"))
     ∷ required (number 1000 (option (codes "accept")))
     ∷ [])
 
--- the same with its flag
+-- the same with its flag, and with the option that may be left out
 abbrev pub serve_command : App
-serve_command = with_rule served_app (flag (codes "keys-of-others"))
+serve_command = with_rule (with_rule served_app (flag (codes "keys-of-others")))
+    (option (codes "revoked"))
 
 -- the options of `listen` for its sockets over HTTP: for gateways
 abbrev pub gateway_rules : List Rule
@@ -104,10 +105,10 @@ listen_command = with_rules (with_rules (with_rules (new_app (codes "listen"))
     ∷ flag (codes "allow-empty-revoked")
     ∷ [])) gateway_rules) calls_rules
 
--- the subcommand `page`, both of whose options may be left out
+-- the subcommand `page`, whose options may be left out
 abbrev pub page_command : App
 page_command = with_rules (new_app (codes "page"))
-    (option (codes "address") ∷ option (codes "keys") ∷ [])
+    (option (codes "address") ∷ option (codes "keys") ∷ option (codes "revoked") ∷ [])
 
 -- the whole command line
 abbrev pub command_line : App
@@ -189,6 +190,7 @@ HasServe options rows = IsText options.socket (first_of (codes "socket") rows)
     × IsNumber 16 options.workers (first_of (codes "workers") rows)
     × IsNumber 1000 options.accept (first_of (codes "accept") rows)
     × (options.keys_of_others ≡ is_set (codes "keys-of-others") rows)
+    × IsOptionalText options.revoked (codes "revoked") rows
 
 -- the values of its options for HTTP
 abbrev pub HasHttp : HttpOptions → List Row → Type 0
@@ -234,6 +236,7 @@ HasListen options rows = IsText options.socket (first_of (codes "socket") rows)
 abbrev pub HasPage : PageOptions → List Row → Type 0
 HasPage options rows = IsOptionalText options.address (codes "address") rows
     × IsOptionalText options.keys (codes "keys") rows
+    × IsOptionalText options.revoked (codes "revoked") rows
 
 -- the choice has the values of a subcommand's options
 abbrev pub HasValues : Choice → List Row → Type 0
@@ -311,4 +314,5 @@ names_another (word ∷ rest) = bytes_eq word (codes "serve") || (bytes_eq word 
     || (bytes_eq word (codes "page") || (bytes_eq word (codes "keygen")
     || (bytes_eq word (codes "check") || (bytes_eq word (codes "mint")
     || (bytes_eq word (codes "attenuate") || (bytes_eq word (codes "verify")
-    || (bytes_eq word (codes "inspect") || bytes_eq word (codes "status")))))))))
+    || (bytes_eq word (codes "inspect") || (bytes_eq word (codes "status")
+    || bytes_eq word (codes "revoke"))))))))))

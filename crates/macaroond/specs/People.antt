@@ -29,6 +29,8 @@ use Rattle.macaroond.specs.declared.status.Status.TheVariants as status
 use Rattle.macaroond.specs.declared.people.fault.PersonFault.{PersonFault}
 use Rattle.macaroond.specs.declared.people.fault.PersonFault.TheVariants as fault
 use Rattle.macaroond.specs.declared.people.asking.AttenuateWords.{AttenuateWords}
+use Rattle.macaroond.specs.declared.people.asking.CheckWords.{CheckWords}
+use Rattle.macaroond.specs.declared.people.asking.InspectWords.{InspectWords}
 use Rattle.macaroond.specs.declared.people.asking.KeygenWords.{KeygenWords}
 use Rattle.macaroond.specs.declared.people.asking.MintWords.{MintWords}
 use Rattle.macaroond.specs.declared.people.asking.RevokeWords.{RevokeWords}
@@ -56,9 +58,10 @@ keygen_command = with_rule (with_rule (with_rule (with_rule (with_rule (with_rul
     (option (codes "below"))) (option (codes "raise"))) (option (codes "drop")))
     (option (codes "drop-first"))) (required (word (codes "name")))
 
--- the subcommand `check`, with one option
+-- the subcommand `check`, with two options
 abbrev pub check_command : App
-check_command = with_rule (new_app (codes "check")) (required (option (codes "keys")))
+check_command = with_rule (with_rule (new_app (codes "check")) (option (codes "keys")))
+    (option (codes "revoked"))
 
 -- a subcommand with the options `--keys` and `--key`
 abbrev pub with_key : App → App
@@ -77,14 +80,16 @@ attenuate_command = with_rule (with_rule (with_rule (new_app (codes "attenuate")
     (required (repeated (option (codes "caveat"))))) (option (codes "form")))
     (required (word (codes "token")))
 
--- the subcommand `verify`, with four options and a word
+-- the subcommand `verify`, with five options and a word
 abbrev pub verify_command : App
-verify_command = with_rule (with_rule (with_rule (with_key (new_app (codes "verify")))
-    (repeated (option (codes "fact")))) (option (codes "at"))) (required (word (codes "token")))
+verify_command = with_rule (with_rule (with_rule (with_rule (with_key (new_app (codes "verify")))
+    (repeated (option (codes "fact")))) (option (codes "at"))) (option (codes "revoked")))
+    (required (word (codes "token")))
 
--- the subcommand `inspect`, with one word
+-- the subcommand `inspect`, with one option and a word
 abbrev pub inspect_command : App
-inspect_command = with_rule (new_app (codes "inspect")) (required (word (codes "token")))
+inspect_command = with_rule (with_rule (new_app (codes "inspect")) (option (codes "key")))
+    (required (word (codes "token")))
 
 -- the subcommand `status`, with one option and two flags
 abbrev pub status_command : App
@@ -138,6 +143,10 @@ HasKeygen words rows = IsGivenText words.name (codes "name") rows
     × IsOptionalText words.drop (codes "drop") rows
     × IsOptionalText words.drop_first (codes "drop-first") rows
 
+abbrev pub HasCheck : CheckWords → List Row → Type 0
+HasCheck words rows = IsOptionalText words.keys (codes "keys") rows
+    × IsOptionalText words.revoked (codes "revoked") rows
+
 abbrev pub HasMint : MintWords → List Row → Type 0
 HasMint words rows = IsGivenText words.keys (codes "keys") rows
     × IsGivenText words.key (codes "key") rows
@@ -157,6 +166,11 @@ HasVerify words rows = IsGivenText words.keys (codes "keys") rows
     × IsGivenText words.token (codes "token") rows
     × AreGivenTexts words.facts.items (codes "fact") rows
     × IsOptionalText words.at (codes "at") rows
+    × IsOptionalText words.revoked (codes "revoked") rows
+
+abbrev pub HasInspect : InspectWords → List Row → Type 0
+HasInspect words rows = IsGivenText words.token (codes "token") rows
+    × IsOptionalText words.key (codes "key") rows
 
 abbrev pub HasStatus : StatusWords → List Row → Type 0
 HasStatus words rows = IsGivenText words.socket (codes "socket") rows
@@ -173,22 +187,22 @@ HasRevoke words rows = IsGivenText words.name (codes "name") rows
 -- the task has the values of a subcommand's arguments
 abbrev pub HasTask : Task → List Row → Type 0
 HasTask (Keygen words) rows = HasKeygen words rows
-HasTask (Check keys) rows = IsGivenText keys (codes "keys") rows
+HasTask (Check words) rows = HasCheck words rows
 HasTask (Mint words) rows = HasMint words rows
 HasTask (Attenuate words) rows = HasAttenuate words rows
 HasTask (Verify words) rows = HasVerify words rows
-HasTask (Inspect token) rows = IsGivenText token (codes "token") rows
+HasTask (Inspect words) rows = HasInspect words rows
 HasTask (TellStatus words) rows = HasStatus words rows
 HasTask (Revoke words) rows = HasRevoke words rows
 
 -- the subcommand that the task stands for
 abbrev pub task_name : Task → Text
 task_name (Keygen words) = codes "keygen"
-task_name (Check keys) = codes "check"
+task_name (Check words) = codes "check"
 task_name (Mint words) = codes "mint"
 task_name (Attenuate words) = codes "attenuate"
 task_name (Verify words) = codes "verify"
-task_name (Inspect token) = codes "inspect"
+task_name (Inspect words) = codes "inspect"
 task_name (TellStatus words) = codes "status"
 task_name (Revoke words) = codes "revoke"
 
@@ -256,7 +270,9 @@ person_status fault.Options = status.BadLine
 person_status fault.Pages = status.BadLine
 person_status fault.RevokeOptions = status.BadLine
 person_status fault.WhichToken = status.BadLine
+person_status fault.WhichFile = status.BadLine
 person_status (fault.Checked path line kind) = status.Refused
+person_status (fault.CheckedList path line kind) = status.Refused
 person_status (fault.Change path why) = status.Refused
 person_status (fault.Exists path) = status.Refused
 person_status (fault.Beside path) = status.Refused

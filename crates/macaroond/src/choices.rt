@@ -39,6 +39,8 @@ pub struct ServeOptions {
     pub accept: u64,
     /// Whether the key file may be one that others may use.
     pub keys_of_others: bool,
+    /// The path of a list of tokens that were taken back.
+    pub revoked: Option<String>,
 }
 
 /// What `listen` is told.
@@ -129,6 +131,8 @@ pub struct PageOptions {
     pub address: Option<String>,
     /// The path of the key file.
     pub keys: Option<String>,
+    /// The path of a list of tokens that were taken back.
+    pub revoked: Option<String>,
 }
 
 /// Who may connect to a socket, as the permissions of its file say.

@@ -2,7 +2,8 @@
 ghost use Rattle.macaroond.specs.Watching.{Watches, WatchesList};
 
 use crate::commands::LOOPS_MAX;
-use crate::http::{HttpPlan, OpenDoors, open_doors};
+use crate::doors::{OpenDoors, open_doors};
+use crate::http::HttpPlan;
 use crate::key_store::{FirstKeys, KeyPlace, look_at};
 use crate::list_store::{FirstList, ListPlace, look_at_list};
 use crate::operating::{
@@ -144,11 +145,13 @@ where
         table.take_back(&revoked.list)?;
     }
     let mut editor = Editor::new(rt.alloc(), *rt, table, FOLLOWERS, before, after)?;
-    if let Some(FirstList {
-        list,
-        before,
-        after,
-    }) = revoked
+    if let Some(
+        FirstList {
+            list,
+            before,
+            after,
+        },
+    ) = revoked
     {
         editor = editor.with_list_found(before, after);
         lines = list.lines();
@@ -362,12 +365,7 @@ where
 }
 
 /// The same of the list alone.
-fn look_at_revoked<R>(
-    rt: &R,
-    place: ListPlace<'_>,
-    editor: Editor<R>,
-    daemon: &Daemon,
-) -> Editor<R>
+fn look_at_revoked<R>(rt: &R, place: ListPlace<'_>, editor: Editor<R>, daemon: &Daemon) -> Editor<R>
 where
     R: Alloc<A = Global> + Files<File = File> + Clock + Wait + Drop,
     ensures { WatchesList editor result }

@@ -1,10 +1,12 @@
 //! A list of tokens that were taken back, as the system shows it.
+ghost use Rattle.std.specs.Prelude.{IfOk, OnOk};
+ghost use Rattle.macaroond.specs.Doing.{IsList, TakesList};
 
-use crate::key_file::access_of;
 use crate::key_store::{exposure_told, find_state, state_of};
-use mac_board::{Editor, Exposure, FileState, ListFinding, ListRefusal, ListUp, ReadFault, Sight};
-use mac_board::judge_list;
-use mac_keys::RevokedList;
+use crate::status::Status;
+use crate::telling::{tell_fault, tell_list};
+use mac_board::{Editor, FileState, ListRefusal, ReadFault, Sight};
+use mac_keys::{KeyTable, RevokedFault, RevokedList};
 use std::alloc::{Alloc, AllocError, Global};
 use std::fs::{File, Files};
 use std::io::{ErrorKind, Read};
@@ -38,13 +40,48 @@ pub(crate) struct FirstList {
     pub(crate) after: FileState,
 }
 
+/// Gives a table the list of a place, where there is one. Else says why it isn't taken, and how the
+/// run ends.
+pub(crate) fn take_list<R>(
+    rt: &R,
+    place: Option<ListPlace<'_>>,
+    table: &mut KeyTable,
+) -> Result<(), Status>
+where
+    R: Files<File = File> + Alloc<A = Global> + Eprint,
+    ensures { OnOk result (TakesList place.entry table.old table.new) }
+{
+    let Some(place) = place else {
+        return Ok(());
+    };
+    let first = find_first_list(rt, place)?;
+    match table.take_back(&first.list) {
+        Ok(()) => Ok(()),
+        Err(_) => Err(tell_fault(rt, Status::NoMemory)),
+    }
+}
+
+/// What a list gives first. Else says why it isn't taken, and how the run ends.
+pub(crate) fn find_first_list<R>(rt: &R, place: ListPlace<'_>) -> Result<FirstList, Status>
+where
+    R: Files<File = File> + Alloc<A = Global> + Eprint,
+    ensures { IfOk result (λ first. IsList first.list) }
+{
+    match read_first_list(rt, place) {
+        Ok(Ok(first)) => Ok(first),
+        Ok(Err(why)) => Err(tell_list(rt, place.path, why)),
+        Err(_) => Err(tell_fault(rt, Status::NoMemory)),
+    }
+}
+
 /// Reads a list for the first time. One without lines is taken.
-pub(crate) fn read_first_list<R>(
+fn read_first_list<R>(
     rt: &R,
     place: ListPlace<'_>,
 ) -> Result<Result<FirstList, ListRefusal>, AllocError>
 where
     R: Files<File = File> + Alloc<A = Global>,
+    ensures { IfOk result (λ read. IfOk read (λ first. IsList first.list)) }
 {
     let found = find_state(rt, place.path);
     let sight = read_list_sight(rt, place, found)?;
@@ -62,18 +99,14 @@ where
         Err(ReadFault::TooLong) => return Ok(Err(ListRefusal::TooLong)),
         Err(ReadFault::Exposed(why)) => return Ok(Err(ListRefusal::Exposed(why))),
     };
-    let up = ListUp {
-        lines: 0,
-        may_empty: true,
-    };
-    match judge_list(rt.alloc(), up, text.as_slice())? {
-        ListFinding::List(list) => Ok(Ok(FirstList {
+    match RevokedList::read(rt.alloc(), text.as_slice()) {
+        Ok(list) => Ok(Ok(FirstList {
             list,
             before,
             after,
         })),
-        ListFinding::Refused(why) => Ok(Err(why)),
-        ListFinding::Nothing => Ok(Err(ListRefusal::Unreadable)),
+        Err(RevokedFault::Line { line, kind }) => Ok(Err(ListRefusal::Faulty { line, kind })),
+        Err(RevokedFault::Memory) => Err(AllocError),
     }
 }
 
@@ -103,11 +136,7 @@ where
 }
 
 /// Reads a list that was found in a state, between two looks at the very file that is read.
-fn read_list_sight<R>(
-    rt: &R,
-    place: ListPlace<'_>,
-    found: FileState,
-) -> Result<Sight, AllocError>
+fn read_list_sight<R>(rt: &R, place: ListPlace<'_>, found: FileState) -> Result<Sight, AllocError>
 where
     R: Files<File = File> + Alloc<A = Global>,
 {
@@ -133,7 +162,7 @@ where
 }
 
 /// The text of a list, if it can be read and isn't too long.
-fn read_list_text(
+pub(crate) fn read_list_text(
     alloc: Global,
     file: &File,
 ) -> Result<Result<Vec<u8>, ReadFault>, AllocError> {

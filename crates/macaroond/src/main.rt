@@ -4,9 +4,10 @@
 //! [`choose`] and [`pipe`].
 #![tactic(auto)]
 
-ghost use Rattle.std.specs.Prelude.{◌≡◌, ◌≤◌, if◌then◌else◌, IfErr, None};
+ghost use Rattle.std.specs.Prelude.{◌≡◌, ◌≤◌, if◌then◌else◌, IfErr, IfOk, IfSome, None};
 ghost use Rattle.mac_pool.specs.declared.pool.TheConstants.{WORKERS_MAX};
 ghost use Rattle.macaroond.specs.CommandLine.{permissions};
+ghost use Rattle.macaroond.specs.Doing.{IsKeyTable, IsList};
 ghost use Rattle.macaroond.specs.Shape.{HasCount, connections_of, drain_of, remember_of};
 ghost use Rattle.macaroond.specs.Status.{IsShown};
 ghost use Rattle.macaroond.specs.declared.commands.TheConstants.{LOOPS_MAX};
@@ -16,7 +17,9 @@ mod choices;
 mod command_line;
 mod commands;
 mod descriptors;
+mod doors;
 mod fault;
+mod help;
 mod http;
 mod input;
 mod key_fault;
@@ -53,7 +56,7 @@ use http::plan_http;
 pub use input::INPUT_MAX;
 use key_store::{KeyPlace, read_first};
 use key_watch::{Followed, Found, Sockets, listen_and_watch};
-use list_store::{ListPlace, read_first_list};
+use list_store::{ListPlace, find_first_list};
 use logging::read_log;
 use mac_daemon::{DaemonTerms, Shape};
 use mac_host::Logged;
@@ -79,7 +82,7 @@ use std::thread::Threads;
 use std::time::Clock;
 use std::{io, thread};
 use telling::{
-    show, tell_ending, tell_fault, tell_http, tell_key_file, tell_list, tell_listen, tell_log, tell_nowhere,
+    show, tell_ending, tell_fault, tell_http, tell_key_file, tell_listen, tell_log, tell_nowhere,
     warn_of_minting,
 };
 
@@ -198,33 +201,13 @@ where
     if let Err(refused) = open_standard(rt) {
         return tell_nowhere(rt, &refused);
     }
-    let keys = KeyPlace {
-        path: options.keys.as_str(),
-        of_others: options.keys_of_others,
+    let watched = followed_by(options);
+    let found = match find_files(rt, watched) {
+        Ok(found) => found,
+        Err(status) => return status,
     };
-    let first = match read_first(rt, keys.path) {
-        Ok(first) => first,
-        Err(fault) => return tell_key_file(rt, keys.path, fault),
-    };
-    if !admit_keys(rt, keys.path, &first.read, keys.of_others) {
-        return Status::DeviceFault;
-    }
-    let list = options.revoked.as_deref().map(|path| ListPlace {
-        path,
-        of_others: options.keys_of_others,
-        may_empty: options.allow_empty_revoked,
-    });
-    let revoked = match list {
-        Some(place) => match read_first_list(rt, place) {
-            Ok(Ok(first)) => Some(first),
-            Ok(Err(why)) => return tell_list(rt, place.path, why),
-            Err(_) => return tell_fault(rt, Status::NoMemory),
-        },
-        None => None,
-    };
-    let watched = Followed { keys, list };
     warn_of_minting(rt, http.minting_port());
-    let names = first.read.table.len();
+    let names = found.first.read.table.len();
     let reserved = http.descriptors(count_loops(rt, options.loops));
     let terms = name_terms(rt, options, names, reserved, logged);
     let Ok((rights, side)) = read_sockets(rt.alloc(), options) else {
@@ -232,11 +215,47 @@ where
     };
     let sockets = Sockets { rights, side, http };
     let claim = claim_of(options.replace);
-    let found = Found { first, revoked };
     match listen_and_watch(rt, terms, sockets, watched, found, claim, process) {
         Ok(()) => Status::Done,
         Err(fault) => tell_listen(rt, options, fault),
     }
+}
+
+/// The files that a daemon follows by its options.
+fn followed_by<'a>(options: &'a ListenOptions) -> Followed<'a> {
+    Followed {
+        keys: KeyPlace {
+            path: options.keys.as_str(),
+            of_others: options.keys_of_others,
+        },
+        list: options.revoked.as_deref().map(|path| ListPlace {
+            path,
+            of_others: options.keys_of_others,
+            may_empty: options.allow_empty_revoked,
+        }),
+    }
+}
+
+/// What these files give first. Else says why one isn't taken, and how the run ends.
+fn find_files<R>(rt: &R, followed: Followed<'_>) -> Result<Found, Status>
+where
+    R: Alloc<A = Global> + Eprint + Files<File = File>,
+    ensures { IfOk result (λ found.
+        IsKeyTable found.first.read.table × IfSome found.revoked (λ list. IsList list.list)) }
+{
+    let keys = followed.keys;
+    let first = match read_first(rt, keys.path) {
+        Ok(first) => first,
+        Err(fault) => return Err(tell_key_file(rt, keys.path, fault)),
+    };
+    if !admit_keys(rt, keys.path, &first.read, keys.of_others) {
+        return Err(Status::DeviceFault);
+    }
+    let revoked = match followed.list {
+        Some(place) => Some(find_first_list(rt, place)?),
+        None => None,
+    };
+    Ok(Found { first, revoked })
 }
 
 /// How a daemon comes by the paths of its sockets.

@@ -58,6 +58,7 @@ fn read_serve(alloc: Global, options: &ArgMatches<'_>) -> Result<Choice, OptionF
         workers: read_number(options, "workers"),
         accept: read_number(options, "accept"),
         keys_of_others: read_flag(options, "keys-of-others"),
+        revoked: read_optional_text(alloc, options, "revoked")?,
     }))
 }
 
@@ -103,6 +104,7 @@ fn read_page(alloc: Global, options: &ArgMatches<'_>) -> Result<Choice, OptionFa
     Ok(Choice::Page(PageOptions {
         address: read_optional_text(alloc, options, "address")?,
         keys: read_optional_text(alloc, options, "keys")?,
+        revoked: read_optional_text(alloc, options, "revoked")?,
     }))
 }
 

@@ -1,17 +1,19 @@
 //! Lines that take tokens back, printed, put into a list or dropped from it.
-ghost use Rattle.std.specs.Prelude.{IfOk};
-ghost use Rattle.macaroond.specs.Doing.{DoesRevoke, SaysNothing};
+ghost use Rattle.std.specs.Prelude.{◌≡◌, ℕ, IfOk, List};
+ghost use Rattle.mac_token.specs.Read.{raw_read_of};
+ghost use Rattle.mac_words.specs.Revoked.{revoked_text};
+ghost use Rattle.macaroond.specs.Doing.{DoesRevoke, SaysNothing, SaysOf, StandsFor, TellsOwn};
+ghost use Rattle.macaroond.specs.Doing.{TellsRevoked};
 
 use super::PersonFault;
 use super::asking::RevokeWords;
 use super::given::read_token;
-use super::key_files::{make_file, put_in_place, read_kept};
-use mac_keys::{RevokedFault, RevokedList};
+use super::key_files::{Held, make_file, read_kept};
+use super::lists::{fault_of_list, read_list, replace_list};
+use mac_board::ReadFault;
 use mac_token::TokenFault;
-use mac_words::{
-    Said, Whose, find_whose, put_behind, revoked_line, say_inspect, without_revoked,
-};
-use std::alloc::{Alloc, AllocError, Global};
+use mac_words::{Said, Whose, find_whose, put_behind, revoked_line, say_inspect, without_revoked};
+use std::alloc::{Alloc, Global};
 use std::fs::{self, File, Files};
 
 /// What is said of a revoke.
@@ -29,12 +31,14 @@ where
 }
 
 /// The same of a token, which says its identifier itself.
-fn revoke_token<'a, R>(rt: &R, words: &'a RevokeWords, token: &str) -> Result<Said, PersonFault<'a>>
+fn revoke_token<'a, R>(rt: &R, words: &'a RevokeWords, word: &str) -> Result<Said, PersonFault<'a>>
 where
     R: Alloc<A = Global> + Input + Eprint + Files<File = File>,
     R::Reader: Send,
+    ensures { IfOk result (λ said. (token : List ℕ) × StandsFor word.now token
+        × TellsOwn words.now token (raw_read_of token) said) }
 {
-    let token = read_token(rt, token)?;
+    let token = read_token(rt, word)?;
     match find_whose(rt.alloc(), token.as_slice()) {
         Ok(Whose { identifier, text }) => {
             tell_whose(rt, words.name.as_str(), text.as_slice());
@@ -53,13 +57,10 @@ fn tell_whose<R: Eprint>(rt: &R, name: &str, text: &[u8]) {
 }
 
 /// What is said of an identifier whose tokens are to be taken back, or not any more.
-fn revoke<'a, R>(
-    rt: &R,
-    words: &'a RevokeWords,
-    identifier: &[u8],
-) -> Result<Said, PersonFault<'a>>
+fn revoke<'a, R>(rt: &R, words: &'a RevokeWords, identifier: &[u8]) -> Result<Said, PersonFault<'a>>
 where
     R: Alloc<A = Global> + Files<File = File>,
+    ensures { IfOk result (TellsRevoked words.now identifier.now) }
 {
     let name = words.name.as_str();
     let line = revoked_line(rt.alloc(), name, identifier)?;
@@ -72,7 +73,9 @@ where
 }
 
 /// What is printed as it is.
-fn said_of(text: Vec<u8>) -> Said {
+fn said_of(text: Vec<u8>) -> Said
+    ensures { SaysOf text.items result }
+{
     Said {
         text,
         is_refusal: false,
@@ -89,17 +92,18 @@ fn put_line<'a, R>(
 ) -> Result<Said, PersonFault<'a>>
 where
     R: Alloc<A = Global> + Files<File = File>,
+    requires { line.now ≡ revoked_text name.now identifier.now }
     ensures { IfOk result SaysNothing }
 {
     if fs::symlink_metadata(rt, path).is_err() {
         make_file(rt, path, line)?;
         return Ok(said_of(Vec::new(rt.alloc())));
     }
-    let kept = read_kept(rt, path)?;
+    let kept = read_kept(rt, path, Held::List)?;
     let list = read_list(rt.alloc(), path, kept.text.as_slice())?;
     if !list.has(name.as_bytes(), identifier) {
         let changed = put_behind(rt.alloc(), kept.text.as_slice(), line)?;
-        put_in_place(rt, path, &kept, changed.as_slice())?;
+        replace_list(rt, path, &kept, name, identifier, changed.as_slice())?;
     }
     Ok(said_of(Vec::new(rt.alloc())))
 }
@@ -116,27 +120,14 @@ where
     ensures { IfOk result SaysNothing }
 {
     if fs::symlink_metadata(rt, path).is_err() {
-        return Err(PersonFault::NoList { path });
+        return Err(fault_of_list(rt, path, ReadFault::Unreadable));
     }
-    let kept = read_kept(rt, path)?;
+    let kept = read_kept(rt, path, Held::List)?;
     let list = read_list(rt.alloc(), path, kept.text.as_slice())?;
     if list.has(name.as_bytes(), identifier) {
         let text = kept.text.as_slice();
         let changed = without_revoked(rt.alloc(), text, name.as_bytes(), identifier)?;
-        put_in_place(rt, path, &kept, changed.as_slice())?;
+        replace_list(rt, path, &kept, name, identifier, changed.as_slice())?;
     }
     Ok(said_of(Vec::new(rt.alloc())))
-}
-
-/// The list of a file.
-fn read_list<'a>(
-    alloc: Global,
-    path: &'a str,
-    text: &[u8],
-) -> Result<RevokedList, PersonFault<'a>> {
-    match RevokedList::read(alloc, text) {
-        Ok(list) => Ok(list),
-        Err(RevokedFault::Line { line, kind }) => Err(PersonFault::RevokedLine { path, line, kind }),
-        Err(RevokedFault::Memory) => Err(AllocError.into()),
-    }
 }

@@ -48,17 +48,18 @@ Exit status:
 /// What the help of `check` says below its options.
 const CHECK_HELP: &str = "\
 Prints a line for each name of the key file, in the order of their bytes: `NAME: one key`, or
-`NAME: two keys`. Warns on standard error of a file that others may use, and of a secret of fewer
-than 16 bytes.
+`NAME: two keys`; and behind them how many lines the list has that take tokens back, `revoked lines:
+COUNT`. One of both files at least is to be given. Warns on standard error of a file that others may
+use, and of a secret of fewer than 16 bytes.
 
 Example:
-  macaroond check --keys keys
+  macaroond check --keys keys --revoked revoked
 
 Exit status:
-  0  each line of the file is right, and its names were printed
+  0  each line is right, and what the files hold was printed
   1  a line has a fault; standard error names the first with its number
   2  a bad command line
-  3  the key file or standard output failed
+  3  a file or standard output failed
   4  memory ran out";
 
 /// What the help of `mint` says below its options.
@@ -102,7 +103,7 @@ Prints `granted`, or `refused`, the number of the reason and the reason. A cavea
 one of the facts, a time limit `time < 2030-01-01T00:00` that isn't over, or a lower bound of time
 `time >= 2026-01-01T00:00` that has come. TOKEN is the token's text, `hex:` and its digits, or - for
 one line of standard input. MOMENT is a number of seconds since 1970, or a time as
-2026-01-31T12:00:00Z.
+2026-01-31T12:00:00Z. With --revoked a token of the list is refused.
 
 Example:
   macaroond verify --keys keys --key bank --fact 'account = 3735928559' \"$token\"
@@ -111,15 +112,16 @@ Exit status:
   0  granted
   1  refused
   2  a bad command line
-  3  the key file, standard input, the clock or standard output failed, or a key line has a fault
+  3  a file, standard input, the clock or standard output failed, or a line of a file has a fault
   4  memory ran out";
 
 /// What the help of `inspect` says below its options.
 const INSPECT_HELP: &str = "\
 Prints what the token says: its form, location, identifier, caveats and signature. No key is
 needed for it, and nothing is verified. Bytes that aren't printable ASCII, and the backslash, are
-printed as \\x and two digits. TOKEN is the token's text, `hex:` and its digits, or - for one line
-of standard input.
+printed as \\x and two digits. With --key the last line is `revoked NAME HEX`, which takes the token
+back in a list. TOKEN is the token's text, `hex:` and its digits, or - for one line of standard
+input.
 
 Example:
   macaroond inspect \"$token\"
@@ -169,6 +171,10 @@ const FIRST_HELP: &str = "Drops the name's first line, whose key mints, from thi
 const REVOKE_INTO_HELP: &str = "Puts the line into this list, which is made where it isn't there";
 
 const REVOKE_DROP_HELP: &str = "Drops the line from this list";
+
+const LIST_HELP: &str = "A list of tokens that were taken back";
+
+const LINE_HELP: &str = "The name of the key, for a last line that takes the token back";
 
 const KEY_HELP: &str = "The name of the key";
 
@@ -245,12 +251,14 @@ fn build_keygen<'a>(alloc: Global) -> Result<Command<'a>, AllocError>
     add_arg(command, build_word(alloc, "name", "NAME", KEY_HELP))
 }
 
-/// The subcommand `check`, with the key file.
+/// The subcommand `check`, with the key file and the list.
 fn build_check<'a>(alloc: Global) -> Result<Command<'a>, AllocError>
     ensures { IfOk result (λ whole. app_of whole ≡ check_command) }
 {
-    let command = build_subcommand(alloc, "check", "Tells what a key file holds", CHECK_HELP);
-    add_arg(command, build_required(alloc, "keys", "FILE", KEYS_HELP))
+    let about = "Tells what a key file holds, and a list of tokens that were taken back";
+    let command = build_subcommand(alloc, "check", about, CHECK_HELP);
+    let command = add_arg(command, build_option(alloc, "keys", "FILE", KEYS_HELP))?;
+    add_arg(command, build_option(alloc, "revoked", "FILE", LIST_HELP))
 }
 
 /// The subcommand `mint`: of its six options two have to be given.
@@ -307,14 +315,16 @@ fn build_verify<'a>(alloc: Global) -> Result<Command<'a>, AllocError>
         "The moment of the request [default: now]",
     );
     let command = add_arg(command, at)?;
+    let command = add_arg(command, build_option(alloc, "revoked", "FILE", LIST_HELP))?;
     add_arg(command, build_word(alloc, "token", "TOKEN", TOKEN_HELP))
 }
 
-/// The subcommand `inspect`, with the token.
+/// The subcommand `inspect`, with the name of a key, and the token.
 fn build_inspect<'a>(alloc: Global) -> Result<Command<'a>, AllocError>
     ensures { IfOk result (λ whole. app_of whole ≡ inspect_command) }
 {
     let command = build_subcommand(alloc, "inspect", "Tells what a token says", INSPECT_HELP);
+    let command = add_arg(command, build_option(alloc, "key", "NAME", LINE_HELP))?;
     add_arg(command, build_word(alloc, "token", "TOKEN", TOKEN_HELP))
 }
 
@@ -344,7 +354,9 @@ fn build_revoke<'a>(alloc: Global) -> Result<Command<'a>, AllocError>
     let identifier = build_option(alloc, "identifier", "TEXT", "What the token is about");
     let command = add_arg(command, identifier)?;
     let command = add_arg(command, build_word(alloc, "name", "NAME", KEY_HELP))?;
-    let token = Arg::new(alloc, "token").value_name("TOKEN").help(TOKEN_HELP);
+    let token = Arg::new(alloc, "token")
+        .value_name("TOKEN")
+        .help(TOKEN_HELP);
     add_arg(command, token)
 }
 

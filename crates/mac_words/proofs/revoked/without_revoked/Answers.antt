@@ -15,11 +15,11 @@ loop-line-preserved c =
     let more = kept-line p c.loop-line.yielded c.in-Some.line stays in
     elim c.if-not-is_first.branch [
       | then-not-is_first+in_ok-extend_from_slice w ↦
-        let k = keeps-more lines c.loop-line.kept.items c.in-Some.line.now (search rules) in
-        search (rules, more, k)
+          let k = keeps-more lines c.loop-line.kept.items c.in-Some.line.now (search rules) in
+          search (rules, more, k)
       | else-not-is_first w ↦
-        let k = keeps-first lines c.loop-line.kept.items c.in-Some.line.now (search rules) in
-        search (rules, more, k)
+          let k = keeps-first lines c.loop-line.kept.items c.in-Some.line.now (search rules) in
+          search (rules, more, k)
     ]
 
 pub returns : goal.returns
