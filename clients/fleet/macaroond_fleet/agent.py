@@ -290,7 +290,10 @@ def fault_of(step: Callable[[], None]) -> str:
     return ""
 
 
+def shown(text: str) -> str:
+    """A line of printable ASCII, whatever a store or a member had written into it."""
+    return "".join(it if it.isascii() and it.isprintable() else f"\\x{ord(it):02x}" for it in text)
+
+
 def log_line(text: str) -> None:
-    """A line of the log, whatever a store had written into its text."""
-    plain = "".join(it if it.isascii() and it.isprintable() else f"\\x{ord(it):02x}" for it in text)
-    print(plain, file=sys.stderr, flush=True)
+    print(shown(text), file=sys.stderr, flush=True)

@@ -85,11 +85,6 @@ class Target:
             why = next((line for line in told if line.startswith("error: ")), f"error: status {done.returncode}")
             raise NotTaken(f"macaroond check refuses it: {why.removeprefix('error: ').replace(path, str(self.path))}")
 
-    def touch(self) -> None:
-        """Has the daemon read the file once more."""
-        with contextlib.suppress(OSError):
-            os.utime(self.path)
-
     def sync(self) -> None:
         folder = os.open(self.path.parent, os.O_RDONLY | os.O_DIRECTORY)
         try:
