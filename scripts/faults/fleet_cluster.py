@@ -27,12 +27,6 @@ def missing():
     return [f"there is no `{name}` (scripts/install_peers.sh)" for name in found]
 
 
-def knows_revocations():
-    """Whether the daemon takes `--revoked`."""
-    run = subprocess.run([PROGRAM, "listen", "--help"], capture_output=True, text=True)
-    return "--revoked" in run.stdout + run.stderr
-
-
 class Etcd:
     """A member of the store, on a member's host."""
 
@@ -83,17 +77,15 @@ class Cluster:
     """All that runs, in one folder."""
 
     def __init__(self, folder, hosts, keys):
-        self.folder, self.hosts, self.has_revoked = pathlib.Path(folder), hosts, knows_revocations()
+        self.folder, self.hosts = pathlib.Path(folder), hosts
         self.etcds = {name: Etcd(self, name) for name in NAMES}
         self.agents = {name: Agent(self, name) for name in NAMES}
         self.daemons = {name: self.daemon(name, keys) for name in NAMES}
         self.balancers = []
 
     def daemon(self, name, keys):
-        words = ["--http", f"unix:{name}.http", "--workers", "1", "--loops", "1"]
-        if self.has_revoked:
-            put_keys(self.folder / f"{name}.revoked", "# none\n")
-            words += ["--revoked", f"{name}.revoked"]
+        put_keys(self.folder / f"{name}.revoked", "# none\n")
+        words = ["--http", f"unix:{name}.http", "--workers", "1", "--loops", "1", "--revoked", f"{name}.revoked"]
         before = self.hosts.before(name)
         return Daemon(self.folder, keys, *words, name=f"{name}.socket", keys=f"{name}.keys", cwd=self.folder, before=before)
 
@@ -129,8 +121,7 @@ state = {self.folder}/{who}.state
         (self.folder / "password").chmod(0o600)
         self.settings("operator")
         for name in NAMES:
-            revoked = f"{self.folder}/{name}.revoked" if self.has_revoked else ""
-            own = [f"socket = {self.folder}/{name}.socket", f"keys = {self.folder}/{name}.keys", f"revoked = {revoked}"]
+            own = [f"{what} = {self.folder}/{name}.{what}" for what in ("socket", "keys", "revoked")]
             self.settings(name, f"member = {name}", *own, f"program = {PROGRAM}")
         for file in ("front.cfg", "back.cfg"):
             text = (EXAMPLES / file).read_text().replace("mode 660", "mode 600")
