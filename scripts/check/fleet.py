@@ -4,12 +4,13 @@
     fleet.py
 
 Three hosts (faults/fleet_net.py) have an etcd, a daemon and an agent each, behind HAProxy. An operator changes a key
-ten times and takes a hundred tokens back, by macaroond-fleet. Meanwhile an etcd, a daemon and an agent are killed and
-brought back, and a host is cut off. Clients compare each verdict with the one that is due: a good token is never
-refused, and one that was taken back is never granted once `revoke` has ended well. Limits of time are those that a
-machine keeps which is busy with other work; scripts/measure/fleet.py has those of one at rest. Asks for root, etcd and
-HAProxy, and for bin/macaroond, or what MACAROOND names.
+ten times and takes a hundred tokens back, of these five side by side, by macaroond-fleet. Meanwhile an etcd, a daemon
+and an agent are killed and brought back, and a host is cut off. Clients compare each verdict with the one that is due:
+a good token is never refused, and one that was taken back is never granted once `revoke` has ended well. Limits of time
+are those that a machine keeps which is busy with other work; scripts/measure/fleet.py has those of one at rest. Asks
+for root, etcd and HAProxy, and for bin/macaroond, or what MACAROOND names.
 """
+import concurrent.futures
 import contextlib
 import json
 import os
@@ -107,20 +108,23 @@ class Events:
 
 
 class Revoking(threading.Thread):
-    """Takes tokens back, a few at once, and then says so to the clients that ask of them."""
+    """Takes tokens back, a few side by side, and then says so to the clients that ask of them."""
 
-    def __init__(self, cluster, load, tokens):
+    def __init__(self, cluster, load, tokens, at_once):
         super().__init__()
-        self.cluster, self.load, self.tokens, self.runs = cluster, load, tokens, []
+        self.cluster, self.load, self.tokens, self.at_once = cluster, load, tokens, at_once
+        self.saying, self.runs = threading.Lock(), []
 
     def run(self):
-        names = list(self.tokens)
-        for at in range(0, len(names), REVOKED_AT_ONCE):
-            some = names[at : at + REVOKED_AT_ONCE]
-            status, told, took = self.cluster.operator("revoke", "shop", *some)
-            self.runs.append((status, told, took))
-            if status == 0:
-                self.load.taken_back([self.tokens[name] for name in some])
+        with concurrent.futures.ThreadPoolExecutor(self.at_once) as operators:
+            self.runs = list(operators.map(self.revoke, self.tokens))
+
+    def revoke(self, identifier):
+        came = self.cluster.operator("revoke", "shop", identifier)
+        if came[0] == 0:
+            with self.saying:
+                self.load.taken_back([self.tokens[identifier]])
+        return came
 
 
 def shop_tokens(count, word):
@@ -189,7 +193,7 @@ def together(cluster, stack):
     """Changes, revocations and events at once, under load."""
     kept, taken = shop_tokens(KEPT, "kept"), shop_tokens(REVOCATIONS, "taken")
     load, events = Load(cluster, stack, kept.values()), Events(cluster)
-    happening, revoking = threading.Thread(target=events.all), Revoking(cluster, load, taken)
+    happening, revoking = threading.Thread(target=events.all), Revoking(cluster, load, taken, REVOKED_AT_ONCE)
     happening.start()
     revoking.start()
     rotated = [rotate(cluster) for _ in range(ROTATIONS)]

@@ -33,7 +33,7 @@ def rows(cluster, stack, rounds):
     cluster.join()
     load = fleet.Load(cluster, stack, fleet.shop_tokens(fleet.KEPT, "kept").values())
     rotated = [fleet.rotate(cluster) for _ in range(rounds)]
-    revoking = fleet.Revoking(cluster, load, fleet.shop_tokens(rounds * fleet.REVOKED_AT_ONCE, "taken"))
+    revoking = fleet.Revoking(cluster, load, fleet.shop_tokens(rounds, "taken"), 1)
     revoking.run()
     for what, runs, most in (("a change of a key", rotated, ROTATE_WITHIN), ("a revocation", revoking.runs, REVOKE_WITHIN)):
         yield from ((f"{what}: {said}", status, 0) for status, said, _ in runs)

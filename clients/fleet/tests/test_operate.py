@@ -2,6 +2,7 @@
 import contextlib
 import io
 import threading
+import os
 import unittest
 
 from macaroond_fleet import form, operate, sealing
@@ -170,6 +171,16 @@ class RolledBack(unittest.TestCase):
         self.room.store.held = self.old
         with self.assertRaisesRegex(NotTaken, "the store is rolled back"):
             operate.revoke(self.room.fleet(), "bank", ["62"])
+
+    def test_by_what_another_run_saw(self):
+        """Two commands run side by side, and the one with the earlier head ends last."""
+        early, late = (self.room.fleet().taken for _ in range(2))
+        head = self.room.fleet().state().head
+        late.keep(head._replace(serial=head.serial + 2), "b" * 64)
+        early.keep(head._replace(serial=head.serial + 1), "a" * 64)
+        self.assertEqual(early.serial, head.serial + 1)
+        self.assertEqual(self.room.fleet().taken.serial, head.serial + 2)
+        self.assertEqual(os.listdir(self.room.folder / "operator" / "state"), ["shop.taken"])
 
     def test_by_what_a_member_told(self):
         up(self.room, self.room.agent("one"))
