@@ -25,7 +25,7 @@ import time
 sys.path.insert(0, str(pathlib.Path(__file__).resolve().parents[1]))
 from check import clients
 from common import TOP
-from common.daemon import awaited
+from common.daemon import PATIENCE, awaited
 from common.rows import judged
 from common.tokens import text_of, v1
 from faults import fleet_asking, fleet_cluster, fleet_net, scaling, scaling_asking
@@ -34,11 +34,11 @@ from faults.fleet_cluster import NAMES
 from macaroond import Client, MacaroondError
 
 ROTATIONS, REVOCATIONS, REVOKED_AT_ONCE, KEPT = 10, 100, 5, 10
-# How many seconds these may take, whatever else happens: a key's change at three daemons, and a revocation; and what of
-# a processor an agent may take that has nothing to do, in thousandths.
-ROTATE_WITHIN, REVOKE_WITHIN, IDLE_THOUSANDTHS = 120, 60, 5
 # For how long tokens of an old key are good, and for how long they are asked of (scaling_asking.py).
 OLD_FOR = 3
+# How many seconds these may take, whatever else happens: a key's change at three daemons, and a revocation; and what of
+# a processor an agent may take that has nothing to do, in thousandths.
+ROTATE_WITHIN, REVOKE_WITHIN, IDLE_THOUSANDTHS = 4 * PATIENCE, 2 * PATIENCE, 5
 # For how many seconds nothing happens, a part is away, and an idle agent is looked at.
 QUIET, AWAY, IDLE = 20, 3, 15
 # How many clients ask of each kind, and how long a reply may take: what goes to a host that is cut off waits for it.
@@ -120,7 +120,7 @@ class Revoking(threading.Thread):
             self.runs = list(operators.map(self.revoke, self.tokens))
 
     def revoke(self, identifier):
-        came = self.cluster.operator("revoke", "shop", identifier)
+        came = self.cluster.operator("revoke", "shop", identifier, "--patience", PATIENCE)
         if came[0] == 0:
             with self.saying:
                 self.load.taken_back([self.tokens[identifier]])
@@ -164,7 +164,7 @@ def changes(what, runs, most):
 
 
 def rotate(cluster):
-    return cluster.operator("rotate", "bank", "--old-for", f"{OLD_FOR}s")
+    return cluster.operator("rotate", "bank", "--old-for", f"{OLD_FOR}s", "--patience", PATIENCE)
 
 
 def at_each(cluster, tokens):

@@ -81,7 +81,7 @@ class Cluster:
         self.etcds = {name: Etcd(self, name) for name in NAMES}
         self.agents = {name: Agent(self, name) for name in NAMES}
         self.daemons = {name: self.daemon(name, keys) for name in NAMES}
-        self.balancers = []
+        self.balancers, self.is_over = [], False
 
     def daemon(self, name, keys):
         put_keys(self.folder / f"{name}.revoked", "# none\n")
@@ -176,6 +176,7 @@ state = {self.folder}/{who}.state
         self.balance()
 
     def close(self):
+        self.is_over = True
         for run in self.balancers:
             closed(run)
         for part in (*self.agents.values(), *self.daemons.values(), *self.etcds.values()):
@@ -185,6 +186,8 @@ state = {self.folder}/{who}.state
 
     def operator(self, *words):
         """How a command of the operator's ends, what it prints, and how many seconds it took."""
+        if self.is_over:
+            return 1, "it is over", 0.0
         begin = time.monotonic()
         command = [*self.hosts.before(FRONT), *FLEET, "--config", "operator.conf", *map(str, words)]
         run = subprocess.run(command, cwd=self.folder, capture_output=True, text=True)
