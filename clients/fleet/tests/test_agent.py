@@ -3,9 +3,10 @@ import os
 import stat
 import time
 import unittest
+import unittest.mock
 
 from macaroond_fleet import form, operate, sealing
-from macaroond_fleet.errors import FleetError
+from macaroond_fleet.errors import FleetError, ToolAway
 from macaroond_fleet.form import HEAD_MAX, Head, KeyFile, key_of
 from macaroond_fleet.sealing import digest_of
 from macaroond_fleet.store import Change
@@ -386,6 +387,12 @@ class Sealing(unittest.TestCase):
             broken = sealed[:at] + bytes([sealed[at] ^ 1]) + sealed[at + 1 :]
             with self.assertRaises(FleetError):
                 sealing.decrypt(broken, self.room.identities["one"])
+
+    def test_openssl_that_isn_t_done_in_time(self):
+        """Nothing is known of a message then: it isn't said to be somebody else's."""
+        message = sealing.sign(b"text", self.room.identities["one"])
+        with unittest.mock.patch.object(sealing, "PATIENCE", 0.0), self.assertRaisesRegex(ToolAway, "more than 0.0 seconds"):
+            sealing.signed(message, [self.room.certificate("one")])
 
     def test_rsa(self):
         paths = sealing.Identity(f"{self.room.folder}/rsa.pem", f"{self.room.folder}/rsa.key")
