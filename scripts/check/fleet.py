@@ -138,13 +138,16 @@ def seconds_of(pid):
     return time.clock_gettime((~pid << 3) | 2)
 
 
-def thousandths(cluster):
-    """What of a processor an agent takes that looks as often as it does by itself, and has nothing to do."""
+def rested(cluster):
+    """An agent that looks as often as it does by itself, and has nothing to do; None where not all is up."""
     agent = cluster.agents["one"]
     agent.close()
     agent.start(beat="5")
-    if not awaited(lambda: cluster.operator("status")[0] == 0, pause=0.5):
-        raise SystemExit(f"an agent that was started again: {cluster.operator('status')[1]}")
+    return agent if awaited(lambda: cluster.operator("status")[0] == 0, pause=0.5) else None
+
+
+def thousandths(agent):
+    """What of a processor it takes."""
     time.sleep(2)
     before = seconds_of(agent.run.pid)
     time.sleep(IDLE)
@@ -152,7 +155,10 @@ def thousandths(cluster):
 
 
 def idle(cluster):
-    came = thousandths(cluster)
+    if (agent := rested(cluster)) is None:
+        yield "all is up behind it", cluster.operator("status"), (0, "")
+        return
+    came = thousandths(agent)
     yield f"an idle agent takes {came:.2f} thousandths of a processor, at most {IDLE_THOUSANDTHS}", came < IDLE_THOUSANDTHS, True
 
 

@@ -23,7 +23,7 @@ SCALING, USERS = TOP / "docs" / "SCALING.md", re.compile(r"```sh\n(all=/macaroon
 ENVIRONMENT = {"PATH": os.environ["PATH"], "ETCDCTL_API": "3"}
 CURVE = ["-newkey", "ec", "-pkeyopt", "ec_paramgen_curve:prime256v1", "-nodes", "-days", "30"]
 # How often agents look where nothing is new: oftener than by themselves, since hosts vanish here all the time.
-BEAT = "1"
+BEAT = "2"
 
 
 def missing():

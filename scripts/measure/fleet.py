@@ -39,7 +39,10 @@ def rows(cluster, stack, rounds):
         yield from ((f"{what}: {said}", status, 0) for status, said, _ in runs)
         yield from told(what, [took for _, _, took in runs], most, "s")
     yield from fleet.by_load(*load.end())
-    yield from told("an idle agent", [fleet.thousandths(cluster)], IDLE_THOUSANDTHS, "thousandths of a processor")
+    agent = fleet.rested(cluster)
+    yield "all is up behind it", agent is not None, True
+    if agent:
+        yield from told("an idle agent", [fleet.thousandths(agent)], IDLE_THOUSANDTHS, "thousandths of a processor")
 
 
 def main(rounds=ROUNDS):

@@ -229,6 +229,20 @@ class Revoking(unittest.TestCase):
         with self.assertRaisesRegex(FleetError, "there is no key mill"):
             operate.revoke(self.fleet, "mill", ["61"])
 
+    def test_a_store_that_refuses(self):
+        """What it says is told, and not that others were faster or that the fleet is there already."""
+
+        def refused(made, where):
+            raise operate.StoreAway("permission denied")
+
+        self.room.store.change = refused
+        with self.assertRaisesRegex(operate.StoreAway, "permission denied"):
+            operate.revoke(self.fleet, "bank", ["61"])
+        self.assertEqual(self.room.told, ["permission denied; looking again"])
+        self.room.store.held = {}
+        with self.assertRaisesRegex(operate.StoreAway, "permission denied"):
+            self.room.begun()
+
     def test_an_answer_that_is_lost(self):
         change = self.room.store.change
 
