@@ -184,15 +184,15 @@ def at_each(cluster, tokens):
         yield f"tokens that were taken back, at {daemon.path}", codes, {fleet_asking.REVOKED}
 
 
-def by_load(keys, revoked):
-    """What clients saw."""
+def by_load(keys, revoked, least=1000):
+    """What clients saw, of so many verdicts of each kind at least."""
     print(f"fleet: {keys['asked']} verdicts under changing keys, {keys['repeated']} asked again, the longest wait {keys['longest']:.2f} s")
     print(f"fleet: {revoked['refused']} verdicts on tokens that were taken back, {revoked['granted']} on others")
     yield "verdicts under changing keys", keys["wrong"], []
     yield "requests without a verdict", keys["lost"], 0
-    yield "verdicts were asked for", keys["asked"] > 1000, True
+    yield "verdicts were asked for", keys["asked"] > least, True
     yield "verdicts on tokens that were taken back, and others", revoked["wrong"], []
-    yield "both were asked for", min(revoked["refused"], revoked["granted"]) > 1000, True
+    yield "both were asked for", min(revoked["refused"], revoked["granted"]) > least, True
 
 
 def together(cluster, stack):

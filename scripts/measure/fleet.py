@@ -38,7 +38,7 @@ def rows(cluster, stack, rounds):
     for what, runs, most in (("a change of a key", rotated, ROTATE_WITHIN), ("a revocation", revoking.runs, REVOKE_WITHIN)):
         yield from ((f"{what}: {said}", status, 0) for status, said, _ in runs)
         yield from told(what, [took for _, _, took in runs], most, "s")
-    yield from fleet.by_load(*load.end())
+    yield from fleet.by_load(*load.end(), least=10)
     agent = fleet.rested(cluster)
     yield "all is up behind it", agent is not None, True
     if agent:
