@@ -4,11 +4,13 @@
     fleet.py
 
 Three hosts (faults/fleet_net.py) have an etcd, a daemon and an agent each, behind HAProxy. An operator changes a key
-ten times and takes a hundred tokens back, by macaroond-fleet. Meanwhile an etcd, a daemon and an agent are killed and
-brought back, and a host is cut off. Clients compare each verdict with the one that is due: a good token is never
-refused, and one that was taken back is never granted once `revoke` has ended well. Asks for root, etcd and HAProxy, and
-for bin/macaroond, or what MACAROOND names.
+ten times and takes a hundred tokens back, of these five side by side, by macaroond-fleet. Meanwhile an etcd, a daemon
+and an agent are killed and brought back, and a host is cut off. Clients compare each verdict with the one that is due:
+a good token is never refused, and one that was taken back is never granted once `revoke` has ended well. Limits of time
+are those that a machine keeps which is busy with other work; scripts/measure/fleet.py has those of one at rest. Asks
+for root, etcd and HAProxy, and for bin/macaroond, or what MACAROOND names.
 """
+import concurrent.futures
 import contextlib
 import json
 import os
@@ -23,7 +25,7 @@ import time
 sys.path.insert(0, str(pathlib.Path(__file__).resolve().parents[1]))
 from check import clients
 from common import TOP
-from common.daemon import awaited
+from common.daemon import PATIENCE, awaited
 from common.rows import judged
 from common.tokens import text_of, v1
 from faults import fleet_asking, fleet_cluster, fleet_net, scaling, scaling_asking
@@ -32,18 +34,17 @@ from faults.fleet_cluster import NAMES
 from macaroond import Client, MacaroondError
 
 ROTATIONS, REVOCATIONS, REVOKED_AT_ONCE, KEPT = 10, 100, 5, 10
-# How many seconds these may take where nothing else happens: a key's change at three daemons, a revocation, and what
-# of a processor an agent takes that has nothing to do, in thousandths.
-ROTATE_WITHIN, REVOKE_WITHIN, IDLE_THOUSANDTHS = 15, 3, 1
 # For how long tokens of an old key are good, and for how long they are asked of (scaling_asking.py).
 OLD_FOR = 3
-# For how many seconds nothing happens, a part is away, behind how many more all is as it was, and for how many an idle agent is looked at.
-QUIET, AWAY, CALM, IDLE = 20, 3, 10, 15
-# What takes longer is judged where no more processes than so many a processor want to run.
-BUSY = 2
+# How many seconds these may take, whatever else happens: a key's change at three daemons, and a revocation; and what of
+# a processor an agent may take that has nothing to do, in thousandths.
+ROTATE_WITHIN, REVOKE_WITHIN, IDLE_THOUSANDTHS = 4 * PATIENCE, 2 * PATIENCE, 5
+# For how many seconds nothing happens, a part is away, and an idle agent is looked at.
+QUIET, AWAY, IDLE = 20, 3, 15
 # How many clients ask of each kind, and how long a reply may take: what goes to a host that is cut off waits for it.
 CLIENTS, REPLY_WITHIN = 4, 60
-SHARED = pathlib.Path("/dev/shm")
+# Where the hosts' files are: in memory, so that disks which are busy with other work don't count.
+SHARED = "/dev/shm" if os.path.isdir("/dev/shm") else None
 FLEET = TOP / "clients" / "fleet"
 
 
@@ -53,13 +54,12 @@ class Load:
     def __init__(self, cluster, stack, tokens):
         folder, before = cluster.folder, cluster.hosts.before(fleet_net.FRONT)
         (folder / "kept").write_text("\n".join(tokens))
-        self.keys = self.start(stack, [*before, sys.executable, scaling_asking.__file__, "frames", f"{folder}/tls.socket", str(CLIENTS)])
-        self.revoked = None
-        if cluster.has_revoked:
-            self.revoked = self.start(stack, [*before, sys.executable, fleet_asking.__file__, f"{folder}/tls.socket", str(CLIENTS), f"{folder}/kept"])
+        asked, count = f"{folder}/tls.socket", str(CLIENTS)
+        self.keys = self.start(stack, before, scaling_asking.__file__, "frames", asked, count)
+        self.revoked = self.start(stack, before, fleet_asking.__file__, asked, count, f"{folder}/kept")
 
-    def start(self, stack, command):
-        environment = {**os.environ, "SCALING_REPLY_WITHIN": str(REPLY_WITHIN)}
+    def start(self, stack, before, *words):
+        command, environment = [*before, sys.executable, *words], {**os.environ, "SCALING_REPLY_WITHIN": str(REPLY_WITHIN)}
         run = subprocess.Popen(command, stdin=subprocess.PIPE, stdout=subprocess.PIPE, text=True, env=environment)
         stack.callback(run.kill)
         return run
@@ -70,46 +70,32 @@ class Load:
         self.revoked.stdin.flush()
 
     def end(self):
-        runs = {"keys": self.keys, "revoked": self.revoked}
-        return {name: json.loads(run.communicate("", timeout=120)[0]) for name, run in runs.items() if run}
+        """What the clients saw, under changing keys and of tokens that were taken back."""
+        return [json.loads(run.communicate("", timeout=120)[0]) for run in (self.keys, self.revoked)]
 
 
 class Events:
-    """What is killed or cut off, each for a while; and when that was."""
+    """What is killed or cut off, each for a while."""
 
     def __init__(self, cluster):
-        self.cluster, self.times, self.left_out, self.calm = cluster, [], 0, {}
-
-    @contextlib.contextmanager
-    def noted(self):
-        begin = time.monotonic()
-        try:
-            yield
-        finally:
-            self.times.append((begin, time.monotonic()))
-
-    def within(self, what, took, begin, most):
-        """A row on how long something took, where nothing else happened and the machine had time for it."""
-        is_calm = all(begin + took < first or begin > last + CALM for first, last in self.times)
-        if is_calm:
-            self.calm.setdefault(what.split()[0], []).append(took)
-        if is_calm and not is_busy():
-            yield f"{what} within {most} s: {took:.1f} s", took < most, True
-        self.left_out += is_calm and is_busy()
+        self.cluster, self.named = cluster, None
 
     def killed(self, part):
-        with self.noted():
-            part.close()
-            time.sleep(AWAY)
-            part.start()
+        part.close()
+        time.sleep(AWAY)
+        part.start()
 
     def cut(self, name):
-        with self.noted():
-            self.cluster.hosts.cut(name)
-            time.sleep(2 * AWAY)
-            status, told, _ = self.cluster.operator("status")
-            self.cluster.hosts.join(name)
-        return status, name in told and "away" in told
+        """How `status` ends meanwhile, and whether it names the host."""
+        self.cluster.hosts.cut(name)
+        away = awaited(lambda: self.of(name).endswith("away"), pause=0.5)
+        self.cluster.hosts.join(name)
+        return away
+
+    def of(self, name):
+        """What `status` says of a member."""
+        lines = self.cluster.operator("status")[1].splitlines()
+        return next((line for line in lines if line.startswith(f"{name} ")), "")
 
     def all(self):
         """An etcd, a daemon and an agent, each of another host; then a host is cut off. Before it nothing happens for a while."""
@@ -122,21 +108,23 @@ class Events:
 
 
 class Revoking(threading.Thread):
-    """Takes tokens back, a few at once, and then says so to the clients that ask of them."""
+    """Takes tokens back, a few side by side, and then says so to the clients that ask of them."""
 
-    def __init__(self, cluster, load, tokens):
+    def __init__(self, cluster, load, tokens, at_once):
         super().__init__()
-        self.cluster, self.load, self.tokens, self.runs = cluster, load, tokens, []
+        self.cluster, self.load, self.tokens, self.at_once = cluster, load, tokens, at_once
+        self.saying, self.runs = threading.Lock(), []
 
     def run(self):
-        names = list(self.tokens)
-        for at in range(0, len(names), REVOKED_AT_ONCE):
-            some = names[at : at + REVOKED_AT_ONCE]
-            begin = time.monotonic()
-            status, told, took = self.cluster.operator("revoke", "shop", *some)
-            self.runs.append((status, told, took, begin))
-            if status == 0:
-                self.load.taken_back([self.tokens[name] for name in some])
+        with concurrent.futures.ThreadPoolExecutor(self.at_once) as operators:
+            self.runs = list(operators.map(self.revoke, self.tokens))
+
+    def revoke(self, identifier):
+        came = self.cluster.operator("revoke", "shop", identifier, "--patience", PATIENCE)
+        if came[0] == 0:
+            with self.saying:
+                self.load.taken_back([self.tokens[identifier]])
+        return came
 
 
 def shop_tokens(count, word):
@@ -150,38 +138,39 @@ def seconds_of(pid):
     return time.clock_gettime((~pid << 3) | 2)
 
 
-def is_busy():
-    """Whether the machine does so much other work that no time says anything of what is tried here."""
-    return os.getloadavg()[0] > BUSY * len(os.sched_getaffinity(0))
-
-
-def idle(cluster):
-    """An agent that looks as often as it does by itself, and has nothing to do."""
+def rested(cluster):
+    """An agent that looks as often as it does by itself, and has nothing to do; None where not all is up."""
     agent = cluster.agents["one"]
     agent.close()
     agent.start(beat="5")
-    if not awaited(lambda: cluster.operator("status")[0] == 0, pause=0.5):
-        yield "an agent that was started again", cluster.operator("status")[1], "up"
+    return agent if awaited(lambda: cluster.operator("status")[0] == 0, pause=0.5) else None
+
+
+def thousandths(agent):
+    """What of a processor it takes."""
     time.sleep(2)
     before = seconds_of(agent.run.pid)
     time.sleep(IDLE)
-    thousandths = (seconds_of(agent.run.pid) - before) / IDLE * 1000
-    print(f"fleet: an idle agent takes {thousandths:.2f} thousandths of a processor")
-    yield f"an idle agent takes {thousandths:.2f} thousandths, at most {IDLE_THOUSANDTHS}", thousandths < IDLE_THOUSANDTHS, True
+    return (seconds_of(agent.run.pid) - before) / IDLE * 1000
 
 
-def rotations(cluster, events):
-    for number in range(ROTATIONS):
-        begin = time.monotonic()
-        status, told, took = cluster.operator("rotate", "bank", "--old-for", f"{OLD_FOR}s")
-        yield f"rotation {number}", (status, told if status else ""), (0, "")
-        yield from events.within(f"rotation {number}", took, begin, ROTATE_WITHIN)
+def idle(cluster):
+    if (agent := rested(cluster)) is None:
+        yield "all is up behind it", cluster.operator("status"), (0, "")
+        return
+    came = thousandths(agent)
+    yield f"an idle agent takes {came:.2f} thousandths of a processor, at most {IDLE_THOUSANDTHS}", came < IDLE_THOUSANDTHS, True
 
 
-def revocations(revoking, events):
-    for number, (status, told, took, begin) in enumerate(revoking.runs):
-        yield f"revocation {number}", (status, told if status else ""), (0, "")
-        yield from events.within(f"revocation {number}", took, begin, REVOKE_WITHIN)
+def changes(what, runs, most):
+    """How each of these commands ended, and whether it took no longer than it may."""
+    for number, (status, told, took) in enumerate(runs):
+        yield f"{what} {number}", (status, told if status else ""), (0, "")
+        yield f"{what} {number} within {most} s: {took:.1f} s", took < most, True
+
+
+def rotate(cluster):
+    return cluster.operator("rotate", "bank", "--old-for", f"{OLD_FOR}s", "--patience", PATIENCE)
 
 
 def at_each(cluster, tokens):
@@ -195,38 +184,34 @@ def at_each(cluster, tokens):
         yield f"tokens that were taken back, at {daemon.path}", codes, {fleet_asking.REVOKED}
 
 
-def by_load(came):
-    """What clients saw."""
-    keys = came["keys"]
+def by_load(keys, revoked, least=1000):
+    """What clients saw, of so many verdicts of each kind at least."""
     print(f"fleet: {keys['asked']} verdicts under changing keys, {keys['repeated']} asked again, the longest wait {keys['longest']:.2f} s")
+    print(f"fleet: {revoked['refused']} verdicts on tokens that were taken back, {revoked['granted']} on others")
     yield "verdicts under changing keys", keys["wrong"], []
     yield "requests without a verdict", keys["lost"], 0
-    yield "verdicts were asked for", keys["asked"] > 1000, True
-    if "revoked" in came:
-        revoked = came["revoked"]
-        print(f"fleet: {revoked['refused']} verdicts on tokens that were taken back, {revoked['granted']} on others")
-        yield "verdicts on tokens that were taken back, and others", revoked["wrong"], []
-        yield "both were asked for", min(revoked["refused"], revoked["granted"]) > 1000, True
+    yield "verdicts were asked for", keys["asked"] > least, True
+    yield "verdicts on tokens that were taken back, and others", revoked["wrong"], []
+    yield "both were asked for", min(revoked["refused"], revoked["granted"]) > least, True
 
 
 def together(cluster, stack):
     """Changes, revocations and events at once, under load."""
     kept, taken = shop_tokens(KEPT, "kept"), shop_tokens(REVOCATIONS, "taken")
-    load, events = Load(cluster, stack, kept.values()), cluster.events
-    happening, revoking = threading.Thread(target=events.all), Revoking(cluster, load, taken)
+    load, events = Load(cluster, stack, kept.values()), Events(cluster)
+    happening, revoking = threading.Thread(target=events.all), Revoking(cluster, load, taken, REVOKED_AT_ONCE)
     happening.start()
-    if cluster.has_revoked:
-        revoking.start()
-    yield from rotations(cluster, events)
+    revoking.start()
+    rotated = [rotate(cluster) for _ in range(ROTATIONS)]
     happening.join()
-    if cluster.has_revoked:
-        revoking.join()
-        yield from revocations(revoking, events)
-        yield from at_each(cluster, taken.values())
-    for what, took in events.calm.items():
-        print(f"fleet: {len(took)} of the kind {what} took {min(took):.1f} to {max(took):.1f} s, where nothing else happened")
-    yield "a host that is cut off is named", events.named, (1, True)
-    yield from by_load(load.end())
+    revoking.join()
+    for what, runs, most in (("rotation", rotated, ROTATE_WITHIN), ("revocation", revoking.runs, REVOKE_WITHIN)):
+        times = [took for _, _, took in runs]
+        print(f"fleet: {len(runs)} of the kind {what} took {min(times):.1f} to {max(times):.1f} s")
+        yield from changes(what, runs, most)
+    yield from at_each(cluster, taken.values())
+    yield "a host that is cut off is named", events.named, True
+    yield from by_load(*load.end())
 
 
 def rows(cluster, stack):
@@ -236,12 +221,18 @@ def rows(cluster, stack):
     yield from idle(cluster)
 
 
-def left_out(cluster):
-    """What this run didn't look at, and why."""
-    if not cluster.has_revoked:
-        yield "this daemon takes no `--revoked`"
-    if cluster.events.left_out:
-        yield f"{cluster.events.left_out} limits of time: the machine was busy with other work"
+@contextlib.contextmanager
+def running(room=SHARED):
+    """Three hosts with all that runs there, in a folder of their own, and what ends behind this."""
+    with contextlib.ExitStack() as stack:
+        folder = stack.enter_context(tempfile.TemporaryDirectory(dir=room))
+        hosts = stack.enter_context(fleet_net.hosts(*NAMES))
+        yield stack.enter_context(fleet_cluster.running(folder, hosts, scaling.key_file(0))), stack
+
+
+def missing():
+    """What the machine lacks for such hosts, if anything."""
+    return fleet_net.missing() + fleet_cluster.missing()
 
 
 def test_faults():
@@ -255,16 +246,11 @@ def test_faults():
 
 def faults():
     """What went otherwise than it must, how many checks there were, and what was left out."""
-    if lacking := fleet_net.missing() + fleet_cluster.missing():
+    if lacking := missing():
         return [], 0, lacking
-    room = SHARED if SHARED.is_dir() else None
-    with contextlib.ExitStack() as stack:
-        folder = stack.enter_context(tempfile.TemporaryDirectory(dir=room))
-        hosts = stack.enter_context(fleet_net.hosts(*NAMES))
-        cluster = stack.enter_context(fleet_cluster.running(folder, hosts, scaling.key_file(0)))
-        cluster.events = Events(cluster)
+    with running() as (cluster, stack):
         found, count = judged(rows(cluster, stack))
-        return [f"fleet: {fault}" for fault in found], count, list(left_out(cluster))
+        return [f"fleet: {fault}" for fault in found], count, []
 
 
 if __name__ == "__main__":

@@ -84,9 +84,9 @@ with socket.socket(fileno=int(sys.argv[1])) as stream:
 
 
 def lines_of(log):
-    """How many requests the log tells, and tells to be left out."""
-    count = 0
-    for line in log.read_text().splitlines():
+    """How many requests the log tells, and tells to be left out, by its whole lines."""
+    count, text = 0, log.read_text()
+    for line in text[: text.rfind("\n") + 1].splitlines():
         words = line.split()
         if words[2] == "request":
             count += 1

@@ -3,6 +3,8 @@ and an operator on the clients' host, with the HAProxy of examples/scaling/front
 import contextlib
 import os
 import pathlib
+import re
+import shlex
 import subprocess
 import sys
 import time
@@ -16,21 +18,18 @@ from faults.scaling_cluster import EXAMPLES, certificates, openssl, program_of
 NAMES = ("one", "two", "three")
 FLEET = [sys.executable, str(TOP / "clients" / "fleet" / "macaroond-fleet")]
 PASSWORD = "password of a test"
+# The commands that make the users of the store, in a block of their own.
+SCALING, USERS = TOP / "docs" / "SCALING.md", re.compile(r"```sh\n(all=/macaroond-fleet/shop/\n.*?)```", re.DOTALL)
+ENVIRONMENT = {"PATH": os.environ["PATH"], "ETCDCTL_API": "3"}
 CURVE = ["-newkey", "ec", "-pkeyopt", "ec_paramgen_curve:prime256v1", "-nodes", "-days", "30"]
 # How often agents look where nothing is new: oftener than by themselves, since hosts vanish here all the time.
-BEAT = "1"
+BEAT = "2"
 
 
 def missing():
     """Which of the programs aren't there."""
     found = [name for name in ("etcd", "etcdctl", "haproxy", "openssl") if program_of(name) is None]
     return [f"there is no `{name}` (scripts/install_peers.sh)" for name in found]
-
-
-def knows_revocations():
-    """Whether the daemon takes `--revoked`."""
-    run = subprocess.run([PROGRAM, "listen", "--help"], capture_output=True, text=True)
-    return "--revoked" in run.stdout + run.stderr
 
 
 class Etcd:
@@ -83,17 +82,15 @@ class Cluster:
     """All that runs, in one folder."""
 
     def __init__(self, folder, hosts, keys):
-        self.folder, self.hosts, self.has_revoked = pathlib.Path(folder), hosts, knows_revocations()
+        self.folder, self.hosts = pathlib.Path(folder), hosts
         self.etcds = {name: Etcd(self, name) for name in NAMES}
         self.agents = {name: Agent(self, name) for name in NAMES}
         self.daemons = {name: self.daemon(name, keys) for name in NAMES}
-        self.balancers = []
+        self.balancers, self.is_over = [], False
 
     def daemon(self, name, keys):
-        words = ["--http", f"unix:{name}.http", "--workers", "1", "--loops", "1"]
-        if self.has_revoked:
-            put_keys(self.folder / f"{name}.revoked", "# none\n")
-            words += ["--revoked", f"{name}.revoked"]
+        put_keys(self.folder / f"{name}.revoked", "# none\n")
+        words = ["--http", f"unix:{name}.http", "--workers", "1", "--loops", "1", "--revoked", f"{name}.revoked"]
         before = self.hosts.before(name)
         return Daemon(self.folder, keys, *words, name=f"{name}.socket", keys=f"{name}.keys", cwd=self.folder, before=before)
 
@@ -129,8 +126,7 @@ state = {self.folder}/{who}.state
         (self.folder / "password").chmod(0o600)
         self.settings("operator")
         for name in NAMES:
-            revoked = f"{self.folder}/{name}.revoked" if self.has_revoked else ""
-            own = [f"socket = {self.folder}/{name}.socket", f"keys = {self.folder}/{name}.keys", f"revoked = {revoked}"]
+            own = [f"{what} = {self.folder}/{name}.{what}" for what in ("socket", "keys", "revoked")]
             self.settings(name, f"member = {name}", *own, f"program = {PROGRAM}")
         for file in ("front.cfg", "back.cfg"):
             text = (EXAMPLES / file).read_text().replace("mode 660", "mode 600")
@@ -138,29 +134,23 @@ state = {self.folder}/{who}.state
                 text = text.replace(f"127.0.0.{at}:", f"{self.hosts.addresses[name]}:")
             (self.folder / file).write_text(text)
 
-    def etcdctl(self, *words, user=None):
+    def etcdctl_words(self):
         address = self.hosts.addresses["one"]
-        command = [*self.hosts.before(FRONT), program_of("etcdctl"), f"--endpoints=https://{address}:2379", f"--cacert={self.folder}/ca.pem"]
-        command += [f"--user={user}:{PASSWORD}"] if user else []
-        environment = {"PATH": os.environ["PATH"], "ETCDCTL_API": "3"}
-        return subprocess.run([*command, *words], capture_output=True, text=True, env=environment)
+        return [*self.hosts.before(FRONT), program_of("etcdctl"), f"--endpoints=https://{address}:2379", f"--cacert={self.folder}/ca.pem"]
+
+    def is_healthy(self):
+        """Whether the store answers."""
+        words = [*self.etcdctl_words(), "endpoint", "health"]
+        return subprocess.run(words, capture_output=True, env=ENVIRONMENT).returncode == 0
 
     def users(self):
-        """Who may do what in the store, as docs/SCALING.md says it."""
-        steps = [["user", "add", f"root:{PASSWORD}"], ["user", "grant-role", "root", "root"]]
-        whole = "/macaroond-fleet/shop/"
-        steps += [["role", "add", "shop-operator"], ["role", "grant-permission", "--prefix=true", "shop-operator", "readwrite", whole]]
-        steps += [["role", "add", "shop-reader"], ["role", "grant-permission", "--prefix=true", "shop-reader", "read", whole]]
-        steps += [["user", "add", f"operator:{PASSWORD}"], ["user", "grant-role", "operator", "shop-operator"]]
-        for name in NAMES:
-            steps += [["user", "add", f"{name}:{PASSWORD}"], ["user", "grant-role", name, "shop-reader"], ["role", "add", f"shop-{name}"]]
-            steps += [["role", "grant-permission", f"shop-{name}", "readwrite", f"{whole}{part}/{name}"] for part in ("here", "told")]
-            steps += [["user", "grant-role", name, f"shop-{name}"]]
-        steps += [["auth", "enable"]]
-        for words in steps:
-            run = self.etcdctl(*words)
-            if run.returncode != 0:
-                raise SystemExit(f"etcdctl {' '.join(words)}: {run.stderr}")
+        """Who may do what in the store, by the commands of docs/SCALING.md. Passwords stand where etcdctl would ask for them."""
+        named = f'if [ "$1 $2" = "user add" ]; then set -- user add "$3:{PASSWORD}"; fi'
+        first = "etcdctl user add root && etcdctl user grant-role root root"
+        script = f'set -e\netcdctl() {{\n{named}\n{shlex.join(self.etcdctl_words())} "$@"\n}}\n{first}\n{USERS.search(SCALING.read_text())[1]}'
+        run = subprocess.run(["sh", "-c", script], capture_output=True, text=True, env=ENVIRONMENT)
+        if run.returncode != 0:
+            raise SystemExit(f"the commands of docs/SCALING.md: {run.stdout}{run.stderr}")
 
     def balance(self):
         for name in NAMES:
@@ -176,7 +166,7 @@ state = {self.folder}/{who}.state
         self.prepare()
         for etcd in self.etcds.values():
             etcd.start()
-        if not awaited(lambda: self.etcdctl("endpoint", "health").returncode == 0, pause=0.2):
+        if not awaited(self.is_healthy, pause=0.2):
             raise SystemExit(f"etcd isn't healthy: {(self.folder / 'one.etcd.log').read_text()[-2000:]}")
         self.users()
         for daemon in self.daemons.values():
@@ -185,6 +175,7 @@ state = {self.folder}/{who}.state
         self.balance()
 
     def close(self):
+        self.is_over = True
         for run in self.balancers:
             closed(run)
         for part in (*self.agents.values(), *self.daemons.values(), *self.etcds.values()):
@@ -194,6 +185,8 @@ state = {self.folder}/{who}.state
 
     def operator(self, *words):
         """How a command of the operator's ends, what it prints, and how many seconds it took."""
+        if self.is_over:
+            return 1, "it is over", 0.0
         begin = time.monotonic()
         command = [*self.hosts.before(FRONT), *FLEET, "--config", "operator.conf", *map(str, words)]
         run = subprocess.run(command, cwd=self.folder, capture_output=True, text=True)

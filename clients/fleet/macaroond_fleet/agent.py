@@ -5,6 +5,7 @@ signed it, where its serial is none that was passed, and where each of its objec
 """
 from __future__ import annotations
 
+import fcntl
 import json
 import os
 import pathlib
@@ -49,18 +50,22 @@ class Taken:
 
     def __init__(self, folder: str, fleet: str) -> None:
         self.path = pathlib.Path(folder, f"{fleet}.taken")
-        self.serial, self.digest = 0, ""
+        self.serial, self.digest = self.found()
+
+    def found(self) -> Tuple[int, str]:
+        """What the file has, or 0 where nothing was taken yet."""
         try:
             found = json.loads(self.path.read_text())
-            self.serial, self.digest = found["serial"], found["digest"]
+            serial, digest = found["serial"], found["digest"]
         except FileNotFoundError:
-            return
+            return 0, ""
         except OSError as fault:
             raise FleetError(f"{self.path}: {fault.strerror}") from fault
         except (ValueError, KeyError, TypeError) as fault:
             raise FleetError(f"{self.path}: it isn't what was written there; without it, what is old can't be told") from fault
-        if not is_number(self.serial) or not is_digest(self.digest):
+        if not is_number(serial) or not is_digest(digest):
             raise FleetError(f"{self.path}: it has no serial")
+        return serial, digest
 
     def require_new(self, head: Head, digest: str) -> None:
         """A head that is older than one that was taken, or another one of its serial, isn't taken."""
@@ -70,16 +75,26 @@ class Taken:
             raise NotTaken(f"the store has another head of serial {head.serial} than was taken")
 
     def keep(self, head: Head, digest: str) -> None:
+        """Keeps a head that was taken, unless another run has kept a later one meanwhile."""
         if (head.serial, digest) == (self.serial, self.digest):
             return
+        self.serial, self.digest = head.serial, digest
         self.path.parent.mkdir(mode=0o700, parents=True, exist_ok=True)
+        folder = os.open(self.path.parent, os.O_RDONLY | os.O_DIRECTORY)
+        try:
+            fcntl.flock(folder, fcntl.LOCK_EX)
+            if head.serial > self.found()[0]:
+                self.write()
+        finally:
+            os.close(folder)
+
+    def write(self) -> None:
         beside = self.path.with_suffix(".new")
         with open(beside, "w") as file:
-            json.dump({"serial": head.serial, "digest": digest}, file)
+            json.dump({"serial": self.serial, "digest": self.digest}, file)
             file.flush()
             os.fsync(file.fileno())
         beside.rename(self.path)
-        self.serial, self.digest = head.serial, digest
 
 
 class Objects:
@@ -290,7 +305,10 @@ def fault_of(step: Callable[[], None]) -> str:
     return ""
 
 
+def shown(text: str) -> str:
+    """A line of printable ASCII, whatever a store or a member had written into it."""
+    return "".join(it if it.isascii() and it.isprintable() else f"\\x{ord(it):02x}" for it in text)
+
+
 def log_line(text: str) -> None:
-    """A line of the log, whatever a store had written into its text."""
-    plain = "".join(it if it.isascii() and it.isprintable() else f"\\x{ord(it):02x}" for it in text)
-    print(plain, file=sys.stderr, flush=True)
+    print(shown(text), file=sys.stderr, flush=True)

@@ -10,7 +10,7 @@ import time
 from typing import Any, Iterator, List, Optional
 
 from . import form, operate
-from .agent import BEAT, Agent, log_line
+from .agent import BEAT, Agent, log_line, shown
 from .errors import FleetError
 from .operate import Fleet, Rotation
 from .settings import DEFAULT, read, settings_in
@@ -232,7 +232,7 @@ def await_moment(step: Optional[form.Step]) -> None:
 
 
 def say(text: str) -> None:
-    print(text, flush=True)
+    print(shown(text), flush=True)
 
 
 def main(arguments: Optional[List[str]] = None) -> int:

@@ -16,9 +16,9 @@ from .https import Deadline
 NUMBER = re.compile(r"^macaroond_([a-z_]+) (\d{1,18})$", re.MULTILINE)
 # How many seconds the daemon has for an answer, and the most bytes of one.
 PATIENCE, ANSWER_MAX = 3.0, 1 << 20
-# Within how many seconds the daemon takes a file, whatever it does besides.
-TAKEN_WITHIN = 3
-# Behind so many seconds a file that isn't up is touched, so that the daemon reads it once more.
+# Within how many seconds behind its reading of a file a daemon that starts tells of it.
+TOLD_WITHIN = 3
+# Behind so many seconds a file that isn't up is put once more, so that the daemon reads it again.
 AGAIN = 5.0
 
 Numbers = Dict[str, int]
@@ -57,7 +57,7 @@ class Reading:
 
     def __init__(self, target: Target, ask: Callable[[], Optional[Numbers]]) -> None:
         self.target, self.ask = target, ask
-        self.serial, self.up, self.is_up = 0, 0, False
+        self.serial, self.up, self.is_up, self.text = 0, 0, False, b""
         self.why = "nothing is known of it yet"
         # When the file came there, what the daemon told before, and when to have it read once more.
         self.put_at, self.before, self.again_at = -1, -1, 0.0
@@ -80,16 +80,24 @@ class Reading:
 
     def bring(self, text: bytes, serial: int, told: Optional[Numbers]) -> None:
         """Has the file be as it is wanted. One that the daemon is about to read isn't replaced before it was."""
-        if self.target.content() != text:
+        if not self.is_there(text):
             is_reading = not self.is_up and self.put_at >= 0 and told is not None and time.monotonic() < self.again_at
             if is_reading or self.is_ambiguous(told):
                 return
-            self.target.put(text)
-            self.begin()
-        self.serial = serial
+            self.put(text, told)
+        self.serial, self.text = serial, text
 
-    def begin(self) -> None:
+    def is_there(self, text: bytes) -> bool:
+        """Whether the file is as it is wanted."""
+        return self.target.content() == text
+
+    def told_apart(self, text: bytes, told: Optional[Numbers]) -> bytes:
+        """The text in a form whose reading can be told from that of the file before."""
+        return text
+
+    def put(self, text: bytes, told: Optional[Numbers]) -> None:
         """From now on another reading is one of the file that is there: the daemon looks at it twice before it reads it."""
+        self.target.put(self.told_apart(text, told))
         told = self.ask()
         self.put_at, self.before = int(time.time()), self.number(told) if told else -1
         self.again_at = time.monotonic() + AGAIN
@@ -108,8 +116,7 @@ class Reading:
         elif self.is_read(self.number(told)):
             self.is_up, self.why, self.up = True, "", self.serial
         elif time.monotonic() > self.again_at and not self.is_ambiguous(told):
-            self.target.touch()
-            self.begin()
+            self.put(self.text, told)
             self.why = f"its daemon doesn't take {self.target.path}; is it started with that, or a link to it? its log may say more"
 
 
@@ -120,7 +127,8 @@ class KeysReading(Reading):
         return told.get("keys_read_seconds", -1)
 
     def is_read(self, at: int) -> bool:
-        return at > self.put_at if self.before < 0 else at != self.before
+        """One that told nothing before may have been about to start, and have read what was there before this file."""
+        return at > self.put_at + TOLD_WITHIN if self.before < 0 else at != self.before
 
     def is_refused(self, told: Numbers) -> bool:
         return told.get("keys_refused", 0) != 0
@@ -130,21 +138,39 @@ class KeysReading(Reading):
 
 
 class RevokedReading(Reading):
-    """The revocations. The daemon tells how many lines it has up, which is another number where some were added.
+    """The revocations. The daemon tells how many lines it has up, and of a list that it refuses nothing.
 
-    What it refuses it doesn't tell but in its log: then the number stays as it was. Where a list is replaced by another one of as many lines, the daemon's number stays as it is. Then it
-    counts as up once the daemon has had the time in which it promises to take a file.
+    So a list of as many lines as the daemon has up already is put with its last line twice, which
+    says the same and counts as one more.
     """
 
     def number(self, told: Numbers) -> int:
         return told.get("revoked", -1)
 
+    def is_there(self, text: bytes) -> bool:
+        return self.target.content() in (text, with_last_twice(text))
+
+    def told_apart(self, text: bytes, told: Optional[Numbers]) -> bytes:
+        is_alike = told is not None and self.number(told) == lines_in(text) > 0
+        return with_last_twice(text) if is_alike else text
+
     def is_read(self, at: int) -> bool:
-        lines = (self.target.content() or b"").count(b"revoked ")
-        is_late = time.time() > self.put_at + TAKEN_WITHIN
-        return at == lines and (lines == 0 or at != self.before or is_late)
+        """By the number of lines; where it isn't known what the daemon told before, the file has to be there for a while."""
+        lines = lines_in(self.target.content() or b"")
+        is_another = at != self.before if self.before >= 0 else time.time() > self.put_at + TOLD_WITHIN
+        return at == lines and (lines == 0 or is_another)
 
     def look(self, told: Optional[Numbers]) -> None:
         super().look(told)
         if told is not None and not self.is_up and self.number(told) < 0:
             self.why = "its daemon tells of no revocations; is it started with `--revoked FILE`?"
+
+
+def lines_in(text: bytes) -> int:
+    """How many lines take tokens back."""
+    return text.count(b"revoked ")
+
+
+def with_last_twice(text: bytes) -> bytes:
+    """The lines, of which the last one stands there twice."""
+    return text + text.splitlines(keepends=True)[-1]

@@ -20,3 +20,7 @@ class Lacking(NotTaken):
 
 class ToolFailed(FleetError):
     """`openssl` or `macaroond` refuses what it was given."""
+
+
+class ToolAway(FleetError):
+    """`openssl` or `macaroond` can't be run, or isn't done in time: what it was given is neither good nor bad by that."""

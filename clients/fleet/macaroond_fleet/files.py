@@ -7,7 +7,7 @@ import pathlib
 import subprocess
 from typing import Iterator, List, Optional, Tuple
 
-from .errors import NotTaken, ToolFailed
+from .errors import NotTaken, ToolAway, ToolFailed
 
 # Behind the name of a file the ending of the new one. Six letters, as those have that a purge of macaroond removes.
 BESIDE = ".fleet_"
@@ -78,17 +78,14 @@ class Target:
         command: List[str] = [self.program, "check", "--keys", path]
         try:
             done = subprocess.run(command, stdout=subprocess.DEVNULL, stderr=subprocess.PIPE, timeout=PATIENCE)
-        except (OSError, subprocess.TimeoutExpired) as fault:
-            raise ToolFailed(f"{self.program} check: {fault}") from fault
+        except OSError as fault:
+            raise ToolAway(f"{self.program} check: {fault.strerror}") from fault
+        except subprocess.TimeoutExpired as fault:
+            raise ToolAway(f"{self.program} check: it takes more than {PATIENCE} seconds") from fault
         if done.returncode != 0:
             told = done.stderr.decode(errors="replace").strip().splitlines()
             why = next((line for line in told if line.startswith("error: ")), f"error: status {done.returncode}")
             raise NotTaken(f"macaroond check refuses it: {why.removeprefix('error: ').replace(path, str(self.path))}")
-
-    def touch(self) -> None:
-        """Has the daemon read the file once more."""
-        with contextlib.suppress(OSError):
-            os.utime(self.path)
 
     def sync(self) -> None:
         folder = os.open(self.path.parent, os.O_RDONLY | os.O_DIRECTORY)

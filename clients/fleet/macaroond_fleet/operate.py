@@ -75,6 +75,8 @@ class Fleet:
         self.seen: Dict[str, Told] = {}
         self.last: Optional[State] = None
         self.opened: Dict[str, KeyFile] = {}
+        # Why a change that is tried got no answer, if it got none.
+        self.lost = ""
 
     def key(self, *parts: str) -> str:
         return key_of(self.settings.fleet, *parts)
@@ -168,10 +170,13 @@ class Fleet:
         return head
 
     def is_changed(self, change: Change, revision: int) -> bool:
-        """Whether the change was made. Where the answer is lost it may have been: who looks again sees."""
+        """Whether the change was made. Where the answer is lost it may have been: who looks again sees. What fails twice so fails."""
         try:
             return self.store.change(change, (self.key("head"), revision))
         except StoreAway as why:
+            if revision == 0 or str(why) == self.lost:
+                raise
+            self.lost = str(why)
             self.say(f"{why}; looking again")
             return False
 
@@ -183,6 +188,7 @@ class Fleet:
 
     def changed(self, change: Callable[[State], Tuple[Head, Sequence[bytes]]]) -> Head:
         """Makes a change of what the store has now, again where somebody else was faster."""
+        self.lost = ""
         for _ in range(TRIES):
             was = self.state()
             head, objects = change(was)

@@ -13,10 +13,10 @@ import subprocess
 import tempfile
 from typing import List, NamedTuple, Sequence
 
-from .errors import NotTaken, ToolFailed
+from .errors import NotTaken, ToolAway, ToolFailed
 
 # How many seconds a run may take.
-PATIENCE = 20
+PATIENCE = 60
 CERTIFICATE = re.compile(r"-----BEGIN CERTIFICATE-----[A-Za-z0-9+/=\s]+-----END CERTIFICATE-----\n?")
 # Both ends of a key agreement are hashed by SHA-256, where openssl would take SHA-1.
 AGREEMENT = ["-keyopt", "ecdh_kdf_md:sha256"]
@@ -44,8 +44,10 @@ def run(words: Sequence[str], data: bytes) -> bytes:
     """What openssl prints, which is nothing where it fails: what it printed before wasn't checked then."""
     try:
         done = subprocess.run(["openssl", *words], input=data, capture_output=True, timeout=PATIENCE)
-    except (OSError, subprocess.TimeoutExpired) as fault:
-        raise ToolFailed(f"openssl {words[0]}: {fault}") from fault
+    except OSError as fault:
+        raise ToolAway(f"openssl: {fault.strerror}") from fault
+    except subprocess.TimeoutExpired as fault:
+        raise ToolAway(f"openssl {words[0]}: it takes more than {PATIENCE} seconds") from fault
     if done.returncode != 0:
         told = done.stderr.decode(errors="replace").strip().splitlines()
         why = next((line for line in reversed(told) if "error:" in line), told[0] if told else f"status {done.returncode}")

@@ -1,10 +1,12 @@
 """What an agent takes from a store, and what it leaves: whatever the store does, the files stay as they last were good."""
 import os
 import stat
+import time
 import unittest
+import unittest.mock
 
 from macaroond_fleet import form, operate, sealing
-from macaroond_fleet.errors import FleetError
+from macaroond_fleet.errors import FleetError, ToolAway
 from macaroond_fleet.form import HEAD_MAX, Head, KeyFile, key_of
 from macaroond_fleet.sealing import digest_of
 from macaroond_fleet.store import Change
@@ -243,6 +245,60 @@ class Files(unittest.TestCase):
         agent.turn()
         self.assertEqual(self.told().serial, self.fleet.state().head.serial)
 
+    def published(self, *identifiers):
+        """An agent that finds these revocations in the place of those that there were."""
+        operate.begin(self.fleet, KeyFile(KEYS), [("bank", it) for it in identifiers], is_first=False)
+        self.agent.look_at = 0.0
+        self.agent.turn()
+
+    def lines(self):
+        return self.room.files("one")[1][0].decode().splitlines()
+
+    def test_a_list_of_as_many_lines(self):
+        self.agent = up(self.room, self.room.agent("one"))
+        self.published("61")
+        self.assertEqual(self.lines(), ["revoked bank 61"])
+        up(self.room, self.agent)
+        # The daemon has one line up already, so that another list of one line couldn't be told from it.
+        self.published("62")
+        self.assertFalse(self.agent.is_up())
+        self.assertEqual(self.lines(), ["revoked bank 62"] * 2)
+        up(self.room, self.agent)
+        self.assertTrue(self.agent.is_up(), self.agent.why())
+        self.published("62", "63")
+        self.assertEqual(self.lines(), ["revoked bank 62", "revoked bank 63", "revoked bank 63"])
+        self.published("62", "63")
+        self.assertEqual(up(self.room, self.agent).why(), "")
+
+    def test_a_list_that_was_read_at_once(self):
+        self.agent = up(self.room, self.room.agent("one"))
+        self.published("61", "62")
+        up(self.room, self.agent)
+        # The daemon reads this one before it is asked behind it: so its number stays, and the list is put in the other form.
+        self.room.numbers["one"]["revoked"] = 1
+        self.published("63")
+        self.assertEqual(self.lines(), ["revoked bank 63"] * 2)
+        self.agent.revoked.before = self.room.numbers["one"]["revoked"] = 2
+        self.agent.turn()
+        self.assertFalse(self.agent.is_up())
+        self.agent.revoked.again_at = 0.0
+        self.agent.turn()
+        self.assertEqual(self.lines(), ["revoked bank 63"])
+        self.assertTrue(up(self.room, self.agent).is_up(), self.agent.why())
+
+    def test_a_daemon_that_was_about_to_start(self):
+        self.room.numbers["one"] = None
+        agent = self.room.agent("one")
+        agent.turn()
+        # It may have read what was there before, and tells of it a moment behind.
+        now = int(time.time())
+        self.room.numbers["one"] = {"keys_read_seconds": now + 2, "keys_refused": 0, "revoked": 0}
+        agent.turn()
+        self.assertFalse(agent.is_up())
+        self.room.numbers["one"]["keys_read_seconds"] = now + 60
+        agent.turn()
+        self.assertTrue(agent.is_up(), agent.why())
+
     def test_a_daemon_without_revocations(self):
         del self.room.numbers["one"]["revoked"]
         agent = self.room.agent("one")
@@ -331,6 +387,12 @@ class Sealing(unittest.TestCase):
             broken = sealed[:at] + bytes([sealed[at] ^ 1]) + sealed[at + 1 :]
             with self.assertRaises(FleetError):
                 sealing.decrypt(broken, self.room.identities["one"])
+
+    def test_openssl_that_isn_t_done_in_time(self):
+        """Nothing is known of a message then: it isn't said to be somebody else's."""
+        message = sealing.sign(b"text", self.room.identities["one"])
+        with unittest.mock.patch.object(sealing, "PATIENCE", 0.0), self.assertRaisesRegex(ToolAway, "more than 0.0 seconds"):
+            sealing.signed(message, [self.room.certificate("one")])
 
     def test_rsa(self):
         paths = sealing.Identity(f"{self.room.folder}/rsa.pem", f"{self.room.folder}/rsa.key")

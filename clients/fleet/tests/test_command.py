@@ -4,7 +4,8 @@ import io
 import unittest
 import unittest.mock
 
-from macaroond_fleet import command, operate
+from macaroond_fleet import command, operate, sealing
+from macaroond_fleet.form import Told, key_of
 from macaroond_fleet.settings import Settings
 
 from .rooms import KEYS, SECRET, Room, up
@@ -43,6 +44,12 @@ class Commands(unittest.TestCase):
         self.assertEqual(status, 1)
         self.assertRegex(out, r"two +\d+ +\d+ s ago +away")
         self.assertIn("not every member has it up", err)
+
+    def test_a_member_s_words_are_shown_as_text(self):
+        told = Told("shop", "one", self.agents[0].run_name, 0, "\x1b[2Jall is well\n", 0)
+        signed = sealing.sign(told.text(), self.room.identities["one"])
+        self.room.store.write(key_of("shop", "told", "one"), signed)
+        self.assertIn("\\x1b[2Jall is well\\x0a", self.run_words("status")[1])
 
     def test_dry_runs_change_nothing(self):
         held = self.room.store.copy()

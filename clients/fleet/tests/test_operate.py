@@ -2,6 +2,7 @@
 import contextlib
 import io
 import threading
+import os
 import unittest
 
 from macaroond_fleet import form, operate, sealing
@@ -171,6 +172,16 @@ class RolledBack(unittest.TestCase):
         with self.assertRaisesRegex(NotTaken, "the store is rolled back"):
             operate.revoke(self.room.fleet(), "bank", ["62"])
 
+    def test_by_what_another_run_saw(self):
+        """Two commands run side by side, and the one with the earlier head ends last."""
+        early, late = (self.room.fleet().taken for _ in range(2))
+        head = self.room.fleet().state().head
+        late.keep(head._replace(serial=head.serial + 2), "b" * 64)
+        early.keep(head._replace(serial=head.serial + 1), "a" * 64)
+        self.assertEqual(early.serial, head.serial + 1)
+        self.assertEqual(self.room.fleet().taken.serial, head.serial + 2)
+        self.assertEqual(os.listdir(self.room.folder / "operator" / "state"), ["shop.taken"])
+
     def test_by_what_a_member_told(self):
         up(self.room, self.room.agent("one"))
         told = {name: it for name, it in self.room.store.held.items() if "/told/" in name}
@@ -217,6 +228,20 @@ class Revoking(unittest.TestCase):
     def test_a_name_without_a_key(self):
         with self.assertRaisesRegex(FleetError, "there is no key mill"):
             operate.revoke(self.fleet, "mill", ["61"])
+
+    def test_a_store_that_refuses(self):
+        """What it says is told, and not that others were faster or that the fleet is there already."""
+
+        def refused(made, where):
+            raise operate.StoreAway("permission denied")
+
+        self.room.store.change = refused
+        with self.assertRaisesRegex(operate.StoreAway, "permission denied"):
+            operate.revoke(self.fleet, "bank", ["61"])
+        self.assertEqual(self.room.told, ["permission denied; looking again"])
+        self.room.store.held = {}
+        with self.assertRaisesRegex(operate.StoreAway, "permission denied"):
+            self.room.begun()
 
     def test_an_answer_that_is_lost(self):
         change = self.room.store.change

@@ -2,6 +2,7 @@
 import contextlib
 import io
 import pathlib
+import re
 import tempfile
 import unittest
 
@@ -9,6 +10,7 @@ from macaroond_fleet import command
 from macaroond_fleet.errors import FleetError
 from macaroond_fleet.settings import settings_in
 
+EXAMPLE = pathlib.Path(__file__).parents[1] / "fleet.conf"
 GOOD = """[fleet]
 fleet = shop
 endpoints = https://etcd-1.example:2379 https://etcd-2.example:2379
@@ -40,6 +42,14 @@ class Reading(unittest.TestCase):
         self.assertEqual(found.endpoints, ["https://etcd-1.example:2379", "https://etcd-2.example:2379"])
         self.assertEqual(found.identity.key, str(self.folder / "one.key"))
         self.assertEqual((found.socket, found.keys), ("/run/macaroond/socket", "/etc/macaroond/fleet/keys"))
+
+    def test_the_example(self):
+        """What an operator copies: as it stands, and with each line that is left out there."""
+        text = EXAMPLE.read_text()
+        found = self.settings(text)
+        self.assertEqual((found.fleet, found.member, len(found.endpoints)), ("shop", "one", 3))
+        named = self.settings(re.sub(r"^#(?=[a-z]+ =)", "", text, flags=re.MULTILINE))
+        self.assertEqual(named, found)
 
     def test_faulty_ones(self):
         for text, why in {
