@@ -148,12 +148,7 @@ impl Watch for Quay {
         self.numbers.count_turn(&turn.requests, turn.traffic);
     }
 
-    fn tell<R: Wait + Clock>(
-        &self,
-        rt: &R,
-        badge: Badge,
-        exchange: Result<Exchange, AllocError>,
-    ) {
+    fn tell<R: Wait + Clock>(&self, rt: &R, badge: Badge, exchange: Result<Exchange, AllocError>) {
         self.say_exchange(rt, badge, exchange);
     }
 

@@ -216,7 +216,7 @@ granted-carried terms name keys t old new before after moment facts caveats foun
     let under : (bytes : List ℕ) → IsGranted (keys_of terms name) bytes x → IsGranted (Some keys) bytes x = λ bytes g. subst (λ k. IsGranted k bytes x) found g in
     let back : (bytes : List ℕ) → IsGranted (Some keys) bytes x → IsGranted (keys_of terms name) bytes x = λ bytes g. subst (λ k. IsGranted k bytes x) (sym found) g in (
       (λ granted. let kept = is_after.0 granted in
-      let both = granted-both keys t old new x caveats minted read_before read_after (under new kept.0) in (is_before.1 (back old both.0, sym alike ∙ kept.1), both.1)),
+          let both = granted-both keys t old new x caveats minted read_before read_after (under new kept.0) in (is_before.1 (back old both.0, sym alike ∙ kept.1), both.1)),
       (λ (granted, each). let kept = is_before.0 granted in
-      is_after.1 (back new (granted-again keys t old new x caveats minted read_before read_after (under old kept.0) each), alike ∙ kept.1)),
+          is_after.1 (back new (granted-again keys t old new x caveats minted read_before read_after (under old kept.0) each), alike ∙ kept.1)),
     )

@@ -135,5 +135,5 @@ owner-granted terms name token moment facts is =
     = ap (λ (m : Option ℕ). unless_revoked (back terms name token) (now_reply grant.Owner token facts m (keys_of terms name))) is in (
       (λ told. let kept = kept-owner (back terms name token) _ told.0 told.1 (sym same ∙ told.2) in ((owner-found (keys_of terms name) token facts moment told.0 told.1 kept.0).0, kept.1)),
       (λ (g, kept). let told = owner-back (keys_of terms name) token facts moment g in
-      (told.0, told.1, same ∙ ap (λ b. unless_revoked b (now_reply grant.Owner token facts (Some moment) (keys_of terms name))) kept ∙ told.2)),
+          (told.0, told.1, same ∙ ap (λ b. unless_revoked b (now_reply grant.Owner token facts (Some moment) (keys_of terms name))) kept ∙ told.2)),
     )

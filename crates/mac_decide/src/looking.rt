@@ -90,7 +90,8 @@ fn look_at_payload<'a>(
 ) -> Result<Sight<'a>, NoMemory>
     ensures { IfOk result (λ sight. due_of sight
         ≡ answers.asked_reply (request_of payload.now) (record (viewed_basis job.now) {
-        is_revoked = asked_revoked job.now.revoked (request_of payload.now) })) }
+          is_revoked = asked_revoked job.now.revoked (request_of payload.now);
+        })) }
 {
     match parse_request(payload) {
         Some(request) => {

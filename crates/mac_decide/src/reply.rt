@@ -47,11 +47,7 @@ fn arrival_reply(alloc: Global, arrival: &Arrival, basis: &Basis) -> Result<Repl
     }
 }
 
-fn payload_reply<'a>(
-    alloc: Global,
-    payload: &'a [u8],
-    basis: &'a Basis,
-) -> Result<Reply, NoMemory>
+fn payload_reply<'a>(alloc: Global, payload: &'a [u8], basis: &'a Basis) -> Result<Reply, NoMemory>
     ensures { IfOk result (λ r. r ≡ answers.asked_reply (request_of payload.now) basis.now) }
 {
     match parse_request(payload) {

@@ -96,12 +96,7 @@ fn is_revoked(alloc: Global, list: &RevokedList, request: &Request<'_>) -> Resul
 
 /// Whether the bytes spell a token of this name that was taken back. Where the name has no
 /// identifier in the list, nothing is read.
-fn is_listed(
-    alloc: Global,
-    list: &RevokedList,
-    name: &[u8],
-    token: &[u8],
-) -> Result<bool, NoMemory>
+fn is_listed(alloc: Global, list: &RevokedList, name: &[u8], token: &[u8]) -> Result<bool, NoMemory>
     ensures { IfOk result (λ is. is ≡ is_listed_read list.now name.now (read_of token.now)) }
 {
     if list.is_without(name) {

@@ -114,13 +114,16 @@ impl Notices {
         exchange: &Result<Exchange, NoMemory>,
     ) {
         match exchange {
-            Ok(Exchange {
-                name,
-                minted: Some(identifier),
-                ..
-            }) => {
-                let fields = connection_fields(self.alloc, badge)
-                    .and_then(|fields| minted_fields(fields, name, identifier));
+            Ok(
+                Exchange {
+                    name,
+                    minted: Some(identifier),
+                    ..
+                },
+            ) => {
+                let fields = connection_fields(self.alloc, badge).and_then(|fields| minted_fields(
+                    fields, name, identifier,
+                ));
                 self.post(rt, Kind::Mint, fields);
             },
             Ok(_) => {},
@@ -186,7 +189,10 @@ impl Notices {
         let (kind, fields) = match news {
             ListNews::Nothing => return,
             ListNews::Taken(lines) => (Kind::RevokedRead, listed_fields(self.alloc, file, lines)),
-            ListNews::Refused(why) => (Kind::RevokedRefused, unlisted_fields(self.alloc, file, why)),
+            ListNews::Refused(why) => (
+                Kind::RevokedRefused,
+                unlisted_fields(self.alloc, file, why),
+            ),
         };
         self.post(rt, kind, fields);
     }

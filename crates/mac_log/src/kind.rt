@@ -107,10 +107,8 @@ impl Kind {
         ensures { result ≡ kind_level self }
     {
         match self {
-            Kind::KeysRefused
-            | Kind::RevokedRefused
-            | Kind::AcceptFault
-            | Kind::SystemFault => Level::Error,
+            Kind::KeysRefused | Kind::RevokedRefused | Kind::AcceptFault | Kind::SystemFault =>
+                Level::Error,
             Kind::KeysEmpty
             | Kind::ConnectionFault
             | Kind::ConnectionDropped

@@ -70,12 +70,7 @@ pub trait Watch: Send + Sync {
 
     /// A client of this badge was sent the reply to a request, and that is logged; or there was no
     /// memory to note one.
-    fn tell<R: Wait + Clock>(
-        &self,
-        rt: &R,
-        badge: Badge,
-        exchange: Result<Exchange, AllocError>,
-    );
+    fn tell<R: Wait + Clock>(&self, rt: &R, badge: Badge, exchange: Result<Exchange, AllocError>);
 
     /// A client that stays has had a turn, and so many bytes are unsent.
     fn see(&self, life: Life, unsent: usize);
