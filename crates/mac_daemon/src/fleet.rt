@@ -7,7 +7,7 @@ use crate::accepting::{Limits, accept_to_end};
 use crate::door::Gift;
 use crate::fault::DaemonFault;
 use crate::quay::Quay;
-use mac_board::{Followers, TimedTables};
+use mac_board::{Follower, Followers, TimedTables};
 use mac_decide::{Macaroons, SeenTokens};
 use mac_host::Ending;
 use mac_loop::{Loop, Loops, make_loops};
@@ -225,10 +225,7 @@ where
     let promise = SameDesk(Snapshot::of(&desk));
     let work = move || -> Desk<Macaroons>
         ensures { home_of result ≡ home_of desk }
-    {
-        let mut outlook = TimedTables::new(keys, SystemMoments::new(&rt));
-        one.run(&rt, &loops, &mut outlook, &*quay, desk)
-    };
+    { run_loop(&rt, one, &loops, keys, &quay, desk) };
     match Builder::new()
         .stack_size(STACK)
         .spawn_with(&rt, promise, work)
@@ -236,4 +233,21 @@ where
         Ok(thread) => Ok(thread),
         Err(_) => Err(DaemonFault::NoThread),
     }
+}
+
+/// Runs a loop to its end, at this desk, which comes back.
+fn run_loop<R>(
+    rt: &R,
+    one: Loop,
+    loops: &Loops,
+    keys: Follower,
+    quay: &Quay,
+    desk: Desk<Macaroons>,
+) -> Desk<Macaroons>
+where
+    R: Threads + Wait + Clock + Sync + Copy + Send + 'static,
+    ensures { home_of result ≡ home_of desk }
+{
+    let mut outlook = TimedTables::new(keys, SystemMoments::new(rt));
+    one.run(rt, loops, &mut outlook, quay, desk)
 }

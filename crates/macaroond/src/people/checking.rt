@@ -38,7 +38,10 @@ where
     ensures { IfOk result (λ told. TellsNames keys.now told.items) }
 {
     match keys {
-        Some(path) => Ok(check_keys(rt, path.as_str())?.text),
+        Some(path) => {
+            let said = check_keys(rt, path.as_str())?;
+            Ok(said.text)
+        }
         None => Ok(Vec::new(rt.alloc())),
     }
 }
@@ -93,10 +96,12 @@ where
     ensures { IfOk result (λ told. TellsLines (Some path.now) told.items) }
 {
     let text = read_text_of_list(rt, path)?;
-    match read_list(rt.alloc(), path, text.as_slice()) {
-        Ok(_) => {
+    let bytes = text.as_slice();
+    match read_list(rt.alloc(), path, bytes) {
+        Ok(_list) => {
             warn_of_readers(rt, path);
-            Ok(told_lines(rt.alloc(), text.as_slice())?)
+            let told = told_lines(rt.alloc(), bytes)?;
+            Ok(told)
         }
         Err(
             PersonFault::List {

@@ -23,11 +23,14 @@ where
     ensures { IfOk result (IsTableWith revoked.now) }
 {
     let mut table = load_keys(rt, keys)?;
-    if let Some(path) = revoked {
-        let list = load_list(rt, path.as_str())?;
-        table.take_back(&list)?;
+    match revoked {
+        Some(path) => {
+            let list = load_list(rt, path.as_str())?;
+            table.take_back(&list)?;
+            Ok(table)
+        }
+        None => Ok(table),
     }
-    Ok(table)
 }
 
 /// The list of a file.
