@@ -1,4 +1,4 @@
-use Rattle.std.proofs.Common.{[]}
+use Rattle.std.proofs.Common.{[], rules}
 use Rattle.std.proofs.lemmas.Result.{IfOk-weaker}
 use Rattle.macaroond.specs.Doing.{DoesMint}
 use Rattle.macaroond.specs.People.{mint_asked}
@@ -13,7 +13,7 @@ returns-in-Some g c =
     said_of_words (DoesMint words) table [] (mint_asked form c.as_str-2.result.now words) c.say_mint_under.result c.say_mint_under.ensures
     (λ said says. (form, table, c.as_str-2.result.now, c.in_ok-form.ensures, c.in_ok-table.ensures, (search rules), says))
 
-pub returns-in-None : goal.returns-in-None
-returns-in-None g c =
+pub returns : goal.returns
+returns g c =
     IfOk-weaker c.say_drawn.result _ _
     (λ said s. (c.in_ok-form.form, c.in_ok-table.table, s.0, c.in_ok-form.ensures, c.in_ok-table.ensures, (search rules), s.2)) c.say_drawn.ensures
