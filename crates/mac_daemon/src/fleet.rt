@@ -223,9 +223,7 @@ where
     let loops = Arc::try_clone(fleet.loops)?;
     let desk = pool.desk(alloc)?;
     let promise = SameDesk(Snapshot::of(&desk));
-    let work = move || -> Desk<Macaroons>
-        ensures { home_of result ≡ home_of desk }
-    { run_loop(&rt, one, &loops, keys, &quay, desk) };
+    let work = move || run_loop(&rt, one, &loops, keys, &quay, desk);
     match Builder::new()
         .stack_size(STACK)
         .spawn_with(&rt, promise, work)
@@ -245,7 +243,7 @@ fn run_loop<R>(
     desk: Desk<Macaroons>,
 ) -> Desk<Macaroons>
 where
-    R: Threads + Wait + Clock + Sync + Copy + Send + 'static,
+    R: Threads + Wait + Clock + Sync,
     ensures { home_of result ≡ home_of desk }
 {
     let mut outlook = TimedTables::new(keys, SystemMoments::new(rt));
