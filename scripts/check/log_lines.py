@@ -11,7 +11,7 @@ import time
 
 from check.daemon_rows import HELLO, MINT, NO_REQUEST, SLOW_TOKEN, TOKEN, placed
 from common import KEYS, TOP, daemon, logged
-from common.daemon import awaited, connected, frame, received, reply_to
+from common.daemon import awaited, connected, frame, put_keys, received, reply_to
 from common.rows import in_folders, judged
 
 import request
@@ -120,7 +120,7 @@ def few_descriptors(folder):
     log = Log(folder)
     limited = lambda: resource.setrlimit(resource.RLIMIT_NOFILE, (128, 4096))
     with listening(log, "--loops", "1", preexec_fn=limited) as (path, run):
-        yield "limit_low", told(log.first("limit_low"), "limit", "connections"), ("warning", "descriptors", "71")
+        yield "limit_low", told(log.first("limit_low"), "limit", "connections"), ("warning", "descriptors", "70")
         held = len(os.listdir(f"/proc/{run.pid}/fd"))
         resource.prlimit(run.pid, resource.RLIMIT_NOFILE, (held, 4096))
         with connected(path) as stream:
@@ -144,6 +144,18 @@ def key_files(folder):
         path.write_text("key bank\n")
         due = ("error", str(path), "line 1: the line is not of the form `key NAME HEX`")
         yield "keys_refused", told(log.first("keys_refused"), "file", "fault"), due
+
+
+def lists(folder):
+    """A list of tokens that were taken back, which is read anew and refused."""
+    path = pathlib.Path(folder, "revoked")
+    put_keys(path, "# none\n")
+    log = Log(folder)
+    with listening(log, "--revoked", str(path)):
+        put_keys(path, "revoked bank 616c696365\n")
+        yield "revoked_read", told(log.first("revoked_read"), "file", "count"), ("info", str(path), "1")
+        put_keys(path, "revoked bank\n")
+        yield "revoked_refused", told(log.first("revoked_refused"), "file")[:2], ("error", str(path))
 
 
 def long_path(folder):
@@ -399,6 +411,6 @@ def page():
 
 
 def faults():
-    parts = [connections, many_torn, few_descriptors, replaced, refused_step, key_files, long_path, journal]
+    parts = [connections, many_torn, few_descriptors, replaced, refused_step, key_files, lists, long_path, journal]
     seen = list(in_folders(*parts, requests, unread, requests_over_http, mints, no_requests))
     return judged([*seen, *page()])
