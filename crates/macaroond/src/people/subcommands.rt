@@ -347,17 +347,24 @@ fn build_revoke<'a>(alloc: Global) -> Result<Command<'a>, AllocError>
 {
     let about = "Makes a line that takes a token back";
     let command = build_subcommand(alloc, "revoke", about, REVOKE_HELP);
-    let into = build_option(alloc, "into", "FILE", REVOKE_INTO_HELP);
-    let command = add_arg(command, into)?;
-    let drop = build_option(alloc, "drop", "FILE", REVOKE_DROP_HELP);
-    let command = add_arg(command, drop)?;
-    let identifier = build_option(alloc, "identifier", "TEXT", "What the token is about");
-    let command = add_arg(command, identifier)?;
+    let command = add_arg(
+        command,
+        build_option(alloc, "into", "FILE", REVOKE_INTO_HELP),
+    )?;
+    let command = add_arg(
+        command,
+        build_option(alloc, "drop", "FILE", REVOKE_DROP_HELP),
+    )?;
+    let identifier = "What the token is about";
+    let command = add_arg(
+        command,
+        build_option(alloc, "identifier", "TEXT", identifier),
+    )?;
     let command = add_arg(command, build_word(alloc, "name", "NAME", KEY_HELP))?;
-    let token = Arg::new(alloc, "token")
-        .value_name("TOKEN")
-        .help(TOKEN_HELP);
-    add_arg(command, token)
+    add_arg(
+        command,
+        build_optional_word(alloc, "token", "TOKEN", TOKEN_HELP),
+    )
 }
 
 /// The subcommand with the options `--keys` and `--key`.
@@ -395,4 +402,12 @@ fn build_word<'a>(alloc: Global, name: &'a str, value: &'a str, help: &'a str) -
         .value_name(value)
         .required(true)
         .help(help)
+}
+
+/// A word that may be given, without a name.
+fn build_optional_word<'a>(alloc: Global, name: &'a str, value: &'a str, help: &'a str) -> Arg<'a>
+    ensures rule { rule_of result ≡ word name.entry.now }
+    ensures local { result.global ≡ false }
+{
+    Arg::new(alloc, name).value_name(value).help(help)
 }
