@@ -10,8 +10,8 @@ returns-in-Some g c =
     let words = c.args.words.now in
     let form = c.in_ok-form.form in
     let table = c.in_ok-table.table in
-    said_of_words (DoesMint words) table [] (mint_asked form c.as_str-2.result.now words) c.say_mint_under.result c.say_mint_under.ensures
-    (λ said says. (form, table, c.as_str-2.result.now, c.in_ok-form.ensures, c.in_ok-table.ensures, (search rules), says))
+    said_of_words (DoesMint words) table [] (mint_asked form c.as_str-in-Some.result.now words) c.say_mint_under.result c.say_mint_under.ensures
+    (λ said says. (form, table, c.as_str-in-Some.result.now, c.in_ok-form.ensures, c.in_ok-table.ensures, (search rules), says))
 
 pub returns : goal.returns
 returns g c =
