@@ -1,11 +1,10 @@
 //! A connection's socket as a loop has it: reads and writes don't wait.
 
-ghost use Rattle.std.specs.Prelude.{◌≡◌, ◌++◌, [], IfOk, length};
+ghost use Rattle.std.specs.Prelude.{length};
 ghost use Rattle.mac_plain.specs.Port.{FitsCame, FitsWent};
 
 use crate::transcript::Transcript;
 use mac_host::{Exchange, Traffic};
-use mac_mail::History;
 use mac_plain::{Came, Port, Went};
 use mac_sockets::Stream;
 use std::alloc::AllocError;
@@ -26,9 +25,6 @@ pub struct SocketPort {
     // Whether the last read was put off, since too many requests wait for their replies.
     is_put_off: bool,
     traffic: Traffic,
-    // All bytes that reads gave, and that writes took. For contracts: they take no room.
-    pub(crate) came: History<u8>,
-    pub(crate) went: History<u8>,
     // What comes and goes on it, where that is logged: apart, since most have none.
     transcript: Option<Box<RefCell<Transcript>>>,
 }
@@ -36,17 +32,13 @@ pub struct SocketPort {
 impl SocketPort {
     /// A port at a stream, whose reads and writes wait no more, and which goes on with a transcript
     /// where there is one.
-    pub fn new(stream: Stream, transcript: Option<Transcript>) -> io::Result<SocketPort>
-        ensures { IfOk result (λ port. (port.came ≡ []) × (port.went ≡ [])) }
-    {
+    pub fn new(stream: Stream, transcript: Option<Transcript>) -> io::Result<SocketPort> {
         stream.hurry()?;
         Ok(SocketPort {
             stream,
             has_read: false,
             is_put_off: false,
             traffic: Traffic::NONE,
-            came: History::new(),
-            went: History::new(),
             transcript: transcript.and_then(|transcript| transcript.apart()),
         })
     }
@@ -120,13 +112,13 @@ impl SocketPort {
 }
 
 impl Port for SocketPort {
-    ghost use Rattle.std.specs.Prelude.{true};
+    ghost use Rattle.std.specs.Prelude.{[], false};
 
-    ghost tells = { true };
+    ghost tells = { false };
 
-    ghost taken = { λ port. port.came };
+    ghost taken = { λ _. [] };
 
-    ghost written = { λ port. port.went };
+    ghost written = { λ _. [] };
 
     fn read(&mut self, buf: &mut [u8]) -> Came {
         self.is_put_off = self.is_full();
@@ -139,7 +131,6 @@ impl Port for SocketPort {
         if let Came::Bytes(count) = came {
             self.traffic.came = self.traffic.came.saturating_add(count as u64);
             let bytes = &buf[..count];
-            add_all(&mut self.came, bytes);
             self.note(bytes, &[]);
         }
         came
@@ -150,19 +141,9 @@ impl Port for SocketPort {
         if let Went::Bytes(count) = went {
             self.traffic.went = self.traffic.went.saturating_add(count as u64);
             let bytes = &buf[..count];
-            add_all(&mut self.went, bytes);
             self.note(&[], bytes);
         }
         went
-    }
-}
-
-/// So many entries more, in their order.
-fn add_all(history: &mut History<u8>, bytes: &[u8])
-    ensures { history.new ≡ history.old ++ bytes.now }
-{
-    for byte in bytes {
-        history.add(byte);
     }
 }
 
