@@ -76,9 +76,9 @@ def unsigned(caveat):
     return base64.urlsafe_b64encode(b"\x02" + b"".join(fields)).decode().rstrip("=")
 
 
-def warned(caveat):
-    """A token is printed, and a warning that a caveat of it is no bound of time."""
-    return Ending(0, "AgEO", f"warning: a caveat is no bound of time, and holds only as a fact: {caveat}\n")
+def warned(caveat, why="is no bound of time, and holds only as a fact"):
+    """A token is printed, and a warning of a caveat of it."""
+    return Ending(0, "AgEO", f"warning: a caveat {why}: {caveat}\n")
 
 
 def refused(printed):
@@ -128,6 +128,20 @@ RIGHT = {
     ),
     "mint_near_bound": (Case("", [*MINT, *IDENTIFIER, "--caveat", DAY]), warned(DAY)),
     "attenuate_near_bound": (Case("", ["attenuate", "--caveat", LIMIT, "--caveat", MONTH, TOKEN]), warned(MONTH)),
+    "mint_any_case": (Case("", [*MINT, *IDENTIFIER, "--caveat", "TIME < 2030-01-01T00:00"]), warned("TIME < 2030-01-01T00:00")),
+    "mint_passed": (
+        Case("", [*MINT, *IDENTIFIER, "--caveat", "time < 2020-01-01T00:00"]),
+        warned("time < 2020-01-01T00:00", "is a time limit that has passed, and holds only as a fact"),
+    ),
+    "mint_slash": (
+        Case("", [*MINT, *IDENTIFIER, "--caveat", "path under /guarded/"]),
+        warned("path under /guarded/", "ends in a slash, and no path is under it"),
+    ),
+    "attenuate_spaces": (
+        Case("", ["attenuate", "--caveat", "method=GET", TOKEN]),
+        warned("method=GET", "has not one space on each side of its equals sign"),
+    ),
+    "attenuate_twice": (Case("", ["attenuate", "--caveat", ACCOUNT, "--caveat", ACCOUNT, TOKEN]), warned(ACCOUNT, "stands there twice")),
     "help": (Case("", ["mint", "--help"]), good("Prints a new token\n")),
 }
 

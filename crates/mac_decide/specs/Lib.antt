@@ -1,6 +1,7 @@
 pub mod Answer
 pub mod Asking
 pub mod Calendar
+pub mod Doubt
 pub mod Folding
 pub mod Minted
 pub mod Prepared

@@ -8,6 +8,7 @@
 mod asking;
 mod choosing;
 mod context;
+mod doubts;
 mod drafting;
 mod folding;
 mod job;
@@ -33,6 +34,7 @@ mod verifying;
 
 pub use asking::Asking;
 pub use context::{Context, satisfied};
+pub use doubts::{Doubt, begins_as_bound, find_doubt};
 pub use job::{Basis, Job, job_of};
 pub use job_view::{ArrivalView, JobView, job_view_of};
 pub use macaroons::Macaroons;

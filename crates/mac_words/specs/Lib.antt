@@ -3,7 +3,7 @@ pub mod TokenText
 pub mod Spelling
 pub mod Moment
 pub mod NameList
-pub mod NearBound
+pub mod Warned
 pub mod Escaped
 pub mod ReplyText
 pub mod Inspected

@@ -8,7 +8,7 @@ ghost use Rattle.mac_words.specs.Inspected.{place_words, third_party};
 ghost use Rattle.mac_token.specs.RawToken.{bytes_of, text_of};
 
 use crate::escaped::append_escaped;
-use crate::near_bounds::append_no_bound;
+use crate::warned::append_no_bound;
 use mac_decide::{time_limit, time_since};
 use mac_token::RawCaveat;
 use mac_wire::NoMemory;

@@ -9,8 +9,8 @@ use crate::token::{say_parts, token_of};
 use crate::verdicts::say_verdicts;
 use arrayvec::ArrayVec;
 use mac_decide::{
-    Context, RUN, Rights, Rooms, SeenTokens, Terms, answer, answer_all, answer_run, job_of,
-    job_view_of, satisfied, time_limit, time_since,
+    Context, RUN, Rights, Rooms, SeenTokens, Terms, answer, answer_all, answer_run, find_doubt,
+    job_of, job_view_of, satisfied, time_limit, time_since,
 };
 use mac_hmac::{RootKey, root_key};
 use mac_keys::Keys;
@@ -26,6 +26,7 @@ pub(crate) fn tells(case: &mut Case<'_>, kind: &str) -> bool {
     match kind {
         "time" => bound(case),
         "satisfied" => is_satisfied(case),
+        "doubt" => doubt(case),
         "add" => narrowed(case),
         "token" => agreement(case),
         "length" => written_length(case),
@@ -62,6 +63,17 @@ fn is_satisfied(case: &mut Case<'_>) {
     } else {
         "unsatisfied"
     });
+}
+
+/// Why a caveat can hardly hold at a moment, or `none`.
+fn doubt(case: &mut Case<'_>) {
+    let caveat = case.bytes();
+    let moment = case.number();
+    let is_repeated = case.number() == 1;
+    match find_doubt(&caveat, is_repeated, moment) {
+        Some(doubt) => case.say(doubt.words()),
+        None => case.say("none"),
+    }
 }
 
 /// A token with caveats added; or the refusal.

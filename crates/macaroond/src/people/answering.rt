@@ -193,10 +193,9 @@ fn say_verify_under<'a>(
     )?)
 }
 
-/// Warns on standard error of what is right but seldom meant: caveats of a new token that will not
-/// hold as bounds of time, and a checked key file that others than its owner may use or that has no
-/// key.
-fn warn<R: Alloc<A = Global> + Eprint + Files>(rt: &R, task: &Task, said: &Said) {
+/// Warns on standard error of what is right but seldom meant: caveats of a new token that can hardly
+/// hold, and a checked key file that others than its owner may use or that has no key.
+fn warn<R: Alloc<A = Global> + Eprint + Files + Clock>(rt: &R, task: &Task, said: &Said) {
     if said.is_refusal {
         return;
     }
@@ -215,9 +214,11 @@ fn warn<R: Alloc<A = Global> + Eprint + Files>(rt: &R, task: &Task, said: &Said)
     }
 }
 
-/// Warns on standard error of the caveats that will not hold as bounds of time.
-fn warn_of_caveats<R: Alloc<A = Global> + Eprint>(rt: &R, caveats: &[String]) {
-    if let Ok(text) = warnings(rt.alloc(), caveats) {
+/// Warns on standard error of the caveats that can hardly hold. Where the clock tells no moment, no
+/// time limit since 1970 has passed.
+fn warn_of_caveats<R: Alloc<A = Global> + Eprint + Clock>(rt: &R, caveats: &[String]) {
+    let moment = read_moment(rt, &None).unwrap_or(0);
+    if let Ok(text) = warnings(rt.alloc(), caveats, moment) {
         tell_text(rt, text.as_slice());
     }
 }

@@ -65,8 +65,9 @@ Exit status:
 const MINT_HELP: &str = "\
 Prints a new token, one of form v2 as `hex:` and its digits. Without --identifier the token gets 128
 random bits in hexadecimal, which standard error tells as `identifier DIGITS`. A refusal is told
-there too, and so is a caveat that begins as a bound of time does and is none: it holds only as a
-fact.
+there too, and so is a caveat that can hardly hold: one that is nearly a bound of time, a time limit
+that has passed, `path under /a/` with a slash at its end, `method=GET` without its spaces, or one
+that stands there twice.
 
 Example:
   macaroond mint --keys keys --key bank --identifier alice --caveat 'time < 2030-01-01T00:00'
@@ -344,7 +345,9 @@ fn build_revoke<'a>(alloc: Global) -> Result<Command<'a>, AllocError>
     let identifier = build_option(alloc, "identifier", "TEXT", "What the token is about");
     let command = add_arg(command, identifier)?;
     let command = add_arg(command, build_word(alloc, "name", "NAME", KEY_HELP))?;
-    let token = Arg::new(alloc, "token").value_name("TOKEN").help(TOKEN_HELP);
+    let token = Arg::new(alloc, "token")
+        .value_name("TOKEN")
+        .help(TOKEN_HELP);
     add_arg(command, token)
 }
 
