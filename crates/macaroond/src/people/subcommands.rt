@@ -84,8 +84,7 @@ Exit status:
 const ATTENUATE_HELP: &str = "\
 Prints the token with the caveats behind its own: one that is granted in fewer cases. No key is
 needed for it. TOKEN is the token's text, `hex:` and its digits, or - for one line of standard
-input. A refusal is told on standard error, and so is a caveat that begins as a bound of time does
-and is none: it holds only as a fact.
+input. A refusal is told on standard error, and so is a caveat that can hardly hold, as `mint` does.
 
 Example:
   macaroond attenuate --caveat 'account = 3735928559' \"$token\"
