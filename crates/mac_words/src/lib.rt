@@ -10,6 +10,7 @@ mod caveat_lines;
 mod escaped;
 mod fault;
 mod inspected;
+mod fingerprint;
 mod key_lines;
 mod moments;
 mod name_list;

@@ -48,8 +48,8 @@ Exit status:
 /// What the help of `check` says below its options.
 const CHECK_HELP: &str = "\
 Prints a line for each name of the key file, in the order of their bytes: `NAME: one key`, or
-`NAME: two keys`. Warns on standard error of a file that others may use, and of a secret of fewer
-than 16 bytes.
+`NAME: two keys`, and eight digits of each key, by which two machines are compared. Warns on
+standard error of a file that others may use, and of a secret of fewer than 16 bytes.
 
 Example:
   macaroond check --keys keys
