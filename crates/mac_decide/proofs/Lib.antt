@@ -18,5 +18,6 @@ pub mod VerifiedLemmas
 pub mod SigningLemmas
 pub mod PreparedLemmas
 pub mod DoubtLemmas
+pub mod LackLemmas
 pub mod DraftingLemmas
 pub mod SeenLemmas

@@ -3,6 +3,7 @@ pub mod Asking
 pub mod Calendar
 pub mod Doubt
 pub mod Folding
+pub mod Lack
 pub mod Minted
 pub mod Prepared
 pub mod Reading

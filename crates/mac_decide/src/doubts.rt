@@ -106,14 +106,14 @@ fn has_passed(caveat: &[u8], moment: u64) -> bool
 }
 
 /// The second of the time limit that a caveat is.
-fn limit_in(caveat: &[u8]) -> Option<i64>
+pub(crate) fn limit_in(caveat: &[u8]) -> Option<i64>
     ensures { result ≡ limit_of caveat.now }
 {
     time_limit(caveat)
 }
 
 /// The second of the lower bound of time that a caveat is.
-fn since_in(caveat: &[u8]) -> Option<i64>
+pub(crate) fn since_in(caveat: &[u8]) -> Option<i64>
     ensures { result ≡ since_of caveat.now }
 {
     time_since(caveat)

@@ -5,3 +5,4 @@ pub mod WarnedLemmas
 pub mod PayloadLemmas
 pub mod KeyLineLemmas
 pub mod KeptLines
+pub mod ExplainedLemmas

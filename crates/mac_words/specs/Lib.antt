@@ -8,6 +8,7 @@ pub mod Warned
 pub mod Escaped
 pub mod ReplyText
 pub mod Inspected
+pub mod Explained
 pub mod KeyLine
 pub mod Revoked
 pub mod Said

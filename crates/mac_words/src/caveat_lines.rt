@@ -49,7 +49,7 @@ fn append_line(
 
 /// Appends how the line begins: the place, counted from 0.
 #[tactic(auto, unfolding(crate::specs::Inspected::caveat_front))]
-fn append_front(alloc: Global, place: usize, out: &mut Vec<u8>) -> Result<(), NoMemory>
+pub(crate) fn append_front(alloc: Global, place: usize, out: &mut Vec<u8>) -> Result<(), NoMemory>
     ensures { OnOk result (out.new.items ≡ out.old.items ++ caveat_front place) }
 {
     let number = format!(in alloc; "{place}")?;

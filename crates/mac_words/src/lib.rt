@@ -8,9 +8,10 @@
 
 mod caveat_lines;
 mod escaped;
+mod explained;
 mod fault;
-mod inspected;
 mod fingerprint;
+mod inspected;
 mod key_lines;
 mod moments;
 mod name_list;
@@ -24,6 +25,7 @@ mod token_text;
 mod warned;
 
 pub use escaped::append_escaped;
+pub use explained::explain;
 pub use fault::{FieldFault, TextFault};
 pub use inspected::{Whose, find_whose, inspect};
 pub use key_lines::{NameFault, key_line};

@@ -77,10 +77,11 @@ attenuate_command = with_rule (with_rule (with_rule (new_app (codes "attenuate")
     (required (repeated (option (codes "caveat"))))) (option (codes "form")))
     (required (word (codes "token")))
 
--- the subcommand `verify`, with four options and a word
+-- the subcommand `verify`, with four options, a flag and a word
 abbrev pub verify_command : App
-verify_command = with_rule (with_rule (with_rule (with_key (new_app (codes "verify")))
-    (repeated (option (codes "fact")))) (option (codes "at"))) (required (word (codes "token")))
+verify_command = with_rule (with_rule (with_rule (with_rule (with_key (new_app (codes "verify")))
+    (repeated (option (codes "fact")))) (option (codes "at"))) (flag (codes "explain")))
+    (required (word (codes "token")))
 
 -- the subcommand `inspect`, with one word
 abbrev pub inspect_command : App
@@ -157,6 +158,7 @@ HasVerify words rows = IsGivenText words.keys (codes "keys") rows
     × IsGivenText words.token (codes "token") rows
     × AreGivenTexts words.facts.items (codes "fact") rows
     × IsOptionalText words.at (codes "at") rows
+    × (words.explain ≡ is_set (codes "explain") rows)
 
 abbrev pub HasStatus : StatusWords → List Row → Type 0
 HasStatus words rows = IsGivenText words.socket (codes "socket") rows

@@ -16,7 +16,7 @@ use super::{PersonFault, Task};
 use crate::status::Status;
 use mac_keys::KeyTable;
 use mac_wire::{TokenForm, WriterSink, send_all};
-use mac_words::{Said, say_attenuate, say_inspect, say_mint, say_verify, warnings};
+use mac_words::{Said, explain, say_attenuate, say_inspect, say_mint, say_verify, warnings};
 use std::alloc::{Alloc, Global};
 use std::fs::{File, Files};
 use std::io;
@@ -118,7 +118,7 @@ where
 /// What is said of a verify: first its moment is read, then its key file, then its token.
 fn do_verify<'a, R>(rt: &R, words: &'a VerifyWords) -> Result<Said, PersonFault<'a>>
 where
-    R: Alloc<A = Global> + Input + Files + Clock,
+    R: Alloc<A = Global> + Input + Eprint + Files + Clock,
     R::Reader: Send,
     R::File: Send,
     ensures { IfOk result (DoesVerify words.now) }
@@ -126,7 +126,21 @@ where
     let moment = read_moment(rt, &words.at)?;
     let table = load_keys(rt, words.keys.as_str())?;
     let token = read_token(rt, words.token.as_str())?;
+    tell_lacks(rt, words, moment, &token);
     say_verify_under(rt.alloc(), &table, moment, token.as_slice(), words)
+}
+
+/// Tells on standard error which caveats of a token aren't satisfied, and why, where that is asked.
+fn tell_lacks<R>(rt: &R, words: &VerifyWords, moment: u64, token: &[u8])
+where
+    R: Alloc<A = Global> + Eprint,
+{
+    if !words.explain {
+        return;
+    }
+    if let Ok(text) = explain(rt.alloc(), token, moment, words.facts.as_slice()) {
+        tell_text(rt, text.as_slice());
+    }
 }
 
 /// What is said of a token.

@@ -96,6 +96,8 @@ pub struct VerifyWords {
     pub facts: Vec<String>,
     /// The moment of the request.
     pub at: Option<String>,
+    /// Whether it is told which caveats aren't satisfied, and why.
+    pub explain: bool,
 }
 
 /// The words of a status: one flag at most is to be given.
@@ -213,6 +215,7 @@ fn read_verify(alloc: Global, options: &ArgMatches<'_>) -> Result<VerifyWords, A
         token: read_text_or_empty(alloc, options, "token")?,
         facts: read_texts(alloc, options, "fact")?,
         at: read_optional_text(alloc, options, "at")?,
+        explain: read_flag(options, "explain"),
     })
 }
 

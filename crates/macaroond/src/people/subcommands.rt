@@ -102,7 +102,8 @@ Prints `granted`, or `refused`, the number of the reason and the reason. A cavea
 one of the facts, a time limit `time < 2030-01-01T00:00` that isn't over, or a lower bound of time
 `time >= 2026-01-01T00:00` that has come. TOKEN is the token's text, `hex:` and its digits, or - for
 one line of standard input. MOMENT is a number of seconds since 1970, or a time as
-2026-01-31T12:00:00Z.
+2026-01-31T12:00:00Z. With --explain standard error tells each caveat that doesn't hold, and below it
+why: when its time ended or begins, or from which byte on the nearest fact is another.
 
 Example:
   macaroond verify --keys keys --key bank --fact 'account = 3735928559' \"$token\"
@@ -177,6 +178,8 @@ const TOKEN_HELP: &str = "The token, or - for a line of standard input";
 const IDENTIFIER_HELP: &str = "What the token is about [default: 32 random digits]";
 
 const CAVEAT_HELP: &str = "A caveat; may be given often";
+
+const EXPLAIN_HELP: &str = "Tells which caveats are not satisfied, and why";
 
 const FACT_HELP: &str = "What is known of the request; may be given often";
 
@@ -307,6 +310,7 @@ fn build_verify<'a>(alloc: Global) -> Result<Command<'a>, AllocError>
         "The moment of the request [default: now]",
     );
     let command = add_arg(command, at)?;
+    let command = add_arg(command, build_flag(alloc, "explain", EXPLAIN_HELP))?;
     add_arg(command, build_word(alloc, "token", "TOKEN", TOKEN_HELP))
 }
 
