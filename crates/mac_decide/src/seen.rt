@@ -29,7 +29,7 @@ use std::sync::atomic::{AtomicBool, AtomicU32};
 use std::sync::{Arc, RwLock, RwLockReadGuard, RwLockWriteGuard};
 
 /// The longest text of a token that is remembered, in bytes.
-pub const SEEN_MAX: usize = 2_048;
+pub const SEEN_MAX: usize = 8_192;
 
 /// What a token takes beside its text and what that spells, about: its keys, its place among
 /// others, and what an allocator adds.
