@@ -26,6 +26,7 @@ impl<P: Port> Client<P> {
         ensures idle { self.old.course ≢ course.Wide → (result ≡ None) × (self.new ≡ self.old) }
         ensures asked { IfSome result (IsAsked (lent_current current.entry) self.old self.new) }
         ensures fallen { self.old.course ≡ course.Wide → IfNone result (IsGivenUp self.old self.new) }
+        ensures rights { self.new.rights ≡ self.old.rights }
         ensures answers { Answers P.tells P.taken P.written self.old self.new
             (option_to_list result) }
     {
@@ -58,6 +59,7 @@ impl<P: Port> Client<P> {
             × (GoesWide self.old.session.carried.items → IsAwaited job.now self.old) }
         ensures another { IsFalse result → (self.new ≡ self.old)
             × (GoesWide self.old.session.carried.items → ¬ IsAwaited job.now self.old) }
+        ensures rights { self.new.rights ≡ self.old.rights }
         ensures answers { Answers P.tells P.taken P.written self.old self.new [] }
     {
         let Course::Awaiting(basis) = self.course else {
@@ -80,6 +82,7 @@ impl<P: Port> Client<P> {
             → IsGivenUp self.old self.new }
         ensures idle { ((basis : Seen) → self.old.course ≢ course.Awaiting basis)
             → self.new ≡ self.old }
+        ensures rights { self.new.rights ≡ self.old.rights }
         ensures answers { Answers P.tells P.taken P.written self.old self.new [] }
     {
         if let Course::Awaiting(_) = self.course {

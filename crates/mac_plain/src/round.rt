@@ -106,6 +106,7 @@ impl Round {
             → Takes answer client.old client.new }
         ensures another { GoesWide client.old.session.carried.items → ¬ IsAwaited answer client.old
             → client.new ≡ client.old }
+        ensures rights { client.new.rights ≡ client.old.rights }
         ensures answers { Answers P.tells P.taken P.written client.old client.new [] }
     {
         let (job, reply) = answer.into_parts();
