@@ -9,10 +9,10 @@ use mac_mail::History;
 use mac_plain::{Came, Port, Went};
 use mac_sockets::Stream;
 use std::alloc::AllocError;
-use std::cell::RefCell;
 use std::io;
 use std::io::ErrorKind;
 use std::net::Shutdown;
+use std::sync::Mutex;
 
 /// How many bytes one read behind a frame that is too long drops at most.
 const DROPPED_PIECE: usize = 16_384;
@@ -29,8 +29,9 @@ pub struct SocketPort {
     // All bytes that reads gave, and that writes took. For contracts: they take no room.
     pub(crate) came: History<u8>,
     pub(crate) went: History<u8>,
-    // What comes and goes on it, where that is logged: apart, since most have none.
-    transcript: Option<Box<RefCell<Transcript>>>,
+    // What comes and goes on it, where that is logged: apart, since most have none; and under a lock
+    // that nobody else takes, so that the prover finds by itself that threads may share it.
+    transcript: Option<Box<Mutex<Transcript>>>,
 }
 
 impl SocketPort {
@@ -55,7 +56,7 @@ impl SocketPort {
     /// memory to note one.
     pub fn next_exchange(&self) -> Option<Result<Exchange, AllocError>> {
         let transcript = self.transcript.as_ref()?;
-        let mut transcript = transcript.try_borrow_mut().ok()?;
+        let mut transcript = transcript.try_lock()?;
         transcript.next_exchange()
     }
 
@@ -65,9 +66,9 @@ impl SocketPort {
         let Some(transcript) = &self.transcript else {
             return false;
         };
-        match transcript.try_borrow() {
-            Ok(transcript) => transcript.is_full(),
-            Err(_) => false,
+        match transcript.try_lock() {
+            Some(transcript) => transcript.is_full(),
+            None => false,
         }
     }
 
@@ -81,7 +82,7 @@ impl SocketPort {
         let Some(transcript) = &self.transcript else {
             return;
         };
-        if let Ok(mut transcript) = transcript.try_borrow_mut() {
+        if let Some(mut transcript) = transcript.try_lock() {
             transcript.hear(came);
             transcript.speak(went);
         }

@@ -11,9 +11,9 @@ use mac_wire::{
     next_frame, parse_request, reply_kind, request_kind,
 };
 use std::alloc::{AllocError, Global};
-use std::cell::RefCell;
 use std::collections::VecDeque;
 use std::mem;
+use std::sync::Mutex;
 
 /// How many requests may wait for their replies, where they are noted, and their connection is
 /// still read. What one read brings may pass it.
@@ -58,8 +58,8 @@ impl Transcript {
     }
 
     /// The same in memory of its own, unless that is refused.
-    pub(crate) fn apart(self) -> Option<Box<RefCell<Transcript>>> {
-        Box::new(self.alloc, RefCell::new(self)).ok()
+    pub(crate) fn apart(self) -> Option<Box<Mutex<Transcript>>> {
+        Box::new(self.alloc, Mutex::new(self)).ok()
     }
 
     /// Whether as many requests wait for their replies as may be, so that nothing more is to be read
