@@ -8,9 +8,8 @@ use crate::fault::DaemonFault;
 use crate::notice::Notice;
 use crate::quay::Quay;
 use mac_host::{Badge, Life};
-use mac_loop::{Handover, Loops, SocketPort};
+use mac_loop::{Handover, Loops};
 use mac_sockets::{Arrived, Entrance, Stream};
-use mac_wire::Session;
 use std::alloc::Global;
 use std::io::ErrorKind;
 use std::sync::{Arc, Wait};
@@ -131,23 +130,15 @@ fn begin<R: Wait + Clock>(rt: &R, alloc: Global, newcomer: Newcomer, loops: &Loo
         badge,
     } = newcomer;
     let life = Life { badge, answered: 0 };
-    let Ok(port) = SocketPort::new(stream, quay.transcript(alloc)) else {
-        quay.end(rt, life, Some(Notice::System));
-        return;
-    };
     let Some(rights) = rights else {
-        quay.end(rt, life, Some(Notice::NoMemory));
+        quay.refuse(rt, life, Notice::NoMemory);
         return;
     };
-    let client = Handover {
-        port,
-        session: Session::new(alloc),
-        rights,
-        place: 0,
-        since: badge.accepted,
-        badge,
+    let Ok(client) = Handover::begin(alloc, stream, quay.transcript(alloc), rights, badge) else {
+        quay.refuse(rt, life, Notice::System);
+        return;
     };
     if loops.hand(rt, FIRST_LOOP, client).is_err() {
-        quay.end(rt, life, Some(Notice::NoMemory));
+        quay.refuse(rt, life, Notice::NoMemory);
     }
 }

@@ -3,7 +3,7 @@
 
 use crate::notice::Notice;
 use mac_host::{Badge, Exchange, Life, Notices, Numbers, Roster, microseconds};
-use mac_loop::{PlainFault, Transcript, Turn, Watch};
+use mac_loop::{EndedLife, Transcript, Turn, Watch};
 use mac_mail::Bell;
 use std::alloc::{AllocError, Global};
 use std::sync::atomic::AtomicU64;
@@ -93,8 +93,14 @@ impl Quay {
         self.notices.tell_refused(rt, fault);
     }
 
+    /// Notes that a connection is closed which no loop had: nothing was read from it, and nothing
+    /// written to it.
+    pub fn refuse<R: Wait + Clock>(&self, rt: &R, life: Life, notice: Notice) {
+        self.end(rt, life, Some(notice));
+    }
+
     /// Notes that a connection has ended, with what is to be told of that.
-    pub fn end<R: Wait + Clock>(&self, rt: &R, life: Life, notice: Option<Notice>) {
+    fn end<R: Wait + Clock>(&self, rt: &R, life: Life, notice: Option<Notice>) {
         self.roster.leave(rt, life);
         self.numbers
             .count_ended(notice.is_some_and(Notice::is_fault));
@@ -140,20 +146,15 @@ impl Quay {
 }
 
 impl Watch for Quay {
-    fn end<R: Wait + Clock>(&self, rt: &R, life: Life, fault: Option<PlainFault>) {
-        Quay::end(self, rt, life, fault.map(Notice::Plain));
+    fn end<R: Wait + Clock>(&self, rt: &R, ended: EndedLife) {
+        Quay::end(self, rt, ended.life, ended.fault.map(Notice::Plain));
     }
 
     fn count(&self, turn: &Turn) {
         self.numbers.count_turn(&turn.requests, turn.traffic);
     }
 
-    fn tell<R: Wait + Clock>(
-        &self,
-        rt: &R,
-        badge: Badge,
-        exchange: Result<Exchange, AllocError>,
-    ) {
+    fn tell<R: Wait + Clock>(&self, rt: &R, badge: Badge, exchange: Result<Exchange, AllocError>) {
         self.say_exchange(rt, badge, exchange);
     }
 

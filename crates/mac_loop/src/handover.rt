@@ -1,10 +1,15 @@
 //! A connection on its way from one thread to another.
 
+ghost use Rattle.mac_plain.specs.Lives.{Rests};
+
 use crate::port::SocketPort;
+use crate::transcript::Transcript;
 use mac_decide::Rights;
 use mac_host::{Badge, Life};
+use mac_sockets::Stream;
 use mac_wire::Session;
 use std::alloc::Global;
+use std::io;
 use std::sync::Arc;
 
 /// A connection between two requests, which whoever takes it answers from now on.
@@ -23,9 +28,32 @@ pub struct Handover {
     pub since: u64,
     /// What it is known by.
     pub badge: Badge,
+    /// All that came on its socket is answered under its rights, but for what is carried; and what
+    /// it was answered went there, but for what is unsent.
+    pub ghost rests: { ∥ Rests rights.value port.came port.went session ∥₁ },
 }
 
 impl Handover {
+    /// A connection that was accepted just now: nothing has come on its stream. There is no other
+    /// way to begin one, so no session begins anew on a socket that was read.
+    pub fn begin(
+        alloc: Global,
+        stream: Stream,
+        transcript: Option<Transcript>,
+        rights: Arc<Rights, Global>,
+        badge: Badge,
+    ) -> io::Result<Handover> {
+        let port = SocketPort::new(stream, transcript)?;
+        Ok(Handover {
+            port,
+            session: Session::new(alloc),
+            rights,
+            place: 0,
+            since: badge.accepted,
+            badge,
+        })
+    }
+
     /// What it has come to.
     pub fn life(&self) -> Life {
         Life {

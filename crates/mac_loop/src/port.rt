@@ -14,9 +14,6 @@ use std::io::ErrorKind;
 use std::net::Shutdown;
 use std::sync::Mutex;
 
-/// How many bytes one read behind a frame that is too long drops at most.
-const DROPPED_PIECE: usize = 16_384;
-
 /// A socket that a loop reads and writes.
 #[derive(Drop)]
 pub struct SocketPort {
@@ -35,9 +32,9 @@ pub struct SocketPort {
 }
 
 impl SocketPort {
-    /// A port at a stream, whose reads and writes wait no more, and which goes on with a transcript
-    /// where there is one.
-    pub fn new(stream: Stream, transcript: Option<Transcript>) -> io::Result<SocketPort>
+    /// A port at a stream on which nothing has come or gone. Its reads and writes wait no more, and
+    /// what comes and goes is noted in a transcript where there is one.
+    pub(crate) fn new(stream: Stream, transcript: Option<Transcript>) -> io::Result<SocketPort>
         ensures { IfOk result (λ port. (port.came ≡ []) × (port.went ≡ [])) }
     {
         stream.hurry()?;
@@ -106,12 +103,6 @@ impl SocketPort {
     /// Writes nothing more: the peer reads an end behind what was written.
     pub fn end_writing(&self) {
         self.stream.shut(Shutdown::Write);
-    }
-
-    /// Reads what has come, once, and drops it.
-    pub fn drop_piece(&self) -> Came {
-        let mut piece = [0u8; DROPPED_PIECE];
-        read(&self.stream, &mut piece)
     }
 
     /// Its stream.

@@ -1,5 +1,9 @@
 //! What loops ask of the daemon around them.
 
+ghost use Rattle.std.specs.Prelude.{◌≡◌, None};
+ghost use Rattle.mac_loop.specs.Alive.{EndsWell};
+
+use crate::ended::EndedLife;
 use crate::port::SocketPort;
 use mac_count::REQUESTS;
 use mac_host::{Badge, Exchange, Life, Traffic};
@@ -34,7 +38,9 @@ pub enum PlainFault {
 
 impl PlainFault {
     /// The fault that a client ended in, on which nothing more is to be done.
-    pub fn of(client: &Client<SocketPort>) -> Option<PlainFault> {
+    pub fn of(client: &Client<SocketPort>) -> Option<PlainFault>
+        ensures { result ≡ None → EndsWell client.now }
+    {
         match client.course() {
             Course::Open | Course::Held | Course::Wide | Course::Awaiting(_) => {
                 Some(PlainFault::Write)
@@ -63,19 +69,14 @@ pub struct Turn {
 /// Who is told what becomes of the clients of loops.
 pub trait Watch: Send + Sync {
     /// A client has ended, well or in a fault.
-    fn end<R: Wait + Clock>(&self, rt: &R, life: Life, fault: Option<PlainFault>);
+    fn end<R: Wait + Clock>(&self, rt: &R, ended: EndedLife);
 
     /// A turn has ended.
     fn count(&self, turn: &Turn);
 
     /// A client of this badge was sent the reply to a request, and that is logged; or there was no
     /// memory to note one.
-    fn tell<R: Wait + Clock>(
-        &self,
-        rt: &R,
-        badge: Badge,
-        exchange: Result<Exchange, AllocError>,
-    );
+    fn tell<R: Wait + Clock>(&self, rt: &R, badge: Badge, exchange: Result<Exchange, AllocError>);
 
     /// A client that stays has had a turn, and so many bytes are unsent.
     fn see(&self, life: Life, unsent: usize);

@@ -43,7 +43,7 @@ impl Loop {
         }
     }
 
-    /// Ends the client of a slot.
+    /// Ends the client of a slot, by a fault or as it stands.
     fn end<R: Wait + Clock, W: Watch>(
         &mut self,
         rt: &R,
@@ -54,7 +54,7 @@ impl Loop {
     ) {
         if let Some(member) = self.members.slots.release(slot) {
             loops.count_unsent(member.client.unsent(), 0);
-            end_member(rt, watch, &member, fault);
+            end_member(rt, watch, member, fault);
         }
     }
 
