@@ -66,7 +66,7 @@ ONE_OPTION = "of `--into`, `--above`, `--below`, `--raise`, `--drop` and `--drop
 REVOKED = "revoked bank 616c696365\n"
 NO_LIST = "line 2: the line is not of the form `revoked NAME HEX`"
 # Who has a key file that others may use, and what mends that.
-WIDE = "the key file has mode 644, by which others than its owner may use it; `chmod 600` mends that"
+WIDE = "the file has mode 644, by which others than its owner may use it; `chmod 600` mends that"
 WEAK = "the secret has fewer than 16 bytes, which may be guessed; `macaroond keygen NAME` prints a line with 32"
 MISSING = "there is no key file; `macaroond keygen NAME --into keys` makes one"
 NO_KEY = "warning: keys: the key file has no key; `macaroond keygen NAME` prints a line for it\n"
