@@ -13,6 +13,8 @@ from check.statuses import Ending, bad
 from common import KEYS, runs
 from common.runs import Case, Run
 
+import request
+
 FOLDER = tempfile.TemporaryDirectory()
 KEYS = str(KEYS)
 TOKEN = "AgEOaHR0cDovL215YmFuay8CFndlIHVzZWQgb3VyIHNlY3JldCBrZXkAAAYg49ngKQhSbEwAOa4VEUEV2X_daL8ro3mzQqrw9hfQVS8"
@@ -96,6 +98,8 @@ SIGNATURE = f"signature: {DIGITS[-64:]}\nbytes: {len(TOKEN)}\n"
 LIST = file_of("list", f"# mine\n{REVOKED}\nrevoked shop 00".encode())
 OTHER_LIST = file_of("other", REVOKED.replace("bank", "shop").encode() + REVOKED.replace("\n", "00\n").encode())
 BAD_LIST = file_of("bad list", b"# mine\nrevoked bank 0\n")
+# What the pipe is asked: whether TOKEN is good.
+ASKED = f"{statuses.KEY}{request.verify('bank', TOKEN, 0).hex()}\n"
 BAD_DIGITS = "line 2: the identifier is not in hexadecimal, two digits a byte\n"
 GOOD_KEYS = file_of("keys", f"key bank {'0' * 64}\n".encode())
 CRLF_KEYS = file_of("crlf", b"key bank 00\r\n")
@@ -143,6 +147,9 @@ RIGHT = {
     "check_both": (Case("", ["check", "--revoked", OTHER_LIST, "--keys", GOOD_KEYS]), good("bank: one key\nrevoked lines: 2\n")),
     "taken_back": (Case("", verify("--revoked", LIST, token=TOKEN)), Ending(1, "refused 29: the token was taken back\n", "")),
     "taken_back_narrowed": (Case("", verify("--revoked", LIST)), Ending(1, "refused 29: the token was taken back\n", "")),
+    "pipe_taken_back": (Case(ASKED, ["pipe", "--revoked", LIST]), good("refused 29\n")),
+    "pipe_another_taken_back": (Case(ASKED, ["pipe", "--revoked", OTHER_LIST]), good("granted to ")),
+    "pipe_nothing_taken_back": (Case(ASKED), good("granted to ")),
     "another_taken_back": (Case("", verify("--revoked", OTHER_LIST, token=TOKEN)), good("granted\n")),
     "revoke": (Case("", ["revoke", "bank", "--identifier", "we used our secret key"]), good(REVOKED)),
     "revoke_nothing": (Case("", ["revoke", "bank", "--identifier="]), good("revoked bank \n")),
@@ -190,6 +197,12 @@ WRONG = {
     "long_words": (Case("", ["attenuate", "--caveat", "a" * 70_000, TOKEN]), bad("a text or the token is longer than 65535 bytes\n")),
     "unknown_form": (Case("", [*MINT, *IDENTIFIER, "--form", "v3"]), bad("the form of a token is v1, v2, json or v2-text\n")),
     "no_moment": (Case("", verify("--at", "tomorrow")), bad("the moment is neither seconds since 1970 nor a time as ")),
+    "pipe_without_its_list": (Case("", ["pipe", "--revoked"]), bad("a value is required for '--revoked <FILE>'")),
+    "pipe_beside_a_faulty_list": (Case("", ["pipe", "--revoked", BAD_LIST]), Ending(1, "", f"error: {BAD_LIST}: {BAD_DIGITS}")),
+    "pipe_beside_no_list": (
+        Case("", ["pipe", "--revoked", NOWHERE]),
+        failed(f"{NOWHERE}: there is no list of tokens that were taken back\n"),
+    ),
     "check_of_nothing": (Case("", ["check"]), bad("`--keys` or `--revoked` has to be given\n")),
     "check_faulty_list": (Case("", ["check", "--keys", GOOD_KEYS, "--revoked", BAD_LIST]), refused(f"error: {BAD_LIST}: {BAD_DIGITS}")),
     "verify_beside_a_faulty_list": (Case("", verify("--revoked", BAD_LIST)), failed(f"{BAD_LIST}: {BAD_DIGITS}")),

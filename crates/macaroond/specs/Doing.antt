@@ -15,7 +15,7 @@ use Rattle.mac_keys.specs.declared.change.ChangeFault.{ChangeFault}
 use Rattle.mac_keys.specs.declared.change.ChangeFault.TheVariants as change
 use Rattle.mac_keys.specs.declared.fault.KeyFault.TheVariants as key
 use Rattle.mac_keys.specs.KeyTable.{Table, table_of}
-use Rattle.mac_keys.specs.Revoked.{Revoked, revoked_of}
+use Rattle.mac_keys.specs.Revoked.{Revoked, nothing, revoked_of}
 use Rattle.mac_wire.specs.declared.request.TokenForm.{TokenForm}
 use Rattle.mac_words.specs.Escaped.{escaped}
 use Rattle.mac_words.specs.KeyLine.{GivesLine}
@@ -65,6 +65,11 @@ IsKeyTable table = (text : List ℕ) × (table_of text ≡ Ok table)
 -- the list is that of some text
 abbrev pub IsList : Revoked → Type 0
 IsList list = (text : List ℕ) × (revoked_of text ≡ Ok list)
+
+-- the list is that of some text where one is named, else nothing was taken back
+abbrev pub IsListOf : {X : Type 0} → Option X → Revoked → Type 0
+IsListOf None list = list ≡ nothing
+IsListOf (Some place) list = IsList list
 
 -- the second table is the first one, with the list of some text where one is named
 abbrev pub TakesList : {X : Type 0} → Option X → Table → Table → Type 0

@@ -17,13 +17,20 @@ pub enum Chosen {
 #[derive(Drop)]
 pub enum Choice {
     /// Answer the requests on standard input, each by a line on standard output.
-    Pipe,
+    Pipe(PipeOptions),
     /// Answer the requests of so many connections over a socket, and end.
     Serve(ServeOptions),
     /// Answer requests over a socket until told to end.
     Listen(ListenOptions),
     /// Show a browser of this machine a page, and answer it.
     Page(PageOptions),
+}
+
+/// What `pipe` is told.
+#[derive(Drop)]
+pub struct PipeOptions {
+    /// The path of a list of tokens that were taken back.
+    pub revoked: Option<String>,
 }
 
 /// What `serve` is told.

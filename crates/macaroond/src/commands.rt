@@ -155,19 +155,23 @@ pub fn build_command<'a>(alloc: Global) -> Result<Command<'a>, AllocError>
         .version(VERSION)
         .subcommand_required(true)
         .disable_help_subcommand(true);
-    let program = add_subcommand(program, build_pipe(alloc))?;
+    let program = add_subcommand(program, build_pipe(alloc)?)?;
     let program = add_subcommand(program, build_serve(alloc)?)?;
     let program = add_subcommand(program, build_listen(alloc)?)?;
     let program = add_subcommand(program, build_page(alloc)?)?;
     add_people(alloc, program)
 }
 
-/// The subcommand `pipe`, which takes no options.
-fn build_pipe<'a>(alloc: Global) -> Command<'a>
-    ensures { app_of result ≡ pipe_command }
+/// The subcommand `pipe`, whose option may be left out.
+fn build_pipe<'a>(alloc: Global) -> Result<Command<'a>, AllocError>
+    ensures { IfOk result (λ pipe. app_of pipe ≡ pipe_command) }
 {
     let about = "Answers the requests on standard input, one line each";
-    build_subcommand(alloc, "pipe", about, PIPE_HELP)
+    let pipe = build_subcommand(alloc, "pipe", about, PIPE_HELP);
+    add_arg(
+        pipe,
+        build_option(alloc, "revoked", "FILE", ONCE_REVOKED_HELP),
+    )
 }
 
 /// The subcommand `serve`: four of its options have to be given.

@@ -17,15 +17,17 @@ Output, once the whole input is read, a line for each request:
   refused 24 N    caveat N, counted from 0, is the first that isn't satisfied
   refused N       16 no request, 17 too long, 18 no such key, 19 no base64 text, 20 no token,
                   21 a third-party caveat, 22 past a limit, 23 a wrong signature,
-                  26 a caveat with a location, 28 a clock that tells no moment
+                  26 a caveat with a location, 28 a clock that tells no moment,
+                  29 a token that was taken back
 
 Exit status:
   0  every request was answered, be it granted or refused
   1  a key line has a fault; standard error names it as `keys: line L kind K`: 1 a bad name,
      2 a secret that isn't hexadecimal, 3 an empty secret, 4 a name that stands on two earlier
-     lines, 5 more than 1000 names, 6 a line that is no key line
+     lines, 5 more than 1000 names, 6 a line that is no key line; or a line of the list has one,
+     which is named as `error: FILE: line L:` and what is wrong
   2  a bad command line
-  3  reading or writing failed, or the input is longer than it may be
+  3  reading or writing failed, or the input or the list is longer than it may be
   4  memory ran out";
 
 /// What the help of `serve` says below its options.

@@ -1,6 +1,6 @@
 //! A list of tokens that were taken back, as the system shows it.
 ghost use Rattle.std.specs.Prelude.{IfOk, OnOk};
-ghost use Rattle.macaroond.specs.Doing.{IsList, TakesList};
+ghost use Rattle.macaroond.specs.Doing.{IsList, IsListOf, TakesList};
 
 use crate::key_store::{exposure_told, find_state, state_of};
 use crate::status::Status;
@@ -59,6 +59,20 @@ where
         Ok(()) => Ok(()),
         Err(_) => Err(tell_fault(rt, Status::NoMemory)),
     }
+}
+
+/// The list of a place; where there is none, nothing was taken back. Else says why it isn't taken,
+/// and how the run ends.
+pub(crate) fn find_list<R>(rt: &R, place: Option<ListPlace<'_>>) -> Result<RevokedList, Status>
+where
+    R: Files<File = File> + Alloc<A = Global> + Eprint,
+    ensures { IfOk result (IsListOf place.entry) }
+{
+    let Some(place) = place else {
+        return Ok(RevokedList::none());
+    };
+    let first = find_first_list(rt, place)?;
+    Ok(first.list)
 }
 
 /// What a list gives first. Else says why it isn't taken, and how the run ends.

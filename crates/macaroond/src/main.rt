@@ -5,6 +5,7 @@
 #![tactic(auto)]
 
 ghost use Rattle.std.specs.Prelude.{◌≡◌, ◌≤◌, if◌then◌else◌, IfErr, IfOk, IfSome, None};
+ghost use Rattle.std.specs.Option.{is_some};
 ghost use Rattle.mac_pool.specs.declared.pool.TheConstants.{WORKERS_MAX};
 ghost use Rattle.macaroond.specs.CommandLine.{permissions};
 ghost use Rattle.macaroond.specs.Doing.{IsKeyTable, IsList};
@@ -43,7 +44,9 @@ mod serving;
 mod status;
 mod telling;
 
-pub use choices::{Choice, Chosen, HttpOptions, ListenOptions, Mode, PageOptions, ServeOptions};
+pub use choices::{
+    Choice, Chosen, HttpOptions, ListenOptions, Mode, PageOptions, PipeOptions, ServeOptions,
+};
 pub use command_line::{choose, read_words};
 use commands::VERSION;
 pub use commands::{
@@ -56,7 +59,7 @@ use http::plan_http;
 pub use input::INPUT_MAX;
 use key_store::{KeyPlace, read_first};
 use key_watch::{Followed, Found, Sockets, listen_and_watch};
-use list_store::{ListPlace, find_first_list};
+use list_store::{ListPlace, find_first_list, find_list};
 use logging::read_log;
 use mac_daemon::{DaemonTerms, Shape};
 use mac_host::Logged;
@@ -65,7 +68,7 @@ use mac_sockets::PathClaim;
 use mac_system::SystemMoments;
 use mac_wire::{ReaderSource, WriterSink};
 use page::run_page;
-use people::{admit_keys, run_task};
+use people::{admit_keys, run_task, warn_of_readers};
 pub use people::{PersonFault, Task};
 pub use piping::pipe;
 use rights::read_sockets;
@@ -150,7 +153,7 @@ where
     R::Reader: Send,
 {
     match choice {
-        Choice::Pipe => run_pipe(rt),
+        Choice::Pipe(options) => run_pipe(rt, &options),
         Choice::Serve(options) => run_serve(rt, &options),
         Choice::Listen(options) => run_listen(rt, &options, process),
         Choice::Page(options) => run_page(rt, &options),
@@ -308,13 +311,33 @@ fn name_terms<'a, R: Threads>(
 }
 
 /// Pipes standard input to standard output, and says how the run ended.
-fn run_pipe<R: Alloc<A = Global> + Input + Print + Eprint + Clock + Sync>(rt: &R) -> Status
+fn run_pipe<R>(rt: &R, options: &PipeOptions) -> Status
 where
+    R: Alloc<A = Global> + Input + Print + Eprint + Files<File = File> + Clock + Sync,
     R::Reader: Send,
 {
+    let list = match find_list(rt, place_of_list(options)) {
+        Ok(list) => list,
+        Err(status) => return status,
+    };
+    if let Some(path) = &options.revoked {
+        warn_of_readers(rt, path.as_str());
+    }
     let mut source = ReaderSource::new(rt.reader());
     let mut sink = WriterSink::new(io::writer(rt));
     let mut clock = SystemMoments::new(rt);
-    let ending = pipe(rt.alloc(), &mut source, &mut clock, &mut sink);
+    let ending = pipe(rt.alloc(), &list, &mut source, &mut clock, &mut sink);
     tell_ending(rt, ending)
+}
+
+/// The place of the list of tokens that were taken back, where one is named. The pipe warns of a
+/// file that others may use, and takes it.
+fn place_of_list<'a>(options: &'a PipeOptions) -> Option<ListPlace<'a>>
+    ensures { is_some result ≡ is_some options.now.revoked }
+{
+    options.revoked.as_deref().map(|path| ListPlace {
+        path,
+        of_others: true,
+        may_empty: true,
+    })
 }

@@ -7,7 +7,9 @@ ghost use Rattle.macaroond.specs.Options.{ChoosesHttp, HasHttpOptions, HasServeO
 ghost use Rattle.macaroond.specs.Options.{IsGiven, MayRead, Reads};
 ghost use Rattle.macaroond.specs.declared.options.OptionFault.TheVariants.{NoMemory};
 
-use crate::choices::{Choice, HttpOptions, ListenOptions, Mode, PageOptions, ServeOptions};
+use crate::choices::{
+    Choice, HttpOptions, ListenOptions, Mode, PageOptions, PipeOptions, ServeOptions,
+};
 use crate::people::{read_flag, read_optional_text};
 use clap::ArgMatches;
 use std::alloc::{AllocError, Global};
@@ -39,12 +41,21 @@ pub fn read_choice(
     ensures { Chooses name.now (rows_of (found_of options.now)) result }
 {
     match name {
-        "pipe" => Ok(Choice::Pipe),
+        "pipe" => read_pipe(alloc, options),
         "serve" => read_serve(alloc, options),
         "listen" => read_listen(alloc, options),
         "page" => read_page(alloc, options),
         _ => unreachable!("the subcommand is one of those above"),
     }
+}
+
+/// The choice of the options of `pipe`.
+fn read_pipe(alloc: Global, options: &ArgMatches<'_>) -> Result<Choice, OptionFault>
+    ensures { Chooses (codes "pipe") (rows_of (found_of options.now)) result }
+{
+    Ok(Choice::Pipe(PipeOptions {
+        revoked: read_optional_text(alloc, options, "revoked")?,
+    }))
 }
 
 /// The choice of the options of `serve`.
