@@ -21,7 +21,7 @@ import time
 sys.path.insert(0, str(pathlib.Path(__file__).resolve().parents[1]))
 from check import changing_keys
 from check.changing_keys import AWAITED, GRANTED, SECRETS, UP_WITHIN, Asker, Probe, json_token, lines
-from common.daemon import Daemon, awaited, frame, listening, put_keys
+from common.daemon import Daemon, awaited, begun, come_to, connected, ending, frame, listening, put_keys, refused, serve_command
 from common.rows import judged, of_each
 from common.tokens import text_of, v1, v2
 from measure import load
@@ -42,6 +42,8 @@ NONE = "# none\n"
 # How many lines a list has at most that is measured, and how long a load goes on.
 MILLION, SECONDS = 1_000_000, 2
 STATUS = re.compile(rb"HTTP/1\.1 (\d{3}) ")
+# How the daemon tells how many lines are up.
+NUMBER = re.compile(rb"^macaroond_revoked (\d+)$", re.M)
 
 
 def taken_back(*pairs):
@@ -61,6 +63,13 @@ class Revoking(Daemon):
 
     def take_back(self, text):
         put_keys(self.revoked, text)
+
+    def lines_up(self):
+        """How many lines are up, as it tells over HTTP."""
+        with connected(self.http) as stream:
+            stream.sendall(b"GET /metrics HTTP/1.1\r\nHost: here\r\nConnection: close\r\n\r\n")
+            told = b"".join(iter(lambda: stream.recv(65_536), b""))
+        return [int(count) for count in NUMBER.findall(told)]
 
     def told_of_list(self):
         """What it has told of its list: how many lines were read anew, or why none were."""
@@ -256,13 +265,71 @@ def faulty_files():
             daemon.close()
 
 
+def emptied():
+    """A list that has lost all its lines is taken where an operator or the list itself says that this is meant."""
+    text, gone = taken_back(("bank", GONE)), plain_verify("bank", "old", GONE)
+    for what, none, words in (("an operator", "", ["--allow-empty-revoked"]), ("the list", NONE, [])):
+        folder, daemon = revoking(text, *words)
+        with folder:
+            try:
+                probe = Probe(daemon.path)
+                yield f"{what}: before", (probe.ask(gone), come_to(daemon.lines_up, [1])), (REVOKED, [1])
+                daemon.take_back(none)
+                yield f"{what}: taken", probe.await_reply(gone, GRANTED, UP_WITHIN), True
+                yield f"{what}: no line is up", come_to(daemon.lines_up, [0]), [0]
+                daemon.take_back(text + taken_back(("bank", STAYS)))
+                yield f"{what}: and back", probe.await_reply(gone, REVOKED, UP_WITHIN), True
+                yield f"{what}: two lines are up", come_to(daemon.lines_up, [2]), [2]
+            finally:
+                daemon.close()
+
+
+def of_others():
+    """A list that others may read isn't taken, and is once they may not."""
+    folder, daemon = revoking(taken_back(("bank", GONE)))
+    with folder:
+        try:
+            probe, gone, stays = Probe(daemon.path), plain_verify("bank", "old", GONE), plain_verify("bank", "old", STAYS)
+            beside = daemon.folder / "beside"
+            put_keys(beside, taken_back(("bank", STAYS)))
+            beside.chmod(0o644)
+            beside.rename(daemon.revoked)
+            told = awaited(daemon.told_of_list, patience=10)
+            yield "it is told", [("mode 644" in one, "chmod 600" in one) for one in told], [(True, True)]
+            yield "and the one before stays", (probe.ask(gone), probe.ask(stays)), (REVOKED, GRANTED)
+            daemon.revoked.chmod(0o600)
+            yield "it is taken", probe.await_reply(stays, REVOKED, UP_WITHIN), True
+            yield "with its own tokens alone", probe.ask(gone), GRANTED
+        finally:
+            daemon.close()
+
+
+def at_the_start():
+    """A list that has a fault or is missing keeps a daemon from starting, and `serve` has one too."""
+    with tempfile.TemporaryDirectory() as folder:
+        keys, revoked, path = (f"{folder}/{name}" for name in ("keys", "revoked", "socket"))
+        put_keys(keys, lines(bank=["old"], shop=["other"]))
+        missing = refused(path, "--revoked", revoked, keys=keys)
+        due = f"error: {revoked}: there is no list of tokens that were taken back\n"
+        yield "a missing one", (missing.returncode, missing.stderr), (3, due)
+        put_keys(revoked, NONE + "revoked bank\n")
+        faulty = refused(path, "--revoked", revoked, keys=keys)
+        due = f"error: {revoked}: line 2: the line is not of the form `revoked NAME HEX`\n"
+        yield "a faulty one", (faulty.returncode, faulty.stderr), (1, due)
+        put_keys(revoked, taken_back(("bank", GONE)))
+        with ending(begun([*serve_command(path, accept=1, keys=keys), "--revoked", revoked])):
+            probe = Probe(path)
+            asked = [plain_verify("bank", "old", GONE), plain_verify("bank", "old", STAYS), plain_verify("shop", "other", GONE)]
+            yield "serve", [probe.ask(one) for one in asked], [REVOKED, GRANTED, GRANTED]
+
+
 def faults(asked=ASKED_IN_GATE):
     """What went otherwise than it must, and how many checks there were."""
 
     def taken_back_under_load():
         return under_load(asked)
 
-    return judged(of_each(taken_back_under_load, order_of_refusals, faulty_files))
+    return judged(of_each(taken_back_under_load, order_of_refusals, faulty_files, emptied, of_others, at_the_start))
 
 
 # ---- what a long list costs
