@@ -100,19 +100,13 @@ def many_torn(folder):
         for _ in range(TORN):
             with connected(path) as stream:
                 stream.sendall(bytes(3))
-        awaited(lambda: counted(log.lines()) >= TORN)
+        awaited(lambda: counted_of("connection_fault", log.lines()) >= TORN)
     lines = log.lines()
-    yield "each is told or counted", counted(lines), TORN
+    yield "each is told or counted", counted_of("connection_fault", lines), TORN
     yield "left_out", told(log.first("left_out"), "kind"), ("warning", "connection_fault")
     seconds = [text[:19] for text in log.text().splitlines() if " connection_fault " in text]
     # Seconds of the clock are not those of the quota, so that two of these can lie in one of those.
     yield "at most ten a second", max(map(seconds.count, seconds)) <= 2 * LINES_MAX, True
-
-
-def counted(lines):
-    """How many faults of connections these lines tell of."""
-    left_out = [int(line.fields["count"]) for line in lines if line.fields.get("kind") == "connection_fault"]
-    return sum(left_out) + sum(line.what == "connection_fault" for line in lines)
 
 
 def few_descriptors(folder):
@@ -259,21 +253,31 @@ def requests(folder):
 
 def unread(_folder):
     """Where nobody reads the lines, those of requests leave room for others."""
+    yield from flooded("requests", "request", frame(b""), NO_REQUEST)
+
+
+def unread_mints(_folder):
+    """The same of tokens that are minted."""
+    yield from flooded("mints", "mint", frame(MINT), frame(b"\x01" + TOKEN))
+
+
+def flooded(words, kind, asked, due):
+    """A flood of requests, each of which has a line of this kind, or is counted."""
     reading, writing = os.pipe()
     os.set_blocking(reading, False)
-    with daemon.listening("--workers", "2", "--loops", "1", "--log", "requests", stderr=writing) as (path, _):
+    with daemon.listening("--workers", "2", "--loops", "1", "--log", words, stderr=writing) as (path, _):
         os.close(writing)
         with connected(path) as stream:
-            stream.sendall(frame(b"") * FLOOD)
-            received(stream, len(NO_REQUEST) * FLOOD)
+            stream.sendall(asked * FLOOD)
+            received(stream, len(due) * FLOOD)
         with connected(path) as stream:
             stream.sendall(bytes(3))
         with connected(path) as stream:
-            stream.sendall(frame(b""))
-            yield "no reply waits for a line", received(stream, len(NO_REQUEST)), NO_REQUEST
-        lines = read_until(reading, lambda lines: counted_requests(lines) > FLOOD)
+            stream.sendall(asked)
+            yield "no reply waits for a line", received(stream, len(due)), due
+        lines = read_until(reading, lambda lines: counted_of(kind, lines) > FLOOD)
     os.close(reading)
-    yield "each is told or counted, though nobody read", counted_requests(lines), FLOOD + 1
+    yield "each is told or counted, though nobody read", counted_of(kind, lines), FLOOD + 1
     faults = [line.fields["fault"] for line in lines if line.what == "connection_fault"]
     yield "a fault has room behind them", faults, ["the stream ended inside a frame"]
 
@@ -288,10 +292,10 @@ def read_until(reading, is_all):
     return lines
 
 
-def counted_requests(lines):
-    """How many requests these lines tell of."""
-    left_out = [int(line.fields["count"]) for line in lines if line.fields.get("kind") == "request"]
-    return sum(left_out) + sum(line.what == "request" for line in lines)
+def counted_of(kind, lines):
+    """How many lines of this kind were printed or left out."""
+    left_out = [int(line.fields["count"]) for line in lines if line.fields.get("kind") == kind]
+    return sum(left_out) + sum(line.what == kind for line in lines)
 
 
 def requests_over_http(folder):
@@ -412,5 +416,5 @@ def page():
 
 def faults():
     parts = [connections, many_torn, few_descriptors, replaced, refused_step, key_files, lists, long_path, journal]
-    seen = list(in_folders(*parts, requests, unread, requests_over_http, mints, no_requests))
+    seen = list(in_folders(*parts, requests, unread, requests_over_http, mints, unread_mints, no_requests))
     return judged([*seen, *page()])
