@@ -30,7 +30,7 @@ _macaroond() {
                 words=(pipe serve listen page keygen check mint attenuate verify inspect status revoke --help --version)
             else
                 case ${COMP_WORDS[1]} in
-                    pipe) words=(--help) ;;
+                    pipe) words=(--revoked --help) ;;
                     serve) words=(--socket --keys --workers --accept --keys-of-others --revoked --help) ;;
                     listen) words=(--socket --keys --workers --mode --idle --loops --connections --drain --remember --names --verify-socket --verify-mode --verify-names --replace --log --keys-of-others --revoked --allow-empty-revoked --http --http-anywhere --http-mode --http-connections --http-patience --http-granted --http-facts --http-strict-paths --http-names --http-calls --http-calls-mode --http-calls-allow --http-calls-names --http-allow --http-admin --help) ;;
                     page) words=(--address --keys --revoked --help) ;;
