@@ -89,7 +89,7 @@ const REPLACE_HELP: &str =
 const LOG_HELP: &str = "What is logged besides: requests, mints or both, with a comma between, \
     a line for each [default: nothing]";
 
-const OTHERS_HELP: &str = "Takes a key file that others may use too, which is refused without this";
+const OTHERS_HELP: &str = "Takes files that others may use too, which are refused without this";
 
 const HTTP_HELP: &str =
     "Where gateways ask over HTTP: unix:PATH, 127.0.0.1:PORT or [::1]:PORT, with commas between";

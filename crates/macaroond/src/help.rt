@@ -41,9 +41,10 @@ Example:
 
 Exit status:
   0  all connections were served
-  1  a key line has a fault; standard error names it as `keys: line L kind K`
+  1  a key line has a fault; standard error names it as `keys: line L kind K`; or a line of the list
+     has one, which is named as `error: FILE: line L:` and what is wrong
   2  a bad command line
-  3  a file or the socket failed, or the key file is longer than it may be
+  3  a file or the socket failed, or a file is longer than it may be
   4  memory ran out";
 
 /// What the help of `listen` says below its options.
@@ -58,10 +59,10 @@ Without --idle a connection is ended that has sent nothing whole for 300 seconds
 answered, or that began a request since. One that rests, or that is owed replies, stays.
 
 Runs until SIGTERM or SIGINT. Then it takes no more connections, answers what has come, closes each
-connection once its replies are sent, and ends. A second signal ends it at once. The key file is
-looked at twice a second, and at SIGHUP. A changed one is taken where it has no fault. It has to
-belong to root or the daemon's user, be closed to others, and its group may read it at most, where
-that is the daemon's own.
+connection once its replies are sent, and ends. A second signal ends it at once. The key file and
+the list of --revoked are looked at twice a second, and at SIGHUP. A changed one is taken where it
+has no fault. Each has to belong to root or the daemon's user, be closed to others, and its group
+may read it at most, where that is the daemon's own.
 
 Over HTTP a gateway asks for /verify/NAME with the field `Authorization: Bearer TOKEN`. It gets 200
 where the token is granted, and else 401, 403 or 404. /healthz tells whether the daemon is well.
@@ -73,9 +74,10 @@ Example:
 
 Exit status:
   0  it was told to end
-  1  a key line has a fault; standard error names it as `error: FILE: line L:` and what is wrong
+  1  a line of the key file or of the list has a fault; standard error names it as
+     `error: FILE: line L:` and what is wrong
   2  a bad command line
-  3  a file or the socket failed, or the key file is longer than it may be
+  3  a file or the socket failed, or a file is longer than it may be
   4  memory ran out";
 
 /// What the help of `page` says below its options.
@@ -90,7 +92,8 @@ Example:
   macaroond page --keys keys
 
 Exit status:
-  1  a key line has a fault; standard error names it as `error: FILE: line L:` and what is wrong
+  1  a line of the key file or of the list has a fault; standard error names it as
+     `error: FILE: line L:` and what is wrong
   2  a bad command line, or an address that other machines may reach
-  3  a file, the socket or standard output failed, or the key file is longer than it may be
+  3  a file, the socket or standard output failed, or a file is longer than it may be
   4  memory ran out";

@@ -157,8 +157,8 @@ where
         lines = list.lines();
     }
     let started = start_all(rt, terms, sockets, &editor, handed, holdings)?;
-    started.daemon.open(rt, terms, holdings)?;
     started.daemon.tell_list_lines(lines);
+    started.daemon.open(rt, terms, holdings)?;
     let watched = Watched {
         followed,
         socket: terms.path,
