@@ -1,5 +1,6 @@
 """Stores that are no etcd: each request ends in time, with an answer that is one or a fault that says what is wrong."""
 import contextlib
+import http.client
 import json
 import socket
 import ssl
@@ -7,6 +8,7 @@ import threading
 import time
 import unittest
 
+from macaroond_fleet import https
 from macaroond_fleet.errors import FleetError, StoreAway
 from macaroond_fleet.store import Change, Store, User, text64
 
@@ -113,6 +115,7 @@ class Hostile(unittest.TestCase):
             always(answer({"kvs": [entry(b"", revision="-1")]})): "isn't etcd's",
             always(answer({"kvs": [entry(b"", revision=True)]})): "isn't etcd's",
             always(answer({"kvs": [entry(b"", revision="9" * 100)]})): "isn't etcd's",
+            always(answer({"kvs": [entry(b"", revision="\u00b2")]})): "isn't etcd's",
             always(answer({"kvs": [entry(b"0" * 1001)]})): "more than 1000 bytes",
             always(answer({"kvs": [entry(b"0" * 200_000)]})): "more than",
             always(b"SSH-2.0-OpenSSH\r\n"): "",
@@ -126,6 +129,22 @@ class Hostile(unittest.TestCase):
         }.items():
             with self.subTest(why):
                 self.refuses(serve, why)
+
+    def test_a_connection_that_is_made_too_late(self):
+        """The moment passes while it is made, as in a slow handshake: what is answered then may have no end."""
+
+        class Late(http.client.HTTPConnection):
+            def connect(self):
+                time.sleep(1.2 * PATIENCE)
+                super().connect()
+
+        server = Server(self, dripping)
+        late, begin = https.Server(server.url, None, PATIENCE), time.monotonic()
+        late.connection = lambda: Late(late.host, late.port, timeout=PATIENCE)
+        with self.assertRaisesRegex(https.Failed, "in time"):
+            late.post("/", {}, {}, 1000)
+        self.assertLess(time.monotonic() - begin, 10 * PATIENCE)
+        self.assertEqual(server.requests, [])
 
     def test_what_isn_t_there(self):
         self.assertIsNone(self.store(always(answer({}))).get(KEY, 10))
@@ -191,7 +210,7 @@ class Hostile(unittest.TestCase):
 
     def test_leases(self):
         self.assertEqual(self.store(always(answer({"ID": "12"}))).grant(5), 12)
-        for told in ({}, {"ID": "x"}, {"ID": None}):
+        for told in ({}, {"ID": "x"}, {"ID": None}, {"ID": "\u00b2"}):
             with self.subTest(told), self.assertRaises(StoreAway):
                 self.store(always(answer(told))).grant(5)
         self.assertTrue(self.store(always(answer({"result": {"ID": "12", "TTL": "5"}}))).keep(12))
