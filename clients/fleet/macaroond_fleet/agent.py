@@ -149,7 +149,7 @@ class Agent:
         self.news: queue.SimpleQueue[None] = queue.SimpleQueue()
         self.wanted: Optional[Wanted] = None
         self.look_at, self.taken_at = 0.0, 0.0
-        self.lease, self.keep_at = 0, 0.0
+        self.lease, self.is_here, self.keep_at = 0, False, 0.0
         # What went wrong with the store and what it has, with the files, and in telling it; and what was told last.
         self.of_store, self.of_files, self.of_telling = "", "", ""
         self.said, self.noted = (-1, ""), ""
@@ -272,14 +272,23 @@ class Agent:
         self.said = news
 
     def keep_lease(self) -> None:
-        """Says that this run is there, for as long as its lease is kept; one that ended is begun anew."""
+        """Says that this run is there, for as long as its lease is kept. One that ended is begun anew, and what was taken away is said again."""
         if time.monotonic() < self.keep_at:
             return
         if not self.lease or not self.store.keep(self.lease):
-            self.lease, self.said = self.store.grant(max(2, round(self.beat * BEATS_OF_LEASE))), (-1, "")
-            here = key_of(self.settings.fleet, "here", self.settings.member)
-            self.store.put(Change({here: self.run_name.encode()}, lease=self.lease))
+            self.lease, self.is_here = self.store.grant(max(2, round(self.beat * BEATS_OF_LEASE))), False
+        if self.says_here():
+            self.is_here, self.said = True, (-1, "")
         self.keep_at = time.monotonic() + self.beat * 0.9
+
+    def says_here(self) -> bool:
+        """Whether it had to be said under this lease: at first in the place of an earlier run's word, then where nothing stands there."""
+        here = key_of(self.settings.fleet, "here", self.settings.member)
+        word = Change({here: self.run_name.encode()}, lease=self.lease)
+        if self.is_here:
+            return self.store.change(word, (here, 0))
+        self.store.put(word)
+        return True
 
     def note(self) -> None:
         """Says in the log what is another thing than it said last."""

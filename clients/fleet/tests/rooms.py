@@ -75,15 +75,17 @@ class MemoryStore:
         self.revision += 1
         for key, value in change.puts.items():
             self.held[key] = Entry(key, value, self.revision)
+            for keys in self.leases.values():
+                keys.discard(key)
             if change.lease:
-                self.leases.setdefault(change.lease, []).append(key)
+                self.leases[change.lease].add(key)
         for key in change.deletes:
             self.held.pop(key, None)
 
     def grant(self, seconds):
         self.asked()
         self.revision += 1
-        self.leases[self.revision] = []
+        self.leases[self.revision] = set()
         return self.revision
 
     def keep(self, lease):
@@ -92,7 +94,7 @@ class MemoryStore:
 
     def end(self, lease):
         self.asked()
-        for key in self.leases.pop(lease, []):
+        for key in self.leases.pop(lease, set()):
             self.held.pop(key, None)
 
     def watch(self, prefix, wake):

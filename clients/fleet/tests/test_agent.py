@@ -6,7 +6,7 @@ import unittest
 import unittest.mock
 
 from macaroond_fleet import form, operate, sealing
-from macaroond_fleet.errors import FleetError, ToolAway
+from macaroond_fleet.errors import FleetError, StoreAway, ToolAway
 from macaroond_fleet.form import HEAD_MAX, Head, KeyFile, key_of
 from macaroond_fleet.sealing import digest_of
 from macaroond_fleet.store import Change
@@ -348,6 +348,45 @@ class Files(unittest.TestCase):
         self.assertIn(here, self.room.store.held)
         agent.leave()
         self.assertNotIn(here, self.room.store.held)
+
+    def kept(self, agent):
+        """What the operator knows of the member once its agent has kept its lease."""
+        agent.keep_at = 0.0
+        up(self.room, agent)
+        return self.room.fleet().look()[1][0]
+
+    def test_what_was_taken_away_is_said_again(self):
+        """A member that was removed and is one again, or a fleet that was begun anew, by an agent that was there all the time."""
+        agent = up(self.room, self.room.agent("one"))
+        operate.remove_member(self.fleet, "one")
+        up(self.room, agent)
+        operate.add_member(self.fleet, "one", self.room.certificate("one"))
+        self.assertTrue(self.kept(agent).is_up(self.fleet.state().head.serial))
+        self.room.store.held = {}
+        self.fleet = self.room.begun("one")
+        self.assertTrue(self.kept(agent).is_up(self.fleet.state().head.serial))
+
+    def test_a_lease_under_which_nothing_could_be_said(self):
+        agent, put = self.room.agent("one"), self.room.store.put
+
+        def broken(change):
+            raise StoreAway("it doesn't answer in time")
+
+        self.room.store.put = broken
+        agent.turn()
+        self.assertIn("in time", agent.of_telling)
+        self.room.store.put = put
+        self.assertTrue(self.kept(agent).is_up(self.fleet.state().head.serial))
+
+    def test_another_run_s_word_stays(self):
+        """Of two agents of one member the later one counts, and the first one again once that is gone."""
+        agents = [up(self.room, self.room.agent("one")) for _ in range(2)]
+        self.kept(agents[0])
+        here = key_of("shop", "here", "one")
+        self.assertEqual(self.room.store.held[here].value, agents[1].run_name.encode())
+        agents[1].leave()
+        self.kept(agents[0])
+        self.assertEqual(self.room.store.held[here].value, agents[0].run_name.encode())
 
     def test_a_state_that_is_none(self):
         up(self.room, self.room.agent("one"))
