@@ -62,7 +62,7 @@ class Taken:
         except OSError as fault:
             raise FleetError(f"{self.path}: {fault.strerror}") from fault
         except (ValueError, KeyError, TypeError) as fault:
-            raise FleetError(f"{self.path}: it isn't what was written there; without it, what is old can't be told") from fault
+            raise FleetError(f"{self.path}: it isn't what was written there; without it, what is old can't be told. Look at the store by `status`, then remove it") from fault
         if not is_number(serial) or not is_digest(digest):
             raise FleetError(f"{self.path}: it has no serial")
         return serial, digest
@@ -75,26 +75,30 @@ class Taken:
             raise NotTaken(f"the store has another head of serial {head.serial} than was taken")
 
     def keep(self, head: Head, digest: str) -> None:
-        """Keeps a head that was taken, unless another run has kept a later one meanwhile."""
+        """Keeps a head that is taken, unless another run has kept a later one meanwhile."""
         if (head.serial, digest) == (self.serial, self.digest):
             return
+        try:
+            self.bring_to_disk(head.serial, digest)
+        except OSError as fault:
+            raise FleetError(f"{self.path}: {fault.strerror}") from fault
         self.serial, self.digest = head.serial, digest
+
+    def bring_to_disk(self, serial: int, digest: str) -> None:
         self.path.parent.mkdir(mode=0o700, parents=True, exist_ok=True)
         folder = os.open(self.path.parent, os.O_RDONLY | os.O_DIRECTORY)
         try:
             fcntl.flock(folder, fcntl.LOCK_EX)
-            if head.serial > self.found()[0]:
-                self.write()
+            if serial > self.found()[0]:
+                beside = self.path.with_suffix(".new")
+                with open(beside, "w") as file:
+                    json.dump({"serial": serial, "digest": digest}, file)
+                    file.flush()
+                    os.fsync(file.fileno())
+                beside.rename(self.path)
+                os.fsync(folder)
         finally:
             os.close(folder)
-
-    def write(self) -> None:
-        beside = self.path.with_suffix(".new")
-        with open(beside, "w") as file:
-            json.dump({"serial": self.serial, "digest": self.digest}, file)
-            file.flush()
-            os.fsync(file.fileno())
-        beside.rename(self.path)
 
 
 class Objects:
@@ -213,9 +217,10 @@ class Agent:
         self.taken.require_new(head, digest)
         if self.settings.member not in head.members:
             raise NotTaken(f"{self.settings.member} is no member of the fleet")
-        self.wanted = wanted_of(head, digest, self.objects.of(head), self.settings.identity)
+        wanted = wanted_of(head, digest, self.objects.of(head), self.settings.identity)
+        # First, so that no file has what a later run wouldn't know as taken.
         self.taken.keep(head, digest)
-        self.taken_at = time.monotonic()
+        self.wanted, self.taken_at = wanted, time.monotonic()
 
     def settle(self) -> None:
         """Brings the files to what is wanted, and learns what the daemon has read of them."""

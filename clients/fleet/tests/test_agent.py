@@ -388,6 +388,19 @@ class Files(unittest.TestCase):
         self.kept(agents[0])
         self.assertEqual(self.room.store.held[here].value, agents[0].run_name.encode())
 
+    def test_a_state_that_can_t_be_written(self):
+        """What isn't kept isn't taken, and it is tried again."""
+        agent, state = self.room.agent("one"), self.room.folder / "one" / "state"
+        state.write_text("")
+        for _ in range(2):
+            agent.look_at = 0.0
+            agent.turn()
+            self.assertIn("state/shop.taken: ", agent.why())
+            self.assertEqual(self.room.files("one"), [None, None])
+        state.unlink()
+        self.assertTrue(up(self.room, agent).is_up(), agent.why())
+        self.assertEqual(self.room.agent("one").taken.serial, agent.up())
+
     def test_a_state_that_is_none(self):
         up(self.room, self.room.agent("one"))
         (self.room.folder / "one" / "state" / "shop.taken").write_text("{")
