@@ -72,6 +72,8 @@ class MemoryStore:
 
     def put(self, change):
         self.asked()
+        if len(change.puts) + len(change.deletes) > 128:
+            raise StoreAway("etcdserver: too many operations in txn request")
         self.revision += 1
         for key, value in change.puts.items():
             self.held[key] = Entry(key, value, self.revision)
