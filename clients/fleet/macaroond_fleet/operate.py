@@ -251,17 +251,26 @@ def require_takable(head: Head, objects: Dict[str, bytes]) -> None:
 # The key file, the members, a key's change, and revocations.
 
 
-def begin(fleet: Fleet, keys: KeyFile, revoked: List[Tuple[str, str]], is_first: bool) -> Head:
-    """Publishes a key file and revocations in the place of those that are there, or as the first ones."""
+def require_kept(were: KeyFile, keys: KeyFile) -> None:
+    """A key that isn't there any more ends all of its tokens: that has to be meant."""
+    lost = dict.fromkeys(name for name, secret in were.lines if secret not in keys.of(name))
+    if lost:
+        raise FleetError(f"keys of {', '.join(lost)} aren't in this file, and their tokens would end; --drop says that this is meant")
+
+
+def begin(fleet: Fleet, keys: KeyFile, revoked: Optional[List[Tuple[str, str]]], is_first: bool, may_drop: bool = True) -> Head:
+    """Publishes a key file and revocations in the place of those that are there, or as the first ones. None leaves revocations as they are."""
     # Each line once: daemons tell how many they have.
-    pieces = form.pieces_of(list(dict.fromkeys(revoked)))
+    pieces = form.pieces_of(list(dict.fromkeys(revoked or [])))
     digests = tuple(map(digest_of, pieces))
 
     def change(state: State) -> Tuple[Head, Sequence[bytes]]:
+        if not may_drop:
+            require_kept(fleet.keys_of(state), keys)
         # A change goes on where its keys are as it left them.
         were = fleet.keys_of(state)
         kept = {name: step for name, step in state.head.steps.items() if keys.of(name) == were.of(name)}
-        head, objects = fleet.with_keys(state, keys, revoked=digests, steps=kept)
+        head, objects = fleet.with_keys(state, keys, revoked=state.head.revoked if revoked is None else digests, steps=kept)
         return head, [*objects, *pieces]
 
     if not is_first:

@@ -6,6 +6,7 @@ import unittest.mock
 
 from macaroond_fleet import command, operate, sealing
 from macaroond_fleet.form import Told, key_of
+from macaroond_fleet.operate import Rotation
 from macaroond_fleet.settings import Settings
 
 from .rooms import KEYS, SECRET, Room, up
@@ -74,6 +75,18 @@ class Commands(unittest.TestCase):
         self.run_words("publish", "--keys", kept, "--drop", "--patience", "0")
         self.assertEqual(self.fleet.keys_of(self.fleet.state()).names(), ["bank"])
 
+    def test_what_others_change_while_a_key_file_is_published(self):
+        """What they took back stays so, and keys that are new by then aren't dropped."""
+        other, kept = self.room.fleet(), self.file(KEYS)
+        self.room.store.before_change = lambda: operate.revoke(other, "bank", ["61"])
+        self.run_words("publish", "--keys", kept, "--patience", "0")
+        self.assertEqual(self.fleet.state().revocations(), [("bank", "61")])
+        self.room.store.before_change = lambda: Rotation(other, "bank", 0).advance(other.state())
+        status, _, err = self.run_words("publish", "--keys", kept, "--patience", "0")
+        self.assertEqual(status, 1)
+        self.assertIn("keys of bank aren't in this file", err)
+        self.assertEqual(len(self.fleet.keys_of(self.fleet.state()).of("bank")), 2)
+
     def test_identifiers(self):
         self.run_words("revoke", "bank", "alice", "--patience", "0")
         self.run_words("revoke", "bank", "FF00", "--hex", "--patience", "0")
@@ -81,7 +94,10 @@ class Commands(unittest.TestCase):
         self.assertIn("isn't in hexadecimal", self.run_words("revoke", "bank", "xyz", "--hex")[2])
 
     def test_without_somebody_who_is_no_member(self):
-        self.assertIn("four is no member", self.run_words("revoke", "bank", "a", "--without", "four")[2])
+        held = self.room.store.copy()
+        for words in (["revoke", "bank", "a"], ["rotate", "bank", "--old-for", "0"], ["publish", "--keys", self.file(KEYS)]):
+            self.assertIn("four is no member", self.run_words(*words, "--without", "four")[2])
+            self.assertEqual(self.room.store.copy(), held)
 
     def test_it_isn_t_up(self):
         status, _, err = self.run_words("revoke", "bank", "alice", "--patience", "0")
