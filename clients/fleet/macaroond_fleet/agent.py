@@ -147,8 +147,8 @@ class Agent:
         self.operators = settings.operator_certificates()
         self.taken = Taken(settings.state, settings.fleet)
         self.objects = Objects(store, settings.fleet)
-        self.keys = KeysReading(Target(settings.keys, settings.program), self.numbers)
-        self.revoked = RevokedReading(Target(settings.revoked), self.numbers)
+        self.keys = KeysReading(Target(settings.keys, settings.program, "check", "--keys"), self.numbers)
+        self.revoked = RevokedReading(Target(settings.revoked, settings.program, "check", "--revoked"), self.numbers)
         self.run_name = secrets.token_hex(8)
         self.news: queue.SimpleQueue[None] = queue.SimpleQueue()
         self.wanted: Optional[Wanted] = None

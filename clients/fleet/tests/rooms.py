@@ -16,7 +16,8 @@ from macaroond_fleet.store import Entry
 CURVE = ["-newkey", "ec", "-pkeyopt", "ec_paramgen_curve:prime256v1", "-nodes", "-days", "1"]
 # What stands in for `macaroond check`: lines of key files and revocations, and nothing else.
 CHECK = """#!/bin/sh
-grep -qvE '^(#.*|(key|revoked) [A-Za-z0-9._-]{1,64} ([0-9a-f]{2})+|)$' "$3" || exit 0
+case $1$2 in check--keys) line='key [A-Za-z0-9._-]{1,64} ([0-9a-f]{2})+' ;; *) line='revoked [A-Za-z0-9._-]{1,64} ([0-9a-f]{2})*' ;; esac
+grep -qvE "^(#.*|$line|)$" "$3" || exit 0
 echo "error: $3: line 1: it is refused" >&2
 exit 1
 """

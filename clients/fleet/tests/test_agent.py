@@ -320,6 +320,26 @@ class Files(unittest.TestCase):
         self.assertEqual(self.room.files("one"), files)
         self.assertEqual(sorted(os.listdir(self.room.folder / "one")), ["keys", "revoked", "state"])
 
+    def test_the_check_refuses_the_revocations(self):
+        agent = up(self.room, self.room.agent("one"))
+        files = self.room.files("one")
+        self.room.program.write_text("#!/bin/sh\n[ $1$2 != check--revoked ] || { echo \"error: $3: line 1: no\" >&2; exit 1; }\n")
+        operate.revoke(self.fleet, "bank", ["61"])
+        up(self.room, agent)
+        self.assertIn("revoked: line 1: no", self.told().why)
+        self.assertEqual(self.room.files("one"), files)
+
+    def test_a_daemon_that_has_other_keys(self):
+        """It was started anew with a key file of its own, and so it has read that later than the agent's was put."""
+        self.room.numbers["one"]["key_names"] = 7
+        agent = up(self.room, self.room.agent("one"))
+        self.assertFalse(agent.is_up())
+        agent.keys.again_at = 0.0
+        agent.turn()
+        self.assertIn("is it started with that", self.told().why)
+        self.room.numbers["one"]["key_names"] = 2
+        self.assertTrue(up(self.room, agent).is_up(), agent.why())
+
     def test_there_is_no_program(self):
         self.room.program.unlink()
         agent = up(self.room, self.room.agent("one"))
