@@ -1,6 +1,8 @@
 """The words of an operator, over a store in memory."""
 import contextlib
 import io
+import re
+import time
 import unittest
 import unittest.mock
 
@@ -65,6 +67,50 @@ class Commands(unittest.TestCase):
         status, out, _ = self.run_words("rotate", "bank", "--old-for", "1h", "--dry-run")
         self.assertEqual(out.splitlines()[0], "one: away")
         self.assertEqual(len(out.splitlines()), 5)
+
+    def published(self):
+        """Whether all members had the head before up, each time that one is published from now on."""
+        change, seen = self.room.store.change, []
+
+        def noted(made, where):
+            if key_of("shop", "head") in made.puts:
+                state, members = self.room.fleet().look()
+                seen.append(all(it.is_up(state.head.serial) for it in members))
+            return change(made, where)
+
+        self.room.store.change = noted
+        return seen
+
+    def while_members_look(self):
+        """Members look, and their daemons read, whenever an operator waits."""
+        return unittest.mock.patch.object(time, "sleep", lambda _: [up(self.room, agent) for agent in self.agents])
+
+    def test_a_rotation(self):
+        """Each step is made once all have told the one before. It goes on where it was broken off, and another one begins behind it."""
+        seen, words = self.published(), ["rotate", "bank", "--old-for", "0"]
+        status, out, err = self.run_words(*words, "--patience", "0")
+        self.assertEqual((status, out, seen), (1, "", [True]))
+        self.assertIn("one: it is at serial", err)
+        self.assertIn("a change of bank is under way", self.run_words("status")[1])
+        with self.while_members_look():
+            status, out, _ = self.run_words(*words)
+        self.assertEqual((status, seen), (0, [True] * 4))
+        self.assertEqual(re.findall(r"^bank: (.*), after", out, re.MULTILINE), [command.MEANINGS[it] for it in command.STEPS[1:]])
+        for agent in self.agents:
+            self.assertEqual(self.room.files(agent.settings.member)[0][0], self.fleet.keys_of(self.fleet.state()).text())
+        self.assertNotIn(f"key bank {SECRET}", self.run_words("keys")[1])
+
+    def test_a_rotation_while_somebody_is_away(self):
+        """Nothing is changed, and he is named; it goes on once he is back, or by a word that he serves nobody."""
+        self.agents[1].leave()
+        seen, held = self.published(), self.room.head()
+        status, out, err = self.run_words("rotate", "bank", "--old-for", "0", "--patience", "0")
+        self.assertEqual((status, seen, self.room.head()), (1, [], held))
+        self.assertIn("two: away", err)
+        self.agents.pop()
+        with self.while_members_look():
+            self.assertEqual(self.run_words("rotate", "bank", "--old-for", "0", "--without", "two")[0], 0)
+        self.assertEqual(len(seen), 4)
 
     def test_a_key_that_is_lost(self):
         kept = self.file(f"key bank {SECRET}\n".encode())
