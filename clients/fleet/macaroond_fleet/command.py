@@ -13,7 +13,7 @@ from . import form, operate
 from .agent import BEAT, Agent, log_line, shown
 from .errors import FleetError
 from .operate import Fleet, Rotation
-from .settings import DEFAULT, read, settings_in
+from .settings import DEFAULT, read, read_bytes, settings_in
 
 # How many seconds a step may take until it is up everywhere.
 PATIENCE = 60.0
@@ -107,8 +107,8 @@ class Work:
                 say(f"{member.name}: {member.state(state.head.serial)}")
 
     def publish(self) -> None:
-        keys = form.KeyFile(read(self.given.keys).encode("utf-8", "surrogateescape"))
-        revoked = form.revocations([read(self.given.revoked).encode()]) if self.given.revoked else None
+        keys = form.KeyFile(read_bytes(self.given.keys))
+        revoked = form.revocations([read_bytes(self.given.revoked)]) if self.given.revoked else None
         if self.given.dry_run:
             return self.plan_publish(keys, revoked)
         self.require_members()

@@ -3,6 +3,7 @@ import contextlib
 import io
 import re
 import time
+import types
 import unittest
 import unittest.mock
 
@@ -83,7 +84,8 @@ class Commands(unittest.TestCase):
 
     def while_members_look(self):
         """Members look, and their daemons read, whenever an operator waits."""
-        return unittest.mock.patch.object(time, "sleep", lambda _: [up(self.room, agent) for agent in self.agents])
+        look = types.SimpleNamespace(sleep=lambda _: [up(self.room, agent) for agent in self.agents], time=time.time, monotonic=time.monotonic)
+        return unittest.mock.patch.object(operate, "time", look)
 
     def test_a_rotation(self):
         """Each step is made once all have told the one before. It goes on where it was broken off, and another one begins behind it."""
@@ -120,6 +122,12 @@ class Commands(unittest.TestCase):
         self.assertEqual(self.fleet.keys_of(self.fleet.state()).text(), KEYS)
         self.run_words("publish", "--keys", kept, "--drop", "--patience", "0")
         self.assertEqual(self.fleet.keys_of(self.fleet.state()).names(), ["bank"])
+
+    def test_a_comment_that_isn_t_utf_8(self):
+        """A key file is bytes, and its comments say nothing."""
+        was = self.fleet.state().head.serial
+        self.run_words("publish", "--keys", self.file(b"# caf\xe9\n" + KEYS), "--patience", "0")
+        self.assertGreater(self.fleet.state().head.serial, was)
 
     def test_what_others_change_while_a_key_file_is_published(self):
         """What they took back stays so, and keys that are new by then aren't dropped."""
@@ -161,4 +169,3 @@ class Commands(unittest.TestCase):
         self.room.store.held = {}
         self.assertIn("publish --first", self.run_words("status")[2])
         self.assertEqual(self.run_words("publish", "--keys", self.file(KEYS), "--first")[0], 0)
-        self.assertIsNotNone(operate)
