@@ -19,7 +19,7 @@ from . import sealing
 from .daemon import KeysReading, Numbers, Reading, RevokedReading, numbers
 from .errors import FleetError, Lacking, NotTaken, ToolFailed
 from .files import Target
-from .form import HEAD_MAX, OBJECT_MAX, REVOKED_MAX, Head, KeyFile, Told
+from .form import HEAD_MAX, OBJECT_MAX, REVOKED_MAX, TOLD_MAX, Head, KeyFile, Told
 from .form import head_in, is_digest, is_number, key_of, revocations, revoked_text
 from .sealing import digest_of
 from .settings import Settings
@@ -203,10 +203,15 @@ class Agent:
                     raise
 
     def head(self) -> bytes:
-        entry = self.store.get(key_of(self.settings.fleet, "head"), HEAD_MAX)
-        if entry is None:
+        """The head, as it is signed. Whether this member is said to be there still is seen with it."""
+        head, here = key_of(self.settings.fleet, "head"), key_of(self.settings.fleet, "here", self.settings.member)
+        found = {entry.key: entry.value for entry in self.store.together(head, [here], HEAD_MAX + TOLD_MAX)}
+        self.is_here = self.is_here and here in found
+        if head not in found:
             raise NotTaken("the store has nothing of this fleet")
-        return entry.value
+        if len(found[head]) > HEAD_MAX:
+            raise NotTaken(f"the head has more than {HEAD_MAX} bytes")
+        return found[head]
 
     def take(self, message: bytes) -> None:
         """Takes a head, if that is new, signed and whole."""
@@ -282,18 +287,11 @@ class Agent:
             return
         if not self.lease or not self.store.keep(self.lease):
             self.lease, self.is_here = self.store.grant(max(2, round(self.beat * BEATS_OF_LEASE))), False
-        if self.says_here():
+        if not self.is_here:
+            here = key_of(self.settings.fleet, "here", self.settings.member)
+            self.store.put(Change({here: self.run_name.encode()}, lease=self.lease))
             self.is_here, self.said = True, (-1, "")
         self.keep_at = time.monotonic() + self.beat * 0.9
-
-    def says_here(self) -> bool:
-        """Whether it had to be said under this lease: at first in the place of an earlier run's word, then where nothing stands there."""
-        here = key_of(self.settings.fleet, "here", self.settings.member)
-        word = Change({here: self.run_name.encode()}, lease=self.lease)
-        if self.is_here:
-            return self.store.change(word, (here, 0))
-        self.store.put(word)
-        return True
 
     def note(self) -> None:
         """Says in the log what is another thing than it said last."""

@@ -514,17 +514,16 @@ class Objects(unittest.TestCase):
     def test_another_head_comes_in_between(self):
         room = Room(self, "one")
         fleet = room.begun("one")
-        agent, get = room.agent("one"), room.store.get
+        agent, together = room.agent("one"), room.store.together
 
-        def faster(key, longest):
+        def faster(key, prefixes, longest):
             """Somebody publishes between the look at the head and that at its objects."""
-            found = get(key, longest)
-            if key == HEAD and room.store.get is faster:
-                room.store.get = get
-                operate.add_member(fleet, "one", room.certificate("one"))
+            found = together(key, prefixes, longest)
+            room.store.together = together
+            operate.add_member(fleet, "one", room.certificate("one"))
             return found
 
-        room.store.get = faster
+        room.store.together = faster
         up(room, agent)
         self.assertTrue(agent.is_up(), agent.why())
 
