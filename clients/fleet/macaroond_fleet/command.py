@@ -52,7 +52,7 @@ def words_of_keys(commands: Any) -> Iterator[argparse.ArgumentParser]:
     publish = commands.add_parser("publish", help="puts a key file, and revocations, in the place of the fleet's")
     publish.add_argument("--keys", required=True, metavar="FILE")
     publish.add_argument("--revoked", metavar="FILE", help="left out, the revocations stay as they are")
-    publish.add_argument("--drop", action="store_true", help="keys that aren't in the file are dropped, and their tokens end")
+    publish.add_argument("--drop", action="store_true", help="keys that aren't in the file are dropped, and their tokens end; a new key may mint at once")
     publish.add_argument("--first", action="store_true", help="begins the fleet, where the store has nothing of it")
     rotate = commands.add_parser("rotate", help="changes a key everywhere: below, above, drop; goes on where it was broken off")
     rotate.add_argument("name", metavar="NAME")
@@ -120,7 +120,7 @@ class Work:
         if not self.given.first:
             state = self.fleet.state()
             if not self.given.drop:
-                operate.require_kept(self.fleet.keys_of(state), keys)
+                operate.require_harmless(self.fleet.keys_of(state), keys)
             self.away()
             revoked = state.revocations() if revoked is None else revoked
         say(f"would publish {len(keys.names())} names and {len(revoked or [])} revocations")

@@ -251,11 +251,14 @@ def require_takable(head: Head, objects: Dict[str, bytes]) -> None:
 # The key file, the members, a key's change, and revocations.
 
 
-def require_kept(were: KeyFile, keys: KeyFile) -> None:
-    """A key that isn't there any more ends all of its tokens: that has to be meant."""
+def require_harmless(were: KeyFile, keys: KeyFile) -> None:
+    """A key that isn't there any more ends its tokens, and one that mints before all have it makes some that others refuse: that has to be meant."""
     lost = dict.fromkeys(name for name, secret in were.lines if secret not in keys.of(name))
     if lost:
         raise FleetError(f"keys of {', '.join(lost)} aren't in this file, and their tokens would end; --drop says that this is meant")
+    if early := [name for name in were.names() if keys.of(name)[0] not in were.of(name)]:
+        why = "and members that haven't got it yet would refuse its tokens; `rotate` makes one without that, and --drop says that it is meant"
+        raise FleetError(f"the first key of {', '.join(early)} is a new one, {why}")
 
 
 def begin(fleet: Fleet, keys: KeyFile, revoked: Optional[List[Tuple[str, str]]], is_first: bool, may_drop: bool = True) -> Head:
@@ -265,10 +268,10 @@ def begin(fleet: Fleet, keys: KeyFile, revoked: Optional[List[Tuple[str, str]]],
     digests = tuple(map(digest_of, pieces))
 
     def change(state: State) -> Tuple[Head, Sequence[bytes]]:
-        if not may_drop:
-            require_kept(fleet.keys_of(state), keys)
-        # A change goes on where its keys are as it left them.
         were = fleet.keys_of(state)
+        if not may_drop:
+            require_harmless(were, keys)
+        # A change goes on where its keys are as it left them.
         kept = {name: step for name, step in state.head.steps.items() if keys.of(name) == were.of(name)}
         head, objects = fleet.with_keys(state, keys, revoked=state.head.revoked if revoked is None else digests, steps=kept)
         return head, [*objects, *pieces]

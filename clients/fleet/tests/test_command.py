@@ -123,6 +123,16 @@ class Commands(unittest.TestCase):
         self.run_words("publish", "--keys", kept, "--drop", "--patience", "0")
         self.assertEqual(self.fleet.keys_of(self.fleet.state()).names(), ["bank"])
 
+    def test_a_new_key_that_would_mint_at_once(self):
+        """Above the old one it makes tokens that others refuse; below it is harmless, and so is a new name."""
+        above, more = self.file(f"key bank 62\nkey bank {SECRET}\nkey shop {SECRET}\n".encode()), b"key bank 62\nkey mill 63\n"
+        for words in ([], ["--dry-run"]):
+            status, _, err = self.run_words("publish", "--keys", above, *words)
+            self.assertEqual(status, 1)
+            self.assertIn("the first key of bank is a new one", err)
+        self.run_words("publish", "--keys", self.file(KEYS + more), "--patience", "0")
+        self.assertEqual(self.fleet.keys_of(self.fleet.state()).text(), KEYS + more)
+
     def test_a_comment_that_isn_t_utf_8(self):
         """A key file is bytes, and its comments say nothing."""
         was = self.fleet.state().head.serial
