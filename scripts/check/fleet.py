@@ -4,8 +4,9 @@
     fleet.py
 
 Three hosts (faults/fleet_net.py) have an etcd, a daemon and an agent each, behind HAProxy. An operator changes a key
-ten times and takes a hundred tokens back, of these five side by side, by macaroond-fleet. Meanwhile an etcd, a daemon
-and an agent are killed and brought back, and a host is cut off. Clients compare each verdict with the one that is due:
+ten times or more, for as long as anything happens, and takes a hundred tokens back, of these five side by side, by
+macaroond-fleet. Meanwhile an etcd, a daemon and an agent are killed and brought back, and a host is cut off: as each of
+these begins, some of the hundred are taken back. Clients compare each verdict with the one that is due:
 a good token is never refused, and one that was taken back is never granted once `revoke` has ended well. Limits of time
 are those that a machine keeps which is busy with other work; scripts/measure/fleet.py has those of one at rest. Asks
 for root, etcd and HAProxy, and for bin/macaroond, or what MACAROOND names.
@@ -34,6 +35,8 @@ from faults.fleet_cluster import NAMES
 from macaroond import Client, MacaroondError
 
 ROTATIONS, REVOCATIONS, REVOKED_AT_ONCE, KEPT = 10, 100, 5, 10
+# How many of the tokens are taken back as each part is killed, and as a host is cut off.
+HELD_BACK = 10
 # For how long tokens of an old key are good, and for how long they are asked of (scaling_asking.py).
 OLD_FOR = 3
 # How many seconds these may take, whatever else happens: a key's change at three daemons, and a revocation; and what of
@@ -79,15 +82,20 @@ class Events:
 
     def __init__(self, cluster):
         self.cluster, self.named = cluster, None
+        self.parts = [cluster.etcds["one"], cluster.daemons["two"], cluster.agents["three"]]
+        # Which of them have begun: the parts, and then the cut.
+        self.begun = [threading.Event() for _ in (*self.parts, "cut")]
 
-    def killed(self, part):
+    def killed(self, part, begun):
         part.close()
+        begun.set()
         time.sleep(AWAY)
         part.start()
 
-    def cut(self, name):
-        """How `status` ends meanwhile, and whether it names the host."""
+    def cut(self, name, begun):
+        """Whether `status` names the host meanwhile."""
         self.cluster.hosts.cut(name)
+        begun.set()
         away = awaited(lambda: self.of(name).endswith("away"), pause=0.5)
         self.cluster.hosts.join(name)
         return away
@@ -99,27 +107,37 @@ class Events:
 
     def all(self):
         """An etcd, a daemon and an agent, each of another host; then a host is cut off. Before it nothing happens for a while."""
-        time.sleep(QUIET)
-        for part in (self.cluster.etcds["one"], self.cluster.daemons["two"], self.cluster.agents["three"]):
+        try:
+            time.sleep(QUIET)
+            for part, begun in zip(self.parts, self.begun):
+                time.sleep(2 * AWAY)
+                self.killed(part, begun)
             time.sleep(2 * AWAY)
-            self.killed(part)
-        time.sleep(2 * AWAY)
-        self.named = self.cut("three")
+            self.named = self.cut("three", self.begun[-1])
+        finally:
+            # Nobody waits for what comes no more.
+            for begun in self.begun:
+                begun.set()
 
 
 class Revoking(threading.Thread):
-    """Takes tokens back, a few side by side, and then says so to the clients that ask of them."""
+    """Takes tokens back, a few side by side, and then says so to the clients that ask of them. Of the last ones some wait
+    for each of what is to begin."""
 
-    def __init__(self, cluster, load, tokens, at_once):
+    def __init__(self, cluster, load, tokens, at_once, begun=()):
         super().__init__()
         self.cluster, self.load, self.tokens, self.at_once = cluster, load, tokens, at_once
         self.saying, self.runs = threading.Lock(), []
+        awaited_by = [it for it in begun for _ in range(HELD_BACK)]
+        self.held_back = dict(zip([*tokens][len(tokens) - len(awaited_by) :], awaited_by))
 
     def run(self):
         with concurrent.futures.ThreadPoolExecutor(self.at_once) as operators:
             self.runs = list(operators.map(self.revoke, self.tokens))
 
     def revoke(self, identifier):
+        if identifier in self.held_back:
+            self.held_back[identifier].wait()
         came = self.cluster.operator("revoke", "shop", identifier, "--patience", PATIENCE)
         if came[0] == 0:
             with self.saying:
@@ -199,16 +217,19 @@ def together(cluster, stack):
     """Changes, revocations and events at once, under load."""
     kept, taken = shop_tokens(KEPT, "kept"), shop_tokens(REVOCATIONS, "taken")
     load, events = Load(cluster, stack, kept.values()), Events(cluster)
-    happening, revoking = threading.Thread(target=events.all), Revoking(cluster, load, taken, REVOKED_AT_ONCE)
+    happening, revoking = threading.Thread(target=events.all), Revoking(cluster, load, taken, REVOKED_AT_ONCE, events.begun)
     happening.start()
     revoking.start()
-    rotated = [rotate(cluster) for _ in range(ROTATIONS)]
+    rotated = []
+    while len(rotated) < ROTATIONS or happening.is_alive():
+        rotated.append(rotate(cluster))
     happening.join()
     revoking.join()
     for what, runs, most in (("rotation", rotated, ROTATE_WITHIN), ("revocation", revoking.runs, REVOKE_WITHIN)):
         times = [took for _, _, took in runs]
         print(f"fleet: {len(runs)} of the kind {what} took {min(times):.1f} to {max(times):.1f} s")
         yield from changes(what, runs, most)
+    yield "revocations that were asked for", len(revoking.runs), REVOCATIONS
     yield from at_each(cluster, taken.values())
     yield "a host that is cut off is named", events.named, True
     yield from by_load(*load.end())

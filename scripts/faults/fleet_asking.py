@@ -46,13 +46,22 @@ class Tally:
 def round_of(client, kept, taken, tally):
     """Asks of each token once, and compares: those that were taken back before this began have to be refused."""
     due = [(token, None) for token in kept] + [(token, REVOKED) for token in list(taken)]
-    for (token, code), verdict in zip(due, client.verify_many("shop", [(token, []) for token, _ in due])):
+    verdicts = client.verify_many("shop", [(token, []) for token, _ in due])
+    for (token, code), verdict in zip(due, verdicts, strict=True):
         tally.add("refused" if code else "granted", 1)
         if (verdict.code or None) != code:
             tally.note(f"{verdict.code} where {code} is due")
 
 
 def ask(path, kept, taken, tally, is_over):
+    """Asks until it is over; a fault of this script itself is told as one, too."""
+    try:
+        ask_on(path, kept, taken, tally, is_over)
+    except Exception as fault:
+        tally.note(f"an asker broke off: {fault!r}")
+
+
+def ask_on(path, kept, taken, tally, is_over):
     while not is_over.is_set():
         begin = time.monotonic()
         try:

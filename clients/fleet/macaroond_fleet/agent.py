@@ -19,7 +19,7 @@ from . import sealing
 from .daemon import KeysReading, Numbers, Reading, RevokedReading, numbers
 from .errors import FleetError, Lacking, NotTaken, ToolFailed
 from .files import Target
-from .form import HEAD_MAX, OBJECT_MAX, REVOKED_MAX, Head, KeyFile, Told
+from .form import HEAD_MAX, OBJECT_MAX, REVOKED_MAX, TOLD_MAX, Head, KeyFile, Told
 from .form import head_in, is_digest, is_number, key_of, revocations, revoked_text
 from .sealing import digest_of
 from .settings import Settings
@@ -62,7 +62,7 @@ class Taken:
         except OSError as fault:
             raise FleetError(f"{self.path}: {fault.strerror}") from fault
         except (ValueError, KeyError, TypeError) as fault:
-            raise FleetError(f"{self.path}: it isn't what was written there; without it, what is old can't be told") from fault
+            raise FleetError(f"{self.path}: it isn't what was written there; without it, what is old can't be told. Look at the store by `status`, then remove it") from fault
         if not is_number(serial) or not is_digest(digest):
             raise FleetError(f"{self.path}: it has no serial")
         return serial, digest
@@ -75,26 +75,30 @@ class Taken:
             raise NotTaken(f"the store has another head of serial {head.serial} than was taken")
 
     def keep(self, head: Head, digest: str) -> None:
-        """Keeps a head that was taken, unless another run has kept a later one meanwhile."""
+        """Keeps a head that is taken, unless another run has kept a later one meanwhile."""
         if (head.serial, digest) == (self.serial, self.digest):
             return
+        try:
+            self.bring_to_disk(head.serial, digest)
+        except OSError as fault:
+            raise FleetError(f"{self.path}: {fault.strerror}") from fault
         self.serial, self.digest = head.serial, digest
+
+    def bring_to_disk(self, serial: int, digest: str) -> None:
         self.path.parent.mkdir(mode=0o700, parents=True, exist_ok=True)
         folder = os.open(self.path.parent, os.O_RDONLY | os.O_DIRECTORY)
         try:
             fcntl.flock(folder, fcntl.LOCK_EX)
-            if head.serial > self.found()[0]:
-                self.write()
+            if serial > self.found()[0]:
+                beside = self.path.with_suffix(".new")
+                with open(beside, "w") as file:
+                    json.dump({"serial": serial, "digest": digest}, file)
+                    file.flush()
+                    os.fsync(file.fileno())
+                beside.rename(self.path)
+                os.fsync(folder)
         finally:
             os.close(folder)
-
-    def write(self) -> None:
-        beside = self.path.with_suffix(".new")
-        with open(beside, "w") as file:
-            json.dump({"serial": self.serial, "digest": self.digest}, file)
-            file.flush()
-            os.fsync(file.fileno())
-        beside.rename(self.path)
 
 
 class Objects:
@@ -143,13 +147,13 @@ class Agent:
         self.operators = settings.operator_certificates()
         self.taken = Taken(settings.state, settings.fleet)
         self.objects = Objects(store, settings.fleet)
-        self.keys = KeysReading(Target(settings.keys, settings.program), self.numbers)
-        self.revoked = RevokedReading(Target(settings.revoked), self.numbers)
+        self.keys = KeysReading(Target(settings.keys, settings.program, "check", "--keys"), self.numbers)
+        self.revoked = RevokedReading(Target(settings.revoked, settings.program, "check", "--revoked"), self.numbers)
         self.run_name = secrets.token_hex(8)
         self.news: queue.SimpleQueue[None] = queue.SimpleQueue()
         self.wanted: Optional[Wanted] = None
         self.look_at, self.taken_at = 0.0, 0.0
-        self.lease, self.keep_at = 0, 0.0
+        self.lease, self.is_here, self.keep_at = 0, False, 0.0
         # What went wrong with the store and what it has, with the files, and in telling it; and what was told last.
         self.of_store, self.of_files, self.of_telling = "", "", ""
         self.said, self.noted = (-1, ""), ""
@@ -199,10 +203,15 @@ class Agent:
                     raise
 
     def head(self) -> bytes:
-        entry = self.store.get(key_of(self.settings.fleet, "head"), HEAD_MAX)
-        if entry is None:
+        """The head, as it is signed. Whether this member is said to be there still is seen with it."""
+        head, here = key_of(self.settings.fleet, "head"), key_of(self.settings.fleet, "here", self.settings.member)
+        found = {entry.key: entry.value for entry in self.store.together(head, [here], HEAD_MAX + TOLD_MAX)}
+        self.is_here = self.is_here and here in found
+        if head not in found:
             raise NotTaken("the store has nothing of this fleet")
-        return entry.value
+        if len(found[head]) > HEAD_MAX:
+            raise NotTaken(f"the head has more than {HEAD_MAX} bytes")
+        return found[head]
 
     def take(self, message: bytes) -> None:
         """Takes a head, if that is new, signed and whole."""
@@ -213,9 +222,10 @@ class Agent:
         self.taken.require_new(head, digest)
         if self.settings.member not in head.members:
             raise NotTaken(f"{self.settings.member} is no member of the fleet")
-        self.wanted = wanted_of(head, digest, self.objects.of(head), self.settings.identity)
+        wanted = wanted_of(head, digest, self.objects.of(head), self.settings.identity)
+        # First, so that no file has what a later run wouldn't know as taken.
         self.taken.keep(head, digest)
-        self.taken_at = time.monotonic()
+        self.wanted, self.taken_at = wanted, time.monotonic()
 
     def settle(self) -> None:
         """Brings the files to what is wanted, and learns what the daemon has read of them."""
@@ -272,13 +282,15 @@ class Agent:
         self.said = news
 
     def keep_lease(self) -> None:
-        """Says that this run is there, for as long as its lease is kept; one that ended is begun anew."""
+        """Says that this run is there, for as long as its lease is kept. One that ended is begun anew, and what was taken away is said again."""
         if time.monotonic() < self.keep_at:
             return
         if not self.lease or not self.store.keep(self.lease):
-            self.lease, self.said = self.store.grant(max(2, round(self.beat * BEATS_OF_LEASE))), (-1, "")
+            self.lease, self.is_here = self.store.grant(max(2, round(self.beat * BEATS_OF_LEASE))), False
+        if not self.is_here:
             here = key_of(self.settings.fleet, "here", self.settings.member)
             self.store.put(Change({here: self.run_name.encode()}, lease=self.lease))
+            self.is_here, self.said = True, (-1, "")
         self.keep_at = time.monotonic() + self.beat * 0.9
 
     def note(self) -> None:

@@ -7,13 +7,13 @@ import re
 import signal
 import sys
 import time
-from typing import Any, Iterator, List, Optional
+from typing import Any, Iterator, List, Optional, Tuple
 
 from . import form, operate
 from .agent import BEAT, Agent, log_line, shown
 from .errors import FleetError
 from .operate import Fleet, Rotation
-from .settings import DEFAULT, read, settings_in
+from .settings import DEFAULT, read, read_bytes, settings_in
 
 # How many seconds a step may take until it is up everywhere.
 PATIENCE = 60.0
@@ -52,7 +52,7 @@ def words_of_keys(commands: Any) -> Iterator[argparse.ArgumentParser]:
     publish = commands.add_parser("publish", help="puts a key file, and revocations, in the place of the fleet's")
     publish.add_argument("--keys", required=True, metavar="FILE")
     publish.add_argument("--revoked", metavar="FILE", help="left out, the revocations stay as they are")
-    publish.add_argument("--drop", action="store_true", help="keys that aren't in the file are dropped, and their tokens end")
+    publish.add_argument("--drop", action="store_true", help="keys that aren't in the file are dropped, and their tokens end; a new key may mint at once")
     publish.add_argument("--first", action="store_true", help="begins the fleet, where the store has nothing of it")
     rotate = commands.add_parser("rotate", help="changes a key everywhere: below, above, drop; goes on where it was broken off")
     rotate.add_argument("name", metavar="NAME")
@@ -88,9 +88,12 @@ class Work:
         self.fleet = Fleet(self.settings, self.settings.store(), say)
         self.begin = time.monotonic()
 
+    def require_members(self) -> None:
+        """Whom a command shall not wait for is a member; said before anything is changed."""
+        if self.given.without and (unknown := set(self.given.without) - self.fleet.state().head.members.keys()):
+            raise FleetError(f"{min(unknown)} is no member")
+
     def await_up(self, serial: int) -> None:
-        if unknown := [it for it in self.given.without if it not in self.fleet.state().head.members]:
-            raise FleetError(f"{unknown[0]} is no member")
         self.fleet.await_up(serial, self.given.without, self.given.patience)
 
     def took(self) -> str:
@@ -104,30 +107,29 @@ class Work:
                 say(f"{member.name}: {member.state(state.head.serial)}")
 
     def publish(self) -> None:
-        keys = form.KeyFile(read(self.given.keys).encode("utf-8", "surrogateescape"))
-        is_first, revoked = self.given.first, []
-        if not is_first:
-            state = self.fleet.state()
-            self.require_kept(self.fleet.keys_of(state), keys)
-            revoked = state.revocations()
-        if self.given.revoked:
-            revoked = form.revocations([read(self.given.revoked).encode()])
+        keys = form.KeyFile(read_bytes(self.given.keys))
+        revoked = form.revocations([read_bytes(self.given.revoked)]) if self.given.revoked else None
         if self.given.dry_run:
-            return say(f"would publish {len(keys.names())} names and {len(revoked)} revocations")
-        head = operate.begin(self.fleet, keys, revoked, is_first)
+            return self.plan_publish(keys, revoked)
+        self.require_members()
+        head = operate.begin(self.fleet, keys, revoked, self.given.first, self.given.drop)
         self.await_up(head.serial)
-        say(f"serial {head.serial} is up at {len(head.members)} members, after {self.took()}")
+        say(f"serial {head.serial} is up at {len(head.members) - len(set(self.given.without))} members, after {self.took()}")
 
-    def require_kept(self, were: form.KeyFile, keys: form.KeyFile) -> None:
-        """A key that isn't there any more ends all of its tokens: that has to be meant."""
-        lost = dict.fromkeys(name for name, secret in were.lines if secret not in keys.of(name))
-        if lost and not self.given.drop:
-            raise FleetError(f"keys of {', '.join(lost)} aren't in this file, and their tokens would end; --drop says that this is meant")
+    def plan_publish(self, keys: form.KeyFile, revoked: Optional[List[Tuple[str, str]]]) -> None:
+        if not self.given.first:
+            state = self.fleet.state()
+            if not self.given.drop:
+                operate.require_harmless(self.fleet.keys_of(state), keys)
+            self.away()
+            revoked = state.revocations() if revoked is None else revoked
+        say(f"would publish {len(keys.names())} names and {len(revoked or [])} revocations")
 
     def rotate(self) -> None:
         rotation = Rotation(self.fleet, self.given.name, self.given.old_for)
         if self.given.dry_run:
             return self.plan(rotation)
+        self.require_members()
         while True:
             state = self.fleet.state()
             word = rotation.next_word(state)
@@ -152,9 +154,10 @@ class Work:
         if self.given.dry_run:
             self.away()
             return say(f"would revoke {len(identifiers)} of {self.given.name}")
+        self.require_members()
         head = operate.revoke(self.fleet, self.given.name, identifiers)
         self.await_up(head.serial)
-        say(f"{self.given.name}: {len(identifiers)} revoked at {len(head.members) - len(self.given.without)} members, after {self.took()}")
+        say(f"{self.given.name}: {len(identifiers)} revoked at {len(head.members) - len(set(self.given.without))} members, after {self.took()}")
 
     def status(self) -> None:
         (state, members), now = self.fleet.look(), time.time()

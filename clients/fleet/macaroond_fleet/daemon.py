@@ -4,6 +4,7 @@ That a file was written says nothing: what the daemon tells has to have become a
 """
 from __future__ import annotations
 
+import functools
 import http.client
 import re
 import socket
@@ -70,6 +71,10 @@ class Reading:
         """Whether by this number it has read the file that is there."""
         raise NotImplementedError
 
+    def is_of_it(self, told: Numbers) -> bool:
+        """Whether what the daemon has read may be this file, and not another one that it was started with."""
+        return True
+
     def is_refused(self, told: Numbers) -> bool:
         """Whether the daemon tells that it has refused the file."""
         return False
@@ -113,7 +118,7 @@ class Reading:
             self.why = "its daemon doesn't answer"
         elif self.is_refused(told):
             self.why = f"its daemon refuses {self.target.path}; its log says why"
-        elif self.is_read(self.number(told)):
+        elif self.is_read(self.number(told)) and self.is_of_it(told):
             self.is_up, self.why, self.up = True, "", self.serial
         elif time.monotonic() > self.again_at and not self.is_ambiguous(told):
             self.put(self.text, told)
@@ -129,6 +134,11 @@ class KeysReading(Reading):
     def is_read(self, at: int) -> bool:
         """One that told nothing before may have been about to start, and have read what was there before this file."""
         return at > self.put_at + TOLD_WITHIN if self.before < 0 else at != self.before
+
+    def is_of_it(self, told: Numbers) -> bool:
+        """By how many names the daemon has: one that is started anew with another file has read that since, too."""
+        names = names_in(self.target.content() or b"")
+        return told.get("key_names", names) == names
 
     def is_refused(self, told: Numbers) -> bool:
         return told.get("keys_refused", 0) != 0
@@ -164,6 +174,12 @@ class RevokedReading(Reading):
         super().look(told)
         if told is not None and not self.is_up and self.number(told) < 0:
             self.why = "its daemon tells of no revocations; is it started with `--revoked FILE`?"
+
+
+@functools.lru_cache(maxsize=1)
+def names_in(text: bytes) -> int:
+    """How many names have a key."""
+    return len({line.split(b" ")[1] for line in text.split(b"\n") if line.startswith(b"key ")})
 
 
 def lines_in(text: bytes) -> int:

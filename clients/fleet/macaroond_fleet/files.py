@@ -5,7 +5,7 @@ import contextlib
 import os
 import pathlib
 import subprocess
-from typing import Iterator, List, Optional, Tuple
+from typing import Iterator, Optional, Tuple
 
 from .errors import NotTaken, ToolAway, ToolFailed
 
@@ -16,10 +16,10 @@ PATIENCE = 30
 
 
 class Target:
-    """A file that the daemon reads. A key file is looked at by `macaroond check`, the program that is given for it."""
+    """A file that the daemon reads, and the words of `macaroond check` that look at such a one."""
 
-    def __init__(self, path: str, program: str = "") -> None:
-        self.path, self.program = pathlib.Path(path), program
+    def __init__(self, path: str, *check: str) -> None:
+        self.path, self.words = pathlib.Path(path), check
         self.seen: Optional[Tuple[int, ...]] = None
         self.held = b""
 
@@ -44,8 +44,7 @@ class Target:
     def put(self, text: bytes) -> None:
         """Moves a new file over the old one, once a check has found nothing wrong with it."""
         with self.beside(text) as path:
-            if self.program:
-                self.check(path)
+            self.check(path)
             try:
                 os.replace(path, self.path)
                 self.sync()
@@ -75,13 +74,13 @@ class Target:
 
     def check(self, path: str) -> None:
         """Has `macaroond check` look at a file; what it prints isn't kept, since it may name keys."""
-        command: List[str] = [self.program, "check", "--keys", path]
+        program = self.words[0]
         try:
-            done = subprocess.run(command, stdout=subprocess.DEVNULL, stderr=subprocess.PIPE, timeout=PATIENCE)
+            done = subprocess.run([*self.words, path], stdout=subprocess.DEVNULL, stderr=subprocess.PIPE, timeout=PATIENCE)
         except OSError as fault:
-            raise ToolAway(f"{self.program} check: {fault.strerror}") from fault
+            raise ToolAway(f"{program} check: {fault.strerror}") from fault
         except subprocess.TimeoutExpired as fault:
-            raise ToolAway(f"{self.program} check: it takes more than {PATIENCE} seconds") from fault
+            raise ToolAway(f"{program} check: it takes more than {PATIENCE} seconds") from fault
         if done.returncode != 0:
             told = done.stderr.decode(errors="replace").strip().splitlines()
             why = next((line for line in told if line.startswith("error: ")), f"error: status {done.returncode}")

@@ -59,7 +59,10 @@ class Server:
         is_old, self.kept = self.kept, None
         connection = is_old or self.connection()
         try:
-            with Deadline(connection, self.patience):
+            with Deadline(connection, self.patience) as deadline:
+                if connection.sock is None:
+                    connection.connect()
+                    deadline.require()
                 connection.request("POST", path, json.dumps(body).encode(), {"Content-Type": "application/json", **headers})
                 response = connection.getresponse()
                 text = response.read(longest + 1)
@@ -107,8 +110,14 @@ class Deadline:
             except OSError:
                 pass
 
-    def __enter__(self) -> None:
+    def require(self) -> None:
+        """A connection that was made too late is no good: a cut found no socket, or one that isn't it any more."""
+        if self.has_passed:
+            raise TimeoutError()
+
+    def __enter__(self) -> Deadline:
         self.timer.start()
+        return self
 
     def __exit__(self, _: Any, fault: Optional[BaseException], __: Any) -> None:
         self.timer.cancel()

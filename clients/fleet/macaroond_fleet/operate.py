@@ -1,6 +1,7 @@
 """What an operator does: keys and revocations for all, signed, and each step only once the one before is up everywhere."""
 from __future__ import annotations
 
+import contextlib
 import secrets
 import time
 from typing import Callable, Dict, List, NamedTuple, Optional, Sequence, Tuple
@@ -8,7 +9,7 @@ from typing import Callable, Dict, List, NamedTuple, Optional, Sequence, Tuple
 from . import form, sealing
 from .agent import Objects, Taken
 from .errors import FleetError, Lacking, NotTaken, StoreAway
-from .form import HEAD_MAX, TOLD_MAX, Head, KeyFile, Step, Told, key_of
+from .form import HEAD_MAX, OBJECT_MAX, REVOKED_MAX, TOLD_MAX, Head, KeyFile, Step, Told, key_of
 from .sealing import digest_of
 from .settings import Settings
 from .store import Change, Entry, Store
@@ -25,6 +26,8 @@ AWAY, AWAY_PAUSE = 10.0, 0.5
 TRIES = 20
 # The most bytes of an object that etcd takes together with the head, by its own limit of 1.5 MiB.
 SENT_MAX = 900 << 10
+# How many objects a change puts, and how many it takes away, by etcd's own limit of 128 steps for both together.
+STEPS_MAX = 60
 
 
 class State(NamedTuple):
@@ -153,6 +156,8 @@ class Fleet:
 
     def publish(self, was: Optional[State], head: Head, objects: Sequence[bytes]) -> Optional[Head]:
         """Signs a head with its objects, and puts it in the place of what was; None where somebody else was faster."""
+        whole = {**(was.objects if was else {}), **{digest_of(it): it for it in objects}}
+        require_takable(head, whole)
         head = head._replace(serial=max(self.taken.serial + 1, was.head.serial + 1 if was else 1, int(time.time())))
         signed = sealing.sign(head.text(), self.settings.identity)
         if len(signed) > HEAD_MAX:
@@ -161,13 +166,22 @@ class Fleet:
         puts = {digest_of(it): it for it in objects if digest_of(it) not in held}
         self.upload(puts, len(signed))
         gone = [self.key("objects", it) for it in sorted(held - set(head.objects()))]
-        change = Change({**{self.key("objects", name): it for name, it in puts.items()}, self.key("head"): signed}, gone)
+        change = Change({**{self.key("objects", name): it for name, it in puts.items()}, self.key("head"): signed}, gone[:STEPS_MAX])
         if not self.is_changed(change, was.revision if was else 0):
             return None
-        digest, whole = digest_of(signed), {**(was.objects if was else {}), **{digest_of(it): it for it in objects}}
+        digest = digest_of(signed)
+        with contextlib.suppress(StoreAway):
+            self.sweep(gone[STEPS_MAX:], digest)
         self.taken.keep(head, digest)
         self.last = State(head, digest, 0, {name: whole[name] for name in head.objects()})
         return head
+
+    def sweep(self, gone: Sequence[str], digest: str) -> None:
+        """Takes away what the head of this digest doesn't name, as long as that is the head: another one may name it again."""
+        for at in range(0, len(gone), STEPS_MAX):
+            entry = self.store.get(self.key("head"), HEAD_MAX)
+            if entry is not None and digest_of(entry.value) == digest:
+                self.store.change(Change({}, gone[at : at + STEPS_MAX]), (self.key("head"), entry.revision))
 
     def is_changed(self, change: Change, revision: int) -> bool:
         """Whether the change was made. Where the answer is lost it may have been: who looks again sees. What fails twice so fails."""
@@ -182,7 +196,7 @@ class Fleet:
 
     def upload(self, puts: Dict[str, bytes], room: int) -> None:
         """Puts so many of these objects first, one by one, that the others fit one transaction."""
-        while sum(map(len, puts.values())) + room > SENT_MAX and puts:
+        while puts and (sum(map(len, puts.values())) + room > SENT_MAX or len(puts) > STEPS_MAX):
             name, data = puts.popitem()
             self.store.put(Change({self.key("objects", name): data}))
 
@@ -226,18 +240,40 @@ class Fleet:
             time.sleep(PAUSE)
 
 
+def require_takable(head: Head, objects: Dict[str, bytes]) -> None:
+    """What no agent would take isn't published: no operator could take it back."""
+    if len(objects[head.keys]) > OBJECT_MAX:
+        raise FleetError(f"the keys have more than {OBJECT_MAX} bytes, as they are encrypted")
+    if max((len(objects[it]) for it in head.revoked), default=0) > OBJECT_MAX or sum(len(objects[it]) for it in head.revoked) > REVOKED_MAX:
+        raise FleetError(f"the revocations have more than {REVOKED_MAX} bytes, or one of them has more than {OBJECT_MAX}")
+
+
 # The key file, the members, a key's change, and revocations.
 
 
-def begin(fleet: Fleet, keys: KeyFile, revoked: List[Tuple[str, str]], is_first: bool) -> Head:
-    """Publishes a key file and revocations in the place of those that are there, or as the first ones."""
+def require_harmless(were: KeyFile, keys: KeyFile) -> None:
+    """A key that isn't there any more ends its tokens, and one that mints before all have it makes some that others refuse: that has to be meant."""
+    lost = dict.fromkeys(name for name, secret in were.lines if secret not in keys.of(name))
+    if lost:
+        raise FleetError(f"keys of {', '.join(lost)} aren't in this file, and their tokens would end; --drop says that this is meant")
+    if early := [name for name in were.names() if keys.of(name)[0] not in were.of(name)]:
+        why = "and members that haven't got it yet would refuse its tokens; `rotate` makes one without that, and --drop says that it is meant"
+        raise FleetError(f"the first key of {', '.join(early)} is a new one, {why}")
+
+
+def begin(fleet: Fleet, keys: KeyFile, revoked: Optional[List[Tuple[str, str]]], is_first: bool, may_drop: bool = True) -> Head:
+    """Publishes a key file and revocations in the place of those that are there, or as the first ones. None leaves revocations as they are."""
     # Each line once: daemons tell how many they have.
-    pieces = form.pieces_of(list(dict.fromkeys(revoked)))
+    pieces = form.pieces_of(list(dict.fromkeys(revoked or [])))
     digests = tuple(map(digest_of, pieces))
 
     def change(state: State) -> Tuple[Head, Sequence[bytes]]:
-        kept = {name: step for name, step in state.head.steps.items() if name in keys.names()}
-        head, objects = fleet.with_keys(state, keys, revoked=digests, steps=kept)
+        were = fleet.keys_of(state)
+        if not may_drop:
+            require_harmless(were, keys)
+        # A change goes on where its keys are as it left them.
+        kept = {name: step for name, step in state.head.steps.items() if keys.of(name) == were.of(name)}
+        head, objects = fleet.with_keys(state, keys, revoked=state.head.revoked if revoked is None else digests, steps=kept)
         return head, [*objects, *pieces]
 
     if not is_first:
@@ -269,6 +305,9 @@ def remove_member(fleet: Fleet, name: str) -> Head:
 
     def change(state: State) -> Tuple[Head, Sequence[bytes]]:
         if name not in state.head.members:
+            if fleet.lost:
+                # It was removed by the try whose answer didn't come.
+                return state.head, []
             raise FleetError(f"{name} is no member")
         left = {it: certificate for it, certificate in state.head.members.items() if it != name}
         return fleet.with_keys(state, fleet.keys_of(state), members=left)

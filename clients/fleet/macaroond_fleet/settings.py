@@ -53,11 +53,18 @@ class Settings(NamedTuple):
         return found
 
 
+def read_bytes(path: str) -> bytes:
+    try:
+        return pathlib.Path(path).read_bytes()
+    except OSError as fault:
+        raise FleetError(f"{path}: {fault.strerror}") from fault
+
+
 def read(path: str) -> str:
     try:
-        return pathlib.Path(path).read_text()
-    except (OSError, UnicodeDecodeError) as fault:
-        raise FleetError(f"{path}: {getattr(fault, 'strerror', None) or fault}") from fault
+        return read_bytes(path).decode()
+    except UnicodeDecodeError as fault:
+        raise FleetError(f"{path}: it isn't UTF-8") from fault
 
 
 def require_private(path: str) -> None:

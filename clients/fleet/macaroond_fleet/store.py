@@ -62,7 +62,7 @@ def bytes64(text: Any) -> bytes:
 
 def number(value: Any) -> int:
     """A number of the gateway, which stands in a text."""
-    if isinstance(value, bool) or not isinstance(value, (str, int)) or not str(value).isdigit() or len(str(value)) > 20:
+    if isinstance(value, bool) or not isinstance(value, (str, int)) or not (str(value).isascii() and str(value).isdigit()) or len(str(value)) > 20:
         raise Failed("its answer isn't etcd's")
     return int(value)
 

@@ -16,7 +16,8 @@ from macaroond_fleet.store import Entry
 CURVE = ["-newkey", "ec", "-pkeyopt", "ec_paramgen_curve:prime256v1", "-nodes", "-days", "1"]
 # What stands in for `macaroond check`: lines of key files and revocations, and nothing else.
 CHECK = """#!/bin/sh
-grep -qvE '^(#.*|(key|revoked) [A-Za-z0-9._-]{1,64} ([0-9a-f]{2})+|)$' "$3" || exit 0
+case $1$2 in check--keys) line='key [A-Za-z0-9._-]{1,64} ([0-9a-f]{2})+' ;; *) line='revoked [A-Za-z0-9._-]{1,64} ([0-9a-f]{2})*' ;; esac
+grep -qvE "^(#.*|$line|)$" "$3" || exit 0
 echo "error: $3: line 1: it is refused" >&2
 exit 1
 """
@@ -72,18 +73,22 @@ class MemoryStore:
 
     def put(self, change):
         self.asked()
+        if len(change.puts) + len(change.deletes) > 128:
+            raise StoreAway("etcdserver: too many operations in txn request")
         self.revision += 1
         for key, value in change.puts.items():
             self.held[key] = Entry(key, value, self.revision)
+            for keys in self.leases.values():
+                keys.discard(key)
             if change.lease:
-                self.leases.setdefault(change.lease, []).append(key)
+                self.leases[change.lease].add(key)
         for key in change.deletes:
             self.held.pop(key, None)
 
     def grant(self, seconds):
         self.asked()
         self.revision += 1
-        self.leases[self.revision] = []
+        self.leases[self.revision] = set()
         return self.revision
 
     def keep(self, lease):
@@ -92,7 +97,7 @@ class MemoryStore:
 
     def end(self, lease):
         self.asked()
-        for key in self.leases.pop(lease, []):
+        for key in self.leases.pop(lease, set()):
             self.held.pop(key, None)
 
     def watch(self, prefix, wake):

@@ -6,7 +6,7 @@ import unittest
 import unittest.mock
 
 from macaroond_fleet import form, operate, sealing
-from macaroond_fleet.errors import FleetError, ToolAway
+from macaroond_fleet.errors import FleetError, StoreAway, ToolAway
 from macaroond_fleet.form import HEAD_MAX, Head, KeyFile, key_of
 from macaroond_fleet.sealing import digest_of
 from macaroond_fleet.store import Change
@@ -320,6 +320,26 @@ class Files(unittest.TestCase):
         self.assertEqual(self.room.files("one"), files)
         self.assertEqual(sorted(os.listdir(self.room.folder / "one")), ["keys", "revoked", "state"])
 
+    def test_the_check_refuses_the_revocations(self):
+        agent = up(self.room, self.room.agent("one"))
+        files = self.room.files("one")
+        self.room.program.write_text("#!/bin/sh\n[ $1$2 != check--revoked ] || { echo \"error: $3: line 1: no\" >&2; exit 1; }\n")
+        operate.revoke(self.fleet, "bank", ["61"])
+        up(self.room, agent)
+        self.assertIn("revoked: line 1: no", self.told().why)
+        self.assertEqual(self.room.files("one"), files)
+
+    def test_a_daemon_that_has_other_keys(self):
+        """It was started anew with a key file of its own, and so it has read that later than the agent's was put."""
+        self.room.numbers["one"]["key_names"] = 7
+        agent = up(self.room, self.room.agent("one"))
+        self.assertFalse(agent.is_up())
+        agent.keys.again_at = 0.0
+        agent.turn()
+        self.assertIn("is it started with that", self.told().why)
+        self.room.numbers["one"]["key_names"] = 2
+        self.assertTrue(up(self.room, agent).is_up(), agent.why())
+
     def test_there_is_no_program(self):
         self.room.program.unlink()
         agent = up(self.room, self.room.agent("one"))
@@ -348,6 +368,58 @@ class Files(unittest.TestCase):
         self.assertIn(here, self.room.store.held)
         agent.leave()
         self.assertNotIn(here, self.room.store.held)
+
+    def kept(self, agent):
+        """What the operator knows of the member once its agent has kept its lease."""
+        agent.keep_at = 0.0
+        up(self.room, agent)
+        return self.room.fleet().look()[1][0]
+
+    def test_what_was_taken_away_is_said_again(self):
+        """A member that was removed and is one again, or a fleet that was begun anew, by an agent that was there all the time."""
+        agent = up(self.room, self.room.agent("one"))
+        operate.remove_member(self.fleet, "one")
+        up(self.room, agent)
+        operate.add_member(self.fleet, "one", self.room.certificate("one"))
+        self.assertTrue(self.kept(agent).is_up(self.fleet.state().head.serial))
+        self.room.store.held = {}
+        self.fleet = self.room.begun("one")
+        self.assertTrue(self.kept(agent).is_up(self.fleet.state().head.serial))
+
+    def test_a_lease_under_which_nothing_could_be_said(self):
+        agent, put = self.room.agent("one"), self.room.store.put
+
+        def broken(change):
+            raise StoreAway("it doesn't answer in time")
+
+        self.room.store.put = broken
+        agent.turn()
+        self.assertIn("in time", agent.of_telling)
+        self.room.store.put = put
+        self.assertTrue(self.kept(agent).is_up(self.fleet.state().head.serial))
+
+    def test_another_run_s_word_stays(self):
+        """Of two agents of one member the later one counts, and the first one again once that is gone."""
+        agents = [up(self.room, self.room.agent("one")) for _ in range(2)]
+        self.kept(agents[0])
+        here = key_of("shop", "here", "one")
+        self.assertEqual(self.room.store.held[here].value, agents[1].run_name.encode())
+        agents[1].leave()
+        self.kept(agents[0])
+        self.assertEqual(self.room.store.held[here].value, agents[0].run_name.encode())
+
+    def test_a_state_that_can_t_be_written(self):
+        """What isn't kept isn't taken, and it is tried again."""
+        agent, state = self.room.agent("one"), self.room.folder / "one" / "state"
+        state.write_text("")
+        for _ in range(2):
+            agent.look_at = 0.0
+            agent.turn()
+            self.assertIn("state/shop.taken: ", agent.why())
+            self.assertEqual(self.room.files("one"), [None, None])
+        state.unlink()
+        self.assertTrue(up(self.room, agent).is_up(), agent.why())
+        self.assertEqual(self.room.agent("one").taken.serial, agent.up())
 
     def test_a_state_that_is_none(self):
         up(self.room, self.room.agent("one"))
@@ -442,17 +514,16 @@ class Objects(unittest.TestCase):
     def test_another_head_comes_in_between(self):
         room = Room(self, "one")
         fleet = room.begun("one")
-        agent, get = room.agent("one"), room.store.get
+        agent, together = room.agent("one"), room.store.together
 
-        def faster(key, longest):
+        def faster(key, prefixes, longest):
             """Somebody publishes between the look at the head and that at its objects."""
-            found = get(key, longest)
-            if key == HEAD and room.store.get is faster:
-                room.store.get = get
-                operate.add_member(fleet, "one", room.certificate("one"))
+            found = together(key, prefixes, longest)
+            room.store.together = together
+            operate.add_member(fleet, "one", room.certificate("one"))
             return found
 
-        room.store.get = faster
+        room.store.together = faster
         up(room, agent)
         self.assertTrue(agent.is_up(), agent.why())
 

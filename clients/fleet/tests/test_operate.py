@@ -1,9 +1,10 @@
 """What an operator does: steps that wait for all members, that go on where they were, and members that aren't believed."""
 import contextlib
 import io
-import threading
 import os
+import threading
 import unittest
+import unittest.mock
 
 from macaroond_fleet import form, operate, sealing
 from macaroond_fleet.errors import FleetError, NotTaken
@@ -69,6 +70,18 @@ class Rotating(unittest.TestCase):
 
     def test_two_keys_of_which_nobody_knows(self):
         operate.begin(self.fleet, KeyFile(KEYS + b"key bank 62\n"), [], is_first=False)
+        with self.assertRaisesRegex(FleetError, "bank has two keys"):
+            self.advance(Rotation(self.fleet, "bank", 60))
+
+    def test_a_key_file_that_is_published_in_between(self):
+        self.advance(Rotation(self.fleet, "bank", 60))
+        keys = self.fleet.keys_of(self.fleet.state())
+        operate.begin(self.fleet, keys.with_secrets("shop", ["62"]), [], is_first=False)
+        self.assertEqual(self.step(), Step("below"))
+        # Another key of the name: its change isn't where it was, and would end without one.
+        operate.begin(self.fleet, keys.with_secrets("bank", [SECRET]), [], is_first=False)
+        self.assertIsNone(self.step())
+        operate.begin(self.fleet, keys.with_secrets("bank", ["62", SECRET]), [], is_first=False)
         with self.assertRaisesRegex(FleetError, "bank has two keys"):
             self.advance(Rotation(self.fleet, "bank", 60))
 
@@ -225,6 +238,23 @@ class Revoking(unittest.TestCase):
         self.assertEqual(self.room.files("one")[1][0], b"# none\n")
         self.assertTrue(agent.is_up(), agent.why())
 
+    def test_a_long_list_in_the_place_of_another(self):
+        """Each piece is another one: more go than etcd takes away at once."""
+        with unittest.mock.patch.object(form, "PIECE_MAX", 1):
+            for byte in ("61", "62"):
+                lines = [("bank", f"{number:04x}{byte}") for number in range(400)]
+                head = operate.begin(self.fleet, KeyFile(KEYS), lines, is_first=False)
+                self.assertEqual((len(head.revoked), self.room.fleet().state().revocations()), (400, lines))
+        held = {name.rpartition("/")[2] for name in self.room.store.held if "/objects/" in name}
+        self.assertEqual(held, set(head.objects()))
+
+    def test_what_no_agent_would_take(self):
+        was = self.room.head()
+        for name, most in (("REVOKED_MAX", 15), ("OBJECT_MAX", 15), ("OBJECT_MAX", 100)):
+            with self.subTest(name), unittest.mock.patch.object(operate, name, most), self.assertRaisesRegex(FleetError, "more than"):
+                operate.begin(self.fleet, KeyFile(KEYS), [("bank", "61")], is_first=False)
+            self.assertEqual(self.room.head(), was)
+
     def test_a_name_without_a_key(self):
         with self.assertRaisesRegex(FleetError, "there is no key mill"):
             operate.revoke(self.fleet, "mill", ["61"])
@@ -258,4 +288,7 @@ class Revoking(unittest.TestCase):
         with contextlib.redirect_stdout(io.StringIO()):
             self.room.store.change = lost
             Rotation(self.fleet, "bank", 0).advance(self.fleet.state())
-        self.assertEqual(self.fleet.state().head.steps, {"bank": Step("below")})
+            self.assertEqual(self.fleet.state().head.steps, {"bank": Step("below")})
+            self.room.store.change = lost
+            operate.remove_member(self.fleet, "one")
+        self.assertEqual(self.fleet.state().head.members, {})

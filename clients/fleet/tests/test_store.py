@@ -1,14 +1,23 @@
 """Stores that are no etcd: each request ends in time, with an answer that is one or a fault that says what is wrong."""
 import contextlib
+import http.client
 import json
+import pathlib
 import socket
 import ssl
+import subprocess
+import tempfile
 import threading
 import time
 import unittest
 
+from macaroond_fleet import https
 from macaroond_fleet.errors import FleetError, StoreAway
+from macaroond_fleet.sealing import Identity
+from macaroond_fleet.settings import Settings
 from macaroond_fleet.store import Change, Store, User, text64
+
+from .rooms import CURVE
 
 PATIENCE = 1.0
 KEY = "/macaroond-fleet/shop/head"
@@ -27,9 +36,10 @@ def entry(value, key=KEY, revision="7"):
 class Server:
     """A server of this machine that does with each connection what a function says."""
 
-    def __init__(self, case, serve):
+    def __init__(self, case, serve, context=None):
+        self.context = context
         self.listener = socket.create_server(("127.0.0.1", 0))
-        self.url = f"http://127.0.0.1:{self.listener.getsockname()[1]}"
+        self.url = f"{'https' if context else 'http'}://127.0.0.1:{self.listener.getsockname()[1]}"
         self.serve, self.requests = serve, []
         threading.Thread(target=self.run, daemon=True).start()
         case.addCleanup(self.listener.close)
@@ -41,7 +51,7 @@ class Server:
                 threading.Thread(target=self.talk, args=(stream,), daemon=True).start()
 
     def talk(self, stream):
-        with contextlib.suppress(OSError), stream:
+        with contextlib.suppress(OSError), self.context.wrap_socket(stream, server_side=True) if self.context else stream as stream:
             while True:
                 head = b""
                 while b"\r\n\r\n" not in head:
@@ -113,6 +123,7 @@ class Hostile(unittest.TestCase):
             always(answer({"kvs": [entry(b"", revision="-1")]})): "isn't etcd's",
             always(answer({"kvs": [entry(b"", revision=True)]})): "isn't etcd's",
             always(answer({"kvs": [entry(b"", revision="9" * 100)]})): "isn't etcd's",
+            always(answer({"kvs": [entry(b"", revision="\u00b2")]})): "isn't etcd's",
             always(answer({"kvs": [entry(b"0" * 1001)]})): "more than 1000 bytes",
             always(answer({"kvs": [entry(b"0" * 200_000)]})): "more than",
             always(b"SSH-2.0-OpenSSH\r\n"): "",
@@ -126,6 +137,22 @@ class Hostile(unittest.TestCase):
         }.items():
             with self.subTest(why):
                 self.refuses(serve, why)
+
+    def test_a_connection_that_is_made_too_late(self):
+        """The moment passes while it is made, as in a slow handshake: what is answered then may have no end."""
+
+        class Late(http.client.HTTPConnection):
+            def connect(self):
+                time.sleep(1.2 * PATIENCE)
+                super().connect()
+
+        server = Server(self, dripping)
+        late, begin = https.Server(server.url, None, PATIENCE), time.monotonic()
+        late.connection = lambda: Late(late.host, late.port, timeout=PATIENCE)
+        with self.assertRaisesRegex(https.Failed, "in time"):
+            late.post("/", {}, {}, 1000)
+        self.assertLess(time.monotonic() - begin, 10 * PATIENCE)
+        self.assertEqual(server.requests, [])
 
     def test_what_isn_t_there(self):
         self.assertIsNone(self.store(always(answer({}))).get(KEY, 10))
@@ -191,7 +218,7 @@ class Hostile(unittest.TestCase):
 
     def test_leases(self):
         self.assertEqual(self.store(always(answer({"ID": "12"}))).grant(5), 12)
-        for told in ({}, {"ID": "x"}, {"ID": None}):
+        for told in ({}, {"ID": "x"}, {"ID": None}, {"ID": "\u00b2"}):
             with self.subTest(told), self.assertRaises(StoreAway):
                 self.store(always(answer(told))).grant(5)
         self.assertTrue(self.store(always(answer({"result": {"ID": "12", "TTL": "5"}}))).keep(12))
@@ -209,6 +236,49 @@ class Hostile(unittest.TestCase):
 
         self.store(serve).watch("/a", woken.set)
         self.assertTrue(woken.wait(10))
+
+
+class Tls(unittest.TestCase):
+    """Who shows no certificate of the authority, for the host that is asked, is told no password."""
+
+    def setUp(self):
+        folder = tempfile.TemporaryDirectory()
+        self.addCleanup(folder.cleanup)
+        self.folder = pathlib.Path(folder.name)
+        (self.folder / "password").write_text("secret")
+        (self.folder / "password").chmod(0o600)
+        self.good = self.certificate("good", "-addext", "subjectAltName=IP:127.0.0.1")
+
+    def certificate(self, name, *words):
+        made = Identity(f"{self.folder}/{name}.pem", f"{self.folder}/{name}.key")
+        command = ["req", "-x509", *CURVE, "-subj", "/CN=127.0.0.1", *words, "-keyout", made.key, "-out", made.certificate]
+        subprocess.run(["openssl", *command], check=True, capture_output=True)
+        return made
+
+    def store(self, shown, authority):
+        """A server that shows a certificate, and the store of settings that name an authority."""
+        context = ssl.SSLContext(ssl.PROTOCOL_TLS_SERVER)
+        context.load_cert_chain(*shown)
+        server = Server(self, always(answer({"token": "t", "kvs": [entry(b"x")]})), context)
+        settings = Settings(*[""] * len(Settings._fields))._replace(endpoints=[server.url], authority=authority)
+        store = settings._replace(user="one", password_file=f"{self.folder}/password").store(PATIENCE)
+        self.addCleanup(store.close)
+        return server, store
+
+    def test_the_authority_s_own(self):
+        server, store = self.store(self.good, self.good.certificate)
+        self.assertEqual(store.get(KEY, 10).value, b"x")
+        self.assertEqual(len(server.requests), 2)
+
+    def test_somebody_else_s(self):
+        """Another authority's, that of none that the system knows, and one that is for no host."""
+        other, unnamed = self.certificate("other", "-addext", "subjectAltName=IP:127.0.0.1"), self.certificate("unnamed")
+        for shown, authority in ((self.good, other.certificate), (self.good, ""), (unnamed, unnamed.certificate)):
+            with self.subTest(authority):
+                server, store = self.store(shown, authority)
+                with self.assertRaisesRegex(StoreAway, "certificate verify failed"):
+                    store.get(KEY, 10)
+                self.assertEqual(server.requests, [])
 
 
 class Endpoints(unittest.TestCase):
