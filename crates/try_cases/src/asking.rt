@@ -7,7 +7,11 @@ use mac_token::Form;
 use mac_wire::{Reply, Request, TokenForm};
 
 /// The reply to a request under these keys.
-pub(crate) fn ask(case: &mut Case<'_>, keys: Option<&Keys>, request: Request<'_>) -> Option<Reply> {
+pub(crate) fn ask<'a>(
+    case: &mut Case<'_>,
+    keys: Option<&'a Keys>,
+    request: Request<'a>,
+) -> Option<Reply> {
     let asking = Asking {
         request,
         keys,
