@@ -77,11 +77,7 @@ pub(crate) fn read_table(alloc: Global, text: &[u8]) -> Result<KeyTable, PipeFau
 }
 
 /// The table of the key lines, beside a list of what was taken back.
-fn read_table_beside(
-    alloc: Global,
-    text: &[u8],
-    list: &RevokedList,
-) -> Result<KeyTable, PipeFault>
+fn read_table_beside(alloc: Global, text: &[u8], list: &RevokedList) -> Result<KeyTable, PipeFault>
     ensures table { IfOk result (λ table. IsTableBeside list.now (table_of text.now) table) }
     ensures fault { IfErr result (Tells (table_of text.now)) }
 {
