@@ -79,6 +79,7 @@ told_word told.Granted = codes "granted"
 told_word told.Token = codes "token"
 told_word told.Unsatisfied = codes "unsatisfied"
 told_word told.Refused = codes "refused"
+told_word told.Revoked = codes "revoked"
 
 abbrev asked_place : Asked → ℕ
 asked_place asked.Mint = 0
@@ -91,10 +92,11 @@ told_place told.Granted = 0
 told_place told.Token = 1
 told_place told.Unsatisfied = 2
 told_place told.Refused = 3
+told_place told.Revoked = 4
 
 -- the place of a request in a snapshot
 abbrev pub request_place : Request → ℕ
-request_place r = 4 * asked_place r.asked + told_place r.told
+request_place r = 5 * asked_place r.asked + told_place r.told
 
 -- all requests, in the order in which they are written
 abbrev pub all_requests : List Request
@@ -103,16 +105,20 @@ all_requests =
     record { asked = asked.Mint; told = told.Token } ∷
     record { asked = asked.Mint; told = told.Unsatisfied } ∷
     record { asked = asked.Mint; told = told.Refused } ∷
+    record { asked = asked.Mint; told = told.Revoked } ∷
     record { asked = asked.Attenuate; told = told.Granted } ∷
     record { asked = asked.Attenuate; told = told.Token } ∷
     record { asked = asked.Attenuate; told = told.Unsatisfied } ∷
     record { asked = asked.Attenuate; told = told.Refused } ∷
+    record { asked = asked.Attenuate; told = told.Revoked } ∷
     record { asked = asked.Verify; told = told.Granted } ∷
     record { asked = asked.Verify; told = told.Token } ∷
     record { asked = asked.Verify; told = told.Unsatisfied } ∷
     record { asked = asked.Verify; told = told.Refused } ∷
+    record { asked = asked.Verify; told = told.Revoked } ∷
     record { asked = asked.Nothing; told = told.Granted } ∷
     record { asked = asked.Nothing; told = told.Token } ∷
     record { asked = asked.Nothing; told = told.Unsatisfied } ∷
     record { asked = asked.Nothing; told = told.Refused } ∷
+    record { asked = asked.Nothing; told = told.Revoked } ∷
     []

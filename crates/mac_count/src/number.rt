@@ -8,7 +8,7 @@ ghost use Rattle.mac_count.specs.Number.{request_place, told_word};
 pub const NUMBERS: usize = 15;
 
 /// How many numbers there are of requests: one for each thing asked and each answer.
-pub const REQUESTS: usize = 16;
+pub const REQUESTS: usize = 20;
 
 /// A number that stands alone.
 #[derive(Clone, Copy, Debug, PartialEq, Eq)]
@@ -67,8 +67,10 @@ pub enum Told {
     Token,
     /// A caveat does not hold.
     Unsatisfied,
-    /// Any refusal.
+    /// Any other refusal.
     Refused,
+    /// The token was taken back.
+    Revoked,
 }
 
 /// A request: what it asked for, and what it was answered.
@@ -179,6 +181,7 @@ impl Told {
             Told::Token => "token",
             Told::Unsatisfied => "unsatisfied",
             Told::Refused => "refused",
+            Told::Revoked => "revoked",
         }
     }
 }
@@ -203,6 +206,10 @@ impl Request {
             told: Told::Refused,
         },
         Request {
+            asked: Asked::Mint,
+            told: Told::Revoked,
+        },
+        Request {
             asked: Asked::Attenuate,
             told: Told::Granted,
         },
@@ -219,6 +226,10 @@ impl Request {
             told: Told::Refused,
         },
         Request {
+            asked: Asked::Attenuate,
+            told: Told::Revoked,
+        },
+        Request {
             asked: Asked::Verify,
             told: Told::Granted,
         },
@@ -235,6 +246,10 @@ impl Request {
             told: Told::Refused,
         },
         Request {
+            asked: Asked::Verify,
+            told: Told::Revoked,
+        },
+        Request {
             asked: Asked::Nothing,
             told: Told::Granted,
         },
@@ -249,6 +264,10 @@ impl Request {
         Request {
             asked: Asked::Nothing,
             told: Told::Refused,
+        },
+        Request {
+            asked: Asked::Nothing,
+            told: Told::Revoked,
         },
     ];
 
@@ -257,6 +276,6 @@ impl Request {
         ensures place { result ≡ request_place self }
         ensures within { result < REQUESTS }
     {
-        4 * self.asked as usize + self.told as usize
+        5 * self.asked as usize + self.told as usize
     }
 }

@@ -36,6 +36,7 @@ by_reply scheme reply.Granted = inr refl
 by_reply scheme (reply.GrantedTo identifier location) = inl tt
 by_reply scheme (reply.Token bytes) = inr refl
 by_reply scheme (reply.Unsatisfied index) = inl tt
+by_reply scheme (reply.Refused refusal.Revoked) = inl tt
 by_reply scheme (reply.Refused reason) = inr refl
 
 -- a name without keys has no token

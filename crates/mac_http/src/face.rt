@@ -124,8 +124,8 @@ fn answer_plain<S: Monitor>(
     ) {
         Some(asked) => answer_call(alloc, footing, monitor, asked, request, response),
         None => {
-            respond(alloc, footing, request, response);
-            let noted = note_of_path(request.uri().path().as_bytes());
+            let revoked = respond(alloc, footing, request, response);
+            let noted = note_of_path(request.uri().path().as_bytes(), revoked);
             monitor.note(noted, response.status);
         }
     }

@@ -80,6 +80,13 @@ pub fn response_tells_the_finding()
         → (r.status ≡ s.status) × (fields_of r ≡ fields_of s) × (r.body.items ≡ s.body.items) }
 {}
 
+/// A token that was taken back is told as one that isn't valid: a response doesn't say which it is.
+pub fn revoked_is_told_as_invalid()
+    ensures { (granted : PlainGranted) (scheme : PlainScheme) (response : Response)
+        → Tells granted (Finding.Revoked scheme) response
+        ↔ Tells granted (Finding.Invalid scheme) response }
+{}
+
 /// At an address that isn't allowed to mint, or where that call isn't answered, a path below
 /// `/mint/` is answered with a bare 404, or a response that tells that there was no memory.
 pub fn who_may_not_mint_has_no_token_minted()
