@@ -18,14 +18,15 @@ use crate::line::{is_ignored, is_name, parted};
 use crate::revoked_fault::{RevokedFault, RevokedLineFault};
 use hex::FromHexError;
 use std::alloc::{AllocError, Global};
-use std::collections::{BTreeMap, BTreeSet};
+use std::collections::{BTreeMap, HashSet};
 use std::marker::Model;
 use std::sync::Arc;
 
-/// Identifiers of tokens.
+/// Identifiers of tokens. They are found by hashes whose seed is fixed: the operator writes the
+/// list, so that who makes tokens whose identifiers hash alike would have to have each taken back.
 #[derive(Drop)]
 pub(crate) struct Identifiers {
-    held: BTreeSet<Vec<u8>>,
+    held: HashSet<Vec<u8>>,
 }
 
 impl Model for Identifiers {
@@ -45,7 +46,7 @@ impl Identifiers {
         ensures { result ≡ set.empty }
     {
         Identifiers {
-            held: BTreeSet::new(alloc),
+            held: HashSet::new(alloc),
         }
     }
 
@@ -119,14 +120,16 @@ impl Lists {
         ensures { OnOk result (self.new ≡ with_said self.old
             (Some (record { name = name.now; identifier = identifier.items }))) }
     {
-        let mut identifiers = match self.names.remove(name) {
-            Some(identifiers) => identifiers,
-            None => Identifiers::new(alloc),
-        };
-        identifiers.add(identifier)?;
-        let name = Vec::from_slice(alloc, name)?;
-        self.names.insert(name, identifiers)?;
-        Ok(())
+        match self.names.get_mut(name) {
+            Some(identifiers) => identifiers.add(identifier),
+            None => {
+                let mut identifiers = Identifiers::new(alloc);
+                identifiers.add(identifier)?;
+                let name = Vec::from_slice(alloc, name)?;
+                self.names.insert(name, identifiers)?;
+                Ok(())
+            }
+        }
     }
 
     /// Takes in what the line of this number says.
@@ -204,7 +207,7 @@ impl RevokedList {
     /// What a text takes back, or the first of its lines that has a fault.
     ///
     /// Takes memory for the list, and time in line with the length of the text, but that each
-    /// identifier is looked up among those of its name.
+    /// line's name is looked up among the others.
     pub fn read(alloc: Global, text: &[u8]) -> Result<RevokedList, RevokedFault>
         ensures list { IfOk result (λ list. revoked_of text.now ≡ Ok list) }
         ensures fault { IfErr result (λ fault.
