@@ -4,14 +4,12 @@
 //! line       = "" / "#" *any / "revoked " name " " identifier
 //! identifier = *(digit digit), hexadecimal digits of either case
 //! ```
-ghost use Rattle.std.specs.Prelude.{◌≡◌, ◌⊎◌, ◌+◌, ◌<◌, ◌^◌, List, ℕ, IfOk, IfErr, IsTrue, OnOk, None, Some, Ok, Err, false, codes, option_map};
+ghost use Rattle.std.specs.Prelude.{◌≡◌, ◌↔◌, ◌⊎◌, ◌+◌, ◌<◌, ◌^◌, List, ℕ, IfOk, IfErr, IsTrue, OnOk, None, Some, Ok, Err, false, option_map};
 ghost use Rattle.std.specs.FinMap as map;
 ghost use Rattle.std.specs.FinSet as set;
 ghost use Rattle.mac_keys.specs.Table.{lines_of};
-ghost use Rattle.std.specs.List.{list_any};
-ghost use Rattle.std.specs.Str.{bytes_eq};
-ghost use Rattle.mac_keys.specs.Revoked.{after_line, identifiers_of, is_listed, nothing};
-ghost use Rattle.mac_keys.specs.Revoked.{revoked_fields, revoked_of, with_said};
+ghost use Rattle.mac_keys.specs.Revoked.{after_line, count_said, identifiers_of, is_listed};
+ghost use Rattle.mac_keys.specs.Revoked.{means_none, nothing, revoked_fields, revoked_of, with_said};
 ghost use Rattle.mac_keys.specs.declared.revoked_fault.RevokedFault.TheVariants.{Memory};
 
 use crate::line::{is_ignored, is_name, parted};
@@ -174,7 +172,7 @@ fn fields(line: &[u8]) -> Option<(&[u8], &[u8])>
 #[derive(Drop)]
 pub struct RevokedList {
     held: Option<Arc<Lists, Global>>,
-    /// How many lines it was made of, which is only told.
+    /// How many lines it was made of.
     lines: usize,
 }
 
@@ -182,6 +180,7 @@ impl Model for RevokedList {
     ghost use Rattle.std.specs.Coded.{coded_list, coded_ℕ};
     ghost use Rattle.std.specs.Arc.{arc_value};
     ghost use Rattle.std.specs.Option.{option_map_or};
+    ghost use Rattle.std.specs.Prelude.{◌≡◌, ◌↔◌};
     ghost use Rattle.std.specs.FinMap as map;
     ghost use Rattle.std.specs.FinSet as set;
     ghost use Rattle.mac_keys.specs.Revoked.{Revoked, nothing};
@@ -191,6 +190,9 @@ impl Model for RevokedList {
     ghost coded = { map.code (coded_list coded_ℕ) (set.code (coded_list coded_ℕ)) };
 
     ghost view = { λ list. option_map_or (λ held. arc_value held) list.held nothing };
+
+    ghost invariant = { λ list.
+        (list.lines ≡ 0) ↔ (option_map_or (λ held. arc_value held) list.held nothing ≡ nothing) };
 }
 
 impl RevokedList {
@@ -234,7 +236,9 @@ impl RevokedList {
     }
 
     /// How many lines of its text take tokens back.
-    pub fn lines(&self) -> usize {
+    pub fn lines(&self) -> usize
+        ensures { (result ≡ 0) ↔ (self.now ≡ nothing) }
+    {
         self.lines
     }
 
@@ -261,20 +265,19 @@ impl RevokedList {
     }
 }
 
-/// How many lines of a list's text say something.
-fn count_lines(text: &[u8]) -> usize {
-    let mut count: usize = 0;
-    for line in text.split(|byte| *byte == b'\n') {
-        if !is_ignored(line) {
-            count = count.saturating_add(1);
-        }
-    }
-    count
+/// How many lines of a list's text say something: where none has a fault, each of these takes
+/// tokens back.
+pub fn count_lines(text: &[u8]) -> usize
+    ensures { result ≡ count_said text.now }
+{
+    text.split(|byte| *byte == b'\n')
+        .filter(|line| !is_ignored(line))
+        .count()
 }
 
 /// Whether a list's text says by a line `# none` that it is meant to take nothing back.
 pub fn says_none(text: &[u8]) -> bool
-    ensures { result ≡ list_any (λ line. bytes_eq line (codes "# none")) (lines_of text.now) }
+    ensures { result ≡ means_none text.now }
 {
     text.split(|byte| *byte == b'\n')
         .any(|line| line == b"# none".as_slice())
