@@ -1,6 +1,6 @@
 -- What an editor puts up, and tells.
-use Rattle.std.proofs.Common.{◌≡◌, List, [], ◌∷◌, ◌++◌, refl, ap}
-use Rattle.std.specs.Prelude.{Option, Some, None, option_map, Result, Ok, Err, MatchResult}
+use Rattle.std.proofs.Common.{◌≡◌, List, [], ◌∷◌, ◌++◌, refl}
+use Rattle.std.specs.Prelude.{Option, Some, None, Result, Ok, Err, MatchResult}
 use Rattle.std.specs.List.{last_or}
 use Rattle.mac_keys.specs.KeyTable.{Table}
 

@@ -1,16 +1,21 @@
 -- What a board is that follows a key file and a list of tokens that were taken back.
-use Rattle.std.specs.Prelude.{◌≡◌, ◌⊎◌, List, [], ◌∷◌, ◌++◌}
+use Rattle.std.specs.Prelude.{◌≡◌, ◌↔◌, ℕ, Bool, List, [], ◌∷◌, ◌++◌}
 use Rattle.std.specs.FinMap.{len}
 use Rattle.mac_keys.specs.KeyTable.{Table}
 use Rattle.mac_keys.specs.Keys.{NamedKeys}
-use Rattle.mac_keys.specs.Revoked.{Revoked}
+use Rattle.mac_keys.specs.Revoked.{Revoked, nothing}
+use Rattle.mac_board.specs.Listing.{SeesList}
 use Rattle.mac_board.specs.Publisher.{tables}
-use Rattle.mac_board.specs.Sight.{state_after, state_before}
-use Rattle.mac_board.specs.Watcher.{IsDueIn, Sees}
+use Rattle.mac_board.specs.Watcher.{Sees}
 use Rattle.mac_board.specs.declared.editor.Editor.{Editor}
+use Rattle.mac_board.specs.declared.editor.ListNews.{ListNews}
+use Rattle.mac_board.specs.declared.editor.ListNews.TheVariants as listed
 use Rattle.mac_board.specs.declared.editor.News.{News}
 use Rattle.mac_board.specs.declared.editor.News.TheVariants as news
 use Rattle.mac_board.specs.declared.editor.Watchers.{Watchers}
+use Rattle.mac_board.specs.declared.listing.ListFinding.{ListFinding}
+use Rattle.mac_board.specs.declared.listing.ListFinding.TheVariants as list
+use Rattle.mac_board.specs.declared.listing.ListUp.{ListUp}
 use Rattle.mac_board.specs.declared.sight.Sight.{Sight}
 use Rattle.mac_board.specs.declared.watcher.Finding.{Finding}
 use Rattle.mac_board.specs.declared.watcher.Finding.TheVariants as finding
@@ -55,12 +60,34 @@ pub record IsKept {R : Type 0} (was now : Editor R) : Type 0 where
   pub keys : now.keys ≡ was.keys
   pub revoked : now.revoked ≡ was.revoked
 
--- one look at the list: the names that are up stay, and where another list is put up, it is with
--- them, and of a file at rest that was not dealt with
-pub record KeepsList {R : Type 0} (was : Editor R) (sight : Sight) (now : Editor R) : Type 0 where
+-- what is put up of what a look at the list found, with the names that are up
+abbrev pub list_put_up_of : NamedKeys → ListFinding → List Table
+list_put_up_of names list.Nothing = []
+list_put_up_of names (list.List found) = record { keys = names; revoked = found } ∷ []
+list_put_up_of names (list.Refused why) = []
+
+-- the list that is up behind it
+abbrev pub list_after : Revoked → ListFinding → Revoked
+list_after was list.Nothing = was
+list_after was (list.List found) = found
+list_after was (list.Refused why) = was
+
+-- this is told of it: that a list was put up, of some number of lines, or why it isn't taken
+abbrev pub IsToldOf : ListFinding → ListNews → Type 0
+IsToldOf list.Nothing told = told ≡ listed.Nothing
+IsToldOf (list.List found) told = (lines : ℕ) × (told ≡ listed.Taken lines)
+IsToldOf (list.Refused why) told = told ≡ listed.Refused why
+
+-- one look at the list: the watcher sees it, what it finds is put up with the names that are up,
+-- and what is put up or refused is told
+pub record KeepsList {R : Type 0} (was : Editor R) (may_empty : Bool) (sight : Sight) (now : Editor R) (told : ListNews) : Type 0 where
+  pub up : ListUp
+  pub found : ListFinding
+  pub has_lines : (up.lines ≡ 0) ↔ (was.revoked ≡ nothing)
+  pub is_set : up.may_empty ≡ may_empty
+  pub sees : SeesList was.watchers.list up sight found now.watchers.list
+  pub put_up : tables_of now ≡ tables_of was ++ list_put_up_of was.keys found
+  pub told_is : IsToldOf found told
+  pub list : now.revoked ≡ list_after was.revoked found
   pub keys : now.keys ≡ was.keys
   pub keys_watcher : now.watchers.keys ≡ was.watchers.keys
-  pub last : now.watchers.list.last ≡ state_after sight
-  pub put_up : ((tables_of now ≡ tables_of was) × (now.revoked ≡ was.revoked))
-      ⊎ (IsDueIn was.watchers.list (state_before sight) (state_after sight)
-      × (tables_of now ≡ tables_of was ++ record { keys = was.keys; revoked = now.revoked } ∷ []))

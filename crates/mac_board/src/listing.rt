@@ -1,8 +1,12 @@
 //! When a list of tokens that were taken back is taken, and why it isn't.
 
+ghost use Rattle.std.specs.Prelude.{◌≡◌, IfOk};
+ghost use Rattle.mac_board.specs.Listing.{judged_list, list_worth, may_empty};
+ghost use Rattle.mac_keys.specs.Revoked.{revoked_of};
+
 use crate::access::Exposure;
 use crate::sight::{FileState, ReadFault, Sight};
-use mac_keys::{RevokedFault, RevokedLineFault, RevokedList, says_none};
+use mac_keys::{RevokedFault, RevokedLineFault, RevokedList, count_lines, says_none};
 use std::alloc::{AllocError, Global};
 use thiserror::Error;
 
@@ -59,7 +63,9 @@ pub(crate) fn list_value(
     alloc: Global,
     up: ListUp,
     sight: &Sight,
-) -> Result<ListFinding, AllocError> {
+) -> Result<ListFinding, AllocError>
+    ensures { IfOk result (λ found. found ≡ list_worth up sight.now) }
+{
     match sight {
         Sight::Glance(FileState::Missing) => Ok(ListFinding::Refused(ListRefusal::Missing)),
         Sight::Glance(FileState::Unknown) => Ok(ListFinding::Refused(ListRefusal::Unreadable)),
@@ -81,9 +87,12 @@ pub(crate) fn list_value(
 }
 
 /// The list of a text, or why it isn't taken.
-pub fn judge_list(alloc: Global, up: ListUp, text: &[u8]) -> Result<ListFinding, AllocError> {
+pub fn judge_list(alloc: Global, up: ListUp, text: &[u8]) -> Result<ListFinding, AllocError>
+    ensures { IfOk result (λ found.
+        found ≡ judged_list up text.now (revoked_of text.now)) }
+{
     match RevokedList::read(alloc, text) {
-        Ok(list) if list.lines() == 0 && up.lines > 0 && !up.may_empty && !says_none(text) => {
+        Ok(_) if count_lines(text) == 0 && !may_empty(up, text) => {
             Ok(ListFinding::Refused(ListRefusal::Emptied))
         }
         Ok(list) => Ok(ListFinding::List(list)),
@@ -92,4 +101,11 @@ pub fn judge_list(alloc: Global, up: ListUp, text: &[u8]) -> Result<ListFinding,
         }
         Err(RevokedFault::Memory) => Err(AllocError),
     }
+}
+
+/// Whether a text that says nothing is taken in place of the list that is up.
+fn may_empty(up: ListUp, text: &[u8]) -> bool
+    ensures { result ≡ may_empty up text.now }
+{
+    up.lines == 0 || up.may_empty || says_none(text)
 }

@@ -1,9 +1,8 @@
 //! When a key file that changes is read, taken and told of.
 
-ghost use Rattle.std.specs.Prelude.{◌≡◌, ◌≢◌, ◌↔◌, ◌⊎◌, IsTrue, IfOk, OnErr, Some, None};
-ghost use Rattle.mac_board.specs.Sight.{state_after, state_before};
+ghost use Rattle.std.specs.Prelude.{◌≡◌, ◌≢◌, ◌↔◌, IsTrue, IfOk, OnErr, Some, None};
+ghost use Rattle.mac_board.specs.Listing.{IsListNews, SeesList};
 ghost use Rattle.mac_board.specs.Watcher.{IsDueIn, IsNews, Sees, judged, worth};
-ghost use Rattle.mac_board.specs.declared.listing.ListFinding.TheVariants as list;
 ghost use Rattle.mac_keys.specs.KeyTable.{table_of};
 
 use crate::access::Exposure;
@@ -112,9 +111,7 @@ impl Watcher {
         up: ListUp,
         sight: &Sight,
     ) -> Result<ListFinding, AllocError>
-        ensures last { IfOk result (λ _. self.new.last ≡ state_after sight.now) }
-        ensures due { IfOk result (λ finding. (finding ≡ list.Nothing)
-            ⊎ IsDueIn self.old (state_before sight.now) (state_after sight.now)) }
+        ensures ok { IfOk result (λ finding. SeesList self.old up sight.now finding self.new) }
         ensures err { OnErr result (self.new ≡ self.old) }
     {
         let (before, after) = (sight.before(), sight.after());
@@ -124,9 +121,8 @@ impl Watcher {
             ListFinding::Nothing
         };
         self.last = after;
-        match finding {
-            ListFinding::Nothing => {}
-            ListFinding::List(_) | ListFinding::Refused(_) => self.settled = Some(before),
+        if is_list_news(&finding) {
+            self.settled = Some(before);
         }
         Ok(finding)
     }
@@ -157,6 +153,16 @@ fn is_news(finding: &Finding) -> bool
     match finding {
         Finding::Nothing => false,
         Finding::Table(_) | Finding::Refused(_) => true,
+    }
+}
+
+/// The same of a list.
+fn is_list_news(finding: &ListFinding) -> bool
+    ensures { IsTrue result ↔ IsListNews finding.now }
+{
+    match finding {
+        ListFinding::Nothing => false,
+        ListFinding::List(_) | ListFinding::Refused(_) => true,
     }
 }
 

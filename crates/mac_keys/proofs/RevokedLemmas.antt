@@ -3,18 +3,19 @@ use Rattle.std.proofs.Common.{◌≡◌, ◌⊎◌, inl, inr, ℕ, ◌+◌, ◌<
 use Rattle.std.proofs.lemmas.List.{drop_more, drop_all}
 use Rattle.std.proofs.lemmas.List.FromFn.{length-enumerate_from, get_or-enumerate_from}
 use Rattle.std.proofs.lemmas.Bool.{false≢true}
-use Rattle.std.specs.declared.cmp.Ordering.TheVariants.{Less, Equal, Greater}
-use Rattle.std.specs.Prelude.{unwrap_or}
+use Rattle.std.specs.Bool.{MatchBool}
+use Rattle.std.specs.List.Sorted.{IsPermutation}
+use Rattle.std.specs.Prelude.{nat_eq, not, unwrap_or}
+use Rattle.std.proofs.lemmas.List.Sorted.{list_any-IsPermutation}
 use Rattle.std.specs.List.{enumerate_from, list_any}
-use Rattle.std.specs.Map.{lookup, remove_entry}
-use Rattle.std.specs.Ordering.{is_eq, eq_by_cmp, match_ordering}
+use Rattle.std.specs.Map.{lookup, set_value}
+use Rattle.std.specs.Ordering.{eq_by_cmp}
 use Rattle.std.specs.BTreeMap.{is_at, insert_entry}
-use Rattle.std.specs.BTreeSet.{insert_key}
-use Rattle.std.specs.Cmp.Lexicographic.{nat_list_cmp_total}
+use Rattle.std.specs.Cmp.Lexicographic.{bytes_decides, nat_list_cmp_total, pointwise, texts_ties}
 use Rattle.std.specs.FinMap as map
 use Rattle.std.specs.FinSet as set
 use Rattle.mac_keys.specs.Keys.{by_name}
-use Rattle.mac_keys.specs.Revoked.{Identifiers, Revoked, after_line, after_lines, by_bytes, identifiers_of, is_listed, nothing, or_fault}
+use Rattle.mac_keys.specs.Revoked.{Identifiers, Revoked, after_line, after_lines, by_bytes, is_listed, nothing, or_fault}
 use Rattle.mac_keys.specs.declared.revoked_fault.RevokedFault.{RevokedFault}
 use Rattle.mac_keys.specs.declared.revoked_fault.RevokedFault.TheVariants.{Memory}
 use Rattle.mac_keys.proofs.KeyMeaning.{same_name}
@@ -22,39 +23,38 @@ use Rattle.mac_keys.proofs.Names.{get-by_name, insert-by_name, order, order_of, 
 
 -- ---- the identifiers of a name
 
-any-by_bytes : (ks : List (Vec ℕ Global)) (q : List ℕ) → list_any (eq_by_cmp order q) (by_bytes ks) ≡ list_any (is_at (λ k. order q k.items)) ks
+any-by_bytes : (ks : List (Vec ℕ Global)) (q : List ℕ) → list_any (eq_by_cmp order q) (by_bytes ks) ≡ list_any (λ k. pointwise nat_eq q k.items) ks
 any-by_bytes [] q = refl
-any-by_bytes (k ∷ ks) q = ap (λ b. eq_by_cmp order q k.items || b) (any-by_bytes ks q)
+any-by_bytes (k ∷ ks) q =
+    ap (λ b. b || list_any (eq_by_cmp order q) (by_bytes ks)) (sym (texts_ties q k.items))
+    ∙ ap (λ b. pointwise nat_eq q k.items || b) (any-by_bytes ks q)
 
-pub contains-seen : (ks : List (Vec ℕ Global)) (s : Identifiers) (q : List ℕ) → set.from_list {R = order} (by_bytes ks) ≡ s → set.contains s q ≡ list_any (is_at (λ k. order q k.items)) ks
+pub contains-seen : (ks : List (Vec ℕ Global)) (s : Identifiers) (q : List ℕ) → set.from_list {R = order} (by_bytes ks) ≡ s → set.contains s q ≡ list_any (λ k. pointwise nat_eq q k.items) ks
 contains-seen ks s q seen = ap (λ t. set.contains t q) (sym seen) ∙ set.contains-from_list nat_list_cmp_total (by_bytes ks) q ∙ any-by_bytes ks q
 
-or_again : (a b c : Bool) → a ≡ b → (b || c) ≡ (a || (b || c))
-or_again true b c e = ap (λ x. x || c) (sym e)
-or_again false b c e = refl
+not_false : (b : Bool) → false ≡ not b → b ≡ true
+not_false true e = refl
+not_false false e = absurd (false≢true e)
 
-or_turned : (a b c : Bool) → (a || (b || c)) ≡ (b || (a || c))
-or_turned true true c = refl
-or_turned true false c = refl
-or_turned false b c = refl
+or_there : (a b : Bool) → (a ≡ true → b ≡ true) → b ≡ (a || b)
+or_there true b there = there refl
+or_there false b there = refl
 
-any-insert_key : (q : List ℕ) (k : Vec ℕ Global) (ks : List (Vec ℕ Global)) → list_any (is_at (λ x. order q x.items)) (insert_key order_of ks k) ≡ (eq_by_cmp order q k.items || list_any (is_at (λ x. order q x.items)) ks)
-any-insert_key q k [] = refl
-any-insert_key q k (x ∷ xs) =
-    elim (order k.items x.items) as (λ o. order k.items x.items ≡ o → list_any (is_at (λ y. order q y.items)) (match_ordering o (k ∷ x ∷ xs) (x ∷ xs) (x ∷ insert_key order_of xs k))
-    ≡ (eq_by_cmp order q k.items || (eq_by_cmp order q x.items || list_any (is_at (λ y. order q y.items)) xs))) [
-      | Less ↦ λ e. refl
-      | Equal ↦ λ e. or_again (eq_by_cmp order q k.items) (eq_by_cmp order q x.items) _ (ap (eq_by_cmp order q) (order-IsAntisymmetric k.items x.items e))
-      | Greater ↦ λ e. ap (λ b. eq_by_cmp order q x.items || b) (any-insert_key q k xs) ∙ or_turned (eq_by_cmp order q x.items) (eq_by_cmp order q k.items) _
-    ] refl
+any-put : (ks ls : List (Vec ℕ Global)) (k : Vec ℕ Global) (q : List ℕ) (added : Bool) → added ≡ not (list_any (λ x. pointwise nat_eq k.items x.items) ks) → MatchBool added (IsPermutation (k ∷ ks) ls) (ls ≡ ks)
+    → list_any (λ x. pointwise nat_eq q x.items) ls ≡ (pointwise nat_eq q k.items || list_any (λ x. pointwise nat_eq q x.items) ks)
+any-put ks ls k q true is put = sym (list_any-IsPermutation (λ x. pointwise nat_eq q x.items) (k ∷ ks) ls put)
+any-put ks ls k q false is put =
+    ap (list_any (λ x. pointwise nat_eq q x.items)) put
+    ∙ or_there (pointwise nat_eq q k.items) _ (λ same. ap (λ n. list_any (λ x. pointwise nat_eq n x.items) ks) ((bytes_decides q k.items).0 same) ∙ not_false _ is)
 
-pub added-seen : (ks ls : List (Vec ℕ Global)) (s : Identifiers) (k : Vec ℕ Global) → set.from_list {R = order} (by_bytes ks) ≡ s → ls ≡ insert_key order_of ks k
+pub added-seen : (ks ls : List (Vec ℕ Global)) (s : Identifiers) (k : Vec ℕ Global) (added : Bool) → set.from_list {R = order} (by_bytes ks) ≡ s
+    → added ≡ not (list_any (λ x. pointwise nat_eq k.items x.items) ks) → MatchBool added (IsPermutation (k ∷ ks) ls) (ls ≡ ks)
     → set.from_list {R = order} (by_bytes ls) ≡ set.insert s k.items
-added-seen ks ls s k seen put = set.same_set nat_list_cmp_total order-IsAntisymmetric _ _ (λ q.
+added-seen ks ls s k added seen is put = set.same_set nat_list_cmp_total order-IsAntisymmetric _ _ (λ q.
     set.contains-from_list nat_list_cmp_total (by_bytes ls) q
     ∙ any-by_bytes ls q
-    ∙ ap (list_any (is_at (λ x. order q x.items))) put
-    ∙ any-insert_key q k ks
+    ∙ any-put ks ls k q added is put
+    ∙ ap (λ b. b || list_any (λ x. pointwise nat_eq q x.items) ks) (texts_ties q k.items)
     ∙ sym (set.contains-insert nat_list_cmp_total s k.items q ∙ ap (λ b. eq_by_cmp order q k.items || b) (contains-seen ks s q seen)))
 
 -- ---- the names
@@ -72,35 +72,54 @@ listed-none list name identifier found = ap (λ o. set.contains (unwrap_or o set
 pub listed-nothing : (list : Revoked) (name identifier : List ℕ) → list ≡ nothing → is_listed list name identifier ≡ false
 listed-nothing list name identifier is = listed-none list name identifier (ap (λ l. map.get l name) is ∙ map.get-empty order name)
 
-lookup-removed : {X : Type 0} (q name : List ℕ) (es : List (Vec ℕ Global × X)) → eq_by_cmp order q name ≡ false
-    → lookup (is_at (λ k. order q k.items)) (remove_entry (is_at (λ k. order name k.items)) es) ≡ lookup (is_at (λ k. order q k.items)) es
-lookup-removed q name [] apart = refl
-lookup-removed q name (e ∷ es) apart =
-    elim (eq_by_cmp order name e.0.items) as (λ b. eq_by_cmp order name e.0.items ≡ b → lookup (is_at (λ k. order q k.items)) (cond b es (e ∷ remove_entry (is_at (λ k. order name k.items)) es))
-    ≡ cond (eq_by_cmp order q e.0.items) (Some e.1) (lookup (is_at (λ k. order q k.items)) es)) [
-      | true ↦ λ here. sym (ap (λ b. cond b (Some e.1) (lookup (is_at (λ k. order q k.items)) es)) (ap (eq_by_cmp order q) (sym (same_name name e.0.items here)) ∙ apart))
-      | false ↦ λ there. ap (cond (eq_by_cmp order q e.0.items) (Some e.1)) (lookup-removed q name es apart)
-    ] refl
-
 chosen : {X : Type 0} (b : Bool) (v : X) (x y : Option X) → (b ≡ false → x ≡ y) → cond b (Some v) x ≡ cond b (Some v) y
 chosen true v x y e = refl
 chosen false v x y e = e refl
 
--- a name that was taken out and put in again has its new value, and each other name its own
-pub replaced-seen : {X : Type 0} (es rs fs : List (Vec ℕ Global × X)) (list : map.FinMap order X) (k : Vec ℕ Global) (name : List ℕ) (v w : X) → map.from_entries {R = order} (by_name es) ≡ list
-    → rs ≡ remove_entry (is_at (λ x. order name x.items)) es → fs ≡ insert_entry order_of rs k v → k.items ≡ name → v ≡ w
+exchanged : {X : Type 0} (a b : Bool) (x y z : X) → (b ≡ true → a ≡ false) → cond a x (cond b y z) ≡ cond b y (cond a x z)
+exchanged true true x y z apart = absurd (false≢true (sym (apart refl)))
+exchanged true false x y z apart = refl
+exchanged false true x y z apart = refl
+exchanged false false x y z apart = refl
+
+lookup-written : {X : Type 0} (q name : List ℕ) (es : List (Vec ℕ Global × X)) (v w : X) → Some v ≡ lookup (is_at (λ k. order name k.items)) es
+    → lookup (is_at (λ k. order q k.items)) (set_value (is_at (λ k. order name k.items)) es w) ≡ cond (eq_by_cmp order q name) (Some w) (lookup (is_at (λ k. order q k.items)) es)
+lookup-written q name [] v w found = absurd cc
+lookup-written {X} q name (e ∷ es) v w found =
+    let rest : Option X = lookup (is_at (λ k. order q k.items)) es in
+    elim (eq_by_cmp order name e.0.items) as (λ b. eq_by_cmp order name e.0.items ≡ b → Some v ≡ cond b (Some e.1) (lookup (is_at (λ k. order name k.items)) es)
+    → lookup (is_at (λ k. order q k.items)) (cond b ((e.0, w) ∷ es) (e ∷ set_value (is_at (λ k. order name k.items)) es w)) ≡ cond (eq_by_cmp order q name) (Some w) (cond (eq_by_cmp order q e.0.items) (Some e.1) rest)) [
+      | true ↦ λ here _.
+          let same : eq_by_cmp order q e.0.items ≡ eq_by_cmp order q name = ap (eq_by_cmp order q) (sym (same_name name e.0.items here)) in
+          ap (λ b. cond b (Some w) rest) same
+          ∙ chosen (eq_by_cmp order q name) w rest (cond (eq_by_cmp order q e.0.items) (Some e.1) rest) (λ apart. ap (λ b. cond b (Some e.1) rest) (sym (same ∙ apart)))
+      | false ↦ λ there below.
+          ap (cond (eq_by_cmp order q e.0.items) (Some e.1)) (lookup-written q name es v w below)
+          ∙ exchanged (eq_by_cmp order q e.0.items) (eq_by_cmp order q name) (Some e.1) (Some w) rest (λ same. ap (λ n. eq_by_cmp order n e.0.items) (same_name q name same) ∙ there)
+    ] refl found
+
+-- a name whose value was written has the new one, and each other name its own
+pub written-seen : {X : Type 0} (es fs : List (Vec ℕ Global × X)) (list : map.FinMap order X) (name : List ℕ) (v w : X) → map.from_entries {R = order} (by_name es) ≡ list
+    → Some v ≡ lookup (is_at (λ k. order name k.items)) es → fs ≡ set_value (is_at (λ k. order name k.items)) es w
     → map.from_entries {R = order} (by_name fs) ≡ map.insert list name w
-replaced-seen es rs fs list k name v w seen taken put named valued = map.same_map nat_list_cmp_total order-IsAntisymmetric _ _ (λ q.
-    ap (λ m. map.get m q) (ap (λ entries. map.from_entries {R = order} (by_name entries)) put ∙ insert-by_name rs k v)
-    ∙ map.get-insert nat_list_cmp_total (map.from_entries (by_name rs)) k.items v q
-    ∙ ap (λ n. cond (eq_by_cmp order q n) (Some v) (map.get (map.from_entries {R = order} (by_name rs)) q)) named
-    ∙ ap (λ x. cond (eq_by_cmp order q name) (Some x) (map.get (map.from_entries {R = order} (by_name rs)) q)) valued
-    ∙ chosen (eq_by_cmp order q name) w _ _ (λ apart.
-    get-by_name rs q
-    ∙ ap (lookup (is_at (λ x. order q x.items))) taken
-    ∙ lookup-removed q name es apart
-    ∙ sym (get-seen es list q _ seen refl))
+written-seen es fs list name v w seen found put = map.same_map nat_list_cmp_total order-IsAntisymmetric _ _ (λ q.
+    get-by_name fs q
+    ∙ ap (lookup (is_at (λ x. order q x.items))) put
+    ∙ lookup-written q name es v w found
+    ∙ ap (cond (eq_by_cmp order q name) (Some w)) (sym (get-seen es list q _ seen refl))
     ∙ sym (map.get-insert nat_list_cmp_total list name w q))
+
+-- a name that is put in has its value, and each other name its own
+pub put-seen : {X : Type 0} (es rs fs : List (Vec ℕ Global × X)) (list : map.FinMap order X) (k : Vec ℕ Global) (name : List ℕ) (v w : X) → map.from_entries {R = order} (by_name es) ≡ list
+    → rs ≡ es → fs ≡ insert_entry order_of rs k v → k.items ≡ name → v ≡ w
+    → map.from_entries {R = order} (by_name fs) ≡ map.insert list name w
+put-seen es rs fs list k name v w seen same put named valued =
+    ap (λ entries. map.from_entries {R = order} (by_name entries)) put
+    ∙ insert-by_name rs k v
+    ∙ ap (λ entries. map.insert (map.from_entries {R = order} (by_name entries)) k.items v) same
+    ∙ ap (λ m. map.insert m k.items v) seen
+    ∙ ap (λ n. map.insert list n v) named
+    ∙ ap (map.insert list name) valued
 
 -- ---- line by line
 

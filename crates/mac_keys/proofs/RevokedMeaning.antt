@@ -1,7 +1,7 @@
 -- What a list of tokens that were taken back has, by the lines of its text.
-use Rattle.std.proofs.Common.{◌≡◌, ◌↔◌, ◌⊎◌, inl, inr, ℕ, zero, suc, ◌+◌, ◌||◌, ◌&&◌, Bool, true, false, cond, List, [], ◌∷◌, ◌++◌, Option, Some, None, Result, Ok, Err, take, refl, sym, ap, subst, ◌∙◌, arith}
+use Rattle.std.proofs.Common.{◌≡◌, ◌↔◌, ℕ, zero, suc, ◌+◌, ◌||◌, ◌&&◌, Bool, true, false, cond, List, [], ◌∷◌, Option, Some, None, Result, Ok, Err, take, refl, sym, ap, ◌∙◌, arith}
 use Rattle.std.specs.Prelude.{unwrap_or}
-use Rattle.std.specs.List.{list_any, slice_get, All, Any}
+use Rattle.std.specs.List.{list_any, slice_get, Any}
 use Rattle.std.specs.Ordering.{is_eq, eq_by_cmp}
 use Rattle.std.specs.Cmp.{tied_itself}
 use Rattle.std.specs.Cmp.Lexicographic.{nat_list_cmp_total}
@@ -13,23 +13,22 @@ use Rattle.std.proofs.lemmas.List.Folds.{Any-from_list_any, list_any-from_Any}
 use Rattle.mac_keys.specs.Revoked.{AreSound, IsFirstBad, Revoked, Says, TakenBack, after_lines, after_said, identifiers_of, is_listed, nothing, or_fault, revoked_line, revoked_of, with_said}
 use Rattle.mac_keys.specs.Table.{lines_of}
 use Rattle.mac_keys.specs.declared.revoked_fault.RevokedFault.TheVariants.{Line}
-use Rattle.mac_keys.specs.declared.revoked_fault.RevokedFault.{RevokedFault}
 use Rattle.mac_keys.specs.declared.revoked_fault.RevokedLineFault.{RevokedLineFault}
 use Rattle.mac_keys.proofs.KeyMeaning.{same_name}
 use Rattle.mac_keys.proofs.Names.{order}
 use Rattle.mac_keys.proofs.RevokedLemmas.{listed-nothing}
 
 -- whether what a line says takes this identifier of this name back
-abbrev matches : List ℕ → List ℕ → Option TakenBack → Bool
+abbrev pub matches : List ℕ → List ℕ → Option TakenBack → Bool
 matches name identifier None = false
 matches name identifier (Some t) = eq_by_cmp order name t.name && eq_by_cmp order identifier t.identifier
 
-abbrev matches_line : List ℕ → List ℕ → Result (Option TakenBack) RevokedLineFault → Bool
+abbrev pub matches_line : List ℕ → List ℕ → Result (Option TakenBack) RevokedLineFault → Bool
 matches_line name identifier (Ok said) = matches name identifier said
 matches_line name identifier (Err kind) = false
 
 -- one more
-with_one : (list : Revoked) (name identifier : List ℕ) (t : TakenBack) → is_listed (with_said list (Some t)) name identifier ≡ ((eq_by_cmp order name t.name && eq_by_cmp order identifier t.identifier) || is_listed list name identifier)
+pub with_one : (list : Revoked) (name identifier : List ℕ) (t : TakenBack) → is_listed (with_said list (Some t)) name identifier ≡ ((eq_by_cmp order name t.name && eq_by_cmp order identifier t.identifier) || is_listed list name identifier)
 with_one list name identifier t =
     let ids = set.insert (identifiers_of list t.name) t.identifier in
     ap (λ o. set.contains (unwrap_or o set.empty) identifier) (map.get-insert nat_list_cmp_total list t.name ids name)
@@ -60,7 +59,7 @@ one_line name identifier number before after lines (Ok said) below e =
     ∙ shifted (list_any (λ line. matches_line name identifier (revoked_line line)) lines) (matches name identifier said) (is_listed before name identifier)
 one_line name identifier number before after lines (Err kind) below e = absurd (cc)
 
-has_lines : (name identifier : List ℕ) (number : ℕ) (before after : Revoked) (lines : List (List ℕ)) → after_lines number before lines ≡ Ok after
+pub has_lines : (name identifier : List ℕ) (number : ℕ) (before after : Revoked) (lines : List (List ℕ)) → after_lines number before lines ≡ Ok after
     → is_listed after name identifier ≡ (list_any (λ line. matches_line name identifier (revoked_line line)) lines || is_listed before name identifier)
 has_lines name identifier number before after [] e = let same : before ≡ after = cc in ap (λ l. is_listed l name identifier) (sym same)
 has_lines name identifier number before after (line ∷ lines) e =

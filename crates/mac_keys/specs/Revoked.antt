@@ -1,6 +1,7 @@
 -- Tokens that were taken back: a list of names with identifiers, as a text (the project's own format).
-use Rattle.std.specs.Prelude.{◌≡◌, ℕ, ◌+◌, ◌++◌, nat_eq, Bool, true, if◌then◌else◌, List, [], ◌∷◌, drop, take, codes, IsTrue, Option, Some, None, unwrap_or, Result, Ok, Err, map as map_list}
-use Rattle.std.specs.List.{starts_with, slice_get, All}
+use Rattle.std.specs.Prelude.{◌≡◌, ℕ, ◌+◌, nat_eq, Bool, not, if◌then◌else◌, List, [], ◌∷◌, length, filter, drop, take, codes, Option, Some, None, unwrap_or, Result, Ok, Err, map as map_list}
+use Rattle.std.specs.List.{starts_with, slice_get, list_any, All}
+use Rattle.std.specs.Str.{bytes_eq}
 use Rattle.std.specs.Ordering.{nat_cmp}
 use Rattle.std.specs.Cmp.Lexicographic.{slice_cmp}
 use Rattle.std.specs.FinMap as map
@@ -102,6 +103,14 @@ after_lines number list (line ∷ lines) =
 -- what a text takes back; its lines are numbered from 1
 abbrev pub revoked_of : List ℕ → Result Revoked RevokedFault
 revoked_of text = after_lines 1 nothing (lines_of text)
+
+-- how many lines say something
+abbrev pub count_said : List ℕ → ℕ
+count_said text = length (filter (λ line. not (is_ignored line)) (lines_of text))
+
+-- whether a text says by a line `# none` that it is meant to take nothing back
+abbrev pub means_none : List ℕ → Bool
+means_none text = list_any (λ line. bytes_eq line (codes "# none")) (lines_of text)
 
 -- ---- what it means
 

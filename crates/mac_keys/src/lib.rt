@@ -26,7 +26,7 @@ pub use key_map::{KeyMap, NAMES_MAX};
 pub use key_table::KeyTable;
 pub use keys::{KeyName, Keys};
 pub use line::{NAME_MAX, is_name};
-pub use revoked::{RevokedList, says_none};
+pub use revoked::{RevokedList, count_lines, says_none};
 pub use revoked_fault::{RevokedFault, RevokedLineFault};
 pub use weak::{SOUND_BYTES, find_weak};
 pub use wiping::wipe;

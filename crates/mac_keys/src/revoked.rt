@@ -4,28 +4,27 @@
 //! line       = "" / "#" *any / "revoked " name " " identifier
 //! identifier = *(digit digit), hexadecimal digits of either case
 //! ```
-ghost use Rattle.std.specs.Prelude.{◌≡◌, ◌⊎◌, ◌+◌, ◌<◌, ◌^◌, List, ℕ, IfOk, IfErr, IsTrue, OnOk, None, Some, Ok, Err, false, codes, option_map};
+ghost use Rattle.std.specs.Prelude.{◌≡◌, ◌↔◌, ◌⊎◌, ◌+◌, ◌<◌, ◌^◌, List, ℕ, IfOk, IfErr, IsTrue, OnOk, None, Some, Ok, Err, false, option_map};
 ghost use Rattle.std.specs.FinMap as map;
 ghost use Rattle.std.specs.FinSet as set;
 ghost use Rattle.mac_keys.specs.Table.{lines_of};
-ghost use Rattle.std.specs.List.{list_any};
-ghost use Rattle.std.specs.Str.{bytes_eq};
-ghost use Rattle.mac_keys.specs.Revoked.{after_line, identifiers_of, is_listed, nothing};
-ghost use Rattle.mac_keys.specs.Revoked.{revoked_fields, revoked_of, with_said};
+ghost use Rattle.mac_keys.specs.Revoked.{after_line, count_said, identifiers_of, is_listed};
+ghost use Rattle.mac_keys.specs.Revoked.{means_none, nothing, revoked_fields, revoked_of, with_said};
 ghost use Rattle.mac_keys.specs.declared.revoked_fault.RevokedFault.TheVariants.{Memory};
 
 use crate::line::{is_ignored, is_name, parted};
 use crate::revoked_fault::{RevokedFault, RevokedLineFault};
 use hex::FromHexError;
 use std::alloc::{AllocError, Global};
-use std::collections::{BTreeMap, BTreeSet};
+use std::collections::{BTreeMap, HashSet};
 use std::marker::Model;
 use std::sync::Arc;
 
-/// Identifiers of tokens.
+/// Identifiers of tokens. They are found by hashes whose seed is fixed: the operator writes the
+/// list, so that who makes tokens whose identifiers hash alike would have to have each taken back.
 #[derive(Drop)]
 pub(crate) struct Identifiers {
-    held: BTreeSet<Vec<u8>>,
+    held: HashSet<Vec<u8>>,
 }
 
 impl Model for Identifiers {
@@ -45,7 +44,7 @@ impl Identifiers {
         ensures { result ≡ set.empty }
     {
         Identifiers {
-            held: BTreeSet::new(alloc),
+            held: HashSet::new(alloc),
         }
     }
 
@@ -119,14 +118,16 @@ impl Lists {
         ensures { OnOk result (self.new ≡ with_said self.old
             (Some (record { name = name.now; identifier = identifier.items }))) }
     {
-        let mut identifiers = match self.names.remove(name) {
-            Some(identifiers) => identifiers,
-            None => Identifiers::new(alloc),
-        };
-        identifiers.add(identifier)?;
-        let name = Vec::from_slice(alloc, name)?;
-        self.names.insert(name, identifiers)?;
-        Ok(())
+        match self.names.get_mut(name) {
+            Some(identifiers) => identifiers.add(identifier),
+            None => {
+                let mut identifiers = Identifiers::new(alloc);
+                identifiers.add(identifier)?;
+                let name = Vec::from_slice(alloc, name)?;
+                self.names.insert(name, identifiers)?;
+                Ok(())
+            }
+        }
     }
 
     /// Takes in what the line of this number says.
@@ -171,7 +172,7 @@ fn fields(line: &[u8]) -> Option<(&[u8], &[u8])>
 #[derive(Drop)]
 pub struct RevokedList {
     held: Option<Arc<Lists, Global>>,
-    /// How many lines it was made of, which is only told.
+    /// How many lines it was made of.
     lines: usize,
 }
 
@@ -179,6 +180,7 @@ impl Model for RevokedList {
     ghost use Rattle.std.specs.Coded.{coded_list, coded_ℕ};
     ghost use Rattle.std.specs.Arc.{arc_value};
     ghost use Rattle.std.specs.Option.{option_map_or};
+    ghost use Rattle.std.specs.Prelude.{◌≡◌, ◌↔◌};
     ghost use Rattle.std.specs.FinMap as map;
     ghost use Rattle.std.specs.FinSet as set;
     ghost use Rattle.mac_keys.specs.Revoked.{Revoked, nothing};
@@ -188,6 +190,9 @@ impl Model for RevokedList {
     ghost coded = { map.code (coded_list coded_ℕ) (set.code (coded_list coded_ℕ)) };
 
     ghost view = { λ list. option_map_or (λ held. arc_value held) list.held nothing };
+
+    ghost invariant = { λ list.
+        (list.lines ≡ 0) ↔ (option_map_or (λ held. arc_value held) list.held nothing ≡ nothing) };
 }
 
 impl RevokedList {
@@ -204,7 +209,7 @@ impl RevokedList {
     /// What a text takes back, or the first of its lines that has a fault.
     ///
     /// Takes memory for the list, and time in line with the length of the text, but that each
-    /// identifier is looked up among those of its name.
+    /// line's name is looked up among the others.
     pub fn read(alloc: Global, text: &[u8]) -> Result<RevokedList, RevokedFault>
         ensures list { IfOk result (λ list. revoked_of text.now ≡ Ok list) }
         ensures fault { IfErr result (λ fault.
@@ -231,7 +236,9 @@ impl RevokedList {
     }
 
     /// How many lines of its text take tokens back.
-    pub fn lines(&self) -> usize {
+    pub fn lines(&self) -> usize
+        ensures { (result ≡ 0) ↔ (self.now ≡ nothing) }
+    {
         self.lines
     }
 
@@ -258,20 +265,19 @@ impl RevokedList {
     }
 }
 
-/// How many lines of a list's text say something.
-fn count_lines(text: &[u8]) -> usize {
-    let mut count: usize = 0;
-    for line in text.split(|byte| *byte == b'\n') {
-        if !is_ignored(line) {
-            count = count.saturating_add(1);
-        }
-    }
-    count
+/// How many lines of a list's text say something: where none has a fault, each of these takes
+/// tokens back.
+pub fn count_lines(text: &[u8]) -> usize
+    ensures { result ≡ count_said text.now }
+{
+    text.split(|byte| *byte == b'\n')
+        .filter(|line| !is_ignored(line))
+        .count()
 }
 
 /// Whether a list's text says by a line `# none` that it is meant to take nothing back.
 pub fn says_none(text: &[u8]) -> bool
-    ensures { result ≡ list_any (λ line. bytes_eq line (codes "# none")) (lines_of text.now) }
+    ensures { result ≡ means_none text.now }
 {
     text.split(|byte| *byte == b'\n')
         .any(|line| line == b"# none".as_slice())

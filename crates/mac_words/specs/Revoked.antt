@@ -1,12 +1,12 @@
 -- Lines of a list of tokens that were taken back, as they are made and taken out.
-use Rattle.std.specs.Prelude.{◌≡◌, ◌==◌, ℕ, Bool, true, false, not, List, [], ◌∷◌, ◌++◌, codes, filter, if◌then◌else◌, length, nat_eq, IsTrue, Result, Ok, Err}
+use Rattle.std.specs.Prelude.{◌≡◌, ◌==◌, ℕ, Bool, true, false, not, List, [], ◌∷◌, ◌++◌, codes, filter, if◌then◌else◌, IsTrue, Result, Ok, Err}
 use Rattle.std.specs.Fmt.{decimal}
-use Rattle.std.specs.List.{ends_with, starts_with}
+use Rattle.std.specs.List.{ends_with}
 use Rattle.std.specs.declared.alloc.Global.{Global}
 use Rattle.std.specs.declared.vec.Vec.{Vec}
 use Rattle.hex.specs.Hex.{encode_lower}
 use Rattle.mac_keys.specs.Line.{is_name}
-use Rattle.mac_keys.specs.Revoked.{Revoked, is_listed, revoked_of}
+use Rattle.mac_keys.specs.Revoked.{Revoked, count_said, is_listed, revoked_of}
 use Rattle.mac_keys.specs.Table.{lines_of}
 use Rattle.mac_keys.specs.declared.revoked_fault.RevokedFault.{RevokedFault}
 use Rattle.mac_words.specs.declared.key_lines.NameFault.{NameFault}
@@ -24,14 +24,9 @@ GivesRevoked name identifier (Ok line) =
 GivesRevoked name identifier (Err fault.BadName) = ¬ IsTrue (is_name name)
 GivesRevoked name identifier (Err fault.Memory) = Unit {0}
 
--- in a list that has no fault, the line takes tokens back
-abbrev pub is_said : List ℕ → Bool
-is_said line = starts_with nat_eq line (codes "revoked ")
-
--- how many lines of such a list do
+-- how many lines of a list that has no fault take tokens back
 abbrev pub count_text : List ℕ → List ℕ
-count_text text = codes "revoked lines: "
-    ++ (decimal (length (filter is_said (lines_of text))) ++ 10 ∷ [])
+count_text text = codes "revoked lines: " ++ (decimal (count_said text) ++ 10 ∷ [])
 
 -- the text with its last line ended
 abbrev pub ended : List ℕ → List ℕ

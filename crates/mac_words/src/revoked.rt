@@ -1,12 +1,10 @@
 //! Lines that take tokens back, made anew and taken out.
 
-ghost use Rattle.std.specs.Prelude.{◌≡◌, ◌++◌, filter, length, IfOk};
-ghost use Rattle.mac_keys.specs.Table.{lines_of};
+ghost use Rattle.std.specs.Prelude.{◌≡◌, ◌++◌, IfOk};
 ghost use Rattle.mac_words.specs.Revoked.{GivesRevoked, count_text, ended, kept_lines, says};
-ghost use Rattle.mac_words.specs.Revoked.{is_said};
 
 use crate::key_lines::NameFault;
-use mac_keys::{RevokedList, is_name};
+use mac_keys::{RevokedList, count_lines, is_name};
 use std::alloc::{AllocError, Global};
 
 /// The line `revoked NAME HEX` that takes tokens of a name with an identifier back, with its line
@@ -31,22 +29,13 @@ pub fn revoked_line(alloc: Global, name: &str, identifier: &[u8]) -> Result<Vec<
 pub fn told_lines(alloc: Global, text: &[u8]) -> Result<Vec<u8>, AllocError>
     ensures { IfOk result (λ told. told.items ≡ count_text text.now) }
 {
-    let count = count_said(text);
+    let count = count_lines(text);
     let number = format!(in alloc; "{count}")?;
     let mut told = Vec::new(alloc);
     told.extend_from_slice(b"revoked lines: ")?;
     told.extend_from_slice(number.as_bytes())?;
     told.extend_from_slice(b"\n")?;
     Ok(told)
-}
-
-/// How many lines take tokens back, where no line has a fault.
-fn count_said(text: &[u8]) -> usize
-    ensures { result ≡ length (filter is_said (lines_of text.now)) }
-{
-    text.split(|byte| *byte == b'\n')
-        .filter(|line| line.starts_with(b"revoked "))
-        .count()
 }
 
 /// A text that ends with a line feed, if it isn't empty, and a line behind it.

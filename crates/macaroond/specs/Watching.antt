@@ -1,7 +1,8 @@
 -- What the thread does that watches a key file.
-use Rattle.std.specs.Prelude.{◌⊎◌}
+use Rattle.std.specs.Prelude.{◌⊎◌, Bool}
 use Rattle.mac_board.specs.Editor.{IsKept, Keeps, KeepsList}
 use Rattle.mac_board.specs.declared.editor.Editor.{Editor}
+use Rattle.mac_board.specs.declared.editor.ListNews.{ListNews}
 use Rattle.mac_board.specs.declared.editor.News.{News}
 use Rattle.mac_board.specs.declared.sight.Sight.{Sight}
 
@@ -11,4 +12,6 @@ Watches was now = ((sight : Sight) × (told : News) × Keeps was sight now told)
 
 -- the same of a list of tokens that were taken back
 abbrev pub WatchesList : {R : Type 0} → Editor R → Editor R → Type 0
-WatchesList was now = ((sight : Sight) × KeepsList was sight now) ⊎ IsKept was now
+WatchesList was now =
+    ((empty : Bool) × (sight : Sight) × (told : ListNews) × KeepsList was empty sight now told)
+    ⊎ IsKept was now

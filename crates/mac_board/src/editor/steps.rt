@@ -2,9 +2,10 @@
 
 ghost use Rattle.std.specs.FinMap.{len};
 ghost use Rattle.std.specs.Prelude.{◌≡◌, ◌≢◌, ◌↔◌, ◌∷◌, [], ◌++◌, ◌<◌, ◌^◌, IsTrue, IfOk, MatchResult, Some, None};
-ghost use Rattle.mac_board.specs.Editor.{IsKept, Keeps, KeepsList, PutsUp, tables_of};
+ghost use Rattle.mac_board.specs.Editor.{IsKept, IsToldOf, Keeps, KeepsList, PutsUp, tables_of};
 ghost use Rattle.mac_board.specs.Watcher.{IsDueIn};
 ghost use Rattle.mac_board.specs.declared.editor.News.TheVariants.{Taken};
+ghost use Rattle.mac_board.specs.declared.listing.ListFinding.TheVariants as found;
 
 use super::{Editor, ListNews, News, Watchers};
 use crate::follower::Followers;
@@ -155,7 +156,7 @@ impl<R: Wait + Drop> Editor<R> {
         may_empty: bool,
         sight: &Sight,
     ) -> (Editor<R>, Result<ListNews, PublishFault>)
-        ensures { MatchResult result.1 (λ _. KeepsList self sight.now result.0)
+        ensures { MatchResult result.1 (KeepsList self may_empty sight.now result.0)
             (λ _. IsKept self result.0) }
     {
         let up = ListUp {
@@ -180,7 +181,8 @@ impl<R: Wait + Drop> Editor<R> {
         watchers: Watchers,
         list: RevokedList,
     ) -> (Editor<R>, Result<ListNews, PublishFault>)
-        ensures { MatchResult result.1 (λ _. PutsUp self watchers self.keys list result.0)
+        ensures { MatchResult result.1
+            (λ news. PutsUp self watchers self.keys list result.0 × IsToldOf (found.List list) news)
             (λ _. IsKept self result.0) }
     {
         let Ok(keys) = self.keys.copy() else {

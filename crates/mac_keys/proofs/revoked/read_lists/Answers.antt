@@ -1,9 +1,9 @@
-use Rattle.std.proofs.Common.{◌≡◌, ◌==◌, ◌⊎◌, inl, inr, length, rules, tests}
+use Rattle.std.proofs.Common.{◌==◌, length, rules, tests}
 use Rattle.std.proofs.lemmas.List.{length_push}
 use Rattle.std.proofs.lemmas.Iterator.Consumers.{YieldsList-from_enumerate, YieldsList-at, YieldsList-turn, YieldsList-end}
 use Rattle.std.proofs.lemmas.Iterator.Splits.{YieldsList-from_slice_split}
 use Rattle.mac_keys.specs.Table.{lines_of}
-use Rattle.mac_keys.proofs.RevokedLemmas.{here, leads-all, leads-fault, leads-more, leads_or_memory}
+use Rattle.mac_keys.proofs.RevokedLemmas.{here, leads-all, leads-more, leads_or_memory}
 use Rattle.mac_keys.proofs.revoked.read_lists.Goals as goal
 
 pub loop-index-preserved : goal.loop-index-preserved
