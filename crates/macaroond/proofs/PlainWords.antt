@@ -173,14 +173,8 @@ behind_hyphens text =
 -- a word that isn't the option of `pipe` to a reader isn't to `clap`
 foreign_long : (text : Text) → is_list_option (45 ∷ 45 ∷ text) ≡ false → IsForeignWord false (long_of (45 ∷ 45 ∷ text))
 foreign_long [] other = tt
-foreign_long (x ∷ xs) other = go (has_byte 61 (x ∷ xs)) refl
-  where
-    name_differs : bytes_eq (codes "revoked") (before_first is_equals (x ∷ xs)) ≡ false
-    name_differs = other_way (before_first is_equals (x ∷ xs)) (codes "revoked") (subst (λ w. bytes_eq w (codes "--revoked") ≡ false) (behind_hyphens (x ∷ xs)) other)
-
-    go : (t : Bool) → has_byte 61 (x ∷ xs) ≡ t → IsForeignWord false (long_of (45 ∷ 45 ∷ x ∷ xs))
-    go true e = rw e name_differs
-    go false e = rw e (subst (λ w. bytes_eq (codes "revoked") w ≡ false) (name_alone (x ∷ xs) e) name_differs)
+foreign_long (x ∷ xs) other =
+    other_way (before_first is_equals (x ∷ xs)) (codes "revoked") (subst (λ w. bytes_eq w (codes "--revoked") ≡ false) (behind_hyphens (x ∷ xs)) other)
 
 foreign_word : (word : Text) → is_list_option word ≡ false → IsForeignWord false (long_of word)
 foreign_word [] other = tt
@@ -200,8 +194,8 @@ foreign_word (x ∷ xs) other = go (x == 45) refl xs other
 
 no_list : (words : List Text) → gives_list words ≡ false → GivesNoList words
 no_list [] other = tt
-no_list (word ∷ []) other is = tt
-no_list (word ∷ next ∷ rest) other is = foreign_word next (rw is at other)
+no_list (word ∷ []) other = λ is. tt
+no_list (word ∷ next ∷ rest) other = λ is. foreign_word next (rw is at other)
 
 -- the exit status in plain words is that of `clap`'s faults
 pub plain_status : (words : List Text) → All IsUtf8 words → names_another (drop 1 words) ≡ false → gives_list (drop 1 words) ≡ false → LeadsTo (status_of_arguments (drop 1 words)) (fault_of command_line words)
