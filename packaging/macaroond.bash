@@ -13,7 +13,7 @@ _macaroond() {
     local word=${COMP_WORDS[COMP_CWORD]} before=${COMP_WORDS[COMP_CWORD - 1]} words=() offered
     COMPREPLY=()
     case $before in
-        --socket | --keys | --revoked | --verify-socket | --into | --above | --below | --raise | --drop | --drop-first)
+        --revoked | --socket | --keys | --verify-socket | --into | --above | --below | --raise | --drop | --drop-first)
             mapfile -t COMPREPLY < <(compgen -f -- "$word")
             compopt -o filenames 2> /dev/null
             return
