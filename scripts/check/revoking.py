@@ -16,7 +16,6 @@ import os
 import pathlib
 import random
 import re
-import statistics
 import sys
 import tempfile
 import time
@@ -372,7 +371,7 @@ def compare(rounds):
                 found.append(rate(clients, "--revoked", f"{folder}/{count}") / without)
             told = ", ".join(f"{found[-1]:.3f} of it with {count:,} lines" for count, found in ratios.items())
             print(f"round {number + 1}: {without:,.0f} a second without a list, {told}", flush=True)
-    medians = {count: statistics.median(found) for count, found in ratios.items()}
+    medians = {count: sorted(found)[len(found) // 2] for count, found in ratios.items()}
     print(f"the median of {rounds} rounds: " + ", ".join(f"{median:.3f} with {count:,} lines" for count, median in medians.items()))
     return 0 if medians[MILLION] >= RATE_LEAST else 1
 
