@@ -200,6 +200,27 @@ class Hostile(unittest.TestCase):
         self.assertEqual(store.get(KEY, 10).value, b"x")
         self.assertEqual([token for path, _, token in self.servers[0].requests if "range" in path], ["first", "second"])
 
+    def test_a_token_by_which_a_restored_store_waits(self):
+        """etcd waits with a token of later than all that it has, and answers by another one."""
+        tokens = iter(["first", "second"])
+
+        def serve(stream, request):
+            path, _, token = request
+            if path == "/v3/auth/authenticate":
+                stream.sendall(answer({"token": next(tokens)}))
+            elif token == "first" and len(self.servers[0].requests) > 2:
+                time.sleep(2 * PATIENCE)
+                return False
+            else:
+                stream.sendall(answer({"kvs": [entry(b"x")]}))
+
+        store = self.store(serve, user=User("one", "secret"))
+        self.assertEqual(store.get(KEY, 10).value, b"x")
+        with self.assertRaisesRegex(StoreAway, "it doesn't answer in time"):
+            store.get(KEY, 10)
+        self.assertEqual(store.get(KEY, 10).value, b"x")
+        self.assertEqual([token for path, _, token in self.servers[0].requests if "range" in path], ["first", "first", "second"])
+
     def test_tokens_that_are_none(self):
         for token in (None, 7, "", "a\r\nHost: b"):
             store = self.store(always(answer({"token": token})), user=User("one", "secret"))
