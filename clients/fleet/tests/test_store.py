@@ -129,7 +129,7 @@ class Hostile(unittest.TestCase):
             always(b"SSH-2.0-OpenSSH\r\n"): "",
             always(b"HTTP/1.1 200 OK\r\n" + b"X: y\r\n" * 1000 + b"\r\n"): "100 headers",
             always(b"HTTP/1.1 200 " + b"x" * 100_000): "status line",
-            lambda stream, _: False: "",
+            lambda stream, _: False: "it ended the connection",
             lambda stream, _: time.sleep(60): "in time",
             dripping: "in time",
             dripping_body: "in time",
@@ -297,7 +297,7 @@ class Tls(unittest.TestCase):
         for shown, authority in ((self.good, other.certificate), (self.good, ""), (unnamed, unnamed.certificate)):
             with self.subTest(authority):
                 server, store = self.store(shown, authority)
-                with self.assertRaisesRegex(StoreAway, "certificate verify failed"):
+                with self.assertRaisesRegex(StoreAway, "its certificate isn't believed: "):
                     store.get(KEY, 10)
                 self.assertEqual(server.requests, [])
 
