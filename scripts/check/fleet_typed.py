@@ -64,9 +64,15 @@ def told(system, word):
     return lambda: word in system.says("journalctl", "-u", "macaroond-fleet", "-o", "cat")
 
 
-def rows(system, packages, answer):
+def process(system):
+    """The agent's state, and its process."""
+    return system.says("systemctl", "is-active", "macaroond-fleet"), system.says("systemctl", "show", "-P", "MainPID", "macaroond-fleet")
+
+
+def rows(system, packages, newer, answer):
     """What came of each step. `answer` has a daemon's reply to a request."""
     yield "packages of a fleet", system.install(*packages), True
+    yield "an agent without settings", process(system), ("inactive", "0")
     yield from etcd(system)
     yield from users(system)
     yield from settings(system)
@@ -98,4 +104,8 @@ def rows(system, packages, answer):
     anew = step("publish --first --keys keys\n", **{"--keys keys": "--keys keys --revoked revoked"})
     yield "a fleet begins anew", typed(system, copied + by_operator(f"{anew}macaroond-fleet revoke {name} root")), True
     yield "both tokens then", (verdict(good), verdict(gone)), (REVOKED, REVOKED)
-    yield "the agent", system.says("systemctl", "is-active", "macaroond-fleet"), "active"
+    first = process(system)
+    yield "an upgrade of a member", system.install(*newer), True
+    second = process(system)
+    yield "another process of the agent", (first[0], second[0], first[1] != second[1]), ("active", "active", True)
+    yield "the fleet then", until("a member that is up", lambda: typed(system, by_operator("macaroond-fleet status")) is True), True

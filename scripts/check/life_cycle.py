@@ -344,7 +344,7 @@ def seen():
         with booted(root) as system:
             found = list(rows(system, first_release(zero), packages, newer))
         with booted(root, "--private-network") as system:
-            return [*found, *fleet_typed.rows(system, packages, answer)]
+            return [*found, *fleet_typed.rows(system, packages, newer, answer)]
 
 
 def faults():
