@@ -98,6 +98,14 @@ def scripts_of(path):
         return [name for name in names if subprocess.run(["sh", "-n", pathlib.Path(folder) / name]).returncode]
 
 
+def stopping(path):
+    """What the package's maintainer scripts stop at an upgrade, for which nothing starts it again."""
+    with tempfile.TemporaryDirectory() as folder:
+        subprocess.run(["dpkg-deb", "-e", path, folder], check=True)
+        before = pathlib.Path(folder, "preinst")
+        return re.findall(r"deb-systemd-invoke stop (.*?) >", before.read_text()) if before.exists() else []
+
+
 def ran(script, root, *words, package="macaroond"):
     """What is left in a folder once a maintainer script has run over it, in place of the system's own root."""
     text = (TOP / "debian" / f"{package}.{script}").read_text().replace("#DEBHELPER#", "")
@@ -205,6 +213,7 @@ def rows(one, another):
     yield "their version", versions, {f"{packaging.packed_version()}-1"}
     yield "what lintian says", lint(first[0]), []
     yield "scripts that can't be read", [name for path in first for name in scripts_of(path)], []
+    yield "what an upgrade stops", [unit for path in first for unit in stopping(path)], []
     tree = unpacked(first[0], f"{another}/tree")
     found = exposure(tree / UNITS / "macaroond.service")
     yield f"an exposure of {found} tenths, at most {EXPOSURE}", isinstance(found, int) and found <= EXPOSURE, True

@@ -134,7 +134,8 @@ def wanted_of(head: Head, digest: str, objects: Dict[str, bytes], who: sealing.I
     try:
         keys = KeyFile(sealing.decrypt(objects[head.keys], who))
     except ToolFailed as fault:
-        raise NotTaken(f"the keys can't be decrypted here ({fault})") from fault
+        asked = f"was this member added by {who.certificate}, and is {who.key} its key?"
+        raise NotTaken(f"the keys can't be decrypted here; {asked} ({fault})") from fault
     lines = revocations([objects[it] for it in head.revoked])
     return Wanted(head, digest, keys.text(), revoked_text(lines))
 
@@ -283,7 +284,7 @@ class Agent:
 
     def keep_lease(self) -> None:
         """Says that this run is there, for as long as its lease is kept. One that ended is begun anew, and what was taken away is said again."""
-        if time.monotonic() < self.keep_at:
+        if self.is_here and time.monotonic() < self.keep_at:
             return
         if not self.lease or not self.store.keep(self.lease):
             self.lease, self.is_here = self.store.grant(max(2, round(self.beat * BEATS_OF_LEASE))), False

@@ -90,6 +90,10 @@ def words_of(fault: BaseException) -> str:
     """What went wrong, in a few words."""
     if isinstance(fault, TimeoutError):
         return "it doesn't answer in time"
+    if isinstance(fault, (ssl.SSLEOFError, http.client.RemoteDisconnected)):
+        return "it ended the connection"
+    if isinstance(fault, ssl.SSLCertVerificationError):
+        return f"its certificate isn't believed: {fault.verify_message.rstrip('.')}"
     text = fault.strerror if isinstance(fault, OSError) and fault.strerror else str(fault)
     return " ".join((text or type(fault).__name__).split())[:200]
 

@@ -26,6 +26,8 @@ AWAY, AWAY_PAUSE = 10.0, 0.5
 TRIES = 20
 # The most bytes of an object that etcd takes together with the head, by its own limit of 1.5 MiB.
 SENT_MAX = 900 << 10
+# How many names are told where another one was asked for.
+NAMED = 10
 # How many objects a change puts, and how many it takes away, by etcd's own limit of 128 steps for both together.
 STEPS_MAX = 60
 
@@ -261,6 +263,12 @@ def require_harmless(were: KeyFile, keys: KeyFile) -> None:
         raise FleetError(f"the first key of {', '.join(early)} is a new one, {why}")
 
 
+def no_key(name: str, keys: KeyFile) -> FleetError:
+    """That the key file has none of this name, with some of those that it has."""
+    names = keys.names()
+    return FleetError(f"there is no key {name}; the fleet has {', '.join(names[:NAMED])}{', ..' if len(names) > NAMED else ''}")
+
+
 def begin(fleet: Fleet, keys: KeyFile, revoked: Optional[List[Tuple[str, str]]], is_first: bool, may_drop: bool = True) -> Head:
     """Publishes a key file and revocations in the place of those that are there, or as the first ones. None leaves revocations as they are."""
     # Each line once: daemons tell how many they have.
@@ -322,7 +330,7 @@ def revoke(fleet: Fleet, name: str, identifiers: Sequence[str]) -> Head:
 
     def change(state: State) -> Tuple[Head, Sequence[bytes]]:
         if name not in fleet.keys_of(state).names():
-            raise FleetError(f"there is no key {name}")
+            raise no_key(name, fleet.keys_of(state))
         lines = state.revocations()
         held = set(lines)
         more = [(name, it) for it in dict.fromkeys(identifiers) if (name, it) not in held]
@@ -348,7 +356,7 @@ class Rotation:
         """What comes next: `below`, `above`, `kept` or `dropped`."""
         step, held = self.at(state)
         if not held:
-            raise FleetError(f"there is no key {self.name}")
+            raise no_key(self.name, self.fleet.keys_of(state))
         if step is not None:
             return {"below": "above", "above": "kept", "kept": "dropped"}[step.word]
         if len(held) == 2:

@@ -49,10 +49,13 @@ def run(words: Sequence[str], data: bytes) -> bytes:
     except subprocess.TimeoutExpired as fault:
         raise ToolAway(f"openssl {words[0]}: it takes more than {PATIENCE} seconds") from fault
     if done.returncode != 0:
-        told = done.stderr.decode(errors="replace").strip().splitlines()
-        why = next((line for line in reversed(told) if "error:" in line), told[0] if told else f"status {done.returncode}")
-        raise ToolFailed(f"openssl {words[0]}: {why.split('error:')[-1]}")
+        raise ToolFailed(f"openssl {words[0]}: {reason(done.stderr.decode(errors='replace')) or f'status {done.returncode}'}")
     return done.stdout
+
+
+def reason(told: str) -> str:
+    """What openssl gives last as its reason, without the numbers and places around it; or its first line."""
+    return (re.findall(r"error:[^:]*:[^:]*:[^:]*:([^:]*)", told) or told.splitlines() or [""])[-1 if "error:" in told else 0].strip()
 
 
 def sign(data: bytes, who: Identity) -> bytes:

@@ -41,16 +41,21 @@ class Settings(NamedTuple):
             try:
                 context = ssl.create_default_context(cafile=self.authority or None)
             except (OSError, ssl.SSLError) as fault:
-                raise FleetError(f"{self.authority}: {fault}") from fault
+                raise FleetError(f"{self.authority or 'the authorities of the system'}: {fault.strerror or fault}") from fault
         user = User(self.user, secret_in(self.password_file)) if self.user else None
         return Store(self.endpoints, context, user, patience)
 
     def operator_certificates(self) -> List[str]:
         """Whose signature is believed of a head."""
-        found = certificates_in(read(self.operators))
-        if not found:
-            raise FleetError(f"{self.operators}: there is no certificate")
-        return found
+        return certificates_of(self.operators)
+
+
+def certificates_of(path: str) -> List[str]:
+    """The certificates of a file, which has one at least."""
+    found = certificates_in(read(path))
+    if not found:
+        raise FleetError(f"{path}: there is no certificate")
+    return found
 
 
 def read_bytes(path: str) -> bytes:
@@ -119,6 +124,9 @@ def settings_in(path: str) -> Settings:
         raise FleetError(f"{path}: there is no `endpoints =`")
     identity = Identity(section.file("certificate"), section.file("key"))
     require_private(identity.key)
+    # Both are opened by openssl alone, which tells less of what is wrong.
+    read_bytes(identity.key)
+    certificates_of(identity.certificate)
     return Settings(
         fleet,
         endpoints,

@@ -95,7 +95,12 @@ class Store:
         raise StoreAway("; ".join(f"{server.url}: {faults[server.url]}" for server in self.servers))
 
     def told(self, server: Server, path: str, body: Dict[str, Any], longest: int) -> Any:
-        answer = server.post(path, body, self.headers(server), longest)
+        try:
+            answer = server.post(path, body, self.headers(server), longest)
+        except Failed:
+            # A store that was begun anew or restored has its requests wait that have a token of before.
+            self.token = ""
+            raise
         if self.user is not None and is_unknown(answer):
             self.token = ""
             answer = server.post(path, body, self.headers(server), longest)

@@ -90,7 +90,7 @@ class Hostile(unittest.TestCase):
         for who in ("one", "two"):
             with self.subTest(who):
                 self.signed(self.head().text(), who)
-                self.refuses("it isn't signed by whom it has to be")
+                self.refuses("it isn't signed by whom it has to be (openssl cms: signer certificate not found)")
 
     def test_nobody_signed_it(self):
         self.room.store.write(HEAD, self.head().text())
@@ -163,7 +163,8 @@ class Hostile(unittest.TestCase):
         sealed = sealing.encrypt(KEYS, [self.room.certificate("two")])
         self.room.store.write(key_of("shop", "objects", digest_of(sealed)), sealed)
         self.signed(self.head()._replace(keys=digest_of(sealed)).text())
-        self.refuses("the keys can't be decrypted here")
+        self.refuses("the keys can't be decrypted here; was this member added by ")
+        self.refuses("one.key its key? (openssl cms: Error decrypting CMS using private key)")
 
     def test_faulty_key_files(self):
         line = f"key bank {SECRET}\n".encode()
@@ -385,6 +386,13 @@ class Files(unittest.TestCase):
         self.room.store.held = {}
         self.fleet = self.room.begun("one")
         self.assertTrue(self.kept(agent).is_up(self.fleet.state().head.serial))
+
+    def test_it_is_said_again_at_once(self):
+        agent, here = up(self.room, self.room.agent("one")), key_of("shop", "here", "one")
+        self.room.store.put(Change({}, [here]))
+        agent.look_at = 0.0
+        agent.turn()
+        self.assertIn(here, self.room.store.held)
 
     def test_a_lease_under_which_nothing_could_be_said(self):
         agent, put = self.room.agent("one"), self.room.store.put

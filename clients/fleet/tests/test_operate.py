@@ -65,7 +65,11 @@ class Rotating(unittest.TestCase):
         self.assertEqual((self.step(), self.fleet.state().revocations()), (Step("below"), [("shop", "61")]))
 
     def test_a_name_without_a_key(self):
-        with self.assertRaisesRegex(FleetError, "there is no key mill"):
+        with self.assertRaisesRegex(FleetError, "there is no key mill; the fleet has bank, shop$"):
+            self.advance(Rotation(self.fleet, "mill", 60))
+        many = b"".join(f"key n{number:02} {SECRET}\n".encode() for number in range(12))
+        operate.begin(self.fleet, KeyFile(many), [], is_first=False)
+        with self.assertRaisesRegex(FleetError, r"the fleet has n00, n01, .*, n09, \.\.$"):
             self.advance(Rotation(self.fleet, "mill", 60))
 
     def test_two_keys_of_which_nobody_knows(self):

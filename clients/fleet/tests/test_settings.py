@@ -21,6 +21,7 @@ certificate = one.pem
 key = one.key
 member = one
 """
+PEM = "-----BEGIN CERTIFICATE-----\nAAAA\n-----END CERTIFICATE-----\n"
 
 
 class Reading(unittest.TestCase):
@@ -31,6 +32,7 @@ class Reading(unittest.TestCase):
         for name in ("password", "one.key"):
             (self.folder / name).write_text("secret\n")
             (self.folder / name).chmod(0o600)
+        (self.folder / "one.pem").write_text(PEM)
         self.path = self.folder / "fleet.conf"
 
     def settings(self, text):
@@ -62,10 +64,18 @@ class Reading(unittest.TestCase):
             GOOD.replace("password_file = password", ""): "there is no `password_file =`",
             GOOD + "sokcet = /run\n": "there is no `sokcet =`",
             GOOD + "member = two\n": "member",
-            GOOD.replace("one.key", "two.key"): "No such file",
+            GOOD.replace("one.key", "two.key"): "two.key: No such file",
+            GOOD.replace("one.pem", "two.pem"): "two.pem: No such file",
+            GOOD.replace("one.pem", "one.key"): "one.key: there is no certificate",
         }.items():
             with self.subTest(why), self.assertRaisesRegex(FleetError, why):
                 self.settings(text)
+
+    def test_an_authority_that_is_none(self):
+        for name, why in (("gone.pem", "gone.pem: No such file"), ("one.key", "one.key: ")):
+            with self.subTest(name), self.assertRaisesRegex(FleetError, why) as caught:
+                self.settings(f"{GOOD}authority = {name}\n").store()
+            self.assertNotIn("Errno", str(caught.exception))
 
     def test_secrets_that_others_may_read(self):
         for name in ("one.key", "password"):

@@ -129,7 +129,7 @@ class Hostile(unittest.TestCase):
             always(b"SSH-2.0-OpenSSH\r\n"): "",
             always(b"HTTP/1.1 200 OK\r\n" + b"X: y\r\n" * 1000 + b"\r\n"): "100 headers",
             always(b"HTTP/1.1 200 " + b"x" * 100_000): "status line",
-            lambda stream, _: False: "",
+            lambda stream, _: False: "it ended the connection",
             lambda stream, _: time.sleep(60): "in time",
             dripping: "in time",
             dripping_body: "in time",
@@ -199,6 +199,27 @@ class Hostile(unittest.TestCase):
         store = self.store(serve, user=User("one", "secret"))
         self.assertEqual(store.get(KEY, 10).value, b"x")
         self.assertEqual([token for path, _, token in self.servers[0].requests if "range" in path], ["first", "second"])
+
+    def test_a_token_by_which_a_restored_store_waits(self):
+        """etcd waits with a token of later than all that it has, and answers by another one."""
+        tokens = iter(["first", "second"])
+
+        def serve(stream, request):
+            path, _, token = request
+            if path == "/v3/auth/authenticate":
+                stream.sendall(answer({"token": next(tokens)}))
+            elif token == "first" and len(self.servers[0].requests) > 2:
+                time.sleep(2 * PATIENCE)
+                return False
+            else:
+                stream.sendall(answer({"kvs": [entry(b"x")]}))
+
+        store = self.store(serve, user=User("one", "secret"))
+        self.assertEqual(store.get(KEY, 10).value, b"x")
+        with self.assertRaisesRegex(StoreAway, "it doesn't answer in time"):
+            store.get(KEY, 10)
+        self.assertEqual(store.get(KEY, 10).value, b"x")
+        self.assertEqual([token for path, _, token in self.servers[0].requests if "range" in path], ["first", "first", "second"])
 
     def test_tokens_that_are_none(self):
         for token in (None, 7, "", "a\r\nHost: b"):
@@ -276,7 +297,7 @@ class Tls(unittest.TestCase):
         for shown, authority in ((self.good, other.certificate), (self.good, ""), (unnamed, unnamed.certificate)):
             with self.subTest(authority):
                 server, store = self.store(shown, authority)
-                with self.assertRaisesRegex(StoreAway, "certificate verify failed"):
+                with self.assertRaisesRegex(StoreAway, "its certificate isn't believed: "):
                     store.get(KEY, 10)
                 self.assertEqual(server.requests, [])
 
