@@ -183,8 +183,8 @@ def names_in(text: bytes) -> int:
 
 
 def lines_in(text: bytes) -> int:
-    """How many lines take tokens back."""
-    return text.count(b"revoked ")
+    """How many lines take tokens back. A name may end in the word that such a line begins with."""
+    return (b"\n" + text).count(b"\nrevoked ")
 
 
 def with_last_twice(text: bytes) -> bytes:

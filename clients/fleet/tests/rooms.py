@@ -160,7 +160,7 @@ class Room:
         path = self.folder / name / "revoked"
         # Later than any moment of the tests, and another one each time.
         self.numbers[name]["keys_read_seconds"] = 1 + max(4 * 10**9, self.numbers[name]["keys_read_seconds"])
-        self.numbers[name]["revoked"] = path.read_text().count("revoked ") if path.exists() else 0
+        self.numbers[name]["revoked"] = sum(line.startswith("revoked ") for line in path.read_text().splitlines()) if path.exists() else 0
 
     def files(self, name):
         """What stands in a member's files."""

@@ -271,6 +271,14 @@ class Files(unittest.TestCase):
         self.published("62", "63")
         self.assertEqual(up(self.room, self.agent).why(), "")
 
+    def test_a_name_that_is_the_word_of_a_line(self):
+        agent = up(self.room, self.room.agent("one"))
+        for name in ("revoked", "unrevoked"):
+            operate.begin(self.fleet, KeyFile(KEYS), [(name, "61")], is_first=False)
+            up(self.room, agent)
+            self.assertEqual(self.lines()[0], f"revoked {name} 61")
+            self.assertTrue(agent.is_up(), agent.why())
+
     def test_a_list_that_was_read_at_once(self):
         self.agent = up(self.room, self.room.agent("one"))
         self.published("61", "62")
