@@ -9,6 +9,7 @@ The head's serial only grows. Nobody takes a head whose serial is lower than tha
 """
 from __future__ import annotations
 
+import collections
 import json
 import re
 from typing import Any, Dict, List, NamedTuple, Sequence, Tuple
@@ -23,6 +24,8 @@ KEY_LINE = re.compile(r"key ([A-Za-z0-9._-]{1,64}) ((?:[0-9A-Fa-f]{2})+)")
 REVOKED_LINE = re.compile(r"revoked ([A-Za-z0-9._-]{1,64}) ((?:[0-9A-Fa-f]{2})*)")
 # The most bytes of a head, of an object, of what a member tells, and of all revocations.
 HEAD_MAX, OBJECT_MAX, TOLD_MAX, REVOKED_MAX = 512 << 10, 1 << 20, 4096, 16 << 20
+# How many names a key file may have, by docs/FORMATS.md.
+NAMES_MAX = 1000
 # The most bytes of a piece of the revocations: what one more of them sends anew.
 PIECE_MAX = 64 << 10
 # A revocation file without lines is taken where it says so.
@@ -147,7 +150,10 @@ class KeyFile:
                 self.lines.append((found[1], found[2]))
         if not self.lines:
             raise NotTaken("the key file has no key")
-        if crowded := [name for name in self.names() if len(self.of(name)) > 2]:
+        counted = collections.Counter(name for name, _ in self.lines)
+        if len(counted) > NAMES_MAX:
+            raise NotTaken(f"the key file is faulty: it has more than {NAMES_MAX} names")
+        if crowded := [name for name, count in counted.items() if count > 2]:
             raise NotTaken(f"the key file is faulty: {crowded[0]} stands on three lines")
 
     def names(self) -> List[str]:

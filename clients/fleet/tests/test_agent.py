@@ -6,7 +6,7 @@ import unittest
 import unittest.mock
 
 from macaroond_fleet import form, operate, sealing
-from macaroond_fleet.errors import FleetError, StoreAway, ToolAway
+from macaroond_fleet.errors import FleetError, NotTaken, StoreAway, ToolAway
 from macaroond_fleet.form import HEAD_MAX, Head, KeyFile, key_of
 from macaroond_fleet.sealing import digest_of
 from macaroond_fleet.store import Change
@@ -511,6 +511,12 @@ class Lines(unittest.TestCase):
         self.assertEqual(keys.of("a"), ["01", "03"])
         self.assertEqual(keys.with_secrets("a", ["05"]).text(), b"key a 05\nkey b 02\nkey c 04\n")
         self.assertEqual(keys.with_secrets("c", ["04", "06"]).text(), b"key a 01\nkey b 02\nkey a 03\nkey c 04\nkey c 06\n")
+
+    def test_as_many_names_as_there_may_be(self):
+        text = "".join(f"key k{number} 01\nkey k{number} 02\n" for number in range(form.NAMES_MAX)).encode()
+        self.assertEqual(len(KeyFile(text).names()), 1000)
+        with self.assertRaisesRegex(NotTaken, "it has more than 1000 names"):
+            KeyFile(text + b"key more 01\n")
 
     def test_pieces(self):
         lines = [("bank", f"{number:0100x}") for number in range(2000)]
