@@ -38,7 +38,7 @@ _macaroond() {
                     check) words=(--keys --help) ;;
                     mint) words=(--keys --key --location --identifier --caveat --form --help) ;;
                     attenuate) words=(--caveat --form --help) ;;
-                    verify) words=(--keys --key --fact --at --help) ;;
+                    verify) words=(--keys --key --fact --at --explain --help) ;;
                     inspect) words=(--help) ;;
                     status) words=(--socket --prometheus --connections --help) ;;
                 esac
