@@ -8,7 +8,7 @@ import os
 import pathlib
 import tempfile
 
-from check import statuses
+from check import key_lines, statuses
 from check.statuses import Ending, bad
 from common import KEYS, runs
 from common.runs import Case, Run
@@ -111,7 +111,8 @@ BAD_LIST = file_of("bad list", b"# mine\nrevoked bank 0\n")
 # What the pipe is asked: whether TOKEN is good.
 ASKED = f"{statuses.KEY}{request.verify('bank', TOKEN, 0).hex()}\n"
 BAD_DIGITS = "line 2: the identifier is not in hexadecimal, two digits a byte\n"
-GOOD_KEYS = file_of("keys", f"key bank {'0' * 64}\n".encode())
+ZEROS = "0" * 64
+GOOD_KEYS = file_of("keys", f"key bank {ZEROS}\n".encode())
 CRLF_KEYS = file_of("crlf", b"key bank 00\r\n")
 BAD_KEYS = file_of("bad", b"# mine\nlock bank 00\n")
 NOWHERE = str(pathlib.Path(FOLDER.name) / "nowhere")
@@ -158,7 +159,7 @@ RIGHT = {
         good(f"form: base64 text of version 2 binary\n{WHOSE}{SIGNATURE}{REVOKED}"),
     ),
     "check_list": (Case("", ["check", "--revoked", LIST]), good("revoked lines: 2\n")),
-    "check_both": (Case("", ["check", "--revoked", OTHER_LIST, "--keys", GOOD_KEYS]), good("bank: one key\nrevoked lines: 2\n")),
+    "check_both": (Case("", ["check", "--revoked", OTHER_LIST, "--keys", GOOD_KEYS]), good(f"{key_lines.one_key('bank', ZEROS)}revoked lines: 2\n")),
     "taken_back": (Case("", verify("--revoked", LIST, token=TOKEN)), Ending(1, "refused 29: the token was taken back\n", "")),
     "taken_back_narrowed": (Case("", verify("--revoked", LIST)), Ending(1, "refused 29: the token was taken back\n", "")),
     "pipe_taken_back": (Case(ASKED, ["pipe", "--revoked", LIST]), good("refused 29\n")),
