@@ -206,7 +206,7 @@ REQUESTS = (
     (naming(TOKEN), bytes([18]), ("verify", None, "refused", "18")),
     (naming(b"AgIBYQAABiAA" + b"A" * 42), bytes([18]), ("verify", None, "refused", "18")),
     (b"", bytes([16]), ("nothing", None, "refused", "16")),
-    # A dear one, for which the connection goes on in threads of its own.
+    # A dear one, which a worker answers while its connection waits.
     (request.verify("bank", SLOW_TOKEN, 0), bytes([20]), ("verify", "bank", "refused", "20")),
     (MINT, b"\x01" + TOKEN, ("mint", "bank", "token", None)),
 )

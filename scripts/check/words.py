@@ -109,7 +109,7 @@ LIST = file_of("list", f"# mine\n{REVOKED}\nrevoked shop 00".encode())
 OTHER_LIST = file_of("other", REVOKED.replace("bank", "shop").encode() + REVOKED.replace("\n", "00\n").encode())
 BAD_LIST = file_of("bad list", b"# mine\nrevoked bank 0\n")
 # What the pipe is asked: whether TOKEN is good.
-ASKED = f"{statuses.KEY}{request.verify('bank', TOKEN, 0).hex()}\n"
+ASKED = f"{pathlib.Path(KEYS).read_text()}\n{request.verify('bank', TOKEN, 0).hex()}\n"
 BAD_DIGITS = "line 2: the identifier is not in hexadecimal, two digits a byte\n"
 ZEROS = "0" * 64
 GOOD_KEYS = file_of("keys", f"key bank {ZEROS}\n".encode())
