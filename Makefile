@@ -73,7 +73,8 @@ export DESTDIR PREFIX SYSCONFDIR UNITDIR ZSHDIR
 install uninstall:
 	@packaging/install.sh $@
 
-# The Debian packages, of the daemon and of both clients, and the .tar.gz, in dist/. The first asks for debhelper; neither for root or the toolchain.
+# The Debian packages, of the daemon, of both clients and of macaroond-fleet, and the .tar.gz, in dist/. The first asks for
+# debhelper; neither for root or the toolchain.
 deb tarball:
 	scripts/build/packaging.py $@
 

@@ -13,7 +13,7 @@ _macaroond() {
     local word=${COMP_WORDS[COMP_CWORD]} before=${COMP_WORDS[COMP_CWORD - 1]} words=() offered
     COMPREPLY=()
     case $before in
-        --socket | --keys | --verify-socket | --into | --above | --below | --raise | --drop | --drop-first)
+        --revoked | --socket | --keys | --verify-socket | --into | --above | --below | --raise | --drop | --drop-first)
             mapfile -t COMPREPLY < <(compgen -f -- "$word")
             compopt -o filenames 2> /dev/null
             return
@@ -27,20 +27,21 @@ _macaroond() {
         --workers | --accept | --idle | --loops | --connections | --drain | --remember | --names | --verify-names | --log | --http | --http-anywhere | --http-connections | --http-patience | --http-granted | --http-facts | --http-names | --http-calls | --http-calls-allow | --http-calls-names | --http-allow | --http-admin | --address | --location | --identifier | --caveat | --fact | --at) return ;;
         *)
             if ((COMP_CWORD == 1)); then
-                words=(pipe serve listen page keygen check mint attenuate verify inspect status --help --version)
+                words=(pipe serve listen page keygen check mint attenuate verify inspect status revoke --help --version)
             else
                 case ${COMP_WORDS[1]} in
-                    pipe) words=(--help) ;;
-                    serve) words=(--socket --keys --workers --accept --keys-of-others --help) ;;
-                    listen) words=(--socket --keys --workers --mode --idle --loops --connections --drain --remember --names --verify-socket --verify-mode --verify-names --replace --log --keys-of-others --http --http-anywhere --http-mode --http-connections --http-patience --http-granted --http-facts --http-strict-paths --http-names --http-calls --http-calls-mode --http-calls-allow --http-calls-names --http-allow --http-admin --help) ;;
-                    page) words=(--address --keys --help) ;;
+                    pipe) words=(--revoked --help) ;;
+                    serve) words=(--socket --keys --workers --accept --keys-of-others --revoked --help) ;;
+                    listen) words=(--socket --keys --workers --mode --idle --loops --connections --drain --remember --names --verify-socket --verify-mode --verify-names --replace --log --keys-of-others --revoked --allow-empty-revoked --http --http-anywhere --http-mode --http-connections --http-patience --http-granted --http-facts --http-strict-paths --http-names --http-calls --http-calls-mode --http-calls-allow --http-calls-names --http-allow --http-admin --help) ;;
+                    page) words=(--address --keys --revoked --help) ;;
                     keygen) words=(--into --above --below --raise --drop --drop-first --help) ;;
-                    check) words=(--keys --help) ;;
+                    check) words=(--keys --revoked --help) ;;
                     mint) words=(--keys --key --location --identifier --caveat --form --help) ;;
                     attenuate) words=(--caveat --form --help) ;;
-                    verify) words=(--keys --key --fact --at --help) ;;
-                    inspect) words=(--help) ;;
+                    verify) words=(--keys --key --fact --at --revoked --help) ;;
+                    inspect) words=(--key --help) ;;
                     status) words=(--socket --prometheus --connections --help) ;;
+                    revoke) words=(--into --drop --identifier --help) ;;
                 esac
             fi
             ;;

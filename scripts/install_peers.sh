@@ -33,6 +33,11 @@ haproxy                         scripts/check/gateways.py has it ask macaroond o
 apache2-bin                     scripts/check/gateways.py has it ask macaroond over HTTP
 chromium                        scripts/check/page.py drives the page in it
 prometheus                      scripts/check/monitoring.py asks its promtool about alert rules
+etcd-server                     scripts/check/fleet.py brings keys to three daemons by it
+etcd-client                     scripts/check/fleet.py makes the users of that store by its etcdctl
+iproute2                        scripts/check/fleet.py gives each member a host of its own by its `ip`
+openssl                         clients/fleet signs and encrypts by it
+python3-yaml                    scripts/check/kubernetes.py reads examples/kubernetes by it
 lua-socket                      by it Apache asks macaroond (examples/gateways/apache.lua)
 END
 }

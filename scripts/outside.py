@@ -27,12 +27,14 @@ from check import (
     draw,
     edges,
     ending,
+    fleet,
     forgetting,
     gateways,
     http_rows,
     http_sockets,
     installing,
     key_lines,
+    kubernetes,
     lasting,
     life_cycle,
     linting,
@@ -54,6 +56,7 @@ from check import (
     quotes,
     remembering,
     replacing,
+    revoking,
     rights,
     same_code,
     sessions,
@@ -65,7 +68,7 @@ from check import (
     words,
 )
 from common import crates, runs
-from faults import faults, hostile, moving, refusing
+from faults import bounded, faults, hostile, moving, refusing
 from measure import allocations
 from vectors import checking
 from wrong_bodies import wrong_bodies, wrong_runs
@@ -117,6 +120,7 @@ OF_PROGRAM = {
     "remembering": remembering.faults,
     "replacing": replacing.faults,
     "changing keys": changing_keys.faults,
+    "revoking": revoking.faults,
     "forgetting": forgetting.faults,
     "linked keys": linked_keys.faults,
     "numbers": numbers.faults,
@@ -126,9 +130,11 @@ OF_PROGRAM = {
     "page": page.faults,
     "who asks the page": page_asking.faults,
     "hostile": lambda: hostile.faults(HOSTILE_SECONDS),
+    "bounded": bounded.faults,
     "clients": clients.daemon_faults,
+    "fleet": fleet.faults,
 }
-OF_CLIENTS = {"Python client": clients.python_faults, "Go client": clients.go_faults}
+OF_CLIENTS = {"Python client": clients.python_faults, "Go client": clients.go_faults, "fleet by itself": fleet.test_faults}
 OF_VECTORS = checking.PARTS
 OF_COMPILER = {
     "allocations": allocations.faults,
@@ -150,6 +156,7 @@ OF_TEXTS = {
     "HTTP rows": http_rows.faults,
     "building": building.faults,
     "monitoring": monitoring.faults,
+    "Kubernetes": kubernetes.faults,
     "unused": unused.faults,
     "parameters": parameters.faults,
     "newcomer": newcomer.faults,

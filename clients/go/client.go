@@ -2,6 +2,8 @@ package macaroond
 
 import (
 	"context"
+	"crypto/rand"
+	"encoding/hex"
 	"errors"
 	"fmt"
 	"sync"
@@ -93,6 +95,13 @@ func (c *Client) isClosed() bool { return c.lifetime.Err() != nil }
 
 // Mint gives a new token.
 func (c *Client) Mint(ctx context.Context, mint Mint) (string, error) {
+	if mint.Identifier == "" && !mint.EmptyIdentifier {
+		drawn, err := drawIdentifier()
+		if err != nil {
+			return "", err
+		}
+		mint.Identifier = drawn
+	}
 	c.warnOf(mint.Caveats)
 	return c.token(ctx, mint.appendPayload, false)
 }
@@ -161,6 +170,15 @@ func (c *Client) Ask(ctx context.Context, payload []byte) ([]byte, error) {
 		return nil, err
 	}
 	return append([]byte{came.code}, came.rest...), nil
+}
+
+// drawIdentifier gives 128 random bits in hexadecimal.
+func drawIdentifier() (string, error) {
+	drawn := make([]byte, 16)
+	if _, err := rand.Read(drawn); err != nil {
+		return "", fmt.Errorf("macaroond: there are no random bytes: %w", err)
+	}
+	return hex.EncodeToString(drawn), nil
 }
 
 func (c *Client) token(ctx context.Context, asked payload, mayRepeat bool) (string, error) {

@@ -3,6 +3,7 @@ package macaroond
 import (
 	"bytes"
 	"context"
+	"encoding/hex"
 	"errors"
 	"fmt"
 	"math"
@@ -147,6 +148,38 @@ func TestVerifyManyUpToAnError(t *testing.T) {
 	}
 }
 
+// An identifier that is given goes out as it is, and where none is 32 digits do that nobody else has.
+func TestIdentifiers(t *testing.T) {
+	mints := func(s *stream) {
+		for payload, isThere := s.request(); isThere; payload, isThere = s.request() {
+			identifier := payload[11 : len(payload)-1]
+			token := append([]byte{codeToken, 2, 2, byte(len(identifier))}, identifier...)
+			s.reply(append(append(token, 0, 0, 6, 32), make([]byte, 32)...))
+		}
+	}
+	client := dialled(t, server(t, mints))
+	identified := func(mint Mint) string {
+		mint.Key, mint.Form = "bank", V2Binary
+		made, err := client.Mint(background, mint)
+		token, fault := Inspect(made)
+		if err != nil || fault != nil {
+			t.Fatal(err, fault)
+		}
+		return token.Identifier
+	}
+	seen := map[string]bool{}
+	for range make([]struct{}, 100) {
+		drawn := identified(Mint{})
+		if content, err := hex.DecodeString(drawn); err != nil || len(content) != 16 || seen[drawn] {
+			t.Errorf("%q was drawn", drawn)
+		}
+		seen[drawn] = true
+	}
+	if empty, given := identified(Mint{EmptyIdentifier: true}), identified(Mint{Identifier: "alice"}); empty != "" || given != "alice" {
+		t.Errorf("%q and %q", empty, given)
+	}
+}
+
 // What each number of a refusal comes to.
 func TestRefusals(t *testing.T) {
 	refuses := func(s *stream) {
@@ -172,9 +205,10 @@ func TestRefusals(t *testing.T) {
 			t.Errorf("a verify's %d is %v, %v", code, verdict, err)
 		}
 	}
-	for code, caveat := range map[byte]int{0: -1, 23: -1, 24: 5} {
+	for code, caveat := range map[byte]int{0: -1, 23: -1, 24: 5, 29: -1} {
 		verdict, err := client.Verify(background, "bank", "!", string([]byte{code}))
-		if err != nil || verdict.Granted() != (code == 0) || verdict.Caveat != caveat || verdict.Reason() == "" {
+		if err != nil || verdict.Granted() != (code == 0) || verdict.Caveat != caveat || verdict.Reason() == "" ||
+			verdict.Revoked() != (code == 29) {
 			t.Errorf("a verify's %d is %v, %v", code, verdict, err)
 		}
 	}

@@ -41,6 +41,7 @@ const (
 	codeLocation     = 26
 	codeNotAllowed   = 27
 	codeNoClock      = 28
+	codeRevoked      = 29
 )
 
 // A refusal in words, and the error that it counts as outside of a verdict.
@@ -62,6 +63,7 @@ var refusals = map[int]refusal{
 	codeLocation:     {"a first-party caveat of the token has a location", ErrBadToken},
 	codeNotAllowed:   {"the socket does not allow this request", ErrNotAllowed},
 	codeNoClock:      {"the clock tells no moment", ErrNoClock},
+	codeRevoked:      {"the token was taken back", nil},
 }
 
 // RefusedError is a refusal that is no verdict, or what a client itself finds wrong

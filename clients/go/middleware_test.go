@@ -17,7 +17,7 @@ func TestRequireMacaroon(t *testing.T) {
 	// Answers a verify by its one fact.
 	judges := func(s *stream) {
 		replies := map[string]string{"granted": "\x00", "owned": "\x03\x00\x05carol\x00\x00", "forged": "\x17", "narrow": "\x18\x00\x07", "unknown": "\x12", "forbidden": "\x1b",
-			"untexted": "\x13", "malformed": "\x14", "third-party": "\x15", "limited": "\x16", "located": "\x1a", "clockless": "\x1c"}
+			"untexted": "\x13", "malformed": "\x14", "third-party": "\x15", "limited": "\x16", "located": "\x1a", "clockless": "\x1c", "revoked": "\x1d"}
 		for payload, isThere := s.request(); isThere; payload, isThere = s.request() {
 			for fact, content := range replies {
 				if strings.HasSuffix(string(payload), fact) {
@@ -67,6 +67,8 @@ func TestRequireMacaroon(t *testing.T) {
 		{"Bearer " + token, "/third-party", 401, `Bearer error="invalid_token"`, "21", ""},
 		{"Bearer " + token, "/limited", 401, `Bearer error="invalid_token"`, "22", ""},
 		{"Bearer " + token, "/located", 401, `Bearer error="invalid_token"`, "26", ""},
+		{"Bearer " + token, "/revoked", 401, `Bearer error="invalid_token"`, "29", ""},
+		{"Macaroon " + token, "/revoked", 401, `Macaroon error="invalid_token"`, "29", ""},
 		{"Bearer " + token, "/unknown", 503, "", "18", ""},
 		{"Bearer " + token, "/clockless", 503, "", "28", ""},
 		{"Bearer " + token, "/forbidden", 503, "", "27", ""},

@@ -34,7 +34,7 @@ func verdictOf(came reply, token string) (Verdict, error) {
 		if told, isThere := ownerIn(came.rest); isThere {
 			return Verdict{codeGranted, -1, true, token, told, true}, nil
 		}
-	case codeTransport, codeMalformed, codeThirdParty, codeLimit, codeBadSignature, codeLocation:
+	case codeTransport, codeMalformed, codeThirdParty, codeLimit, codeBadSignature, codeLocation, codeRevoked:
 		return Verdict{Code: int(came.code), Caveat: -1, token: token}, nil
 	case codeUnsatisfied:
 		if len(came.rest) == 2 {
@@ -69,6 +69,10 @@ func cutLong(fields string) (field, rest string, isThere bool) {
 
 // Granted tells whether the token is granted.
 func (v Verdict) Granted() bool { return v.isGranted }
+
+// Revoked tells whether the token was taken back, or the one that it was narrowed from: it
+// will never be granted again.
+func (v Verdict) Revoked() bool { return v.Code == codeRevoked }
 
 // Identifier gives the identifier of a token that is granted. Of any other there is
 // none, since nobody vouches for it.

@@ -111,8 +111,11 @@ func appendToken(to []byte, token string) ([]byte, error) {
 type Mint struct {
 	// Key is the name of the daemon's key.
 	Key string
-	// Identifier is what the minter knows the token by.
+	// Identifier is what the minter knows the token by. Where it is left out, a client draws
+	// 128 random bits in hexadecimal, which Inspect tells.
 	Identifier string
+	// EmptyIdentifier says that an identifier that is left out is the empty one.
+	EmptyIdentifier bool
 	// Location is a hint of where the token is used, in UTF-8; it is signed by nothing.
 	Location string
 	// Caveats are the conditions on the token's use.

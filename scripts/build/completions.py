@@ -39,7 +39,8 @@ class Option(typing.NamedTuple):
 
 
 class Command(typing.NamedTuple):
-    """A subcommand, what it does, its options, and the words that it takes without a name."""
+    """A subcommand, what it does, its options, and the words that it takes without a name, as help has them: one in
+    square brackets may be left out."""
 
     name: str
     about: str
@@ -68,7 +69,7 @@ def commands():
     named = [line.split(maxsplit=1) for line in section(help_of(), "Commands")]
     for name, about in named:
         text = help_of(name)
-        words = [re.match(r"<(\w+)>", line)[1] for line in section(text, "Arguments")]
+        words = [re.match(r"<\w+>|\[\w+\]", line)[0] for line in section(text, "Arguments")]
         yield Command(name, about, options_of(text), words)
 
 
@@ -150,7 +151,7 @@ def zsh_option(option):
 
 
 def zsh_case(command):
-    words = [f"'{place}:{word.lower()}:'" for place, word in enumerate(command.words, 1)]
+    words = [f"'{place}{'::' if word[0] == '[' else ':'}{word[1:-1].lower()}:'" for place, word in enumerate(command.words, 1)]
     lines = " \\\n            ".join([*map(zsh_option, command.options), *words])
     return f"    {command.name})\n        _arguments \\\n            {lines}\n        ;;"
 

@@ -1,6 +1,6 @@
 #!/usr/bin/env python3
 """Makes what is given to users of the programs that `make build` left, in dist/: the Debian packages,
-of the daemon and of both clients, or the .tar.gz.
+of the daemon, of both clients and of macaroond-fleet, or the .tar.gz.
 
     packaging.py deb
     packaging.py tarball

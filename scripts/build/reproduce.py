@@ -15,7 +15,7 @@ import sys
 import tempfile
 
 sys.path.insert(0, str(pathlib.Path(__file__).resolve().parents[1]))
-from common import TOP
+from common import TOP, programs
 
 # What is compared, of each folder.
 MADE = ["built/macaroond", "libexec/macaroond/x86-64-*", "dist/*"]
@@ -32,6 +32,7 @@ def built(folder, commit):
 
 
 def main(words):
+    programs.stop_without_toolchain()
     named = words[0] if words else "HEAD"
     asked = ["git", "rev-parse", "--verify", named]
     commit = subprocess.run(asked, cwd=TOP, check=True, capture_output=True, text=True).stdout.strip()

@@ -50,10 +50,10 @@ def token(secret, *caveats):
     return "hex:" + v1(SECRETS[secret], b"alice", [caveat.encode() for caveat in caveats], b"here").hex()
 
 
-def json_token(secret, *caveats):
+def json_token(secret, *caveats, identifier="alice"):
     """The same in JSON."""
-    signature = text_of(signed(SECRETS[secret], b"alice", [caveat.encode() for caveat in caveats]))
-    told = {"v": 2, "l": "here", "i": "alice", "c": [{"i": caveat} for caveat in caveats], "s64": signature}
+    signature = text_of(signed(SECRETS[secret], identifier.encode(), [caveat.encode() for caveat in caveats]))
+    told = {"v": 2, "l": "here", "i": identifier, "c": [{"i": caveat} for caveat in caveats], "s64": signature}
     return json.dumps(told)
 
 
@@ -77,9 +77,11 @@ class Asker:
     of them changed, and `wrong` what was not as it must be.
     """
 
+    HELLO = HELLO
+
     def __init__(self, path, requests, batch):
         self.stream = connected(path)
-        self.stream.sendall(HELLO)
+        self.stream.sendall(self.HELLO)
         self.requests = list(requests)
         self.allowed = list(requests.values())
         self.rounds = batch // len(self.requests)
@@ -96,6 +98,10 @@ class Asker:
                        for place, code in zip(itertools.count(self.asked), codes))
         if len(codes) < count or data != due:
             self.wrong.append(f"replies lost or out of order behind {self.asked}")
+        self.look_at_each(codes, count)
+
+    def look_at_each(self, codes, count):
+        """Looks at the replies to a batch."""
         for one, may in enumerate(self.allowed):
             self.look(one, codes[one :: len(self.requests)], may)
         self.asked += count
@@ -118,9 +124,11 @@ class Load:
     """Connections that ask all the time, plain and wide, each in a thread of its own."""
 
     def __init__(self, path, plain, wide):
-        self.askers = [Asker(path, plain, PLAIN_BATCH) for _ in range(3)]
-        self.askers += [Asker(path, wide, WIDE_BATCH) for _ in range(2)]
-        self.is_over, self.faults = False, []
+        askers = [Asker(path, plain, PLAIN_BATCH) for _ in range(3)]
+        self.begin(askers + [Asker(path, wide, WIDE_BATCH) for _ in range(2)])
+
+    def begin(self, askers):
+        self.askers, self.is_over, self.faults = askers, False, []
         self.threads = [threading.Thread(target=self.go_on, args=(one,)) for one in self.askers]
         for one in self.threads:
             one.start()

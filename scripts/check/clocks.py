@@ -10,7 +10,7 @@ import time
 sys.path.insert(0, str(pathlib.Path(__file__).resolve().parents[1]))
 from check.daemon_rows import JSON_MAX, TOKEN, in_json
 from common import KEYS
-from common.daemon import PATIENCE, PROGRAM, connected, frame, listening, received
+from common.daemon import PATIENCE, PROGRAM, connected, frame, listening, received, stop_unless_there
 
 import request
 
@@ -98,6 +98,7 @@ def owners(path, facts):
 def pipe():
     """The pipe's clock."""
     asked = [request.verify("bank", TOKEN.decode()), request.owner("bank", TOKEN.decode())]
+    stop_unless_there()
     text = pathlib.Path(KEYS).read_text() + "\n" + "".join(f"{payload.hex()}\n" for payload in asked)
     run = subprocess.run([PROGRAM, "pipe"], input=text, capture_output=True, text=True, timeout=PATIENCE)
     yield "pipe", run.stdout.splitlines(), ["granted", f"granted to {IDENTIFIER.hex()} at {LOCATION.hex()}"]

@@ -13,6 +13,7 @@ from common.daemon import awaited
 COMMANDS = {"mmdebstrap": "mmdebstrap", "systemd-nspawn": "systemd-container", "nsenter": "util-linux"}
 # How long anything may take, in seconds, on a machine that is busy with other work.
 PATIENCE = 120
+PLAIN = ("systemd", "python3", "openssl")
 PATH = "PATH=/usr/sbin:/usr/bin:/sbin:/bin"
 
 
@@ -24,11 +25,11 @@ def last_line(text):
     return (text.strip().splitlines() or ["it says nothing"])[-1]
 
 
-def debian(folder):
-    """A plain Debian 12 in a folder."""
+def debian(folder, *more):
+    """A plain Debian 12 in a folder, with more packages."""
     if os.geteuid() != 0:
         raise CannotBe("only root can")
-    command = ["mmdebstrap", "--quiet", "--mode=root", "--variant=apt", "--include=systemd,python3", "bookworm", folder]
+    command = ["mmdebstrap", "--quiet", "--mode=root", "--variant=apt", f"--include={','.join((*PLAIN, *more))}", "bookworm", folder]
     made = subprocess.run(command, capture_output=True, text=True)
     if made.returncode != 0:
         raise CannotBe(f"mmdebstrap: {last_line(made.stderr)}")
@@ -85,7 +86,7 @@ class System:
     def install(self, *packages):
         for package in packages:
             shutil.copy(package, self.folder / "root")
-        command = ["DEBIAN_FRONTEND=noninteractive", "apt-get", "-qq", "install", "-y"]
+        command = ["DEBIAN_FRONTEND=noninteractive", "apt-get", "-qq", "install", "-y", "--no-install-recommends"]
         return self.did(*command, *(f"/root/{package.name}" for package in packages))
 
     def group(self, name):
@@ -94,9 +95,9 @@ class System:
 
 
 @contextlib.contextmanager
-def booted(folder):
-    """A system that is up as long as the block runs."""
-    command = ["systemd-nspawn", "--quiet", "--register=no", "--keep-unit", "--console=pipe", "--boot", "-D", folder]
+def booted(folder, *words):
+    """A system that is up as long as the block runs, by more words of systemd-nspawn."""
+    command = ["systemd-nspawn", "--quiet", "--register=no", "--keep-unit", "--console=pipe", *words, "--boot", "-D", folder]
     pipes = {"stdin": subprocess.DEVNULL, "stdout": subprocess.DEVNULL, "stderr": subprocess.PIPE, "text": True}
     with subprocess.Popen(command, **pipes) as container:
         try:

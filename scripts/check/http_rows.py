@@ -142,6 +142,7 @@ ended = v2(b"alice", [b"time < 2023-11-14T22:13:20"])
 running = v2(b"alice", [b"time < 2023-11-14T22:13:21"])
 under = v2(b"alice", [b"path under /a"])
 reading = v2(b"alice", [b"method = GET"])
+safe = v2(b"alice", [b"method is safe"])
 
 
 def paths(path, want, caveat=b"path under /a"):
@@ -267,6 +268,15 @@ ROWS = [
                         method="POST"), ALICE)]),
     ("forwarded", [(get("/verify/bank", token(reading), "X-Original-Method: PUT"),
                     unsatisfied(0))]),
+    *(("forwarded", [(get("/verify/bank", token(safe), f"X-Forwarded-Method: {method}"), ALICE)])
+      for method in ("GET", "HEAD", "OPTIONS", "TRACE")),
+    *(("forwarded", [(get("/verify/bank", token(safe), f"X-Forwarded-Method: {method}"), unsatisfied(0))])
+      for method in ("POST", "PUT", "DELETE", "PATCH", "CONNECT", "get", "GETS", "GE", "SEARCH", "QUERY")),
+    ("forwarded", [(get("/verify/bank/a", token(safe)), ALICE)]),
+    ("forwarded", [(get("/verify/bank/a", token(safe), method="POST"), unsatisfied(0))]),
+    ("forwarded", [(get("/verify/bank", token(safe)), unsatisfied(0))]),
+    ("forwarded", [(get("/verify/bank", token(safe), "X-Forwarded-Method: GET", "X-Original-Method: GET"), unsatisfied(0))]),
+    ("", [(get("/verify/bank", token(safe), "X-Forwarded-Method: GET"), unsatisfied(0))]),
     ("forwarded", [(get("/verify/bank", token(v2(b"alice", [
         b"method = GET", b"host = example.org", b"ip = 192.0.2.7", b"scheme = https",
         b"path = /a/b", b"path under /a/b"])), "X-Forwarded-Method: GET",
@@ -308,6 +318,8 @@ ROWS = [
 NO_OBJECT = bad("the body is no JSON object")
 UNKNOWN_MEMBER = bad("the body has a member that the call does not have")
 NO_IDENTIFIER = bad("there is to be one text, identifier or identifier64")
+# What try_http draws for each mint, in hexadecimal.
+DRAWN = b"0123456789abcdef".hex()
 NO_CAVEATS = bad("the caveats are no list of texts")
 NO_TEXT = bad("there is no text that is the token")
 NO_MOMENT = bad("there is no number of seconds that is the moment")
@@ -344,6 +356,11 @@ BROWSERS = [
 
 def minted(body, want):
     return "mint", [(post("/mint/bank", body), want)]
+
+
+def drawn(secret=SECRET):
+    """What a mint is told that says no identifier."""
+    return told('{"identifier":"%s","token":"%s"}' % (DRAWN, v2(DRAWN.encode(), secret=secret)))
 
 
 def narrowed(body, want):
@@ -386,9 +403,15 @@ ROWS += [
     minted('{"identifier":"\\u00e9\\"é","location":"ü"}',
            made(v2("é\"é".encode(), location="ü".encode()))),
     minted('{"identifier":"bob","identifier":"alice"}', made(plain)),
+    # ---- a mint without an identifier gets one that was drawn; an empty one is one
+    minted("{}", drawn()), minted('{"caveats":["a = 1"],"form":"json","location":""}', told(
+        '{"identifier":"%s","token":"%s"}' % (DRAWN, whole_json(DRAWN.encode(), TWO[:1])))),
+    minted('{"identifier":""}', made(v2(b""))), minted('{"identifier64":""}', made(v2(b""))),
+    ("mint drawless", [(post("/mint/bank", "{}"), response(503)), (post("/mint/none", "{}"), response(503))]),
+    ("mint names=shop", [(post("/mint/bank", "{}"), UNKNOWN), (post("/mint/shop", "{}"), drawn(b"shop"))]),
     # ---- what is no mint
     minted("alice", NO_OBJECT), minted("[]", NO_OBJECT), minted('{"identifier":"alice"', NO_OBJECT),
-    minted("{}", NO_IDENTIFIER), minted('{"identifier":7}', NO_IDENTIFIER),
+    minted('{"identifier":7}', NO_IDENTIFIER), minted('{"identifier64":7}', NO_IDENTIFIER),
     minted('{"identifier":"alice","identifier64":"YQ"}', NO_IDENTIFIER),
     minted('{"identifier64":"a+b/"}', bad("identifier64 is no base64url text")),
     minted('{"identifier":"alice","key":"bank"}', UNKNOWN_MEMBER),

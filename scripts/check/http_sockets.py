@@ -1,6 +1,8 @@
 """The sockets over HTTP of `macaroond listen`: what is answered there, who is dropped, and how they end."""
 import contextlib
+import json
 import pathlib
+import re
 import signal
 import socket
 import stat
@@ -203,12 +205,26 @@ def gateways_never_mint():
                 for target, due in (("/mint/shop", 200), ("/mint/bank", 404), ("/mint/none", 404), ("/check", 404)):
                     yield f"{target} at the calls' socket", asked(stream, calling(target, MINT)), due
                 yield "a verify under a name of gateways", asked(stream, bearing(README)), 401
+                yield from drawn_identifiers(stream)
             yield from browsers(port)
             daemon.run.send_signal(signal.SIGTERM)
             daemon.run.wait(PATIENCE)
             error = daemon.errors.read_text()
             warned = f"warning: 127.0.0.1:{port}: every user of this machine may have tokens minted here"
             yield f"a port that mints is warned of: {error[:200]}", warned in error, True
+
+
+def drawn_identifiers(stream):
+    """A mint that says no identifier gets 32 digits, each time others, and is told them."""
+    seen = []
+    for _ in range(100):
+        stream.sendall(calling("/mint/shop", b"{}"))
+        told = json.loads(response(stream)[2])
+        seen.append(told["identifier"])
+        if v2(told["identifier"].encode()) != told["token"]:
+            yield "a token with the identifier that is told", told, None
+    yield "32 digits", [it for it in seen if not re.fullmatch("[0-9a-f]{32}", it)], []
+    yield "each time others", len({*seen}), len(seen)
 
 
 def browsers(port):

@@ -41,6 +41,10 @@ def keygen(option, name="bank"):
     return ["keygen", name, option, "keys"]
 
 
+def revoke(option):
+    return ["revoke", "bank", "--identifier", "alice", option, "keys"]
+
+
 def refused(what):
     return Ending(1, "", f"error: keys: {what}\n")
 
@@ -58,8 +62,11 @@ WRITTEN = Ending(0, "", "")
 DROPPED = Ending(0, "bank: the second line is dropped\n", "")
 DROPPED_FIRST = Ending(0, "bank: the first line is dropped\n", "")
 ONE_OPTION = "of `--into`, `--above`, `--below`, `--raise`, `--drop` and `--drop-first` one alone may be given\n"
+# The line of a list that takes alice's tokens back, and what is told of a line of no such form.
+REVOKED = "revoked bank 616c696365\n"
+NO_LIST = "line 2: the line is not of the form `revoked NAME HEX`"
 # Who has a key file that others may use, and what mends that.
-WIDE = "the key file has mode 644, by which others than its owner may use it; `chmod 600` mends that"
+WIDE = "the file has mode 644, by which others than its owner may use it; `chmod 600` mends that"
 WEAK = "the secret has fewer than 16 bytes, which may be guessed; `macaroond keygen NAME` prints a line with 32"
 MISSING = "there is no key file; `macaroond keygen NAME --into keys` makes one"
 NO_KEY = "warning: keys: the key file has no key; `macaroond keygen NAME` prints a line for it\n"
@@ -106,7 +113,16 @@ ROWS = {
     "check_empty": kept("", CHECK, Ending(0, "", NO_KEY)),
     "check_faulty": kept(FAULTY, CHECK, refused(BAD_HEX)),
     "check_missing": kept(None, CHECK, failed(MISSING)),
-    "check_nothing": kept(ONE, ["check"], bad("the following required arguments were not provided:\n")),
+    "check_nothing": kept(ONE, ["check"], bad("`--keys` or `--revoked` has to be given\n")),
+    "revoke_into": Row(None, revoke("--into"), WRITTEN, re.escape(REVOKED)),
+    "revoke_into_a_list": Row("# mine\nrevoked shop 616c696365", revoke("--into"), WRITTEN, re.escape(f"# mine\nrevoked shop 616c696365\n{REVOKED}")),
+    "revoke_into_faulty": kept(f"{REVOKED}revoked bank", revoke("--into"), failed(NO_LIST)),
+    "revoke_into_the_same": kept("revoked bank 616C696365", revoke("--into"), WRITTEN),
+    "revoke_drop": Row(f"# a\n{REVOKED}revoked bank 00\nrevoked bank 616C696365", revoke("--drop"), WRITTEN, re.escape("# a\nrevoked bank 00")),
+    "revoke_drop_all": Row(REVOKED, revoke("--drop"), WRITTEN, ""),
+    "revoke_drop_none": kept("revoked bank 616c69636500\nrevoked shop 616c696365\n", revoke("--drop"), WRITTEN),
+    "revoke_drop_missing": kept(None, revoke("--drop"), failed("there is no list of tokens that were taken back")),
+    "revoke_drop_faulty": kept(f"{REVOKED}revoked bank 0g\n", revoke("--drop"), failed("line 2: the identifier is not in hexadecimal, two digits a byte")),
 }
 
 
@@ -202,7 +218,7 @@ def left_faults():
         with open(new) as held:
             fcntl.flock(held, fcntl.LOCK_EX)
             run = run_in(folder, keygen("--above"))
-            busy = statuses.is_so(run, refused("another run of keygen changes the key file; try again"))
+            busy = statuses.is_so(run, refused("another run changes the file; try again"))
             stays = path.read_text() == ONE and new.read_text() == "key bank half"
         found = [] if busy and stays else [f"held: {run}"]
         run = run_in(folder, keygen("--above"))
@@ -223,7 +239,7 @@ def link_faults():
             put(far, ONE)
             path.symlink_to(far)
             run = run_in(folder, keygen(option))
-            is_so = statuses.is_so(run, refused("the key file is a link; give the path of the file that it leads to"))
+            is_so = statuses.is_so(run, refused("the file is a link; give the path of the file that it leads to"))
             stays = path.is_symlink() and far.read_text() == ONE
             found += [] if is_so and stays else [f"link: {option}: {run}"]
     return found
@@ -255,7 +271,7 @@ def unwritten_faults():
         limited = ["sh", "-c", f'ulimit -f 4; trap "" XFSZ; exec {runs.PROGRAM} keygen bank --above keys']
         ended = subprocess.run(limited, capture_output=True, text=True, cwd=folder)
         run = Run(ended.returncode, ended.stdout, ended.stderr)
-        wanted = failed("the key file can't be written, or not for its owner and group")
+        wanted = failed("the file can't be written, or not for its owner and group")
         told = [] if statuses.is_so(run, wanted) else [statuses.told("unwritten", run, wanted)]
         return told + [f"unwritten: {it}" for it in left(path, re.escape(before))]
 

@@ -1,6 +1,7 @@
 #!/usr/bin/env python3
 """The packages' life in a plain Debian 12 without the toolchain: 0.1.0 is upgraded and purged; then installed,
-used, upgraded while clients are answered, removed, installed again and purged, under its own systemd.
+used, upgraded while clients are answered, removed, installed again and purged, under its own systemd. Behind
+that the steps of docs/SCALING.md make a fleet by etcd.
 
 The system is made by mmdebstrap and booted by systemd-nspawn, which need root, Debian's packages and
 a kernel that lets them; where that can't be, it says why, and looks at nothing.
@@ -18,7 +19,7 @@ import time
 
 sys.path.insert(0, str(pathlib.Path(__file__).resolve().parents[1]))
 from build import packaging
-from check import package_runs, sessions
+from check import fleet_typed, package_runs, sessions
 from check.debian_booted import COMMANDS, PATIENCE, CannotBe, booted, debian, until
 from common import TOP
 from common.daemon import connected, frame, received
@@ -54,7 +55,7 @@ def packages_of(folder, version=None):
 def first_release(folder):
     """The package of 0.1.0, but for its programs, which are built elsewhere now."""
     laid = packaging.lay_out(folder)
-    for path in (laid / "debian").glob("*-macaroond*"):
+    for path in (*(laid / "debian").glob("*-macaroond*"), *(laid / "debian").glob("macaroond-fleet*")):
         path.unlink()
     (laid / "debian" / "macaroond.preinst").unlink()
     shutil.copytree(RELEASED, laid, dirs_exist_ok=True)
@@ -336,10 +337,14 @@ def seen():
     with contextlib.ExitStack() as kept:
         made, zero, one, another = (kept.enter_context(tempfile.TemporaryDirectory()) for _ in range(4))
         root = f"{made}/debian"
-        debian(root)
-        newer = packages_of(another, f"{packaging.version()}+git99999999999999")
+        debian(root, *fleet_typed.PACKAGES)
+        # It would listen at ports of this machine.
+        os.symlink("/dev/null", f"{root}/etc/systemd/system/etcd.service")
+        packages, newer = packages_of(one), packages_of(another, f"{packaging.version()}+git99999999999999")
         with booted(root) as system:
-            return list(rows(system, first_release(zero), packages_of(one), newer))
+            found = list(rows(system, first_release(zero), packages, newer))
+        with booted(root, "--private-network") as system:
+            return [*found, *fleet_typed.rows(system, packages, newer, answer)]
 
 
 def faults():

@@ -1,6 +1,7 @@
 """The lines of the daemon's log: each line of the table in docs/OPERATING.md is provoked here, or named as one that
 isn't."""
 import contextlib
+import json
 import os
 import pathlib
 import re
@@ -10,7 +11,7 @@ import time
 
 from check.daemon_rows import HELLO, MINT, NO_REQUEST, SLOW_TOKEN, TOKEN, placed
 from common import KEYS, TOP, daemon, logged
-from common.daemon import awaited, connected, frame, received
+from common.daemon import awaited, connected, frame, put_keys, received, reply_to
 from common.rows import in_folders, judged
 
 import request
@@ -26,6 +27,8 @@ EACH = 1_000
 FLOOD = 5_000
 # How many connections end at once inside a frame; of each kind so many lines a second are printed.
 TORN, LINES_MAX = 300, 10
+# The most bytes of a line, and how many of them the value of a lone field has at least, where it is cut.
+LINE_MAX, FIELD_LEAST = 1_024, 900
 # The kinds that were seen, over all tests here.
 SEEN = set()
 
@@ -33,8 +36,8 @@ SEEN = set()
 class Log:
     """What a daemon's standard error has, a file."""
 
-    def __init__(self, folder):
-        self.path = pathlib.Path(folder) / "log"
+    def __init__(self, folder, name="log"):
+        self.path = pathlib.Path(folder) / name
         self.file = open(self.path, "w")
 
     def text(self):
@@ -97,19 +100,13 @@ def many_torn(folder):
         for _ in range(TORN):
             with connected(path) as stream:
                 stream.sendall(bytes(3))
-        awaited(lambda: counted(log.lines()) >= TORN)
+        awaited(lambda: counted_of("connection_fault", log.lines()) >= TORN)
     lines = log.lines()
-    yield "each is told or counted", counted(lines), TORN
+    yield "each is told or counted", counted_of("connection_fault", lines), TORN
     yield "left_out", told(log.first("left_out"), "kind"), ("warning", "connection_fault")
     seconds = [text[:19] for text in log.text().splitlines() if " connection_fault " in text]
     # Seconds of the clock are not those of the quota, so that two of these can lie in one of those.
     yield "at most ten a second", max(map(seconds.count, seconds)) <= 2 * LINES_MAX, True
-
-
-def counted(lines):
-    """How many faults of connections these lines tell of."""
-    left_out = [int(line.fields["count"]) for line in lines if line.fields.get("kind") == "connection_fault"]
-    return sum(left_out) + sum(line.what == "connection_fault" for line in lines)
 
 
 def few_descriptors(folder):
@@ -117,7 +114,7 @@ def few_descriptors(folder):
     log = Log(folder)
     limited = lambda: resource.setrlimit(resource.RLIMIT_NOFILE, (128, 4096))
     with listening(log, "--loops", "1", preexec_fn=limited) as (path, run):
-        yield "limit_low", told(log.first("limit_low"), "limit", "connections"), ("warning", "descriptors", "71")
+        yield "limit_low", told(log.first("limit_low"), "limit", "connections"), ("warning", "descriptors", "70")
         held = len(os.listdir(f"/proc/{run.pid}/fd"))
         resource.prlimit(run.pid, resource.RLIMIT_NOFILE, (held, 4096))
         with connected(path) as stream:
@@ -141,6 +138,39 @@ def key_files(folder):
         path.write_text("key bank\n")
         due = ("error", str(path), "line 1: the line is not of the form `key NAME HEX`")
         yield "keys_refused", told(log.first("keys_refused"), "file", "fault"), due
+
+
+def lists(folder):
+    """A list of tokens that were taken back, which is read anew and refused."""
+    path = pathlib.Path(folder, "revoked")
+    put_keys(path, "# none\n")
+    log = Log(folder)
+    with listening(log, "--revoked", str(path)):
+        put_keys(path, "revoked bank 616c696365\n")
+        yield "revoked_read", told(log.first("revoked_read"), "file", "count"), ("info", str(path), "1")
+        put_keys(path, "revoked bank\n")
+        yield "revoked_refused", told(log.first("revoked_refused"), "file")[:2], ("error", str(path))
+
+
+def long_path(folder):
+    """A key file whose path has more bytes than a line may have, with bytes that are escaped."""
+    path = pathlib.Path(folder).joinpath(*["=" * 200] * 8, "keys")
+    path.parent.mkdir(parents=True)
+    path.write_text(KEYS.read_text())
+    path.chmod(0o600)
+    log = Log(folder)
+    with listening(log, keys=str(path)):
+        with open(path, "a") as file:
+            file.write("# changed\n")
+        text = awaited(lambda: next((line for line in log.text().splitlines() if " keys_read " in line), None))
+    yield "no longer than a line", len(text) < LINE_MAX, True
+    shown = str(path).replace("=", r"\x3d")
+    front = text.split(' file="')[1]
+    yield "cut with a mark", front.endswith('" ...'), True
+    front = front.removesuffix('" ...')
+    yield "a front of the path", shown.startswith(front), True
+    yield "as much as fits", len(front) > FIELD_LEAST, True
+    yield "no escape in part", front.replace(r"\x3d", "").count("\\"), 0
 
 
 def journal(folder):
@@ -170,7 +200,7 @@ REQUESTS = (
     (naming(TOKEN), bytes([18]), ("verify", None, "refused", "18")),
     (naming(b"AgIBYQAABiAA" + b"A" * 42), bytes([18]), ("verify", None, "refused", "18")),
     (b"", bytes([16]), ("nothing", None, "refused", "16")),
-    # A dear one, for which the connection goes on in threads of its own.
+    # A dear one, which a worker answers while its connection waits.
     (request.verify("bank", SLOW_TOKEN, 0), bytes([20]), ("verify", "bank", "refused", "20")),
     (MINT, b"\x01" + TOKEN, ("mint", "bank", "token", None)),
 )
@@ -223,21 +253,31 @@ def requests(folder):
 
 def unread(_folder):
     """Where nobody reads the lines, those of requests leave room for others."""
+    yield from flooded("requests", "request", frame(b""), NO_REQUEST)
+
+
+def unread_mints(_folder):
+    """The same of tokens that are minted."""
+    yield from flooded("mints", "mint", frame(MINT), frame(b"\x01" + TOKEN))
+
+
+def flooded(words, kind, asked, due):
+    """A flood of requests, each of which has a line of this kind, or is counted."""
     reading, writing = os.pipe()
     os.set_blocking(reading, False)
-    with daemon.listening("--workers", "2", "--loops", "1", "--log", "requests", stderr=writing) as (path, _):
+    with daemon.listening("--workers", "2", "--loops", "1", "--log", words, stderr=writing) as (path, _):
         os.close(writing)
         with connected(path) as stream:
-            stream.sendall(frame(b"") * FLOOD)
-            received(stream, len(NO_REQUEST) * FLOOD)
+            stream.sendall(asked * FLOOD)
+            received(stream, len(due) * FLOOD)
         with connected(path) as stream:
             stream.sendall(bytes(3))
         with connected(path) as stream:
-            stream.sendall(frame(b""))
-            yield "no reply waits for a line", received(stream, len(NO_REQUEST)), NO_REQUEST
-        lines = read_until(reading, lambda lines: counted_requests(lines) > FLOOD)
+            stream.sendall(asked)
+            yield "no reply waits for a line", received(stream, len(due)), due
+        lines = read_until(reading, lambda lines: counted_of(kind, lines) > FLOOD)
     os.close(reading)
-    yield "each is told or counted, though nobody read", counted_requests(lines), FLOOD + 1
+    yield "each is told or counted, though nobody read", counted_of(kind, lines), FLOOD + 1
     faults = [line.fields["fault"] for line in lines if line.what == "connection_fault"]
     yield "a fault has room behind them", faults, ["the stream ended inside a frame"]
 
@@ -252,10 +292,10 @@ def read_until(reading, is_all):
     return lines
 
 
-def counted_requests(lines):
-    """How many requests these lines tell of."""
-    left_out = [int(line.fields["count"]) for line in lines if line.fields.get("kind") == "request"]
-    return sum(left_out) + sum(line.what == "request" for line in lines)
+def counted_of(kind, lines):
+    """How many lines of this kind were printed or left out."""
+    left_out = [int(line.fields["count"]) for line in lines if line.fields.get("kind") == kind]
+    return sum(left_out) + sum(line.what == kind for line in lines)
 
 
 def requests_over_http(folder):
@@ -272,7 +312,7 @@ def requests_over_http(folder):
             ("verify", "bank", "unsatisfied", None),
         ),
         (posts(b"/mint/bank", b'{"identifier":"x"}'), ("mint", "bank", "token", None)),
-        (posts(b"/mint/bank", b"{}"), ("mint", "bank", "refused", "400")),
+        (posts(b"/mint/bank", b"[]"), ("mint", "bank", "refused", "400")),
         (posts(b"/inspect", b'{"token":"' + TOKEN + b'"}'), ("inspect", None, "told", None)),
         (posts(b"/attenuate", b"{}"), ("verify", None, "refused", "404")),
         (b"GET /healthz HTTP/1.1\r\nHost: x\r\nConnection: close\r\n\r\n", None),
@@ -283,6 +323,55 @@ def requests_over_http(folder):
         while stream.recv(65_536):
             pass
         yield "a line for each request", await_said(log, None, len(due)), due
+
+
+# Identifiers with the value that a line has for each: bytes that are not plain, and none at all.
+MINTED = {b"alice:5f3c": "alice:5f3c", b"a b=\"\n\xff": 'a b="\n\xff', b"": "", b"name=x": "name=x"}
+
+
+def minted_of(lines):
+    """What lines say of tokens that were minted: the connection, the name and the identifier."""
+    return [tuple(map(it.fields.get, ("connection", "name", "identifier"))) for it in lines if it.what == "mint"]
+
+
+def mints(folder):
+    """Where that is asked for, each token that is minted has its line, and no other request; at every face."""
+    log, web = Log(folder), f"{folder}/web"
+    words = ["--log", "mints", "--http-calls", f"unix:{web}", "--http-calls-allow", "mint"]
+    caveats = ["c" * 4000, "d" * 1000]
+    with listening(log, *words) as (path, _):
+        with connected(path) as stream:
+            for identifier in MINTED:
+                reply = reply_to(stream, request.mint("v2-binary", "bank", "here", f"hex:{identifier.hex()}"))
+                yield f"{identifier}: a token", reply[:1], b"\x01"
+            for refused in (request.mint("v2-binary", "none", "", "x"), request.mint("v2-binary", "bank", "", "i" * 5000), b""):
+                yield "no token", reply_to(stream, refused)[0] >= 16, True
+            reply_to(stream, request.verify("bank", SLOW_TOKEN, 0))
+            wide = reply_to(stream, request.mint("v2-json", "bank", "", "wide", *caveats))
+            yield "a wide one", wide[:1], b"\x01"
+            reply_to(stream, request.mint("v2-binary", "bank", "", "i" * 4000))
+            reply_to(stream, request.mint("v2-binary", "bank", "", "last"))
+        due = [*MINTED.values(), "wide", None, "last"]
+        awaited(lambda: len(minted_of(log.lines())) >= len(due))
+        told = minted_of(log.lines())
+        long = told[-2][2] or ""
+        yield "a line for each token", [it[2] if it[2] != long else None for it in told], due
+        yield "the longest is cut", (long == "i" * len(long), 800 < len(long) < 1000), (True, True)
+        yield "with the connection and the name", {it[:2] for it in told}, {("1", "bank")}
+        yield "and no other line", said_of(log.lines(), "1"), []
+        with connected(web) as stream:
+            drawn = []
+            for body in (b'{"identifier":"over http"}', b"{}", b"[]"):
+                head = b"POST /mint/bank HTTP/1.1\r\nHost: x\r\nContent-Length: %d\r\n\r\n" % len(body)
+                stream.sendall(head + body)
+                drawn.append(json.loads(stream.recv(65_536).partition(b"\r\n\r\n")[2]).get("identifier"))
+        awaited(lambda: len(minted_of(log.lines())) >= len(due) + 2)
+        yield "of HTTP too", minted_of(log.lines())[len(due) :], [(None, "bank", "over http"), (None, "bank", drawn[1])]
+    both = Log(folder, "both")
+    with listening(both, "--log", "mints,requests") as (path, _), connected(path) as stream:
+        reply_to(stream, request.mint("v2-binary", "bank", "", "alice"))
+        awaited(lambda: len(said_of(both.lines(), "1")) >= 1)
+        yield "both kinds", (minted_of(both.lines()), said_of(both.lines(), "1")), ([("1", "bank", "alice")], [("mint", "bank", "token", None)])
 
 
 def no_requests(folder):
@@ -296,7 +385,7 @@ def no_requests(folder):
         log.first("end")
     yield "no line", said_of(log.lines(), "1"), []
     run = daemon.refused(f"{folder}/socket", "--log", "all")
-    yield "another word", (run.returncode, run.stderr), (2, "error: what is logged besides is requests\n")
+    yield "another word", (run.returncode, run.stderr), (2, "error: what is logged besides is requests, mints or both with a comma between them\n")
 
 
 def replaced(folder):
@@ -326,6 +415,6 @@ def page():
 
 
 def faults():
-    parts = [connections, many_torn, few_descriptors, replaced, refused_step, key_files, journal]
-    seen = list(in_folders(*parts, requests, unread, requests_over_http, no_requests))
+    parts = [connections, many_torn, few_descriptors, replaced, refused_step, key_files, lists, long_path, journal]
+    seen = list(in_folders(*parts, requests, unread, requests_over_http, mints, unread_mints, no_requests))
     return judged([*seen, *page()])

@@ -4,7 +4,7 @@ import os
 import pathlib
 import subprocess
 
-from check.daemon_rows import END_FIRST, EXISTS, NO_SOCKET
+from check.daemon_rows import END_FIRST, EXISTS, NO_SOCKET, TOKEN
 from common import KEYS, TOP
 from common.daemon import PROGRAM, command, connected, serve_command
 from common.rows import in_folders, judged
@@ -53,8 +53,20 @@ def serve(path, keys=KEYS):
     return serve_command(path, accept=1, workers=1, keys=keys)
 
 
+def check(_path, keys):
+    return [PROGRAM, "check", "--keys", keys]
+
+
+def mint(_path, keys):
+    return [PROGRAM, "mint", "--keys", keys, "--key", "bank", "--identifier", "alice"]
+
+
+def verify(_path, keys):
+    return [PROGRAM, "verify", "--keys", keys, "--key", "bank", TOKEN]
+
+
 def key_files(folder):
-    """A key file that is missing, a folder, not for this user, or too long."""
+    """A key file that is missing, a folder, not for this user, or too long: a daemon and a command tell it alike."""
     missing, inside, locked, long = (f"{folder}/{name}" for name in ("missing", "inside", "locked", "long"))
     os.mkdir(inside)
     pathlib.Path(locked).write_text("key bank 00\n")
@@ -62,8 +74,8 @@ def key_files(folder):
     with open(long, "w") as text:
         text.truncate((1 << 24) + 1)
     due = f"error: {missing}: there is no key file; `macaroond keygen NAME --into {missing}` makes one\n"
-    for name, words in (("listen", listen), ("serve", serve)):
-        socket = f"{folder}/{name}"
+    for words in (listen, serve, check, mint, verify):
+        name, socket = words.__name__, f"{folder}/{words.__name__}"
         yield f"{name}: no key file", refused(words(socket, missing)), (3, due)
         yield f"{name}: a folder", refused(words(socket, inside)), (3, f"error: {inside}: {FOLDER}\n")
         yield f"{name}: a long file", refused(words(socket, long)), (3, f"error: {long}: {LONG_FILE}\n")

@@ -40,11 +40,12 @@ UNBUILT = [
     Command(["make", "soak"], "make build-runs"),
     Command(["make", "taken"], "make test"),
     Command(["make"], "make demo", fails=False),
-    Command(["scripts/measure/idle.py"]),
-    Command(["scripts/check/sessions.py"]),
+    *(Command([f"scripts/{name}.py"]) for name in ["measure/idle", "measure/http_load", "measure/allocations", "faults/moving",
+                                                   "check/sessions", "check/key_lines", "check/revoking"]),
 ]
 # Those that prove, where the toolchain isn't there.
-UNPROVED = [Command(["make", name], "rt") for name in ["build", "build-runs", "test", "check", "try", "fmt", "wrong-bodies", "wrong-runs", "demo"]]
+UNPROVED = [Command(["make", name], "`rt`") for name in ["build", "build-runs", "test", "check", "try", "fmt", "wrong-bodies", "wrong-runs", "demo",
+                                                         "vectors", "reproduce"]]
 
 
 class Clone:

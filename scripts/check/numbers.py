@@ -1,14 +1,16 @@
 """The numbers of `macaroond listen`, at `/metrics` of its HTTP face: each is made to change here, and compared with what
 was done. Those that docs/OPERATING.md lists are those that are told. And what `macaroond status` prints of a stranger."""
+import pathlib
 import re
 import socket
 import subprocess
 import tempfile
 import time
 
-from check.http_sockets import asking, listening, response
+from check.http_rows import OLD, json_text, v2
+from check.http_sockets import asking, bearing, listening, response
 from common import TOP
-from common.daemon import PROGRAM, come_to, connected, frame, reply_to
+from common.daemon import PROGRAM, come_to, connected, frame, put_keys, reply_to
 from common.rows import judged
 
 import request
@@ -16,8 +18,9 @@ import request
 PAGE = TOP / "docs" / "OPERATING.md"
 LINE = re.compile(r'macaroond_([a-z_]+)(\{[^}]*\})? (\d+)')
 TYPE = re.compile(r"# TYPE macaroond_([a-z_]+) (counter|gauge)")
-# A request that a loop doesn't answer: its token begins as JSON, and it is longer than 4,096 bytes.
-WIDE = request.verify("bank", "{", 0, *["a" * 250] * 20)
+# Facts that make a request longer than 4,096 bytes. A loop doesn't answer one whose token begins as JSON besides.
+LONG = ["a" * 250] * 20
+WIDE = request.verify("bank", "{", 0, *LONG)
 
 
 def numbers(daemon):
@@ -30,6 +33,16 @@ def numbers(daemon):
     told = {name.removeprefix("macaroond_"): int(value) for name, value in values.items()}
     strangers = [line for line in lines if not LINE.fullmatch(line) and not TYPE.fullmatch(line)]
     return told if status == 200 and not strangers else {"strangers": strangers}
+
+
+def of_requests(counts):
+    """The numbers of requests, by what was asked and what was told."""
+    return {f'requests_total{{asked="{asked}",told="{told}"}}': count for (asked, told), count in counts.items()}
+
+
+def grown(before, after):
+    """How much the numbers of requests have grown, those that have."""
+    return {name: after[name] - before[name] for name in before if "{" in name and after[name] != before[name]}
 
 
 def await_number(daemon, name, value):
@@ -66,26 +79,57 @@ def requests_and_bytes(daemon):
     after = numbers(daemon)
     # A connection that asked for the numbers may be there still.
     names = set(after) - {"connections_http"}
-    grown = {name: after[name] - before[name] for name in names if after[name] != before[name]}
-    due = {
+    changed = {name: after[name] - before[name] for name in names if after[name] != before[name]}
+    due = of_requests({
         ("mint", "token"): 1, ("mint", "refused"): 1, ("attenuate", "token"): 1, ("attenuate", "refused"): 1,
         ("verify", "granted"): 2, ("verify", "unsatisfied"): 1, ("verify", "refused"): 1, ("nothing", "refused"): 2,
-    }
-    due = {f'requests_total{{asked="{asked}",told="{told}"}}': count for (asked, told), count in due.items()}
-    yield "what has grown", grown, {**due, "connections_total": 1, "bytes_in_total": came, "bytes_out_total": went}
+    })
+    yield "what has grown", changed, {**due, "connections_total": 1, "bytes_in_total": came, "bytes_out_total": went}
 
 
 def wide(daemon):
     """A request that is dear is counted beside the others."""
-    before = numbers(daemon)
+    before, refused = numbers(daemon), 'requests_total{asked="verify",told="refused"}'
     with connected(daemon.path) as stream:
         replies = [reply_to(stream, WIDE) for _ in range(3)]
     yield "its replies", replies, [b"\x14"] * 3
+    yield "by their kind", await_number(daemon, refused, before.get(refused, 0) + 3), before.get(refused, 0) + 3
     yield "requests_wide_total", await_number(daemon, "requests_wide_total", before["requests_wide_total"] + 3), 3
     yield "connections_wide", await_number(daemon, "connections_wide", 0), 0
     after = numbers(daemon)
     yield "bytes in", after["bytes_in_total"] - before["bytes_in_total"], 3 * len(frame(WIDE))
     yield "bytes out", after["bytes_out_total"] - before["bytes_out_total"], 3 * len(frame(b"\x14"))
+
+
+def taken_back():
+    """A token that was taken back is counted apart from one of another secret: in loops, by a worker, and over HTTP."""
+    gone, forged, stays = v2(b"alice"), v2(b"alice", secret=OLD), v2(b"bob")
+    payloads = {
+        request.verify("bank", gone, 0): 29,
+        request.owner("bank", gone): 29,
+        request.verify("bank", json_text(b"alice"), 0, *LONG): 29,
+        request.verify("bank", forged, 0): 23,
+        request.verify("bank", stays, 0): 0,
+        request.attenuate("v2-binary", gone, "a = b"): 1,
+    }
+    statuses = {gone: 401, forged: 401, stays: 200}
+    due = {("verify", "revoked"): 4, ("verify", "refused"): 2, ("verify", "granted"): 2, ("attenuate", "token"): 1}
+    with tempfile.TemporaryDirectory() as folder:
+        listed = pathlib.Path(folder, "revoked")
+        put_keys(listed, f"revoked bank {b'alice'.hex()}\n")
+        with listening("--revoked", str(listed)) as daemon:
+            before = numbers(daemon)
+            yield "revoked: its lines", before["revoked"], 1
+            with connected(daemon.path) as stream:
+                replies = [reply_to(stream, payload)[0] for payload in payloads]
+            yield "revoked: replies", replies, list(payloads.values())
+            with daemon.unix() as stream:
+                told = []
+                for token in statuses:
+                    stream.sendall(bearing(token))
+                    told.append(response(stream)[0])
+            yield "revoked: statuses", told, list(statuses.values())
+            yield "revoked: what has grown", come_to(lambda: grown(before, numbers(daemon)), of_requests(due)), of_requests(due)
 
 
 def connections(daemon):
@@ -151,7 +195,7 @@ def another():
 
 
 def faults():
-    seen = list(another())
+    seen = [*another(), *taken_back()]
     with listening() as daemon:
         for part in (requests_and_bytes, wide, keys, page):
             seen += part(daemon)

@@ -15,9 +15,9 @@ from common import TOP
 
 UNITS = "lib/systemd/system"
 PYTHON, GO = "usr/lib/python3/dist-packages", "usr/share/gocode/src/macaroond"
-NAMES = ["macaroond", "golang-macaroond-dev", "python3-macaroond"]
-# The most that `systemd-analyze security` may find, in tenths.
-EXPOSURE = 10
+NAMES = ["macaroond", "golang-macaroond-dev", "macaroond-fleet", "python3-macaroond"]
+# The most that `systemd-analyze security` may find, in tenths; and of an agent, which asks a store over the network.
+EXPOSURE, OF_AGENT = 10, 12
 NOBODY = 65534
 COMMANDS = {
     "dpkg-buildpackage": "package dpkg-dev",
@@ -98,10 +98,18 @@ def scripts_of(path):
         return [name for name in names if subprocess.run(["sh", "-n", pathlib.Path(folder) / name]).returncode]
 
 
-def ran(script, root, *words):
+def stopping(path):
+    """What the package's maintainer scripts stop at an upgrade, for which nothing starts it again."""
+    with tempfile.TemporaryDirectory() as folder:
+        subprocess.run(["dpkg-deb", "-e", path, folder], check=True)
+        before = pathlib.Path(folder, "preinst")
+        return re.findall(r"deb-systemd-invoke stop (.*?) >", before.read_text()) if before.exists() else []
+
+
+def ran(script, root, *words, package="macaroond"):
     """What is left in a folder once a maintainer script has run over it, in place of the system's own root."""
-    text = (TOP / "debian" / f"macaroond.{script}").read_text().replace("#DEBHELPER#", "")
-    for name in ("/etc/", "/run/"):
+    text = (TOP / "debian" / f"{package}.{script}").read_text().replace("#DEBHELPER#", "")
+    for name in ("/etc/", "/run/", "/var/"):
         text = text.replace(f" {name}", f" {root}{name}").replace(f"={name}", f"={root}{name}")
     run = subprocess.run(["sh", "-c", text, script, *words], capture_output=True, text=True)
     files = {str(path.relative_to(root)): path.read_text() for path in root.rglob("*") if path.is_file()}
@@ -116,6 +124,22 @@ def purges(folder):
         (keys / name).write_text("key bank 00\n")
     status, files, _ = ran("postrm", folder, "purge")
     yield "what a purge leaves", (status, list(files)), (0, ["etc/macaroond/keys.of-mine"])
+
+
+def fleet_purges(folder):
+    """A purge of macaroond-fleet leaves the files that the daemon's key file leads to, and no others of its agent."""
+    for name, what, left in (("led", "a key file that leads there", ["keys", "revoked"]), ("own", "a key file of its own", [])):
+        keys, state = folder / name / "etc/macaroond/fleet", folder / name / "var/lib/macaroond-fleet"
+        for path in (keys, state):
+            path.mkdir(parents=True)
+        for path in (keys / "keys", keys / "revoked", keys / "keys.fleet_", state / "shop.taken"):
+            path.write_text("key bank 00\n")
+        if name == "led":
+            (keys / "keys.fleet_").unlink()
+            (keys.parent / "keys").symlink_to("fleet/keys")
+        status, files, _ = ran("postrm", folder / name, "purge", package="macaroond-fleet")
+        found = sorted(it.removeprefix("etc/macaroond/fleet/") for it in files if it != "etc/macaroond/keys")
+        yield f"a purge of macaroond-fleet: {what}", (status, found), (0, left)
 
 
 # Of an installed version its settings, or none, and the mode that an upgrade keeps, or none.
@@ -148,6 +172,22 @@ def upgrades(folder):
     yield "a key file that is a link", "\nInaccessiblePaths=\n" in files[kept], True
 
 
+def fleet(package, folder):
+    """The agent's unit, and the command, from their package alone."""
+    tree = unpacked(package, folder)
+    found = exposure(tree / UNITS / "macaroond-fleet.service")
+    yield f"an exposure of the agent of {found} tenths, at most {OF_AGENT}", isinstance(found, int) and found <= OF_AGENT, True
+    yield "what systemd says of the agent's unit", verified(tree / UNITS / "macaroond-fleet.service"), []
+    started = os.path.realpath(tree / "usr/bin/macaroond-fleet")
+    unit = (tree / UNITS / "macaroond-fleet.service").read_text()
+    allowed = re.search(r"^ExecPaths=(.*)$", unit, re.MULTILINE)[1].split()
+    yield "the unit may start it where it lies", any(started.startswith(f"{tree}{path}/") for path in allowed), True
+    run = subprocess.run(["python3", started, "--help"], capture_output=True, text=True)
+    yield "macaroond-fleet runs", (run.returncode, run.stdout[:22]), (0, "usage: macaroond-fleet")
+    depends = field(package, "Depends").split(", ")
+    yield "what it needs", {it.split()[0] for it in depends} >= {"openssl", "python3:any"} or depends, True
+
+
 def clients(python, go, folder):
     """Both clients, from their packages alone."""
     path = unpacked(python, folder / "python") / PYTHON
@@ -173,6 +213,7 @@ def rows(one, another):
     yield "their version", versions, {f"{packaging.packed_version()}-1"}
     yield "what lintian says", lint(first[0]), []
     yield "scripts that can't be read", [name for path in first for name in scripts_of(path)], []
+    yield "what an upgrade stops", [unit for path in first for unit in stopping(path)], []
     tree = unpacked(first[0], f"{another}/tree")
     found = exposure(tree / UNITS / "macaroond.service")
     yield f"an exposure of {found} tenths, at most {EXPOSURE}", isinstance(found, int) and found <= EXPOSURE, True
@@ -180,7 +221,9 @@ def rows(one, another):
         yield f"what systemd says of {name}", verified(tree / UNITS / name), []
     run = subprocess.run([tree / "usr/bin/macaroond", "--version"], capture_output=True, text=True)
     yield "its program runs", (run.returncode, run.stdout[:10]), (0, "macaroond ")
-    yield from clients(first[2], first[1], pathlib.Path(another))
+    named = dict(zip(NAMES, first))
+    yield from fleet(named["macaroond-fleet"], pathlib.Path(another) / "fleet")
+    yield from clients(named["python3-macaroond"], named["golang-macaroond-dev"], pathlib.Path(another))
 
 
 def snapshots():
@@ -198,8 +241,8 @@ def faults():
     if lacking:
         return [], 0, lacking
     with contextlib.ExitStack() as kept:
-        one, another, *folders = (kept.enter_context(tempfile.TemporaryDirectory()) for _ in range(4))
+        one, another, *folders = (kept.enter_context(tempfile.TemporaryDirectory()) for _ in range(5))
         seen = [*rows(one, another), *snapshots()]
-        for made, folder in zip((purges, upgrades), folders):
+        for made, folder in zip((purges, fleet_purges, upgrades), folders):
             seen += made(pathlib.Path(folder))
     return [f"package: {what}: {got!r} where {due!r} is due" for what, got, due in seen if got != due], len(seen)

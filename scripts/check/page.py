@@ -127,6 +127,8 @@ def calls_of_names(page):
         yield name, asked(page, f"verify/{key}", token=token, facts=facts, moment=moment), due
     mint = {"identifier": "alice", "location": "http://mybank/", "caveats": ["a"]}
     yield "a mint", asked(page, "mint/bank", **mint), (200, {"token": v2("a")})
+    drawn = [asked(page, "mint/bank")[1].get("identifier", "") for _ in range(2)]
+    yield "identifiers that are drawn", [len(it) for it in drawn] + [drawn[0] != drawn[1]], [32, 32, True]
     yield "no mint", asked(page, "mint/none", identifier="alice"), (404, {})
 
 

@@ -7,9 +7,11 @@ import contextlib
 import json
 import os
 import socket
+import tempfile
 
-from check.page_tab import SECRET, asked_at, secrets_in, serving, v2
+from check.page_tab import SECRET, SECRETS, asked_at, secrets_in, serving, v2
 from common import TOP
+from common.daemon import put_keys
 from common.rows import judged
 
 COMMAND = [str(TOP / "bin" / "macaroond"), "page"]
@@ -131,12 +133,32 @@ def starts():
         yield "another start's", answer(other, "GET", "/here", None, {SECRET: secrets_in(one)[0]}), NOTHING
 
 
+def listed():
+    """Of a list that was read at the start, each token is refused, whatever its caveats, and no other one."""
+    revoked = {"granted": False, "code": 29, "reason": "the token was taken back"}
+    unsatisfied = {"granted": False, "code": 24, "caveat": 0, "reason": "caveat 0 is not satisfied"}
+    cases = (
+        ("listed", "bank", v2(), revoked), ("narrowed", "bank", v2("a"), revoked),
+        ("another's", "bank", v2(identifier=b"bob"), {"granted": True}),
+        ("another's that is narrowed", "bank", v2("a", identifier=b"bob"), unsatisfied),
+        ("of another name", "shop", v2(secret=SECRETS["shop"]), {"granted": True}),
+    )
+    with tempfile.TemporaryDirectory() as folder:
+        put_keys(f"{folder}/revoked", f"revoked bank {b'alice'.hex()}\n")
+        with serving([*COMMAND, "--revoked", f"{folder}/revoked"], True) as (url, _):
+            fields = {SECRET: secrets_in(url)[0]}
+            for name, key, token, due in cases:
+                status, content = answer(url, "POST", f"/verify/{key}", {"token": token, "facts": [], "moment": 1}, fields)
+                yield name, (status, json.loads(content)), (200, due)
+
+
 def rows():
     is_root = os.geteuid() == 0
     with serving(COMMAND, True) as (url, _):
         for part in (*([another_user] if is_root else []), another_secret, another_page, silent):
             yield from ((part.__name__, *row) for row in part(url))
-    yield from (("starts", *row) for row in starts())
+    for part in (starts, listed):
+        yield from ((part.__name__, *row) for row in part())
 
 
 def faults():

@@ -198,8 +198,9 @@ def verified(body, keys):
 
 def minted(body, keys):
     named = [name for name in ("identifier", "identifier64") if isinstance(body.get(name), str)]
-    demand(len(named) == 1, "there is to be one text, identifier or identifier64")
-    identifier = body[named[0]].encode("utf-8", "replace")
+    meant = [name for name in ("identifier", "identifier64") if name in body]
+    demand(len(named) == len(meant) < 2, "there is to be one text, identifier or identifier64")
+    identifier = body[named[0]].encode("utf-8", "replace") if named else secrets.token_hex(16).encode()
     if named == ["identifier64"]:
         identifier = decoded(identifier)
         demand(identifier is not None, "identifier64 is no base64url text")

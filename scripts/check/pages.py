@@ -3,9 +3,12 @@
 
 A name, of a file, a crate, a function or a definition, stands between two backquotes. A path is
 looked for by its ending among all files; a function or a definition, told as `NAME` (`PATH`), has
-to stand in a file of this path. A link to a file leads to one. Rows that don't begin with a heading
-and its rule were cut off their table. Sentences have few words: in the mean of a page, and each.
+to stand in a file of this path, and one of a type (`TYPE::NAME`) in a file about that type. A link to
+a file leads to one. Rows that don't begin with a heading and its rule were cut off their table.
+Sentences have few words: in the mean of a page, and each.
 """
+import collections
+import functools
 import pathlib
 import re
 import subprocess
@@ -26,6 +29,11 @@ PATH = re.compile(r"[\w./-]+\.(?:rt|antt|py|sh|md|edit|c|go|txt|1)")
 PLACEHOLDER = re.compile(r"THING|NAME")
 CRATE = re.compile(r"(?:mac|try)_[a-z]+|time_blocks|sha256x8|macaroond")
 PAIRED = re.compile(r"`([a-z_0-9:A-Z]+)` \(`((?:src|specs|crates)/[\w./-]+)`\)")
+OF_TYPE = re.compile(r"`(?:\w+::)?([A-Z]\w*)::([a-z_]\w*)`")
+# What declares a type, what a file is about, and what declares a function of it, or a member that contracts alone see.
+TYPE = re.compile(r"\b(?:struct|enum|trait) (\w+)")
+ABOUT = re.compile(r"^ *(?:pub )?(?:impl(?:<.*?>)? (?:[^{]*? for )?|trait )(\w+)", re.M)
+FUNCTION = re.compile(r"\b(?:fn|ghost) (\w+)")
 LINK = re.compile(r"\]\(([^)#\s:]+)(?:#[^)]*)?\)")
 RULE = re.compile(r"\|[-| :]+\|?$")
 # How many words a sentence has: the mean of a page, and the longest, in what is written by hand.
@@ -53,6 +61,28 @@ def has_word(word, path, files):
     """Whether a file at this path has the word."""
     found = [TOP / name for name in files if name == path or name.endswith("/" + path)]
     return any(re.search(rf"\b{re.escape(word)}\b", file.read_text()) for file in found)
+
+
+@functools.cache
+def functions_of_types():
+    """The types that crates declare, each with the functions of the files that are about it."""
+    found = collections.defaultdict(set)
+    texts = [path.read_text() for path in (TOP / "crates").glob("*/src/**/*.rt")]
+    declared = {name for text in texts for name in TYPE.findall(text)}
+    for text in texts:
+        for name in declared.intersection(ABOUT.findall(text)):
+            found[name].update(FUNCTION.findall(text))
+    return found
+
+
+def lost_functions(text):
+    """The functions of a crate's types that a page names and that aren't there. What a type has for a trait may be told
+    by both names in one."""
+    known = functions_of_types()
+    for owner, function in OF_TYPE.findall(text):
+        owners = [owner] if owner in known else [it for it in known if owner.startswith(it)]
+        if owners and not any(function in known[it] for it in owners):
+            yield f"no {owner}::{function}"
 
 
 def missing(text, files):
@@ -110,7 +140,7 @@ def faults():
     for page in PAGES:
         text = page.read_text()
         name = page.relative_to(TOP)
-        wrong = (*missing(text, files), *dead_links(page, text), *long_sentences(text))
+        wrong = (*missing(text, files), *lost_functions(text), *dead_links(page, text), *long_sentences(text))
         found += [f"{name}: {it}" for it in wrong]
         found += [f"{name}, line {number}: a row without its table" for number in cut_rows(text)]
     return found, len(PAGES)

@@ -16,8 +16,6 @@ OF_LIBRARY = {"mac_plain": 5}
 ROUND = "the requests of a round, where they lie and what is up, aren't one type yet"
 SERVER = "what a server is started or run with isn't one type yet"
 MEANT = {
-    "mac_daemon::connection::serve_stream": SERVER,
-    "mac_daemon::crew::Crew::take_on": SERVER,
     "mac_loop::looping::Loop::look_after": SERVER,
     "mac_loop::looping::sharing::Loop::give": SERVER,
     "mac_loop::looping::sharing::Loop::move_to": SERVER,

@@ -157,6 +157,7 @@ def tried_part(crates):
     """What came of wrong bodies where `make wrong-bodies` was run and recorded."""
     tried = recorded(TOP)
     left = [f"`{it.name}`" for it in crates if it.all and it.name not in tried]
+    others = [f"`{it.name}`" for it in crates if it.name in tried and len(it.all) != sum(map(int, tried[it.name][1:]))]
     rows = [
         "| Crate | Tree | Tried | At a clause | By name alone | Not covered | Let through | Not compiling |",
         "|---|---|---|---|---|---|---|---|",
@@ -168,7 +169,12 @@ def tried_part(crates):
         sums = [a + b for a, b in zip(sums, counts)]
         rows.append(f"| `{crate}` | {commit} | {' | '.join(map(str, counts))} |")
     rows.append(f"| all of these | | {' | '.join(map(str, sums))} |")
-    return rows + ["", f"Not tried to the end yet: {', '.join(left)}."] if left else rows
+    return [*rows, *named_below("Not tried to the end yet", left), *named_below("Bodies came or went since in", others)]
+
+
+def named_below(what, names):
+    """A line below a table, that tells this of some crates."""
+    return ["", f"{what}: {', '.join(names)}."] if names else []
 
 
 def sizes(crate):

@@ -179,7 +179,7 @@ def shared_keys(folder):
     os.chown(keys, os.geteuid(), os.getegid())
     for mode in (0o644, 0o602, 0o620, 0o660, 0o604):
         keys.chmod(mode)
-        why = f"{keys}: the key file has mode {mode:o}, by which others than its owner may use it; `chmod 600` mends that"
+        why = f"{keys}: the file has mode {mode:o}, by which others than its owner may use it; `chmod 600` mends that"
         for words in (listen_words(f"{folder}/shared", keys), served_words(f"{folder}/served", keys)):
             run = subprocess.run(words, capture_output=True, text=True, timeout=20)
             due = (3, "", f"error: {why}; or take it so by --keys-of-others\n")
@@ -200,7 +200,7 @@ def shared_keys(folder):
     if not os.geteuid():
         os.chown(keys, 1234, 0)
         run = subprocess.run(listen_words(f"{folder}/shared", keys), capture_output=True, text=True, timeout=20)
-        why = f"error: {keys}: the key file belongs to user 1234; `chown 0` mends that; or take it so by --keys-of-others\n"
+        why = f"error: {keys}: the file belongs to user 1234; `chown 0` mends that; or take it so by --keys-of-others\n"
         yield "keys of another user", (run.returncode, run.stderr), (3, why)
 
 

@@ -25,7 +25,6 @@ LEFT = {
     "Refusal": "why a key file isn't taken; why a request is refused",
     "Request": "what is counted; what asks in a round; what a payload asks",
     "Signals": "signals of the system; what the halves of a connection tell one another",
-    "Stay": "a writer's step that puts nothing up; how long a connection is wide",
     "Tally": "what a round counts; the books of a queue",
     "Told": "what a request was told, in numbers, by a page, of a mailbox, by the site, of a caller",
     "Turn": "what a loop's turn came to; the tickets that a worker works on together",

@@ -26,6 +26,8 @@ MEANT = {
     "mac_wire::reply::reply_bytes": LIBRARY,
     "mac_ring::intake::Intake::free_slips": "tells whether the next admit succeeds, as its contract says",
     "mac_serve::caller::Caller::new": WHOLE,
+    "mac_serve::fault::ServeFault::code": WHOLE,
+    "mac_serve::whole::serve_all": WHOLE,
 }
 WORD = re.compile(r"[^\W\d][\w'-]*")
 

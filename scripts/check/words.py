@@ -13,6 +13,8 @@ from check.statuses import Ending, bad
 from common import KEYS, runs
 from common.runs import Case, Run
 
+import request
+
 FOLDER = tempfile.TemporaryDirectory()
 KEYS = str(KEYS)
 TOKEN = "AgEOaHR0cDovL215YmFuay8CFndlIHVzZWQgb3VyIHNlY3JldCBrZXkAAAYg49ngKQhSbEwAOa4VEUEV2X_daL8ro3mzQqrw9hfQVS8"
@@ -89,6 +91,17 @@ def failed(what):
     return Ending(3, "", f"error: {what}")
 
 
+WHOSE = "location: http://mybank/\nidentifier: we used our secret key\n"
+REVOKED = f"revoked bank {b'we used our secret key'.hex()}\n"
+SIGNATURE = f"signature: {DIGITS[-64:]}\nbytes: {len(TOKEN)}\n"
+# Lists of tokens that were taken back: one with TOKEN and one without it, and one with a fault.
+LIST = file_of("list", f"# mine\n{REVOKED}\nrevoked shop 00".encode())
+OTHER_LIST = file_of("other", REVOKED.replace("bank", "shop").encode() + REVOKED.replace("\n", "00\n").encode())
+BAD_LIST = file_of("bad list", b"# mine\nrevoked bank 0\n")
+# What the pipe is asked: whether TOKEN is good.
+ASKED = f"{pathlib.Path(KEYS).read_text()}\n{request.verify('bank', TOKEN, 0).hex()}\n"
+BAD_DIGITS = "line 2: the identifier is not in hexadecimal, two digits a byte\n"
+GOOD_KEYS = file_of("keys", f"key bank {'0' * 64}\n".encode())
 CRLF_KEYS = file_of("crlf", b"key bank 00\r\n")
 BAD_KEYS = file_of("bad", b"# mine\nlock bank 00\n")
 NOWHERE = str(pathlib.Path(FOLDER.name) / "nowhere")
@@ -126,6 +139,23 @@ RIGHT = {
         Case("", ["inspect", unsigned(DAY)]),
         inspected(f"{DAY} (is no bound of time, and holds only as a fact)"),
     ),
+    "inspect_under_a_name": (
+        Case("", ["inspect", "--key", "bank", TOKEN]),
+        good(f"form: base64 text of version 2 binary\n{WHOSE}{SIGNATURE}{REVOKED}"),
+    ),
+    "check_list": (Case("", ["check", "--revoked", LIST]), good("revoked lines: 2\n")),
+    "check_both": (Case("", ["check", "--revoked", OTHER_LIST, "--keys", GOOD_KEYS]), good("bank: one key\nrevoked lines: 2\n")),
+    "taken_back": (Case("", verify("--revoked", LIST, token=TOKEN)), Ending(1, "refused 29: the token was taken back\n", "")),
+    "taken_back_narrowed": (Case("", verify("--revoked", LIST)), Ending(1, "refused 29: the token was taken back\n", "")),
+    "pipe_taken_back": (Case(ASKED, ["pipe", "--revoked", LIST]), good("refused 29\n")),
+    "pipe_another_taken_back": (Case(ASKED, ["pipe", "--revoked", OTHER_LIST]), good("granted\n")),
+    "pipe_nothing_taken_back": (Case(ASKED), good("granted\n")),
+    "another_taken_back": (Case("", verify("--revoked", OTHER_LIST, token=TOKEN)), good("granted\n")),
+    "revoke": (Case("", ["revoke", "bank", "--identifier", "we used our secret key"]), good(REVOKED)),
+    "revoke_nothing": (Case("", ["revoke", "bank", "--identifier="]), good("revoked bank \n")),
+    "revoke_token": (Case("", ["revoke", "bank", NARROW]), Ending(0, REVOKED, f"name: bank\n{WHOSE}")),
+    "revoke_line": (Case(TOKEN + "\n", ["revoke", "bank", "-"]), Ending(0, REVOKED, f"name: bank\n{WHOSE}")),
+    "mint_drawn": (Case("", MINT), Ending(0, "AgEO", "identifier ")),
     "mint_near_bound": (Case("", [*MINT, *IDENTIFIER, "--caveat", DAY]), warned(DAY)),
     "attenuate_near_bound": (Case("", ["attenuate", "--caveat", LIMIT, "--caveat", MONTH, TOKEN]), warned(MONTH)),
     "help": (Case("", ["mint", "--help"]), good("Prints a new token\n")),
@@ -158,7 +188,7 @@ WRONG = {
     "key_name_with_a_line_feed": (Case("", ["keygen", "a 00\n#"]), bad("the name of a key is 1 to 64 letters, ")),
     "no_key_name": (Case("", ["keygen"]), bad("the following required arguments were not provided:\n")),
     "option_twice": (Case("", verify("--keys", KEYS)), bad("the argument '--keys <FILE>' cannot be used multiple times\n")),
-    "option_left_out": (Case("", [*MINT]), bad("the following required arguments were not provided:\n")),
+    "option_left_out": (Case("", ["mint", "--keys", KEYS]), bad("the following required arguments were not provided:\n")),
     "unknown_option": (Case("", verify("--facts", ACCOUNT)), bad("unexpected argument '--facts' found\n")),
     "two_tokens": (Case("", ["inspect", TOKEN, TOKEN]), bad("unexpected argument ")),
     "no_caveat": (Case("", ["attenuate", TOKEN]), bad("the following required arguments were not provided:\n")),
@@ -167,6 +197,32 @@ WRONG = {
     "long_words": (Case("", ["attenuate", "--caveat", "a" * 70_000, TOKEN]), bad("a text or the token is longer than 65535 bytes\n")),
     "unknown_form": (Case("", [*MINT, *IDENTIFIER, "--form", "v3"]), bad("the form of a token is v1, v2, json or v2-text\n")),
     "no_moment": (Case("", verify("--at", "tomorrow")), bad("the moment is neither seconds since 1970 nor a time as ")),
+    "pipe_without_its_list": (Case("", ["pipe", "--revoked"]), bad("a value is required for '--revoked <FILE>'")),
+    "pipe_beside_a_faulty_list": (Case("", ["pipe", "--revoked", BAD_LIST]), Ending(1, "", f"error: {BAD_LIST}: {BAD_DIGITS}")),
+    "pipe_beside_no_list": (
+        Case("", ["pipe", "--revoked", NOWHERE]),
+        failed(f"{NOWHERE}: there is no list of tokens that were taken back\n"),
+    ),
+    "check_of_nothing": (Case("", ["check"]), bad("`--keys` or `--revoked` has to be given\n")),
+    "check_faulty_list": (Case("", ["check", "--keys", GOOD_KEYS, "--revoked", BAD_LIST]), refused(f"error: {BAD_LIST}: {BAD_DIGITS}")),
+    "verify_beside_a_faulty_list": (Case("", verify("--revoked", BAD_LIST)), failed(f"{BAD_LIST}: {BAD_DIGITS}")),
+    "verify_beside_no_list": (
+        Case("", verify("--revoked", NOWHERE)),
+        failed(f"{NOWHERE}: there is no list of tokens that were taken back\n"),
+    ),
+    "revoke_which": (Case("", ["revoke", "bank"]), bad("either `--identifier` or a token has to be given, and not both\n")),
+    "revoke_both": (
+        Case("", ["revoke", "bank", "--identifier", "alice", TOKEN]),
+        bad("either `--identifier` or a token has to be given, and not both\n"),
+    ),
+    "revoke_two_lists": (
+        Case("", ["revoke", "bank", "--identifier", "alice", "--into", LIST, "--drop", LIST]),
+        bad("of `--into` and `--drop` one alone may be given\n"),
+    ),
+    "revoke_no_token": (Case("", ["revoke", "bank", TOKEN[:40]]), refused(NO_TOKEN)),
+    "revoke_bad_name": (Case("", ["revoke", "my bank", "--identifier", "alice"]), bad("the name of a key is 1 to 64 letters, ")),
+    "inspect_under_a_bad_name": (Case("", ["inspect", "--key", "my bank", TOKEN]), bad("the name of a key is 1 to 64 letters, ")),
+    "inspect_no_token_under_a_name": (Case("", ["inspect", "--key", "bank", TOKEN[:40]]), refused(NO_TOKEN)),
     "cut_token": (Case("", ["inspect", TOKEN[:40]]), refused(NO_TOKEN)),
     "cut_text": (Case("", verify(token=TOKEN[:41])), Ending(1, NO_TEXT, "")),
     "empty_token": (Case("", ["inspect", ""]), refused(NO_TEXT)),

@@ -43,13 +43,21 @@ def free_port():
     raise RuntimeError("there is no free port")
 
 
+def stop_unless_there():
+    """Ends the script where there is no daemon to start."""
+    if "MACAROOND" not in os.environ:
+        programs.stop_unless_built("macaroond")
+
+
 def command(path, *words, keys=KEYS):
     """The command line of a daemon at this path."""
+    stop_unless_there()
     return [PROGRAM, "listen", "--socket", path, "--keys", keys, *words]
 
 
 def serve_command(path, accept, workers=2, keys=KEYS):
     """The command line of a daemon that ends behind so many clients."""
+    stop_unless_there()
     return [PROGRAM, "serve", "--socket", path, "--keys", keys, "--workers", str(workers), "--accept", str(accept)]
 
 
@@ -102,8 +110,6 @@ def serving(path, accept, workers=2, **how):
 @contextlib.contextmanager
 def listening(*words, **how):
     """The path of a daemon that listens in a folder of its own, and its process."""
-    if "MACAROOND" not in os.environ:
-        programs.stop_unless_built("macaroond")
     with tempfile.TemporaryDirectory() as folder:
         path = folder + "/socket"
         with running(path, *words, **{"stderr": subprocess.DEVNULL, **how}) as run:

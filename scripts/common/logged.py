@@ -6,6 +6,8 @@ import typing
 FRONT = re.compile(r"\d{4}-\d\d-\d\dT\d\d:\d\d:\d\d\.\d{3}Z (info|warning|error) ([a-z_]+)")
 FIELD = re.compile(r' ([a-z_]+)=(?:"([^"]*)"|([^ "=\\]+))')
 ESCAPE = re.compile(r"\\x([0-9a-f]{2})")
+# What stands at the end of a line whose last field was cut.
+CUT = " ..."
 
 
 class Line(typing.NamedTuple):
@@ -25,9 +27,9 @@ def read(text):
 
 
 def fields_of(text):
-    """The fields of a line, each behind a space."""
-    fields, at = {}, 0
-    while at < len(text):
+    """The fields of a line, each behind a space; behind one that was cut stands a mark."""
+    fields, at, end = {}, 0, len(text.removesuffix(CUT))
+    while at < end:
         field = FIELD.match(text, at)
         if field is None:
             raise ValueError(f"no field of a log: {text[at:]!r}")

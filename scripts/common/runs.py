@@ -44,6 +44,7 @@ def of_cases(cases):
 
 def built_run(case, **how):
     """A run of the program; `how` may say what it reads from, writes to or is kept to."""
+    programs.stop_unless_built("macaroond")
     given = {} if "stdin" in how else {"input": case.input}
     pipes = {"stdout": subprocess.PIPE, "stderr": subprocess.PIPE}
     run = subprocess.run([PROGRAM, *case.words], text=True, **given, **{**pipes, **how})

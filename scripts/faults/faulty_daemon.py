@@ -48,8 +48,8 @@ SOCKETS = [
     ("read", errno.EINTR, "EINTR", "both served"),
 ]
 UNREMEMBERED = b"warning: no memory or no random bytes to remember tokens by; none is remembered\n"
-# How many desks a pool has.
-DESKS = 64
+# How many clients come at the same time behind the rounds.
+CROWD = 64
 # How many daemons stay up at a time: one whose client's thread is refused waits ten seconds for it.
 DAEMONS = 20
 
@@ -214,8 +214,8 @@ class Listening(Daemon):
         return [client.replies() for client in clients]
 
     def crowd(self):
-        """How many of 64 clients that are there at the same time are served: as many as desks are home."""
-        streams = [connected(self.path) for _ in range(DESKS)]
+        """How many of 64 clients that are there at the same time are served."""
+        streams = [connected(self.path) for _ in range(CROWD)]
         with contextlib.ExitStack() as stack:
             for stream in streams:
                 stack.enter_context(stream)
@@ -227,7 +227,7 @@ class Listening(Daemon):
 
 
 def is_served(stream):
-    """Whether a client of whom a desk is kept gets a reply, and stays."""
+    """Whether a client gets a reply, and stays."""
     try:
         stream.sendall(frame(b""))
         return received(stream, 5) == DUE[1]
@@ -253,9 +253,9 @@ def rounds_of(numbers):
             came[word] += 1
         refused = daemon.watch.refused
         daemon.watch.set(1, 0)
-        home, status = daemon.crowd(), daemon.run.poll()
-        if home != DESKS or status is not None:
-            found.append(f"listen: {home} of {DESKS} desks are there after the rounds, and the daemon's status is {status}")
+        served, status = daemon.crowd(), daemon.run.poll()
+        if served != CROWD or status is not None:
+            found.append(f"listen: {served} of {CROWD} clients are served after the rounds, and the daemon's status is {status}")
         daemon.close()
     return came, refused, found
 

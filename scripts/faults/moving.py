@@ -1,5 +1,5 @@
 #!/usr/bin/env python3
-"""Connections that go from loop to loop of `macaroond listen`, and to desks, while they are asked much.
+"""Connections that go from loop to loop of `macaroond listen`, while they are asked much.
 
     moving.py [SECONDS]    each part lasts so long
 
@@ -19,7 +19,7 @@ import threading
 import time
 
 sys.path.insert(0, str(pathlib.Path(__file__).resolve().parents[1]))
-from common.daemon import Daemon, connected, frame, received
+from common.daemon import Daemon, connected, frame, received, stop_unless_there
 from common.tokens import signed
 from faults.refusing import PATIENCE, Watch, has_compiler, watching
 
@@ -265,6 +265,7 @@ def faults(seconds=SECONDS):
 
 
 def main():
+    stop_unless_there()
     if not has_compiler():
         sys.exit("there is no C compiler `cc`")
     found, count = faults(float(sys.argv[1]) if sys.argv[1:] else SECONDS)

@@ -4,8 +4,9 @@
     scaling_asking.py frames SOCKET COUNT          by so many clients of clients/python
     scaling_asking.py http ADDRESS FRAMES COUNT    over HTTP, at a path or a port
 
-It ends once its standard input ends, and prints what came of it, as JSON. Over HTTP the path is
-SCALING_PATH, else /verify/bank, and tokens are minted at the socket FRAMES. They are minted under
+It ends once its standard input ends, and prints what came of it, as JSON. SCALING_REPLY_WITHIN says
+how many seconds a reply may take, 10 if left out. Over HTTP the path is SCALING_PATH, else
+/verify/bank, and tokens are minted at the socket FRAMES. They are minted under
 `bank`, whose key may change: one is used for a second, and what comes of it later than LIFE seconds
 after its mint isn't judged. Who gets no verdict, although the client sent twice, asks again, which
 is counted; who gets none for PATIENCE seconds has lost a request.
@@ -29,7 +30,7 @@ from macaroond import Client, Disconnected, MacaroondError
 USED, LIFE = 1.0, 3.0
 # How many seconds somebody asks again who gets no verdict, the pause between, and how many seconds
 # a reply may take on a machine that does other work too.
-PATIENCE, PAUSE, REPLY_WITHIN = 10.0, 0.05, 10.0
+PATIENCE, PAUSE, REPLY_WITHIN = 10.0, 0.05, float(os.environ.get("SCALING_REPLY_WITHIN", 10.0))
 # How many verifies go out together, behind those that go out alone, and the pause behind both.
 TOGETHER, BETWEEN = 30, 0.005
 HELD, LACKING = ["method = GET"], ["method = PUT"]

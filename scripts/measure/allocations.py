@@ -99,6 +99,7 @@ def beyond(counted):
 
 
 def main():
+    programs.stop_unless_built("macaroond")
     if not refusing.has_compiler():
         sys.exit("there is no C compiler `cc`")
     with refusing.watching():

@@ -64,6 +64,7 @@ def main():
     words.add_argument("commands", nargs="*", metavar="COMMAND", choices=[[], *COMMANDS])
     given = words.parse_args()
     ctypes.CDLL(None).prctl(PR_SET_CHILD_SUBREAPER, 1, 0, 0, 0)
+    print(f"{os.cpu_count()} processors, on which {os.getloadavg()[0]:.1f} processes wanted to run in the last minute\n")
     print(f"| on {given.cores} cores | minutes | processor minutes | its end |\n|---|---|---|---|", flush=True)
     with tempfile.TemporaryDirectory() as folder:
         clone = pathlib.Path(folder) / "clone"

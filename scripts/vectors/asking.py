@@ -8,7 +8,7 @@ import re
 import subprocess
 import tempfile
 
-from common import TOP
+from common import TOP, programs
 
 import request
 from vectors.spelling import shown
@@ -229,6 +229,7 @@ def answers_of(lines):
         text = "".join(f"{line}\n" for line in lines)
         run = subprocess.run([PROGRAM], input=text, capture_output=True, text=True, check=True)
         return run.stdout.splitlines()
+    programs.stop_without_toolchain()
     with tempfile.TemporaryDirectory() as folder:
         names = put_pieces(lines, pathlib.Path(folder))
         tried = subprocess.run(["rt", "try", "--steps", "1", "--cases", folder], cwd=TOP / "crates" / "try_cases", capture_output=True, text=True)

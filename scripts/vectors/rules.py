@@ -88,7 +88,7 @@ RULES = {
     "believed": (CAVEATS, "A fact is believed whatever it says"),
     "mint": (FRAMES, "22 if the token would pass a limit, as a token or as it is written; the token, under the name's first key"),
     "attenuate": (FRAMES, "22 if the longer token would pass a limit, as a token or as it is written; the longer token"),
-    "verify": (FRAMES, "23 if the signature isn't the chain's under any of the name's keys; 24 for the first caveat that isn't satisfied; granted"),
+    "verify": (FRAMES, "23 if the signature isn't the chain's under any of the name's keys; 29 if the token was taken back; 24 for the first caveat that isn't satisfied; granted"),
 }
 
 

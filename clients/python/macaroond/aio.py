@@ -114,18 +114,24 @@ class AsyncClient:
 
     @overload
     async def mint(
-        self, key: Text, identifier: Text, location: Text = ..., caveats: Iterable[Text] = ..., form: TextForm = ...
+        self, key: Text, identifier: Optional[Text] = ..., location: Text = ..., caveats: Iterable[Text] = ..., form: TextForm = ...
     ) -> str: ...
 
     @overload
     async def mint(
-        self, key: Text, identifier: Text, location: Text = ..., caveats: Iterable[Text] = ..., *, form: BinaryForm
+        self, key: Text, identifier: Optional[Text] = ..., location: Text = ..., caveats: Iterable[Text] = ..., *, form: BinaryForm
     ) -> bytes: ...
 
     async def mint(
-        self, key: Text, identifier: Text, location: Text = "", caveats: Iterable[Text] = (), form: Form = Form.V2_TEXT
+        self,
+        key: Text,
+        identifier: Optional[Text] = None,
+        location: Text = "",
+        caveats: Iterable[Text] = (),
+        form: Form = Form.V2_TEXT,
     ) -> Any:
-        """A new token under the daemon's key of this name: text, or bytes in V2 binary."""
+        """A new token under the daemon's key of this name: text, or bytes in V2 binary. Without an identifier
+        it gets 128 random bits in hexadecimal, which `inspect(token).identifier` tells."""
         return await self._made(mint_call(key, identifier, location, caveats, form))
 
     @overload

@@ -1,6 +1,7 @@
 """What a call asks, and what its reply means: the same for threads and for tasks."""
 from __future__ import annotations
 
+import secrets
 from typing import Any, Callable, Iterable, Iterator, List, NamedTuple, Optional, Tuple
 
 from .doubts import warn_of
@@ -12,6 +13,8 @@ from .verdict import verdict
 from .wire import attenuate_request, framed, mint_request, verify_request
 
 TOKEN = 1
+# How many random bytes the identifier of a token tells, where none is given.
+DRAWN_BYTES = 16
 # A token and the facts that are known of its use.
 Asked = Tuple[Text, Iterable[Text]]
 # How many requests, and about how many bytes, go out together where many are asked; and how many such batches at most are out.
@@ -26,9 +29,10 @@ class Call(NamedTuple):
     may_repeat: bool
 
 
-def mint_call(key: Text, identifier: Text, location: Text, caveats: Iterable[Text], form: Form) -> Call:
+def mint_call(key: Text, identifier: Optional[Text], location: Text, caveats: Iterable[Text], form: Form) -> Call:
     caveats = list(caveats)
-    payload = mint_request(key, identifier, location, caveats, form)
+    meant = secrets.token_hex(DRAWN_BYTES) if identifier is None else identifier
+    payload = mint_request(key, meant, location, caveats, form)
     warn_of(caveats)
     return Call(framed(payload), lambda reply: token_of(reply, form), False)
 

@@ -16,6 +16,7 @@ REASONS = {
     26: "a first-party caveat of the token has a location",
     27: "the socket does not allow this request",
     28: "the clock tells no moment",
+    29: "the token was taken back",
 }
 
 

@@ -8,9 +8,9 @@ from .text import Text, bytes_of, shown, text_of
 from .tokens import inspect
 from .wire import Owner, owner
 
-GRANTED, GRANTED_TO, UNSATISFIED = 0, 3, 24
+GRANTED, GRANTED_TO, UNSATISFIED, REVOKED = 0, 3, 24, 29
 # The refusals of a verify that speak of the token; the others are raised.
-OF_TOKEN = frozenset((19, 20, 21, 22, 23, UNSATISFIED, 26))
+OF_TOKEN = frozenset((19, 20, 21, 22, 23, UNSATISFIED, 26, REVOKED))
 
 
 class Verdict:
@@ -48,6 +48,11 @@ class Verdict:
         if self._owner is not None:
             return text_of(self._owner.location)
         return inspect(self._token).location if self else None
+
+    @property
+    def is_revoked(self) -> bool:
+        """Whether the token was taken back, or the one that it was narrowed from: it will never be granted again."""
+        return self.code == REVOKED
 
     @property
     def reason(self) -> str:

@@ -8,7 +8,7 @@ import threading
 import time
 import unittest
 
-from macaroond import AsyncClient, Client, Disconnected, Refused, TimedOut, errors
+from macaroond import AsyncClient, Client, Disconnected, Form, Refused, TimedOut, errors, inspect
 
 from .asked import BOTH, await_end
 from .script import GRANTED, folder, running, server
@@ -147,6 +147,26 @@ class Answered(OverScripts):
 
         self.each(look, grants)
 
+    def test_identifiers(self):
+        """One that is given goes out as it is, and where none is 32 digits do that nobody else has."""
+        token = b"\x02\x02%c%b\x00\x00\x06\x20" + bytes(32)
+
+        def mints(stream):
+            while (payload := stream.request()) is not None:
+                identifier = payload[11:-1]
+                stream.reply(b"\x01" + token % (len(identifier), identifier))
+
+        def look(client):
+            made = [client.call("mint", "bank", form=Form.V2_BINARY) for _ in range(100)]
+            drawn = {inspect(one).identifier for one in made}
+            self.assertEqual(len(drawn), 100)
+            for one in drawn:
+                self.assertRegex(one, "^[0-9a-f]{32}$")
+            for given in ("", "alice"):
+                self.assertEqual(inspect(client.call("mint", "bank", given, form=Form.V2_BINARY)).identifier, given)
+
+        self.each(look, mints)
+
     def test_verdicts_and_errors(self):
         """What each number of a refusal is raised as, or told as."""
 
@@ -154,7 +174,7 @@ class Answered(OverScripts):
             while (payload := stream.request()) is not None:
                 stream.reply(payload[-1:] + (b"\x00\x05" if payload[-1] == 24 else b""))
 
-        told = {0: True, 19: False, 20: False, 21: False, 22: False, 23: False, 24: False, 26: False}
+        told = {0: True, 19: False, 20: False, 21: False, 22: False, 23: False, 24: False, 26: False, 29: False}
         raised = {**errors.CLASSES, 25: Refused}
 
         def look(client):
@@ -166,6 +186,7 @@ class Answered(OverScripts):
                 came = client.at_once([("verify", "bank", "!", [bytes((code,))])])[0]
                 self.assertEqual(bool(came) if code in told else type(came), told.get(code, raised.get(code)))
                 self.assertEqual(getattr(came, "caveat", None), 5 if code == 24 else None)
+                self.assertEqual(getattr(came, "is_revoked", False), code == 29)
 
         self.each(look, refuses)
 

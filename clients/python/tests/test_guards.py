@@ -20,7 +20,7 @@ TEXT = "AgIFYWxpY2UAAAYg" + "A" * 43
 # What tells that `carol` has it, at no location: the middlewares believe the reply.
 OWNED = b"\x03\x00\x05carol\x00\x00"
 REPLIES = {b"granted": GRANTED, b"owned": OWNED, b"forged": b"\x17", b"narrow": b"\x18\x00\x07", b"unknown": b"\x12", b"forbidden": b"\x1b", b"clockless": b"\x1c"}
-REPLIES.update({b"untexted": b"\x13", b"malformed": b"\x14", b"third-party": b"\x15", b"limited": b"\x16", b"located": b"\x1a"})
+REPLIES.update({b"untexted": b"\x13", b"malformed": b"\x14", b"third-party": b"\x15", b"limited": b"\x16", b"located": b"\x1a", b"revoked": b"\x1d"})
 # The Authorization header and the one fact; the status, the challenge, what the application saw, and what the log has behind it.
 CASES = [
     ("Bearer " + TEXT, "granted", 200, None, "alice", "granted"),
@@ -42,6 +42,8 @@ CASES = [
     ("Bearer " + TEXT, "third-party", 401, 'Bearer error="invalid_token"', None, "21"),
     ("Bearer " + TEXT, "limited", 401, 'Bearer error="invalid_token"', None, "22"),
     ("Bearer " + TEXT, "located", 401, 'Bearer error="invalid_token"', None, "26"),
+    ("Bearer " + TEXT, "revoked", 401, 'Bearer error="invalid_token"', None, "29"),
+    ("Macaroon " + TEXT, "revoked", 401, 'Macaroon error="invalid_token"', None, "29"),
     ("Bearer " + TEXT, "unknown", 503, None, None, "18"),
     ("Bearer " + TEXT, "clockless", 503, None, None, "28"),
     ("Bearer " + TEXT, "forbidden", 503, None, None, "27"),

@@ -7,7 +7,7 @@ use lib.ListN.{get_elem?}
 use Rattle.crossbeam_utils.specs.Register.{Admits, Turns, TurnsAt}
 use Rattle.atomic_table.proofs.Lists.{at_set, at_snoc}
 use Rattle.std.proofs.lemmas.List.{length-append}
-use Rattle.mac_keys.specs.Keys.{Table}
+use Rattle.mac_keys.specs.KeyTable.{Table}
 use Rattle.mac_board.specs.declared.issue.Issue.{Issue}
 use Rattle.mac_board.specs.Board.{Ends, Kept, Sees, Puts, Stays, history}
 use Rattle.mac_board.specs.Follows.{Begins}

@@ -2,3 +2,4 @@ mod Board
 pub mod Taking
 pub mod Editing
 pub mod Watching
+pub mod Judging

@@ -2,7 +2,7 @@
 use Rattle.std.proofs.Common.{◌≡◌, ℕ, zero, suc, ◌≤◌, List, [], ◌∷◌, ◌++◌, slice_get, sym, ap, subst, ◌∙◌, arith, append_assoc, append-nil, le_refl}
 use Rattle.std.specs.Prelude.{Bool, Some, All}
 use Rattle.std.proofs.lemmas.List.Elements.{All-nil, All-cons}
-use Rattle.mac_keys.specs.Keys.{Table}
+use Rattle.mac_keys.specs.KeyTable.{Table}
 use Rattle.mac_board.specs.Follows.{Known, Begins, Takes, Follows, StandIn, AreInOrder}
 use Rattle.mac_board.proofs.Board.{begins-more, begins-same, begins-get}
 

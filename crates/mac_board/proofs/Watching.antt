@@ -3,8 +3,8 @@ use Rattle.std.proofs.Common.{◌≡◌, ℕ, List, [], ◌∷◌, refl, sym, ap
 use Rattle.std.specs.Prelude.{Some, Ok, Err, Option, Result, ◌==◌, ◌&&◌, nat_lt, if◌then◌else◌, Bool, true, false}
 use Rattle.std.specs.FinMap.{len}
 use Rattle.std.proofs.lemmas.List.Elements.{All-nil, All-cons, All-head, All-tail}
-use Rattle.mac_keys.specs.Keys.{Table}
-use Rattle.mac_keys.specs.Table.{table_of}
+use Rattle.mac_keys.specs.KeyTable.{Table}
+use Rattle.mac_keys.specs.KeyTable.{table_of}
 use Rattle.mac_keys.specs.declared.fault.KeyFault.{KeyFault}
 use Rattle.mac_keys.specs.declared.fault.KeyFault.TheVariants.{Line, Memory}
 use Rattle.mac_board.specs.Sight.{state_before}
@@ -26,7 +26,7 @@ by-emptied true table other is = absurd cc
 by-emptied false table other is = cc
 
 judged-table : (names : ℕ) (read : Result Table KeyFault) (table : Table) → judged names read ≡ finding.Table table → read ≡ Ok table
-judged-table names (Ok other) table is = ap (λ (t : Table). Ok t) (by-emptied (len other == 0 && nat_lt 0 names) other table is)
+judged-table names (Ok other) table is = ap (λ (t : Table). Ok t) (by-emptied (len other.keys == 0 && nat_lt 0 names) other table is)
 judged-table names (Err (Line line kind)) table is = absurd cc
 judged-table names (Err Memory) table is = absurd cc
 

@@ -1,5 +1,5 @@
 -- Who may use a key file.
-use Rattle.std.specs.Prelude.{◌≡◌, ◌≢◌, ◌⊎◌, ◌||◌, ◌==◌, ◌/◌, ◌%◌, ℕ, if◌then◌else◌}
+use Rattle.std.specs.Prelude.{◌≡◌, ◌⊎◌, ◌||◌, ◌==◌, ◌/◌, ◌%◌, ℕ, if◌then◌else◌}
 use Rattle.mac_board.specs.declared.access.Access.{Access}
 use Rattle.mac_board.specs.declared.access.Exposure.{Exposure}
 use Rattle.mac_board.specs.declared.access.Exposure.TheVariants as exposure

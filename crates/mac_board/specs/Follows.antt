@@ -1,6 +1,6 @@
 -- What is known of tables that are published one after the other, and those that somebody takes.
 use Rattle.std.specs.Prelude.{◌≡◌, ℕ, ◌≤◌, Bool, IsTrue, List, [], ◌∷◌, ◌++◌, Some, slice_get}
-use Rattle.mac_keys.specs.Keys.{Table}
+use Rattle.mac_keys.specs.KeyTable.{Table}
 
 -- What a holder of tables knows: those that were published so far, in order, the place among them of
 -- the one that it has, and the places that its looks came to.

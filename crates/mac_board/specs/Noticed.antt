@@ -1,6 +1,6 @@
 -- What is known of tables that are published, and of a clock beside them.
 use Rattle.std.specs.Prelude.{◌≡◌, ℕ, Bool, List, [], ◌∷◌, ◌++◌, Option}
-use Rattle.mac_keys.specs.Keys.{Table}
+use Rattle.mac_keys.specs.KeyTable.{Table}
 use Rattle.mac_board.specs.Follows.{Advances, Known, IsUp, Looks}
 use Rattle.mac_board.specs.declared.outlook.Current.{Current as LentCurrent}
 

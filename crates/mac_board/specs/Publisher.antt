@@ -1,17 +1,11 @@
 -- What a publisher has put up.
-use Rattle.std.specs.Prelude.{ℕ, List, Option, None, option_map}
-use Rattle.std.specs.List.{last_or}
-use Rattle.std.specs.FinMap.{len}
+use Rattle.std.specs.Prelude.{List}
 use Rattle.std.specs.Arc.{arc_value}
 use Rattle.left_right.specs.Sides.{view}
-use Rattle.mac_keys.specs.Keys.{Table}
+use Rattle.mac_keys.specs.KeyTable.{Table}
 use Rattle.mac_board.specs.Board.{history}
 use Rattle.mac_board.specs.declared.publisher.Publisher.{Publisher}
 
 -- the tables that a publisher has put up, in order
 abbrev pub tables : {R : Type 0} → Publisher R → List Table
 tables p = history (view p.writer.desk.place) (arc_value p.writer.desk.shown.value.table)
-
--- how many names the table has that is up, which was put up last
-abbrev pub names_up : List Table → Option ℕ
-names_up tables = option_map len (last_or None tables)

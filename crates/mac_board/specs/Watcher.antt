@@ -3,8 +3,8 @@ use Rattle.std.specs.Prelude.{◌≡◌, ◌≢◌, ◌⊎◌, ◌&&◌, ◌==�
 use Rattle.std.specs.FinMap.{len}
 use Rattle.std.specs.declared.vec.Vec.{Vec}
 use Rattle.std.specs.declared.alloc.Global.{Global}
-use Rattle.mac_keys.specs.Keys.{Table}
-use Rattle.mac_keys.specs.Table.{table_of}
+use Rattle.mac_keys.specs.KeyTable.{Table}
+use Rattle.mac_keys.specs.KeyTable.{table_of}
 use Rattle.mac_keys.specs.declared.fault.KeyFault.{KeyFault}
 use Rattle.mac_keys.specs.declared.fault.KeyFault.TheVariants.{Line, Memory}
 use Rattle.mac_board.specs.Sight.{state_before, state_after}
@@ -32,7 +32,7 @@ IsDue was sight = IsDueIn was (state_before sight) (state_after sight)
 -- the other has some; else its first fault
 abbrev pub judged : ℕ → Result Table KeyFault → Finding
 judged names (Ok table) =
-    if len table == 0 && nat_lt 0 names then finding.Refused refusal.Emptied else finding.Table table
+    if len table.keys == 0 && nat_lt 0 names then finding.Refused refusal.Emptied else finding.Table table
 judged names (Err (Line line kind)) = finding.Refused (refusal.Faulty line kind)
 judged names (Err Memory) = finding.Nothing
 

@@ -43,7 +43,7 @@ pub struct Reader {
 #[derive(Clone, Copy, Debug, PartialEq, Eq, Error)]
 pub enum Exposure {
     /// It belongs to another user.
-    #[error("the key file belongs to user {owner}; `chown {user}` mends that")]
+    #[error("the file belongs to user {owner}; `chown {user}` mends that")]
     Owner {
         /// The number of its owner.
         owner: u32,
@@ -51,7 +51,7 @@ pub enum Exposure {
         user: u32,
     },
     /// Others than its owner may use it.
-    #[error("the key file has mode {mode:o}, by which others than its owner may use it; \
+    #[error("the file has mode {mode:o}, by which others than its owner may use it; \
         `chmod {mended:o}` mends that")]
     Mode {
         /// Its mode.

@@ -2,9 +2,14 @@
 //! nothing.
 
 ghost use Rattle.std.specs.Prelude.{◌≡◌, ◌≤◌, ℕ, [], ◌∷◌, ◌++◌, Bool, List, All};
-ghost use Rattle.mac_keys.specs.Keys.{Table};
+ghost use Rattle.mac_keys.specs.KeyTable.{Table};
+ghost use Rattle.mac_keys.specs.Revoked.{Revoked};
 ghost use Rattle.mac_board.specs.Follows.{AreInOrder, Begins, Known, StandIn, Takes};
+ghost use Rattle.mac_board.specs.Listing.{AreIdleLists, AreOfList, GoesList, IsListNews};
+ghost use Rattle.mac_board.specs.Listing.{ListHasRested, SeesList};
 ghost use Rattle.mac_board.specs.Watcher.{AreIdle, AreOf, Goes, HasRested, IsNews, NeverRests, Sees};
+ghost use Rattle.mac_board.specs.declared.listing.ListFinding.{ListFinding};
+ghost use Rattle.mac_board.specs.declared.listing.ListUp.{ListUp};
 ghost use Rattle.mac_board.specs.declared.sight.FileState.{FileState};
 ghost use Rattle.mac_board.specs.declared.sight.Sight.{Sight};
 ghost use Rattle.mac_board.specs.declared.watcher.Finding.{Finding};
@@ -53,4 +58,20 @@ pub fn each_state_is_told_once()
         (others : List Finding) (now : Watcher) (state : FileState)
         → Goes was (look ∷ looks) (first ∷ others) now → AreOf state (look ∷ looks)
         → IsNews first → AreIdle others }
+{}
+
+/// A list that is taken is that of a text which was read while its file was in one state: before it
+/// was read, after it, and at the look before. The text says something, or may say nothing.
+pub fn taken_list_has_rested()
+    ensures { (was : Watcher) (up : ListUp) (sight : Sight) (list : Revoked) (now : Watcher)
+        → SeesList was up sight (ListFinding.List list) now → ListHasRested was up sight list }
+{}
+
+/// Of a list's file that stays in one state one thing is told, or one list taken, and nothing after
+/// it.
+pub fn each_state_of_a_list_is_told_once()
+    ensures { (was : Watcher) (look : ListUp × Sight) (looks : List (ListUp × Sight))
+        (first : ListFinding) (others : List ListFinding) (now : Watcher) (state : FileState)
+        → GoesList was (look ∷ looks) (first ∷ others) now → AreOfList state (look ∷ looks)
+        → IsListNews first → AreIdleLists others }
 {}

@@ -16,6 +16,7 @@ mod editor;
 mod follower;
 mod issue;
 pub mod laws;
+mod listing;
 mod moments;
 mod outlook;
 mod publisher;
@@ -24,8 +25,9 @@ mod tables;
 mod watcher;
 
 pub use access::{Access, Exposure, Reader, find_exposure, reader_of};
-pub use editor::{Editor, News};
+pub use editor::{Editor, ListNews, News, Watchers};
 pub use follower::{Follower, Followers};
+pub use listing::{ListFinding, ListRefusal, ListUp, judge_list};
 pub use moments::Moments;
 pub use outlook::{Current, Outlook, TimedTables};
 pub use publisher::{PublishFault, Publisher};

@@ -1,10 +1,12 @@
 //! When a key file that changes is read, taken and told of.
 
 ghost use Rattle.std.specs.Prelude.{◌≡◌, ◌≢◌, ◌↔◌, IsTrue, IfOk, OnErr, Some, None};
+ghost use Rattle.mac_board.specs.Listing.{IsListNews, SeesList};
 ghost use Rattle.mac_board.specs.Watcher.{IsDueIn, IsNews, Sees, judged, worth};
-ghost use Rattle.mac_keys.specs.Table.{table_of};
+ghost use Rattle.mac_keys.specs.KeyTable.{table_of};
 
 use crate::access::Exposure;
+use crate::listing::{ListFinding, ListUp, list_value};
 use crate::sight::{FileState, ReadFault, Sight, is_same};
 use mac_keys::{KeyFault, KeyTable, LineFault, wipe};
 use std::alloc::{AllocError, Global};
@@ -102,6 +104,29 @@ impl Watcher {
         Ok(finding)
     }
 
+    /// The same of a list of tokens that were taken back, where this one is up.
+    pub fn look_at_list(
+        &mut self,
+        alloc: Global,
+        up: ListUp,
+        sight: &Sight,
+    ) -> Result<ListFinding, AllocError>
+        ensures ok { IfOk result (λ finding. SeesList self.old up sight.now finding self.new) }
+        ensures err { OnErr result (self.new ≡ self.old) }
+    {
+        let (before, after) = (sight.before(), sight.after());
+        let finding = if self.is_due(before, after) {
+            list_value(alloc, up, sight)?
+        } else {
+            ListFinding::Nothing
+        };
+        self.last = after;
+        if is_list_news(&finding) {
+            self.settled = Some(before);
+        }
+        Ok(finding)
+    }
+
     /// Whether a file that is found in these states before and after a look has come to rest, and
     /// was not dealt with.
     fn is_due(&self, before: FileState, after: FileState) -> bool
@@ -128,6 +153,16 @@ fn is_news(finding: &Finding) -> bool
     match finding {
         Finding::Nothing => false,
         Finding::Table(_) | Finding::Refused(_) => true,
+    }
+}
+
+/// The same of a list.
+fn is_list_news(finding: &ListFinding) -> bool
+    ensures { IsTrue result ↔ IsListNews finding.now }
+{
+    match finding {
+        ListFinding::Nothing => false,
+        ListFinding::List(_) | ListFinding::Refused(_) => true,
     }
 }
 

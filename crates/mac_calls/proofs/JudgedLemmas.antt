@@ -16,8 +16,9 @@ use Rattle.mac_wire.specs.declared.reply.Refusal.{Refusal}
 use Rattle.mac_wire.specs.declared.reply.Refusal.TheVariants as refusal
 use Rattle.mac_wire.specs.declared.reply.Reply.{Reply}
 use Rattle.mac_wire.specs.declared.reply.Reply.TheVariants as reply
-use Rattle.mac_keys.specs.declared.keys.Keys.{Keys}
-use Rattle.mac_calls.specs.Asking.{basis_of}
+use Rattle.mac_decide.specs.Revocation.{is_listed_read}
+use Rattle.mac_token.specs.Read.{read_of}
+use Rattle.mac_calls.specs.Asking.{Verifier, verify_basis}
 use Rattle.mac_calls.specs.Judged.{holding, holds_object, refused_json, reply_json, verify_reply}
 use Rattle.mac_calls.specs.Steps.{Step}
 
@@ -63,6 +64,7 @@ says_so (Err why) = false
 
 granted_refused : (why : Refusal) → refused_json why ≡ Ok (codes "{\"granted\":true}") → reply.Refused why ≡ reply.Granted
 granted_refused refusal.BadSignature e = let bad : false ≡ true = ap says_so e in absurd (false≢true bad)
+granted_refused refusal.Revoked e = let bad : false ≡ true = ap says_so e in absurd (false≢true bad)
 granted_refused refusal.BadRequest e = absurd cc
 granted_refused refusal.FrameTooLong e = absurd cc
 granted_refused refusal.UnknownKey e = absurd cc
@@ -81,9 +83,9 @@ granted_told (reply.Refused why) e = granted_refused why e
 granted_told (reply.Token bytes) e = absurd cc
 granted_told (reply.GrantedTo identifier location) e = absurd cc
 
-pub tells_granted : (keys : Keys) (token : List ℕ) (x : Context)
-    → (reply_json (verify_reply keys token x) ≡ Ok (codes "{\"granted\":true}")) ↔ IsGranted (Some keys) token x
-tells_granted keys token x = (
-  λ e. granted-request [] token x.moment x.facts (basis_of (Some keys)) (granted_told (verify_reply keys token x) e),
-  λ g. ap reply_json (request-granted [] token x.moment x.facts (basis_of (Some keys)) g),
+pub tells_granted : (v : Verifier) (token : List ℕ) (x : Context)
+    → (reply_json (verify_reply v token x) ≡ Ok (codes "{\"granted\":true}")) ↔ (IsGranted (Some v.keys) token x × (is_listed_read v.revoked v.name (read_of token) ≡ false))
+tells_granted v token x = (
+  λ e. granted-request v.name token x.moment x.facts (verify_basis v token) (granted_told (verify_reply v token x) e),
+  λ g. ap reply_json (request-granted v.name token x.moment x.facts (verify_basis v token) g),
 )

@@ -39,6 +39,7 @@ reason wire.BadSignature = codes "the key does not give the signature of the tok
 reason wire.CaveatLocation = codes "a first-party caveat of the token has a location"
 reason wire.NotAllowed = codes "the address does not allow this request"
 reason wire.NoClock = codes "the clock tells no moment"
+reason wire.Revoked = codes "the token was taken back"
 
 -- a fault of a token, as one of a call
 abbrev pub fault_of_token : TokenFault → CallFault

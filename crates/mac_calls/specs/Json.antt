@@ -14,7 +14,7 @@ use Rattle.mac_calls.specs.declared.fault.CallRefusal.TheVariants.{Body, Token}
 use Rattle.mac_calls.specs.declared.form.CallForm.{CallForm}
 use Rattle.mac_calls.specs.Fault.{body_reason, reason}
 use Rattle.mac_calls.specs.Form.{form_of_text, form_word}
-use Rattle.mac_calls.specs.Members.{token_in}
+use Rattle.mac_calls.specs.Members.{has_identifier, token_in}
 use Rattle.mac_calls.specs.Received.{received}
 use Rattle.mac_calls.specs.Steps.{Step, ◌>>=◌}
 use Rattle.std.specs.Prelude.{Ok}
@@ -22,6 +22,16 @@ use Rattle.std.specs.Prelude.{Ok}
 -- the text of a token, whose letters need no escape
 abbrev pub token_json : List ℕ → List ℕ
 token_json text = codes "{\"token\":\"" ++ (text ++ codes "\"}")
+
+-- the same behind the identifier that was drawn for it, whose digits need none either
+abbrev pub drawn_json : List ℕ → List ℕ → List ℕ
+drawn_json identifier text = codes "{\"identifier\":\""
+    ++ (identifier ++ (codes "\",\"token\":\"" ++ (text ++ codes "\"}")))
+
+-- a token that was minted: its identifier is told where the object says none
+abbrev pub minted_json : Data → List ℕ × List ℕ → List ℕ
+minted_json d made =
+    if has_identifier d then token_json made.1 else drawn_json made.0 made.1
 
 -- a refusal: of a token with its number
 abbrev pub refusal_json : CallRefusal → List ℕ

@@ -8,7 +8,6 @@ use Rattle.serde_json.specs.Written.{compact_text}
 use Rattle.mac_decide.specs.Answer.{request_reply}
 use Rattle.mac_decide.specs.Reading.{is_satisfied}
 use Rattle.mac_decide.specs.declared.context.Context.{Context}
-use Rattle.mac_keys.specs.declared.keys.Keys.{Keys}
 use Rattle.mac_wire.specs.Request.{verify}
 use Rattle.mac_wire.specs.declared.reply.Refusal.{Refusal}
 use Rattle.mac_wire.specs.declared.reply.Refusal.TheVariants as refusal
@@ -16,7 +15,7 @@ use Rattle.mac_wire.specs.declared.reply.Reply.{Reply}
 use Rattle.mac_wire.specs.declared.reply.Reply.TheVariants as reply
 use Rattle.mac_calls.specs.declared.fault.BodyFault.TheVariants.{ManyFacts}
 use Rattle.mac_calls.specs.declared.fault.CallRefusal.TheVariants.{Body, Token}
-use Rattle.mac_calls.specs.Asking.{basis_of}
+use Rattle.mac_calls.specs.Asking.{Verifier, verify_basis}
 use Rattle.mac_calls.specs.Counted.{are_few}
 use Rattle.mac_calls.specs.Members.{facts_in, moment_in, token_in}
 use Rattle.mac_calls.specs.Received.{received}
@@ -40,6 +39,8 @@ unsatisfied_json index =
 abbrev pub refused_json : Refusal → Step (List ℕ)
 refused_json refusal.BadSignature =
     Ok (codes "{\"granted\":false,\"code\":23,\"reason\":\"the key does not give the signature of the token\"}")
+refused_json refusal.Revoked =
+    Ok (codes "{\"granted\":false,\"code\":29,\"reason\":\"the token was taken back\"}")
 refused_json refusal.BadRequest = Err (Token refusal.BadRequest)
 refused_json refusal.FrameTooLong = Err (Token refusal.FrameTooLong)
 refused_json refusal.UnknownKey = Err (Token refusal.UnknownKey)
@@ -59,9 +60,10 @@ reply_json (reply.Refused why) = refused_json why
 reply_json (reply.Token bytes) = Err (Token refusal.BadRequest)
 reply_json (reply.GrantedTo identifier location) = Err (Token refusal.BadRequest)
 
--- what the wire's verify of a token in a context is replied with under the keys
-abbrev pub verify_reply : Keys → List ℕ → Context → Reply
-verify_reply keys text x = request_reply (verify [] text x.moment x.facts) (basis_of (Some keys))
+-- what the wire's verify of a token in a context is replied with
+abbrev pub verify_reply : Verifier → List ℕ → Context → Reply
+verify_reply v text x =
+    request_reply (verify v.name text x.moment x.facts) (verify_basis v text)
 
 -- which caveats of the token that a text spells hold in a context
 abbrev pub checked : List ℕ → Context → Step (List ℕ)
@@ -69,20 +71,20 @@ checked text x = received text >>= λ t. Ok (compact_text (holds_object (holding
 
 -- what is told of a text in a context: the reply to a verify under a name's keys, or which caveats
 -- hold
-abbrev pub judged_at : Option Keys → List ℕ → Context → Step (List ℕ)
+abbrev pub judged_at : Option Verifier → List ℕ → Context → Step (List ℕ)
 judged_at None text x = checked text x
-judged_at (Some keys) text x = reply_json (verify_reply keys text x)
+judged_at (Some v) text x = reply_json (verify_reply v text x)
 
 -- the same with these facts, if they are few
-abbrev pub judged_few : Option Keys → List ℕ → List (List ℕ) → ℕ → Step (List ℕ)
-judged_few keys text facts moment =
-    if are_few facts then judged_at keys text (record { moment = moment; facts = facts })
+abbrev pub judged_few : Option Verifier → List ℕ → List (List ℕ) → ℕ → Step (List ℕ)
+judged_few v text facts moment =
+    if are_few facts then judged_at v text (record { moment = moment; facts = facts })
     else Err (Body ManyFacts)
 
 -- the same of an object's token, with the object's facts at its moment
-abbrev pub judged : Option Keys → Data → Step (List ℕ)
-judged keys d = do
+abbrev pub judged : Option Verifier → Data → Step (List ℕ)
+judged v d = do
   text ← token_in d
   facts ← facts_in d
   moment ← moment_in d
-  judged_few keys text facts moment
+  judged_few v text facts moment

@@ -51,14 +51,16 @@ new_text keys form location identifier caveats =
     if are_few caveats then made_text form (mint_reply keys form location identifier caveats)
     else Err (Token refusal.Limit)
 
--- the token that an object asks for, in the form V2 where it asks for none
-abbrev pub minted_text : Keys → Data → Step (List ℕ)
-minted_text keys d = do
-  identifier ← identifier_in d
+-- the token that an object asks for, in the form V2 where it asks for none: its identifier, and its
+-- text
+abbrev pub minted : Keys → List ℕ → Data → Step (List ℕ × List ℕ)
+minted keys drawn d = do
+  identifier ← identifier_in drawn d
   location ← location_in d
   caveats ← caveats_in d
   form ← form_in d
-  new_text keys (unwrap_or form V2) location identifier caveats
+  text ← new_text keys (unwrap_or form V2) location identifier caveats
+  Ok (identifier, text)
 
 -- the caveats, if there are any
 abbrev pub some_caveat : List (List ℕ) → Step (List (List ℕ))

@@ -1,5 +1,7 @@
 -- What the members of a body say (this project's own).
-use Rattle.std.specs.Prelude.{ℕ, List, [], ◌∷◌, ◌++◌, codes, Option, Some, None, option_and_then, Result, Ok, Err}
+use Rattle.std.specs.Prelude.{ℕ, Bool, ◌||◌, List, [], ◌∷◌, ◌++◌, codes, Option, Some, None, option_and_then, Result, Ok, Err}
+use Rattle.std.specs.Option.{is_some}
+use Rattle.hex.specs.Hex.{encode_lower}
 use Rattle.base64.specs.declared.decode.DecodeError.{DecodeError}
 use Rattle.base64.specs.Engines.{url_safe_pad_indifferent}
 use Rattle.base64.specs.GeneralPurpose.{decode_of}
@@ -25,15 +27,22 @@ from_base64 (Err error) = Err (Body fault.Base64)
 abbrev pub decoded : List ℕ → Step (List ℕ)
 decoded text = from_base64 (decode_of url_safe_pad_indifferent text)
 
--- the identifier of exactly one of two members, a text or base64 of its bytes
-abbrev pub identifier_of : Option Data → Option Data → Step (List ℕ)
-identifier_of (Some text) None = text_of fault.Identifier text
-identifier_of None (Some coded) = text_of fault.Identifier coded >>= decoded
-identifier_of None None = Err (Body fault.Identifier)
-identifier_of (Some text) (Some coded) = Err (Body fault.Identifier)
+-- the identifier of one of two members, a text or base64 of its bytes; where there is neither, the
+-- digits of what was drawn
+abbrev pub identifier_of : List ℕ → Option Data → Option Data → Step (List ℕ)
+identifier_of drawn (Some text) None = text_of fault.Identifier text
+identifier_of drawn None (Some coded) = text_of fault.Identifier coded >>= decoded
+identifier_of drawn None None = Ok (encode_lower drawn)
+identifier_of drawn (Some text) (Some coded) = Err (Body fault.Identifier)
 
-abbrev pub identifier_in : Data → Step (List ℕ)
-identifier_in d = identifier_of (get (codes "identifier") d) (get (codes "identifier64") d)
+abbrev pub identifier_in : List ℕ → Data → Step (List ℕ)
+identifier_in drawn d =
+    identifier_of drawn (get (codes "identifier") d) (get (codes "identifier64") d)
+
+-- the object says which identifier is meant
+abbrev pub has_identifier : Data → Bool
+has_identifier d =
+    is_some (get (codes "identifier") d) || is_some (get (codes "identifier64") d)
 
 -- the location, empty where it is left out
 abbrev pub location_of : Option Data → Step (List ℕ)

@@ -2,7 +2,7 @@
 use Rattle.std.specs.Prelude.{ℕ, List, [], ◌∷◌, ◌++◌, map, codes}
 use Rattle.std.specs.List.{flat_map}
 use Rattle.mac_keys.specs.Names.{names_of}
-use Rattle.mac_keys.specs.Table.{Table}
+use Rattle.mac_keys.specs.KeyTable.{Table}
 
 abbrev pub quoted : List ℕ → List ℕ
 quoted name = codes "\"" ++ (name ++ codes "\"")
@@ -22,4 +22,4 @@ names_in entries = map (λ entry. entry.0) entries
 -- each name of the table once, in the order of their bytes
 abbrev pub names_json : Table → List ℕ
 names_json table =
-    codes "{\"names\":[" ++ (items_text (names_in (names_of table)) ++ codes "]}")
+    codes "{\"names\":[" ++ (items_text (names_in (names_of table.keys)) ++ codes "]}")

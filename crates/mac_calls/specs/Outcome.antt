@@ -1,15 +1,16 @@
 -- What comes of a call (this project's own).
 use Rattle.std.specs.Prelude.{ℕ, List, Option, Some, None, Result, Ok, Err}
 use Rattle.std.specs.FinMap as map
-use Rattle.mac_keys.specs.Table.{Table}
+use Rattle.mac_keys.specs.KeyTable.{Table}
 use Rattle.mac_keys.specs.declared.keys.Keys.{Keys}
+use Rattle.mac_calls.specs.Asking.{Verifier}
 use Rattle.mac_calls.specs.declared.answering.Outcome.{Outcome}
-use Rattle.mac_calls.specs.declared.answering.Outcome.TheVariants.{NoKey, Reply, Refused}
+use Rattle.mac_calls.specs.declared.answering.Outcome.TheVariants.{NoKey, Minted, Reply, Refused}
 use Rattle.mac_calls.specs.declared.call.Call.{Call}
 use Rattle.mac_calls.specs.declared.call.Call.TheVariants.{Mint, Attenuate, Inspect, Check, Verify}
-use Rattle.mac_calls.specs.Json.{inspected, refusal_json, token_json}
+use Rattle.mac_calls.specs.Json.{inspected, minted_json, refusal_json, token_json}
 use Rattle.mac_calls.specs.Judged.{judged}
-use Rattle.mac_calls.specs.Made.{attenuated, minted_text}
+use Rattle.mac_calls.specs.Made.{attenuated, minted}
 use Rattle.mac_calls.specs.Object.{object_in}
 use Rattle.mac_calls.specs.Steps.{Step, ◌>>=◌}
 
@@ -17,10 +18,14 @@ use Rattle.mac_calls.specs.Steps.{Step, ◌>>=◌}
 abbrev pub with_token : Step (List ℕ) → Step (List ℕ)
 with_token text = text >>= λ t. Ok (token_json t)
 
--- the reply to each call, by its body
-abbrev pub mint_answer : Keys → List ℕ → Step (List ℕ)
-mint_answer keys body = with_token (object_in Mint body >>= minted_text keys)
+-- the reply to a mint, by its body and what was drawn for it, and the token's identifier
+abbrev pub mint_answer : Keys → List ℕ → List ℕ → Step (List ℕ × List ℕ)
+mint_answer keys drawn body = do
+  d ← object_in Mint body
+  made ← minted keys drawn d
+  Ok (minted_json d made, made.0)
 
+-- the reply to each other call, by its body
 abbrev pub attenuate_answer : List ℕ → Step (List ℕ)
 attenuate_answer body = with_token (object_in Attenuate body >>= attenuated)
 
@@ -30,28 +35,41 @@ inspect_answer body = object_in Inspect body >>= inspected
 abbrev pub check_answer : List ℕ → Step (List ℕ)
 check_answer body = object_in Check body >>= judged None
 
-abbrev pub verify_answer : Keys → List ℕ → Step (List ℕ)
-verify_answer keys body = object_in Verify body >>= judged (Some keys)
+abbrev pub verify_answer : Verifier → List ℕ → Step (List ℕ)
+verify_answer v body = object_in Verify body >>= judged (Some v)
 
 -- the reply or the refusal
 abbrev pub told_outcome : Step (List ℕ) → Outcome
 told_outcome (Ok json) = Reply json
 told_outcome (Err why) = Refused (refusal_json why)
 
+-- the same of a mint
+abbrev pub minted_outcome : Step (List ℕ × List ℕ) → Outcome
+minted_outcome (Ok told) = Minted told.0 told.1
+minted_outcome (Err why) = Refused (refusal_json why)
+
 -- what comes of a mint, if the name has keys
-abbrev pub mint_outcome : Option Keys → List ℕ → Outcome
-mint_outcome None body = NoKey
-mint_outcome (Some keys) body = told_outcome (mint_answer keys body)
+abbrev pub mint_outcome : Option Keys → List ℕ → List ℕ → Outcome
+mint_outcome None drawn body = NoKey
+mint_outcome (Some keys) drawn body = minted_outcome (mint_answer keys drawn body)
 
 -- the same of a verify
-abbrev pub verify_outcome : Option Keys → List ℕ → Outcome
-verify_outcome None body = NoKey
-verify_outcome (Some keys) body = told_outcome (verify_answer keys body)
+abbrev pub verify_outcome : Table → List ℕ → Option Keys → List ℕ → Outcome
+verify_outcome table name None body = NoKey
+verify_outcome table name (Some keys) body = told_outcome
+    (verify_answer (record { keys = keys; name = name; revoked = table.revoked }) body)
 
--- what comes of a call with a body, under a table; a mint and a verify alone are about a name
-abbrev pub outcome_of : Table → List ℕ → Call → List ℕ → Outcome
-outcome_of table name Mint body = mint_outcome (map.get table name) body
-outcome_of table name Attenuate body = told_outcome (attenuate_answer body)
-outcome_of table name Inspect body = told_outcome (inspect_answer body)
-outcome_of table name Check body = told_outcome (check_answer body)
-outcome_of table name Verify body = verify_outcome (map.get table name) body
+-- what comes of a call with a body, under a table; a mint and a verify alone are about a name, and a
+-- mint alone takes what was drawn
+abbrev pub outcome_of : Table → List ℕ → Call → List ℕ → List ℕ → Outcome
+outcome_of table name Mint drawn body = mint_outcome (map.get table.keys name) drawn body
+outcome_of table name Attenuate drawn body = told_outcome (attenuate_answer body)
+outcome_of table name Inspect drawn body = told_outcome (inspect_answer body)
+outcome_of table name Check drawn body = told_outcome (check_answer body)
+outcome_of table name Verify drawn body =
+    verify_outcome table name (map.get table.keys name) body
+
+-- the identifier of the token that an outcome brings, where that was minted
+abbrev pub minted_identifier : Outcome → Option (List ℕ)
+minted_identifier (Minted json identifier) = Some identifier
+minted_identifier _ = None

@@ -1,20 +1,27 @@
 //! What a call is answered.
 
 ghost use Rattle.std.specs.Prelude.{◌≡◌, IfOk, List, ℕ};
+ghost use Rattle.serde_json.specs.View.{view};
+ghost use Rattle.mac_calls.specs.Asking.{lent_verifier};
 ghost use Rattle.mac_calls.specs.Gives.{Gives};
 ghost use Rattle.mac_calls.specs.Outcome.{attenuate_answer, check_answer, inspect_answer};
-ghost use Rattle.mac_calls.specs.Outcome.{mint_answer, outcome_of, told_outcome, verify_answer};
+ghost use Rattle.mac_calls.specs.Json.{minted_json};
+ghost use Rattle.mac_calls.specs.Outcome.{mint_answer, minted_identifier, minted_outcome};
+ghost use Rattle.mac_calls.specs.Outcome.{outcome_of, told_outcome, verify_answer};
 ghost use Rattle.mac_calls.specs.Steps.{Step};
 
 use crate::call::Call;
 use crate::fault::{CallFault, CallRefusal};
 use crate::inspect::inspected;
-use crate::json::{refusal_json, token_json};
+use crate::json::{drawn_json, refusal_json, token_json};
 use crate::judge::judged;
-use crate::make::{attenuated_text, minted_text};
+use crate::make::{NewToken, attenuated_text, minted};
+use crate::members::has_identifier;
 use crate::object::object_in;
+use crate::verifier::Verifier;
 use mac_keys::{KeyTable, Keys};
 use mac_wire::Bytes;
+use serde_json::Value;
 use std::alloc::{AllocError, Global};
 
 /// What comes of a call.
@@ -22,13 +29,47 @@ use std::alloc::{AllocError, Global};
 pub enum Outcome {
     /// No key has the name.
     NoKey,
-    /// The JSON text of a reply.
+    /// The JSON text of a token that was minted.
+    Minted {
+        /// The text.
+        json: Bytes,
+        /// The token's identifier.
+        identifier: Bytes,
+    },
+    /// The JSON text of another reply.
     Reply(Bytes),
     /// The JSON text of a refusal.
     Refused(Bytes),
 }
 
-/// What comes of a call with this body, under the table; a mint and a verify alone are about a
+impl Outcome {
+    /// The identifier of the token that was minted, if one was.
+    pub fn into_identifier(self) -> Option<Bytes>
+        ensures { result ≡ minted_identifier self }
+    {
+        match self {
+            Outcome::Minted { identifier, .. } => Some(identifier),
+            Outcome::NoKey | Outcome::Reply(_) | Outcome::Refused(_) => None,
+        }
+    }
+}
+
+/// Where random bytes come from.
+pub trait Draws {
+    /// 16 random bytes, if there are any now.
+    fn draw(&self) -> Option<[u8; 16]>;
+}
+
+/// What a call brings.
+#[derive(Clone, Copy)]
+pub struct Brought<'a> {
+    /// Its body.
+    pub body: &'a [u8],
+    /// Random bytes, for the identifier of a token whose body says none.
+    pub drawn: &'a [u8; 16],
+}
+
+/// What comes of a call that brings this, under the table; a mint and a verify alone are about a
 /// name. Memory and time are linear in the body and in what is made of it, but that a check and a
 /// verify look each caveat up among the facts.
 pub fn answer(
@@ -36,20 +77,30 @@ pub fn answer(
     table: &KeyTable,
     name: &[u8],
     call: Call,
-    body: &[u8],
+    brought: Brought<'_>,
 ) -> Result<Outcome, AllocError>
-    ensures { IfOk result (λ o. o ≡ outcome_of table.now name.now call body.now) }
+    ensures { IfOk result (λ o. o
+        ≡ outcome_of table.now name.now call brought.entry.drawn.now brought.entry.body.now) }
 {
+    let body = brought.body;
     match call {
         Call::Mint => match table.find(name) {
-            Some(keys) => told_outcome(alloc, mint_answer(alloc, keys, body)),
+            Some(keys) => minted_outcome(alloc, mint_answer(alloc, keys, brought)),
             None => Ok(Outcome::NoKey),
         },
         Call::Attenuate => told_outcome(alloc, attenuate_answer(alloc, body)),
         Call::Inspect => told_outcome(alloc, inspect_answer(alloc, body)),
         Call::Check => told_outcome(alloc, check_answer(alloc, body)),
         Call::Verify => match table.find(name) {
-            Some(keys) => told_outcome(alloc, verify_answer(alloc, keys, body)),
+            Some(keys) => {
+                let revoked = &table.revoked;
+                let verifier = Verifier {
+                    keys,
+                    name,
+                    revoked,
+                };
+                told_outcome(alloc, verify_answer(alloc, verifier, body))
+            }
             None => Ok(Outcome::NoKey),
         },
     }
@@ -67,21 +118,60 @@ fn told_outcome(alloc: Global, told: Result<Vec<u8>, CallFault>) -> Result<Outco
     }
 }
 
+/// The same of a mint.
+fn minted_outcome(
+    alloc: Global,
+    told: Result<(Vec<u8>, Vec<u8>), CallFault>,
+) -> Result<Outcome, AllocError>
+    ensures { (answer : Step (List ℕ × List ℕ))
+        → Gives (λ told. (told.0.items, told.1.items)) told answer
+        → IfOk result (λ o. o ≡ minted_outcome answer) }
+{
+    match told {
+        Ok((json, identifier)) => Ok(Outcome::Minted {
+            json: Bytes::new(json),
+            identifier: Bytes::new(identifier),
+        }),
+        Err(CallFault::Refused(why)) => refused(alloc, why),
+        Err(CallFault::Memory) => Err(AllocError),
+    }
+}
+
 /// The refusal.
 fn refused(alloc: Global, why: CallRefusal) -> Result<Outcome, AllocError>
-    ensures { IfOk result (λ o. o ≡ told_outcome (Err why)) }
+    ensures told { IfOk result (λ o. o ≡ told_outcome (Err why)) }
+    ensures minted { IfOk result (λ o. o ≡ minted_outcome (Err why)) }
 {
     let json = refusal_json(alloc, why)?;
     Ok(Outcome::Refused(Bytes::new(json)))
 }
 
-/// The reply to a mint under these keys.
-fn mint_answer(alloc: Global, keys: &Keys, body: &[u8]) -> Result<Vec<u8>, CallFault>
-    ensures { Gives (λ json. json.items) result (mint_answer keys.now body.now) }
+/// The reply to a mint under these keys, and the token's identifier.
+fn mint_answer(
+    alloc: Global,
+    keys: &Keys,
+    brought: Brought<'_>,
+) -> Result<(Vec<u8>, Vec<u8>), CallFault>
+    ensures { Gives (λ told. (told.0.items, told.1.items)) result
+        (mint_answer keys.now brought.entry.drawn.now brought.entry.body.now) }
 {
-    let object = object_in(alloc, Call::Mint, body)?;
-    let text = minted_text(alloc, keys, &object)?;
-    Ok(token_json(alloc, &text)?)
+    let object = object_in(alloc, Call::Mint, brought.body)?;
+    let made = minted(alloc, keys, brought.drawn, &object)?;
+    let json = minted_json(alloc, &object, &made)?;
+    let NewToken { identifier, .. } = made;
+    Ok((json, identifier))
+}
+
+/// A token that was minted, with its identifier where the object says none.
+fn minted_json(alloc: Global, object: &Value, made: &NewToken) -> Result<Vec<u8>, AllocError>
+    ensures { IfOk result (λ json. json.items ≡ minted_json (view object.now)
+        (made.now.identifier.items, made.now.text.items)) }
+{
+    if has_identifier(object) {
+        token_json(alloc, &made.text)
+    } else {
+        drawn_json(alloc, &made.identifier, &made.text)
+    }
 }
 
 /// The reply to an attenuate.
@@ -109,10 +199,11 @@ fn check_answer(alloc: Global, body: &[u8]) -> Result<Vec<u8>, CallFault>
     judged(alloc, None, &object)
 }
 
-/// The reply to a verify under these keys.
-fn verify_answer(alloc: Global, keys: &Keys, body: &[u8]) -> Result<Vec<u8>, CallFault>
-    ensures { Gives (λ json. json.items) result (verify_answer keys.now body.now) }
+/// The reply to a verify.
+fn verify_answer(alloc: Global, v: Verifier<'_>, body: &[u8]) -> Result<Vec<u8>, CallFault>
+    ensures { Gives (λ json. json.items) result
+        (verify_answer (lent_verifier v.entry) body.now) }
 {
     let object = object_in(alloc, Call::Verify, body)?;
-    judged(alloc, Some(keys), &object)
+    judged(alloc, Some(v), &object)
 }

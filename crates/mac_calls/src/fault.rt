@@ -17,7 +17,7 @@ pub enum BodyFault {
     NoObject,
     /// It has a member that the call hasn't.
     UnknownMember,
-    /// It has no identifier, or both, or one that is no text.
+    /// It has two identifiers, or one that is no text.
     Identifier,
     /// `identifier64` is no base64 text.
     Base64,
@@ -86,6 +86,7 @@ pub(crate) fn reason(why: Refusal) -> &'static str
         Refusal::CaveatLocation => "a first-party caveat of the token has a location",
         Refusal::NotAllowed => "the address does not allow this request",
         Refusal::NoClock => "the clock tells no moment",
+        Refusal::Revoked => "the token was taken back",
     }
 }
 

@@ -1,34 +1,38 @@
 //! Tokens judged in a context.
 
 ghost use Rattle.std.specs.Prelude.{◌≡◌, map, true, Bool, IfOk, List, ℕ};
-ghost use Rattle.std.specs.Option.{option_copied};
+ghost use Rattle.std.specs.Prelude.{option_map};
 ghost use Rattle.serde_json.specs.Data.{boolean};
 ghost use Rattle.serde_json.specs.View.{view};
 ghost use Rattle.serde_json.specs.Written.{compact_text};
 ghost use Rattle.mac_decide.specs.Reading.{is_satisfied};
 ghost use Rattle.mac_token.specs.RawToken.{byte_lists};
 ghost use Rattle.mac_wire.specs.Request.{counted_fields};
+ghost use Rattle.mac_calls.specs.Asking.{lent_verifier};
 ghost use Rattle.mac_calls.specs.Counted.{are_few};
 ghost use Rattle.mac_calls.specs.Gives.{Gives};
 ghost use Rattle.mac_calls.specs.Judged.{checked, holding, holds_object, judged, judged_at};
 ghost use Rattle.mac_calls.specs.Judged.{judged_few, refused_json, reply_json, unsatisfied_json};
 ghost use Rattle.mac_calls.specs.Judged.{verify_reply};
 
-use crate::asking::ask;
+use crate::asking::ask_verify;
 use crate::counted::counted_facts;
 use crate::fault::{BodyFault, CallFault};
 use crate::members::{facts_in, moment_in, token_in};
 use crate::received::receive;
+use crate::verifier::Verifier;
 use mac_decide::{Context, satisfied};
-use mac_keys::Keys;
 use mac_token::Token;
-use mac_wire::{FieldList, Refusal, Reply, Request};
+use mac_wire::{FieldList, Refusal, Reply};
 use serde_json::{Map, Value, put};
 use std::alloc::{AllocError, Global};
 
 /// The JSON of a token that none of the keys gives the signature of.
 const BAD_SIGNATURE: &[u8] = b"{\"granted\":false,\"code\":23,\
     \"reason\":\"the key does not give the signature of the token\"}";
+
+/// The JSON of a token that was taken back.
+const REVOKED: &[u8] = b"{\"granted\":false,\"code\":29,\"reason\":\"the token was taken back\"}";
 
 /// What the JSON of an unsatisfied caveat begins with.
 const UNSATISFIED: &str = "{\"granted\":false,\"code\":24,\"caveat\":";
@@ -37,31 +41,31 @@ const UNSATISFIED: &str = "{\"granted\":false,\"code\":24,\"caveat\":";
 /// keys, or where there are none, which caveats hold.
 pub(crate) fn judged(
     alloc: Global,
-    keys: Option<&Keys>,
+    verifier: Option<Verifier<'_>>,
     object: &Value,
 ) -> Result<Vec<u8>, CallFault>
     ensures { Gives (λ text. text.items) result
-        (judged (option_copied keys.entry) (view object.now)) }
+        (judged (option_map lent_verifier verifier.entry) (view object.now)) }
 {
     let text = token_in(object)?;
     let facts = facts_in(alloc, object)?;
     let moment = moment_in(object)?;
-    judged_few(alloc, keys, text.as_bytes(), &facts, moment)
+    judged_few(alloc, verifier, text.as_bytes(), &facts, moment)
 }
 
 /// The same with these facts, if they are few.
 fn judged_few(
     alloc: Global,
-    keys: Option<&Keys>,
+    verifier: Option<Verifier<'_>>,
     text: &[u8],
     facts: &[Vec<u8>],
     moment: u64,
 ) -> Result<Vec<u8>, CallFault>
     ensures { Gives (λ text. text.items) result
-        (judged_few (option_copied keys.entry) text.now (byte_lists facts.now) moment) }
+        (judged_few (option_map lent_verifier verifier.entry) text.now (byte_lists facts.now) moment) }
 {
     match counted_facts(alloc, facts)? {
-        Some(counted) => judged_at(alloc, keys, text, &counted, moment),
+        Some(counted) => judged_at(alloc, verifier, text, &counted, moment),
         None => Err(BodyFault::ManyFacts.into()),
     }
 }
@@ -69,41 +73,35 @@ fn judged_few(
 /// The same with counted facts.
 fn judged_at(
     alloc: Global,
-    keys: Option<&Keys>,
+    verifier: Option<Verifier<'_>>,
     text: &[u8],
     counted: &[u8],
     moment: u64,
 ) -> Result<Vec<u8>, CallFault>
     ensures { (facts : List (List ℕ)) → counted.now ≡ counted_fields facts → are_few facts ≡ true
-        → Gives (λ text. text.items) result (judged_at (option_copied keys.entry)
+        → Gives (λ text. text.items) result (judged_at (option_map lent_verifier verifier.entry)
         text.now (record { moment = moment; facts = facts })) }
 {
     let Some(facts) = FieldList::read(counted) else {
         return Err(BodyFault::ManyFacts.into());
     };
-    match keys {
-        Some(keys) => verified(alloc, keys, text, Context { moment, facts }),
+    match verifier {
+        Some(verifier) => verified(alloc, verifier, text, Context { moment, facts }),
         None => checked(alloc, text, &Context { moment, facts }),
     }
 }
 
-/// What a verify of a text is answered under these keys, in a context.
+/// What a verify of a text is answered in a context.
 fn verified(
     alloc: Global,
-    keys: &Keys,
+    verifier: Verifier<'_>,
     token: &[u8],
     context: Context<'_>,
 ) -> Result<Vec<u8>, CallFault>
     ensures { Gives (λ text. text.items) result
-        (reply_json (verify_reply keys.now token.now context.entry)) }
+        (reply_json (verify_reply (lent_verifier verifier.entry) token.now context.entry)) }
 {
-    let request = Request::Verify {
-        key: b"",
-        token,
-        moment: context.moment,
-        facts: context.facts,
-    };
-    let reply = ask(alloc, Some(keys), request)?;
+    let reply = ask_verify(alloc, verifier, token, context)?;
     reply_json(alloc, &reply)
 }
 
@@ -177,6 +175,7 @@ fn refused_json(alloc: Global, why: Refusal) -> Result<Vec<u8>, CallFault>
 {
     match why {
         Refusal::BadSignature => Ok(Vec::from_slice(alloc, BAD_SIGNATURE)?),
+        Refusal::Revoked => Ok(Vec::from_slice(alloc, REVOKED)?),
         Refusal::BadRequest | Refusal::FrameTooLong | Refusal::UnknownKey => Err(why.into()),
         Refusal::Transport | Refusal::Malformed | Refusal::ThirdParty => Err(why.into()),
         Refusal::Limit | Refusal::CaveatLocation => Err(why.into()),

@@ -7,7 +7,7 @@ ghost use Rattle.mac_wire.specs.Request.{counted_fields};
 ghost use Rattle.mac_calls.specs.Counted.{are_few};
 ghost use Rattle.mac_calls.specs.Gives.{Gives};
 ghost use Rattle.mac_calls.specs.Made.{as_text, attenuate_reply, attenuated, made_text, mint_reply};
-ghost use Rattle.mac_calls.specs.Made.{minted_text, narrowed, new_text, some_caveat};
+ghost use Rattle.mac_calls.specs.Made.{minted, narrowed, new_text, some_caveat};
 
 use crate::asking::ask;
 use crate::counted::counted_facts;
@@ -22,16 +22,32 @@ use mac_wire::{FieldList, Refusal, Reply, Request};
 use serde_json::Value;
 use std::alloc::Global;
 
-/// The text of the token that an object asks for, under the first of the keys; in the form V2 where
-/// it asks for none.
-pub(crate) fn minted_text(alloc: Global, keys: &Keys, object: &Value) -> Result<Vec<u8>, CallFault>
-    ensures { Gives (λ text. text.items) result (minted_text keys.now (view object.now)) }
+/// A token that was minted.
+#[derive(Drop)]
+pub(crate) struct NewToken {
+    /// Its identifier.
+    pub(crate) identifier: Vec<u8>,
+    /// Its text.
+    pub(crate) text: Vec<u8>,
+}
+
+/// The token that an object asks for, under the first of the keys; in the form V2 where it asks for
+/// none.
+pub(crate) fn minted(
+    alloc: Global,
+    keys: &Keys,
+    drawn: &[u8; 16],
+    object: &Value,
+) -> Result<NewToken, CallFault>
+    ensures { Gives (λ made. (made.identifier.items, made.text.items)) result
+        (minted keys.now drawn.now (view object.now)) }
 {
-    let identifier = identifier_in(alloc, object)?;
+    let identifier = identifier_in(alloc, drawn, object)?;
     let location = location_in(object)?;
     let caveats = caveats_in(alloc, object)?;
     let form = form_in(object)?.unwrap_or(CallForm::V2);
-    new_text(alloc, keys, form, location, &identifier, &caveats)
+    let text = new_text(alloc, keys, form, location, &identifier, &caveats)?;
+    Ok(NewToken { identifier, text })
 }
 
 /// The text of the token of these parts under the first of the keys, in a form.

@@ -5,7 +5,7 @@ ghost use Rattle.serde_json.specs.View.{view};
 ghost use Rattle.mac_token.specs.RawToken.{byte_lists};
 ghost use Rattle.mac_calls.specs.Gives.{Gives};
 ghost use Rattle.mac_calls.specs.Members.{caveats_in, decoded, facts_in, form_in, identifier_in};
-ghost use Rattle.mac_calls.specs.Members.{location_in, moment_in, text_of, texts_of, token_in};
+ghost use Rattle.mac_calls.specs.Members.{has_identifier, location_in, moment_in, text_of, texts_of, token_in};
 
 use crate::fault::{BodyFault, CallFault};
 use crate::form::CallForm;
@@ -24,9 +24,14 @@ fn text_of(why: BodyFault, value: &Value) -> Result<&str, CallFault>
     }
 }
 
-/// The identifier: one of two members has it, as text or as base64.
-pub(crate) fn identifier_in(alloc: Global, object: &Value) -> Result<Vec<u8>, CallFault>
-    ensures { Gives (λ bytes. bytes.items) result (identifier_in (view object.now)) }
+/// The identifier: one of two members has it, as text or as base64. Without both it is the digits of
+/// what was drawn.
+pub(crate) fn identifier_in(
+    alloc: Global,
+    drawn: &[u8; 16],
+    object: &Value,
+) -> Result<Vec<u8>, CallFault>
+    ensures { Gives (λ bytes. bytes.items) result (identifier_in drawn.now (view object.now)) }
 {
     match (object.get("identifier"), object.get("identifier64")) {
         (Some(value), None) => copied(alloc, BodyFault::Identifier, value),
@@ -34,8 +39,16 @@ pub(crate) fn identifier_in(alloc: Global, object: &Value) -> Result<Vec<u8>, Ca
             let text = text_of(BodyFault::Identifier, value)?;
             decoded(alloc, text.as_bytes())
         }
-        _ => Err(BodyFault::Identifier.into()),
+        (None, None) => Ok(hex::encode(alloc, drawn)?.into_bytes()),
+        (Some(_), Some(_)) => Err(BodyFault::Identifier.into()),
     }
+}
+
+/// Whether an object says which identifier is meant.
+pub(crate) fn has_identifier(object: &Value) -> bool
+    ensures { result ≡ has_identifier (view object.now) }
+{
+    object.get("identifier").is_some() || object.get("identifier64").is_some()
 }
 
 /// A copy of the text that a value is.

@@ -25,24 +25,29 @@ number_once number.KeyNames = refl
 number_once number.KeysReadAt = refl
 number_once number.KeysRefused = refl
 number_once number.ConnectionsHttp = refl
+number_once number.Revoked = refl
 
 request_once_of : (a : Asked) (t : Told) → count_by (λ (other : Request). request_place other == request_place (record { asked = a; told = t })) all_requests ≡ 1
 request_once_of asked.Mint told.Granted = refl
 request_once_of asked.Mint told.Token = refl
 request_once_of asked.Mint told.Unsatisfied = refl
 request_once_of asked.Mint told.Refused = refl
+request_once_of asked.Mint told.Revoked = refl
 request_once_of asked.Attenuate told.Granted = refl
 request_once_of asked.Attenuate told.Token = refl
 request_once_of asked.Attenuate told.Unsatisfied = refl
 request_once_of asked.Attenuate told.Refused = refl
+request_once_of asked.Attenuate told.Revoked = refl
 request_once_of asked.Verify told.Granted = refl
 request_once_of asked.Verify told.Token = refl
 request_once_of asked.Verify told.Unsatisfied = refl
 request_once_of asked.Verify told.Refused = refl
+request_once_of asked.Verify told.Revoked = refl
 request_once_of asked.Nothing told.Granted = refl
 request_once_of asked.Nothing told.Token = refl
 request_once_of asked.Nothing told.Unsatisfied = refl
 request_once_of asked.Nothing told.Refused = refl
+request_once_of asked.Nothing told.Revoked = refl
 
 pub request_once : (r : Request) → count_by (λ (other : Request). request_place other == request_place r) all_requests ≡ 1
 request_once r = request_once_of r.asked r.told

@@ -24,6 +24,7 @@ number_word number.KeyNames = codes "key_names"
 number_word number.KeysReadAt = codes "keys_read_seconds"
 number_word number.KeysRefused = codes "keys_refused"
 number_word number.ConnectionsHttp = codes "connections_http"
+number_word number.Revoked = codes "revoked"
 
 -- a counter only grows, a gauge goes both ways
 abbrev pub number_kind : Number → List ℕ
@@ -41,6 +42,7 @@ number_kind number.KeyNames = codes "gauge"
 number_kind number.KeysReadAt = codes "gauge"
 number_kind number.KeysRefused = codes "gauge"
 number_kind number.ConnectionsHttp = codes "gauge"
+number_kind number.Revoked = codes "gauge"
 
 -- the place of a number in a snapshot
 abbrev pub number_place : Number → ℕ
@@ -58,10 +60,11 @@ number_place number.KeyNames = 10
 number_place number.KeysReadAt = 11
 number_place number.KeysRefused = 12
 number_place number.ConnectionsHttp = 13
+number_place number.Revoked = 14
 
 -- all numbers, in the order in which they are written
 abbrev pub all_numbers : List Number
-all_numbers = number.StartedAt ∷ number.Connections ∷ number.ConnectionsPlain ∷ number.ConnectionsWide ∷ number.ConnectionsTotal ∷ number.ConnectionsAtLimit ∷ number.ConnectionsFaulty ∷ number.RequestsWide ∷ number.BytesIn ∷ number.BytesOut ∷ number.KeyNames ∷ number.KeysReadAt ∷ number.KeysRefused ∷ number.ConnectionsHttp ∷ []
+all_numbers = number.StartedAt ∷ number.Connections ∷ number.ConnectionsPlain ∷ number.ConnectionsWide ∷ number.ConnectionsTotal ∷ number.ConnectionsAtLimit ∷ number.ConnectionsFaulty ∷ number.RequestsWide ∷ number.BytesIn ∷ number.BytesOut ∷ number.KeyNames ∷ number.KeysReadAt ∷ number.KeysRefused ∷ number.ConnectionsHttp ∷ number.Revoked ∷ []
 
 -- the word for what a request asks for
 abbrev pub asked_word : Asked → List ℕ
@@ -76,6 +79,7 @@ told_word told.Granted = codes "granted"
 told_word told.Token = codes "token"
 told_word told.Unsatisfied = codes "unsatisfied"
 told_word told.Refused = codes "refused"
+told_word told.Revoked = codes "revoked"
 
 abbrev asked_place : Asked → ℕ
 asked_place asked.Mint = 0
@@ -88,10 +92,11 @@ told_place told.Granted = 0
 told_place told.Token = 1
 told_place told.Unsatisfied = 2
 told_place told.Refused = 3
+told_place told.Revoked = 4
 
 -- the place of a request in a snapshot
 abbrev pub request_place : Request → ℕ
-request_place r = 4 * asked_place r.asked + told_place r.told
+request_place r = 5 * asked_place r.asked + told_place r.told
 
 -- all requests, in the order in which they are written
 abbrev pub all_requests : List Request
@@ -100,16 +105,20 @@ all_requests =
     record { asked = asked.Mint; told = told.Token } ∷
     record { asked = asked.Mint; told = told.Unsatisfied } ∷
     record { asked = asked.Mint; told = told.Refused } ∷
+    record { asked = asked.Mint; told = told.Revoked } ∷
     record { asked = asked.Attenuate; told = told.Granted } ∷
     record { asked = asked.Attenuate; told = told.Token } ∷
     record { asked = asked.Attenuate; told = told.Unsatisfied } ∷
     record { asked = asked.Attenuate; told = told.Refused } ∷
+    record { asked = asked.Attenuate; told = told.Revoked } ∷
     record { asked = asked.Verify; told = told.Granted } ∷
     record { asked = asked.Verify; told = told.Token } ∷
     record { asked = asked.Verify; told = told.Unsatisfied } ∷
     record { asked = asked.Verify; told = told.Refused } ∷
+    record { asked = asked.Verify; told = told.Revoked } ∷
     record { asked = asked.Nothing; told = told.Granted } ∷
     record { asked = asked.Nothing; told = told.Token } ∷
     record { asked = asked.Nothing; told = told.Unsatisfied } ∷
     record { asked = asked.Nothing; told = told.Refused } ∷
+    record { asked = asked.Nothing; told = told.Revoked } ∷
     []

@@ -5,10 +5,10 @@ ghost use Rattle.mac_count.specs.Number.{asked_word, number_kind, number_place, 
 ghost use Rattle.mac_count.specs.Number.{request_place, told_word};
 
 /// How many numbers there are beside those of requests.
-pub const NUMBERS: usize = 14;
+pub const NUMBERS: usize = 15;
 
 /// How many numbers there are of requests: one for each thing asked and each answer.
-pub const REQUESTS: usize = 16;
+pub const REQUESTS: usize = 20;
 
 /// A number that stands alone.
 #[derive(Clone, Copy, Debug, PartialEq, Eq)]
@@ -17,9 +17,9 @@ pub enum Number {
     StartedAt,
     /// How many connections there are.
     Connections,
-    /// How many of them a loop answers.
+    /// How many of them wait for no worker.
     ConnectionsPlain,
-    /// How many of them have a desk and two threads.
+    /// How many of them wait for a worker's answer.
     ConnectionsWide,
     /// How many there have been.
     ConnectionsTotal,
@@ -27,7 +27,7 @@ pub enum Number {
     ConnectionsAtLimit,
     /// How many ended in a fault.
     ConnectionsFaulty,
-    /// How many requests were answered on wide connections, which are counted by nothing else.
+    /// How many requests workers answered, which are counted by their kinds too.
     RequestsWide,
     /// How many bytes came in.
     BytesIn,
@@ -41,6 +41,8 @@ pub enum Number {
     KeysRefused,
     /// How many connections there are over HTTP, beside the others.
     ConnectionsHttp,
+    /// How many lines the list of tokens has that were taken back.
+    Revoked,
 }
 
 /// What a request asks for.
@@ -65,8 +67,10 @@ pub enum Told {
     Token,
     /// A caveat does not hold.
     Unsatisfied,
-    /// Any refusal.
+    /// Any other refusal.
     Refused,
+    /// The token was taken back.
+    Revoked,
 }
 
 /// A request: what it asked for, and what it was answered.
@@ -95,6 +99,7 @@ impl Number {
         Number::KeysReadAt,
         Number::KeysRefused,
         Number::ConnectionsHttp,
+        Number::Revoked,
     ];
 
     /// Its name, as Prometheus's rules for names have it.
@@ -116,6 +121,7 @@ impl Number {
             Number::KeysReadAt => "keys_read_seconds",
             Number::KeysRefused => "keys_refused",
             Number::ConnectionsHttp => "connections_http",
+            Number::Revoked => "revoked",
         }
     }
 
@@ -137,7 +143,8 @@ impl Number {
             | Number::KeyNames
             | Number::KeysReadAt
             | Number::KeysRefused
-            | Number::ConnectionsHttp => "gauge",
+            | Number::ConnectionsHttp
+            | Number::Revoked => "gauge",
         }
     }
 
@@ -174,6 +181,7 @@ impl Told {
             Told::Token => "token",
             Told::Unsatisfied => "unsatisfied",
             Told::Refused => "refused",
+            Told::Revoked => "revoked",
         }
     }
 }
@@ -198,6 +206,10 @@ impl Request {
             told: Told::Refused,
         },
         Request {
+            asked: Asked::Mint,
+            told: Told::Revoked,
+        },
+        Request {
             asked: Asked::Attenuate,
             told: Told::Granted,
         },
@@ -214,6 +226,10 @@ impl Request {
             told: Told::Refused,
         },
         Request {
+            asked: Asked::Attenuate,
+            told: Told::Revoked,
+        },
+        Request {
             asked: Asked::Verify,
             told: Told::Granted,
         },
@@ -230,6 +246,10 @@ impl Request {
             told: Told::Refused,
         },
         Request {
+            asked: Asked::Verify,
+            told: Told::Revoked,
+        },
+        Request {
             asked: Asked::Nothing,
             told: Told::Granted,
         },
@@ -244,6 +264,10 @@ impl Request {
         Request {
             asked: Asked::Nothing,
             told: Told::Refused,
+        },
+        Request {
+            asked: Asked::Nothing,
+            told: Told::Revoked,
         },
     ];
 
@@ -252,6 +276,6 @@ impl Request {
         ensures place { result ≡ request_place self }
         ensures within { result < REQUESTS }
     {
-        4 * self.asked as usize + self.told as usize
+        5 * self.asked as usize + self.told as usize
     }
 }

@@ -1,3 +1,1 @@
-pub mod Crew
 pub mod Day
-pub mod Parting

@@ -9,12 +9,11 @@ use crate::notice::Notice;
 use crate::quay::Quay;
 use mac_host::{Badge, Life};
 use mac_loop::{Handover, Loops, SocketPort};
-use mac_sockets::{Arrived, Entrance, STACK, Stream};
+use mac_sockets::{Arrived, Entrance, Stream};
 use mac_wire::Session;
 use std::alloc::Global;
 use std::io::ErrorKind;
 use std::sync::{Arc, Wait};
-use std::thread::{Builder, Promise, PromisedHandle, Threads};
 use std::time::{Clock, Duration};
 use std::{io, thread};
 
@@ -46,50 +45,10 @@ struct Newcomer {
 #[derive(Drop)]
 pub struct AsAsked(pub Option<u64>);
 
-impl Promise<Result<u64, DaemonFault>> for AsAsked {
-    ghost use Rattle.std.specs.Prelude.{IfOk};
-    ghost use Rattle.mac_daemon.specs.Day.{MeetsCount};
-
-    ghost kept_by = { λ p outcome. IfOk outcome (λ served. MeetsCount p.0 served) };
-}
-
-/// The thread that accepts connections.
-pub type Acceptor = PromisedHandle<Result<u64, DaemonFault>, AsAsked>;
-
-/// Starts the thread that accepts connections.
-pub fn start_accepting<R>(
-    rt: R,
-    alloc: Global,
-    entrance: Entrance<Gift>,
-    loops: &Arc<Loops, Global>,
-    quay: &Arc<Quay, Global>,
-    limits: Limits,
-) -> Result<Acceptor, DaemonFault>
-where
-    R: Threads + Wait + Clock + Sync + Copy + Send + 'static,
-    ensures { IfOk result (λ acceptor. acceptor.promise.0 ≡ limits.count) }
-{
-    let loops = Arc::try_clone(loops)?;
-    let quay = Arc::try_clone(quay)?;
-    let work = move || -> Result<u64, DaemonFault>
-        ensures { IfOk result (λ served. MeetsCount limits.count served) }
-    {
-        let mut entrance = entrance;
-        accept_to_end(&rt, alloc, &mut entrance, &loops, &quay, limits)
-    };
-    match Builder::new()
-        .stack_size(STACK)
-        .spawn_with(&rt, AsAsked(limits.count), work)
-    {
-        Ok(acceptor) => Ok(acceptor),
-        Err(_) => Err(DaemonFault::NoThread),
-    }
-}
-
-/// Accepts as many connections as the limits say, waits until all have ended, and then has the
-/// keeper of the desks return. The number of those that were accepted is told. Without a count,
-/// connections are read no further than what has come once the entrance is shut.
-fn accept_to_end<R>(
+/// Accepts as many connections as the limits say, and waits until all have ended. The number of
+/// those that were accepted is told. Without a count, connections are read no further than what has
+/// come once the entrance is shut.
+pub fn accept_to_end<R>(
     rt: &R,
     alloc: Global,
     entrance: &mut Entrance<Gift>,
@@ -109,7 +68,6 @@ where
         loops.drain();
     }
     quay.await_end(rt);
-    quay.close();
     served
 }
 

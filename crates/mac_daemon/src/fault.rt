@@ -1,6 +1,6 @@
 //! Why a daemon can't begin, or can't go on.
 
-use mac_pool::PoolFault;
+use mac_pool::{DeskFault, PoolFault};
 use mac_sockets::{PlaceFault, WaitFault};
 use mac_system::HandedFault;
 use std::alloc::AllocError;
@@ -68,6 +68,15 @@ impl From<WaitFault> for DaemonFault {
         match refused {
             WaitFault::NoMemory => DaemonFault::NoMemory,
             WaitFault::System(refused) => DaemonFault::System(refused),
+        }
+    }
+}
+
+impl From<DeskFault> for DaemonFault {
+    fn from(refused: DeskFault) -> DaemonFault {
+        match refused {
+            DeskFault::NoMemory => DaemonFault::NoMemory,
+            DeskFault::AllOut => DaemonFault::NoThread,
         }
     }
 }

@@ -1,28 +1,30 @@
-//! The threads of a daemon: its loops, its workers, who accepts, and who keeps the desks.
+//! The threads of a daemon: its loops, its workers, and who accepts.
 ghost use Rattle.std.specs.Prelude.{◌≡◌, IfOk};
 ghost use Rattle.mac_daemon.specs.Day.{MeetsCount};
+ghost use Rattle.mac_loop.specs.Asks.{home_of};
 
-use crate::accepting::{Acceptor, Limits, start_accepting};
-use crate::crew::Crew;
+use crate::accepting::{Limits, accept_to_end};
 use crate::door::Gift;
 use crate::fault::DaemonFault;
-use crate::keeping::keep_desks;
 use crate::quay::Quay;
 use mac_board::{Follower, Followers, TimedTables};
-use mac_decide::SeenTokens;
+use mac_decide::{Macaroons, SeenTokens};
+use mac_host::Ending;
 use mac_loop::{Loop, Loops, make_loops};
+use mac_pool::{Desk, Pool};
 use mac_sockets::{Entrance, STACK, has_roomy_stacks};
 use mac_system::SystemMoments;
 use std::alloc::Global;
 use std::hash::RandomState;
 use std::net::Net;
 use std::random::RandomSource;
+use std::snapshot::Snapshot;
 use std::sync::{Arc, Wait};
-use std::thread::{Builder, JoinHandle, Threads};
+use std::thread::{Builder, Promise, PromisedHandle, Threads};
 use std::time::Clock;
 
 /// How many followers of the key tables a daemon has at most: for its loops, of which there are 64
-/// at most, for its wide connections, and for those whose threads are ending.
+/// at most, and for those of other servers.
 pub const FOLLOWERS_MAX: usize = 192;
 
 /// How a daemon serves its connections.
@@ -30,7 +32,7 @@ pub const FOLLOWERS_MAX: usize = 192;
 pub struct Shape {
     /// How many loops wait for connections and answer them.
     pub loops: usize,
-    /// How many workers answer wide connections.
+    /// How many workers answer what loops must not.
     pub workers: usize,
     /// How many connections there are at a time.
     pub connections: u64,
@@ -97,9 +99,9 @@ pub fn make_seen<R: RandomSource + Eprint>(rt: &R, alloc: Global, shape: Shape) 
 /// What the threads of a daemon are started with.
 #[derive(Drop)]
 pub struct FleetParts {
-    /// How many workers answer wide connections.
+    /// How many workers answer what loops must not.
     pub workers: usize,
-    /// The loops that answer all others.
+    /// The loops that answer all else.
     pub idlers: Idlers,
     /// Where connections come in.
     pub entrance: Entrance<Gift>,
@@ -109,102 +111,141 @@ pub struct FleetParts {
     pub quay: Arc<Quay, Global>,
 }
 
-/// The threads of a daemon that waits for connections.
+/// What a daemon's threads are started beside.
+#[derive(Clone, Copy)]
+struct Fleet<'a> {
+    loops: &'a Arc<Loops, Global>,
+    quay: &'a Arc<Quay, Global>,
+    followers: &'a Followers,
+    ending: &'a Ending,
+    limits: Limits,
+}
+
+/// A loop's desk comes back from its thread.
 #[derive(Drop)]
-pub struct Fleet {
-    crew: Crew,
-    loops: Arc<Loops, Global>,
-    quay: Arc<Quay, Global>,
-    threads: Vec<JoinHandle<()>>,
-    acceptor: Acceptor,
+struct SameDesk(Snapshot<Desk<Macaroons>>);
+
+impl Promise<Desk<Macaroons>> for SameDesk {
+    ghost use Rattle.std.specs.Prelude.{◌≡◌};
+    ghost use Rattle.mac_loop.specs.Asks.{home_of};
+
+    ghost kept_by = { λ p desk. home_of desk ≡ home_of p.0.value };
 }
 
-impl Fleet {
-    /// Starts these loops and as many workers, which tell one another of connections at this quay,
-    /// and accepts the connections that come in, as many as the limits say.
-    pub fn start<R>(
-        rt: &R,
-        alloc: Global,
-        service: FleetParts,
-        followers: &Followers,
-    ) -> Result<Fleet, DaemonFault>
-    where
-        R: Threads + Wait + Clock + Sync + Copy + Send + 'static,
-        ensures { IfOk result (λ fleet. fleet.acceptor.promise.0 ≡ service.limits.count) }
-    {
-        let FleetParts {
-            workers,
-            idlers,
-            entrance,
-            limits,
-            quay,
-        } = service;
-        let Idlers { loops, made } = idlers;
-        let crew = Crew::new(rt, alloc, workers)?;
-        let mut threads = Vec::with_capacity(alloc, made.len())?;
-        for one in made {
-            let keys = followers.follower()?;
-            let thread = start_loop(*rt, one, &quay, &loops, keys)?;
-            if threads.push(thread).is_err() {
-                return Err(DaemonFault::NoMemory);
-            }
-        }
-        let acceptor = start_accepting(*rt, alloc, entrance, &loops, &quay, limits)?;
-        Ok(Fleet {
-            crew,
-            loops,
-            quay,
-            threads,
-            acceptor,
-        })
-    }
+type LoopThread = PromisedHandle<Desk<Macaroons>, SameDesk>;
 
-    /// Keeps the desks until all connections have ended, and ends the threads.
-    pub fn run<R>(self, rt: &R, alloc: Global, followers: &Followers) -> Result<Day, DaemonFault>
-    where
-        R: Threads + Wait + Clock + Sync + Copy + Send + 'static,
-        ensures { IfOk result (λ day. MeetsCount self.acceptor.promise.0 day.served) }
-    {
-        let Fleet {
-            mut crew,
-            loops,
-            quay,
-            threads,
-            acceptor,
-        } = self;
-        keep_desks(rt, alloc, &mut crew, &quay, &loops, followers);
-        loops.close();
-        for thread in threads {
-            thread.join(rt);
-        }
-        let _books = crew.stop(rt);
-        let served = acceptor.join(rt)?;
-        Ok(Day {
-            served,
-            faults: quay.faults(),
-        })
-    }
-}
-
-/// Starts the thread of a loop.
-fn start_loop<R>(
-    rt: R,
-    one: Loop,
-    quay: &Arc<Quay, Global>,
-    loops: &Arc<Loops, Global>,
-    keys: Follower,
-) -> Result<JoinHandle<()>, DaemonFault>
+/// Starts the workers and the loops, serves the connections that come in, as many as the limits say,
+/// and ends the threads once all connections have ended.
+pub fn run_fleet<R>(
+    rt: &R,
+    alloc: Global,
+    parts: FleetParts,
+    followers: &Followers,
+    ending: &Ending,
+) -> Result<Day, DaemonFault>
 where
     R: Threads + Wait + Clock + Sync + Copy + Send + 'static,
+    ensures { IfOk result (λ day. MeetsCount parts.limits.count day.served) }
 {
-    let quay = Arc::try_clone(quay)?;
-    let loops = Arc::try_clone(loops)?;
-    let work = move || {
-        let mut outlook = TimedTables::new(keys, SystemMoments::new(&rt));
-        one.run(&rt, &loops, &mut outlook, &*quay)
+    let FleetParts {
+        workers,
+        idlers,
+        mut entrance,
+        limits,
+        quay,
+    } = parts;
+    let Idlers { loops, made } = idlers;
+    let mut pool = Pool::start(rt, alloc, workers)?;
+    let fleet = Fleet {
+        loops: &loops,
+        quay: &quay,
+        followers,
+        ending,
+        limits,
     };
-    match Builder::new().stack_size(STACK).spawn(&rt, work) {
+    let served = run_loops(rt, alloc, &mut pool, made, &mut entrance, fleet);
+    let _books = pool.stop(rt);
+    Ok(Day {
+        served: served?,
+        faults: quay.faults(),
+    })
+}
+
+/// Runs these loops, each in a thread at a desk of the pool, while connections come in. Each desk
+/// goes home.
+fn run_loops<R>(
+    rt: &R,
+    alloc: Global,
+    pool: &mut Pool<Macaroons>,
+    mut made: Vec<Loop>,
+    entrance: &mut Entrance<Gift>,
+    fleet: Fleet<'_>,
+) -> Result<u64, DaemonFault>
+where
+    R: Threads + Wait + Clock + Sync + Copy + Send + 'static,
+    ensures served { IfOk result (λ served. MeetsCount fleet.entry.limits.count served) }
+    ensures queue { pool.new.queue ≡ pool.old.queue }
+{
+    let Some(one) = made.pop() else {
+        fleet.ending.begin(rt);
+        let served = accept_to_end(rt, alloc, entrance, fleet.loops, fleet.quay, fleet.limits);
+        fleet.loops.close();
+        return served;
+    };
+    let thread = match start_loop(*rt, alloc, pool, one, fleet) {
+        Ok(thread) => thread,
+        Err(fault) => {
+            fleet.loops.close();
+            return Err(fault);
+        }
+    };
+    let served = run_loops(rt, alloc, pool, made, entrance, fleet);
+    pool.home(thread.join(rt));
+    served
+}
+
+/// Starts the thread of a loop, at a desk of the pool.
+fn start_loop<R>(
+    rt: R,
+    alloc: Global,
+    pool: &mut Pool<Macaroons>,
+    one: Loop,
+    fleet: Fleet<'_>,
+) -> Result<LoopThread, DaemonFault>
+where
+    R: Threads + Wait + Clock + Sync + Copy + Send + 'static,
+    ensures desk { IfOk result (λ thread.
+        thread.promise.0.value.putter.queue ≡ pool.old.queue) }
+    ensures queue { pool.new.queue ≡ pool.old.queue }
+{
+    let keys = fleet.followers.follower()?;
+    let quay = Arc::try_clone(fleet.quay)?;
+    let loops = Arc::try_clone(fleet.loops)?;
+    let desk = pool.desk(alloc)?;
+    let promise = SameDesk(Snapshot::of(&desk));
+    let work = move || run_loop(&rt, one, &loops, keys, &quay, desk);
+    match Builder::new()
+        .stack_size(STACK)
+        .spawn_with(&rt, promise, work)
+    {
         Ok(thread) => Ok(thread),
         Err(_) => Err(DaemonFault::NoThread),
     }
+}
+
+/// Runs a loop to its end, at this desk, which comes back.
+fn run_loop<R>(
+    rt: &R,
+    one: Loop,
+    loops: &Loops,
+    keys: Follower,
+    quay: &Quay,
+    desk: Desk<Macaroons>,
+) -> Desk<Macaroons>
+where
+    R: Threads + Wait + Clock + Sync,
+    ensures { home_of result ≡ home_of desk }
+{
+    let mut outlook = TimedTables::new(keys, SystemMoments::new(rt));
+    one.run(rt, loops, &mut outlook, quay, desk)
 }

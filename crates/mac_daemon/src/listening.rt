@@ -7,12 +7,12 @@ use crate::accepting::{AsAsked, Limits};
 use crate::descriptors::most_connections;
 use crate::door::Gift;
 use crate::fault::DaemonFault;
-use crate::fleet::{Day, Fleet, FleetParts, Idlers, Shape, make_seen};
+use crate::fleet::{Day, FleetParts, Idlers, Shape, make_seen, run_fleet};
 use crate::quay::Quay;
 use crate::stop::Stop;
 use crate::surroundings::{Surroundings, heed_signals};
-use mac_board::{Followers, News};
-use mac_host::{Beginning, Call, Ending, Host, Notices, Numbers, Roster};
+use mac_board::{Followers, ListNews, News};
+use mac_host::{Beginning, Call, Ending, Host, Logged, Notices, Numbers, Roster};
 use mac_sockets::{Doors, Entrance, Holdings, STACK};
 use mac_system::{NotifySocket, State};
 use std::alloc::{AllocError, Global};
@@ -42,8 +42,8 @@ pub struct DaemonTerms<'a> {
     pub drain: u64,
     /// How many descriptors of the process are others'.
     pub reserved: u64,
-    /// Whether each request is logged.
-    pub has_requests: bool,
+    /// What is logged besides what it tells of itself.
+    pub logged: Logged,
     /// After how many connections it ends, where so many are asked for. It logs nothing then.
     pub accept: Option<u64>,
 }
@@ -174,6 +174,18 @@ impl Daemon {
         self.host.notices().tell_keys(rt, file, news);
     }
 
+    /// Notes how many lines its first list of tokens has that were taken back.
+    pub fn tell_list_lines(&self, lines: usize) {
+        self.host.numbers().set_revoked(lines);
+    }
+
+    /// Tells what came of a look at its list of tokens that were taken back, if there is anything to
+    /// be told.
+    pub fn tell_revoked<R: Wait + Clock>(&self, rt: &R, file: &str, news: ListNews) {
+        self.host.numbers().note_revoked(&news);
+        self.host.notices().tell_revoked(rt, file, news);
+    }
+
     /// What a further server has of it, whose connections are seen off with it.
     pub fn host(&self) -> Result<Host, AllocError> {
         self.host.share()
@@ -218,7 +230,7 @@ where
     if terms.accept.is_some() {
         return Ok(Notices::none(alloc));
     }
-    match Notices::start(rt, alloc, is_journal, terms.has_requests) {
+    match Notices::start(rt, alloc, is_journal, terms.logged) {
         Some(notices) => Ok(notices),
         None => Err(DaemonFault::NoThread),
     }
@@ -234,8 +246,8 @@ fn socket_paths(alloc: Global, terms: DaemonTerms<'_>) -> Result<Vec<String>, Al
     Ok(paths)
 }
 
-/// Starts the thread that serves the connections that come in, to their ends: so many, where so
-/// many are asked for.
+/// Starts the thread that serves the connections that come in, to their ends: so many, where so many
+/// are asked for.
 fn start_serving<R>(
     rt: R,
     alloc: Global,
@@ -252,7 +264,7 @@ where
     let work = move || -> Result<Day, DaemonFault>
         ensures { IfOk result (λ day. MeetsCount service.limits.count day.served) }
     {
-        let outcome = serve_all(&rt, alloc, service, &followers, &ending);
+        let outcome = run_fleet(&rt, alloc, service, &followers, &ending);
         ending.finish(&rt);
         outcome
     };
@@ -265,26 +277,9 @@ where
     }
 }
 
-/// Serves the connections that come in, to their ends, in threads that it starts for them.
-fn serve_all<R>(
-    rt: &R,
-    alloc: Global,
-    service: FleetParts,
-    followers: &Followers,
-    ending: &Ending,
-) -> Result<Day, DaemonFault>
-where
-    R: Threads + Wait + Clock + Sync + Copy + Send + 'static,
-    ensures { IfOk result (λ day. MeetsCount service.limits.count day.served) }
-{
-    let fleet = Fleet::start(rt, alloc, service, followers)?;
-    ending.begin(rt);
-    fleet.run(rt, alloc, followers)
-}
-
 /// How many connections there may be at a time: as many as were asked for, or as the system's limit
-/// of descriptors allows beside those that are reserved, which is told then. A daemon that ends
-/// after so many looks at no limit: it ends where the system gives none.
+/// of descriptors allows beside those that are reserved, which is told then. A daemon that ends after
+/// so many looks at no limit: it ends where the system gives none.
 fn allow_connections<R: Wait + Clock>(rt: &R, terms: DaemonTerms<'_>, notices: &Notices) -> u64 {
     let DaemonTerms {
         shape,

@@ -2,7 +2,6 @@
 
 use mac_log::Kind;
 use mac_loop::PlainFault;
-use mac_serve::ServeFault;
 use thiserror::Error;
 
 /// Why a connection ended that might have gone on.
@@ -11,12 +10,6 @@ pub enum Notice {
     /// It ended in a fault while a loop answered it.
     #[error("{0}")]
     Plain(PlainFault),
-    /// It ended in a fault while it was wide.
-    #[error("{0}")]
-    Wide(ServeFault),
-    /// It asked for a desk, and got none.
-    #[error("no desk, thread or memory for it")]
-    Dropped,
     /// The system failed as it went from one thread to another.
     #[error("the system failed")]
     System,
@@ -35,8 +28,8 @@ impl Notice {
     pub fn kind(self) -> Kind {
         match self {
             Notice::Plain(PlainFault::Idle) => Kind::ConnectionIdle,
-            Notice::Plain(_) | Notice::Wide(_) => Kind::ConnectionFault,
-            Notice::Dropped | Notice::System | Notice::NoMemory => Kind::ConnectionDropped,
+            Notice::Plain(_) => Kind::ConnectionFault,
+            Notice::System | Notice::NoMemory => Kind::ConnectionDropped,
         }
     }
 }

@@ -1,14 +1,13 @@
-//! What the threads of a daemon tell one another of its connections: how many there are, which of
-//! them ask for a desk, whose berth was left, and what is printed.
+//! What the threads of a daemon tell one another of its connections: how many there are, and what is
+//! printed.
 
 use crate::notice::Notice;
-use crossbeam_queue::SegQueue;
 use mac_host::{Badge, Exchange, Life, Notices, Numbers, Roster, microseconds};
-use mac_loop::{Handover, PlainFault, Transcript, Turn, Watch};
+use mac_loop::{PlainFault, Transcript, Turn, Watch};
 use mac_mail::Bell;
 use std::alloc::{AllocError, Global};
+use std::sync::atomic::AtomicU64;
 use std::sync::atomic::Ordering::SeqCst;
-use std::sync::atomic::{AtomicBool, AtomicU64};
 use std::sync::{Arc, Wait};
 use std::time::Clock;
 
@@ -21,17 +20,6 @@ pub struct Quay {
     faults: AtomicU64,
     /// Who waits until all have ended sleeps here.
     ends: Bell,
-    /// The connections that ask for a desk, the first that asked in front.
-    asking: SegQueue<Handover>,
-    /// The berths whose connections have got both their threads since the last look, a bit for
-    /// each.
-    begun: AtomicU64,
-    /// The berths that were left since the last look, a bit for each.
-    left: AtomicU64,
-    /// Whether the keeper is to return once all berths are free.
-    is_closed: AtomicBool,
-    /// The keeper sleeps here.
-    work: Bell,
     notices: Notices,
     numbers: Numbers,
     roster: Arc<Roster, Global>,
@@ -49,11 +37,6 @@ impl Quay {
             live: AtomicU64::new(0),
             faults: AtomicU64::new(0),
             ends: Bell::new(),
-            asking: SegQueue::new(alloc)?,
-            begun: AtomicU64::new(0),
-            left: AtomicU64::new(0),
-            is_closed: AtomicBool::new(false),
-            work: Bell::new(),
             notices,
             numbers,
             roster,
@@ -86,9 +69,9 @@ impl Quay {
         }
     }
 
-    /// What a connection that begins is noted in, where requests are logged.
+    /// What a connection that begins is noted in, where requests or mints are logged.
     pub fn transcript(&self, alloc: Global) -> Option<Transcript> {
-        if self.notices.has_requests() {
+        if self.notices.logged().is_some() {
             Some(Transcript::new(alloc))
         } else {
             None
@@ -96,7 +79,12 @@ impl Quay {
     }
 
     /// Tells a request, the connection that it came on, and what it was answered.
-    pub fn say_exchange<R: Wait + Clock>(&self, rt: &R, badge: Badge, exchange: Exchange) {
+    pub fn say_exchange<R: Wait + Clock>(
+        &self,
+        rt: &R,
+        badge: Badge,
+        exchange: Result<Exchange, AllocError>,
+    ) {
         self.notices.tell_exchange(rt, Some(badge), exchange);
     }
 
@@ -149,85 +137,6 @@ impl Quay {
     pub fn faults(&self) -> u64 {
         self.faults.load(SeqCst)
     }
-
-    /// Notes that a connection has a desk.
-    pub fn note_wide(&self, life: Life) {
-        self.numbers.count_widened();
-        self.roster.set_wide(life, true);
-    }
-
-    /// Notes that a connection has come to this, and gave its desk back.
-    pub fn note_plain(&self, life: Life) {
-        self.numbers.count_narrowed();
-        self.roster.set_wide(life, false);
-        self.roster.see(life, 0);
-    }
-
-    /// Has the keeper return once all berths are free.
-    pub fn close(&self) {
-        self.is_closed.store(true, SeqCst);
-        self.work.ring_all();
-    }
-
-    /// Whether the keeper is to return.
-    pub fn is_closed(&self) -> bool {
-        self.is_closed.load(SeqCst)
-    }
-
-    /// The connection that has asked for a desk the longest.
-    pub fn next_asking<R: Wait>(&self, rt: &R) -> Option<Handover> {
-        self.asking.pop(rt)
-    }
-
-    /// Notes that the connection of a berth, told by its bit, has got both its threads.
-    pub fn begin(&self, mark: u64) {
-        self.begun.fetch_or(mark, SeqCst);
-        self.work.ring();
-    }
-
-    /// The berths whose connections have got both their threads since the last call, a bit for
-    /// each.
-    pub fn take_begun(&self) -> u64 {
-        self.begun.swap(0, SeqCst)
-    }
-
-    /// Leaves a berth, told by its bit.
-    pub fn leave(&self, mark: u64) {
-        self.left.fetch_or(mark, SeqCst);
-        self.work.ring();
-    }
-
-    /// The berths that were left since the last call, a bit for each.
-    pub fn take_left(&self) -> u64 {
-        self.left.swap(0, SeqCst)
-    }
-
-    /// Waits for work for the keeper: a berth that was left or whose connection has begun, an end,
-    /// or, where there is room for it, a connection that asks.
-    pub fn await_work<R: Wait>(&self, rt: &R, has_room: bool) {
-        let wait = self.work.announce();
-        if self.has_work(has_room) {
-            self.work.withdraw(wait);
-        } else {
-            self.work.sleep(rt, wait);
-        }
-    }
-
-    fn has_work(&self, has_room: bool) -> bool {
-        self.left.load(SeqCst) != 0
-            || self.begun.load(SeqCst) != 0
-            || self.is_closed.load(SeqCst)
-            || (has_room && !self.asking.is_empty())
-    }
-}
-
-/// The berth of a connection at a quay.
-#[derive(Drop)]
-pub struct Mooring {
-    /// The quay.
-    pub quay: Arc<Quay, Global>,
-    /// The bit of the berth.
-    pub mark: u64,
 }
 
 impl Watch for Quay {
@@ -239,7 +148,7 @@ impl Watch for Quay {
         self.numbers.count_turn(&turn.requests, turn.traffic);
     }
 
-    fn tell<R: Wait + Clock>(&self, rt: &R, badge: Badge, exchange: Exchange) {
+    fn tell<R: Wait + Clock>(&self, rt: &R, badge: Badge, exchange: Result<Exchange, AllocError>) {
         self.say_exchange(rt, badge, exchange);
     }
 
@@ -247,11 +156,13 @@ impl Watch for Quay {
         self.roster.see(life, unsent);
     }
 
-    fn widen<R: Wait + Clock>(&self, rt: &R, client: Handover) {
-        let life = client.life();
-        match self.asking.push(rt, client) {
-            Ok(()) => self.work.ring(),
-            Err(_) => Quay::end(self, rt, life, Some(Notice::NoMemory)),
-        }
+    fn widen(&self, life: Life) {
+        self.numbers.count_widened();
+        self.roster.set_wide(life, true);
+    }
+
+    fn narrow(&self, life: Life, is_answered: bool) {
+        self.numbers.count_narrowed(is_answered);
+        self.roster.set_wide(life, false);
     }
 }

@@ -9,7 +9,7 @@ use Rattle.std.proofs.lemmas.List.Elements.{All-nil, All-cons, All-append}
 use Rattle.mac_hmac.specs.Hmac.{hmac}
 use Rattle.mac_hmac.specs.Chain.{extended}
 use Rattle.mac_hmac.proofs.DigestLemmas.{hmac-length, hmac-bytes}
-use Rattle.mac_keys.specs.Table.{listed}
+use Rattle.mac_keys.specs.Keys.{listed}
 use Rattle.mac_keys.specs.declared.keys.Keys.{Keys}
 use Rattle.mac_token.specs.Limits.{is_within, token_or_limit}
 use Rattle.mac_token.specs.RawToken.{TokenParts, IsToken}
@@ -30,11 +30,12 @@ use Rattle.mac_wire.specs.declared.request.TokenForm.{TokenForm}
 use Rattle.mac_wire.proofs.Asking.{request_of-asks, key_name_of-asks}
 use Rattle.mac_decide.specs.Answer.{refused, told, keyed, form_of, written_reply, token_reply, request_reply, reply_of, keys_of, answer_of, asked_basis, answer_to, IsGranted}
 use Rattle.mac_decide.specs.Minted.{Minted, minted, add}
+use Rattle.mac_decide.specs.Revocation.{is_listed_read}
 use Rattle.mac_decide.specs.Terms.{Terms}
 use Rattle.mac_decide.specs.Verdict.{Satisfied, Accepts}
 use Rattle.mac_decide.specs.declared.context.Context.{Context}
 use Rattle.mac_decide.specs.declared.job.Basis.{Basis}
-use Rattle.mac_decide.proofs.AnswerLemmas.{answer-granted}
+use Rattle.mac_decide.proofs.AnswerLemmas.{answer-granted, answer_of-asked}
 use Rattle.mac_decide.proofs.NarrowingLemmas.{Accepts-add}
 
 -- ---- a reply with bytes
@@ -163,11 +164,6 @@ mint-keys form name location identifier caveats bytes basis e =
     let (keys, found, made) = keyed-bytes basis.keys tell bytes told in
     (keys, found, may, made)
 
--- the reply to what a payload asks
-pub answer_of-asked : (terms : Terms) (payload : List ℕ) (asked : Asked) → Asks payload asked → answer_of terms (Payload payload) ≡ answer_to terms asked
-unfolding answer_of reply_of
-answer_of-asked terms payload asked asks = rw (request_of-asks payload asked asks, key_name_of-asks payload asked asks) refl
-
 pub mint-carried : (terms : Terms) (payload name location identifier bytes : List ℕ) (form : TokenForm) (caveats : List (List ℕ)) → IsBytes payload → Asks payload (mint form name location identifier caveats) → answer_of terms (Payload payload) ≡ reply.Token bytes
     → (keys : Keys) × (keys_of terms name ≡ Some keys) × (terms.rights.may_mint ≡ true) × (read_of bytes ≡ Ok (minted keys.first location identifier caveats))
 mint-carried terms payload name location identifier bytes form caveats are asks e =
@@ -215,8 +211,12 @@ granted-carried terms name keys t old new before after moment facts caveats foun
     let x : Context = record { moment = moment; facts = facts } in
     let is_before = answer-granted terms before name old moment facts asks_before in
     let is_after = answer-granted terms after name new moment facts asks_after in
+    let alike : is_listed_read terms.table.revoked name (read_of new) ≡ is_listed_read terms.table.revoked name (read_of old) =
+    ap (is_listed_read terms.table.revoked name) read_after ∙ sym (ap (is_listed_read terms.table.revoked name) read_before) in
     let under : (bytes : List ℕ) → IsGranted (keys_of terms name) bytes x → IsGranted (Some keys) bytes x = λ bytes g. subst (λ k. IsGranted k bytes x) found g in
     let back : (bytes : List ℕ) → IsGranted (Some keys) bytes x → IsGranted (keys_of terms name) bytes x = λ bytes g. subst (λ k. IsGranted k bytes x) (sym found) g in (
-      (λ granted. let both = granted-both keys t old new x caveats minted read_before read_after (under new (is_after.0 granted)) in (is_before.1 (back old both.0), both.1)),
-      (λ (granted, each). is_after.1 (back new (granted-again keys t old new x caveats minted read_before read_after (under old (is_before.0 granted)) each))),
+      (λ granted. let kept = is_after.0 granted in
+          let both = granted-both keys t old new x caveats minted read_before read_after (under new kept.0) in (is_before.1 (back old both.0, sym alike ∙ kept.1), both.1)),
+      (λ (granted, each). let kept = is_before.0 granted in
+          is_after.1 (back new (granted-again keys t old new x caveats minted read_before read_after (under old kept.0) each), alike ∙ kept.1)),
     )

@@ -4,6 +4,8 @@ pub mod TimeLemmas
 pub mod SatisfiedLemmas
 pub mod WalkLemmas
 pub mod ReadingLemmas
+pub mod RevocationLemmas
+pub mod RevokedLaws
 pub mod VerdictLemmas
 pub mod NarrowingLemmas
 pub mod AnswerLemmas

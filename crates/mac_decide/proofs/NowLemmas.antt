@@ -1,6 +1,6 @@
 -- Verifies at the clock.
-use Rattle.std.proofs.Common.{◌≡◌, ◌↔◌, ℕ, List, Option, Some, None, Result, Ok, Err, refl, sym, ap, ◌∙◌, subst}
-use Rattle.mac_keys.specs.Table.{listed}
+use Rattle.std.proofs.Common.{◌≡◌, ◌↔◌, ℕ, List, Option, Some, None, Result, Ok, Err, refl, sym, ap, ◌∙◌, subst, Bool, false}
+use Rattle.mac_keys.specs.Keys.{listed}
 use Rattle.mac_keys.specs.declared.keys.Keys.{Keys}
 use Rattle.mac_token.specs.RawToken.{TokenParts}
 use Rattle.mac_token.specs.Read.{read_of}
@@ -13,13 +13,15 @@ use Rattle.mac_wire.specs.declared.reply.Reply.{Reply}
 use Rattle.mac_wire.specs.declared.reply.Reply.TheVariants as reply
 use Rattle.mac_wire.specs.declared.request.Grant.{Grant}
 use Rattle.mac_wire.specs.declared.request.Grant.TheVariants as grant
-use Rattle.mac_decide.specs.Answer.{refused, told, keyed, timed, verdict_reply, verify_reply, with_owner, keys_of, answer_of, answer_to, IsGranted}
+use Rattle.mac_decide.specs.Answer.{refused, told, keyed, timed, verdict_reply, verify_reply, unless_revoked, with_owner, keys_of, answer_of, answer_to, IsGranted}
 use Rattle.mac_decide.specs.Reading.{verdict_of}
+use Rattle.mac_decide.specs.Revocation.{is_listed_read}
 use Rattle.mac_decide.specs.Terms.{Terms}
 use Rattle.mac_decide.specs.declared.context.Context.{Context}
 use Rattle.mac_decide.specs.declared.verdict.Verdict.{Verdict}
 use Rattle.mac_decide.specs.declared.verdict.Verdict.TheVariants.{Granted, BadSignature, Unsatisfied}
-use Rattle.mac_decide.proofs.CarriedLemmas.{answer_of-asked}
+use Rattle.mac_decide.proofs.AnswerLemmas.{answer_of-asked}
+use Rattle.mac_decide.proofs.RevocationLemmas.{kept-granted, kept-owner, kept-refused, kept-with_owner}
 use Rattle.mac_decide.proofs.VerdictLemmas.{verdict_of-is, one_verdict}
 
 -- what is told under the keys that were found, at the moment that was told
@@ -27,9 +29,13 @@ abbrev now_reply : Grant → List ℕ → List (List ℕ) → Option ℕ → Opt
 now_reply g token facts moment found =
     keyed found (λ keys. timed moment (λ second. verify_reply g token (record { moment = second; facts = facts }) keys))
 
--- the answer is that reply
+-- whether the token was taken back
+abbrev back : Terms → List ℕ → List ℕ → Bool
+back terms name token = is_listed_read terms.table.revoked name (read_of token)
+
+-- the answer is that reply, unless it was
 now-answer : (terms : Terms) (g : Grant) (payload name token : List ℕ) (facts : List (List ℕ)) → Asks payload (verify_now g name token facts)
-    → answer_of terms (Payload payload) ≡ now_reply g token facts terms.moment (keys_of terms name)
+    → answer_of terms (Payload payload) ≡ unless_revoked (back terms name token) (now_reply g token facts terms.moment (keys_of terms name))
 now-answer terms g payload name token facts asks = answer_of-asked terms payload (verify_now g name token facts) asks
 
 pub now-then : (terms : Terms) (now then name token : List ℕ) (moment : ℕ) (facts : List (List ℕ)) → terms.moment ≡ Some moment
@@ -37,7 +43,7 @@ pub now-then : (terms : Terms) (now then name token : List ℕ) (moment : ℕ) (
     → answer_of terms (Payload now) ≡ answer_of terms (Payload then)
 now-then terms now then name token moment facts is asks_now asks_then =
     now-answer terms grant.Bare now name token facts asks_now
-    ∙ ap (λ (m : Option ℕ). now_reply grant.Bare token facts m (keys_of terms name)) is
+    ∙ ap (λ (m : Option ℕ). unless_revoked (back terms name token) (now_reply grant.Bare token facts m (keys_of terms name))) is
     ∙ sym (answer_of-asked terms then (verify name token moment facts) asks_then)
 
 pub now-no_clock : (terms : Terms) (g : Grant) (payload name token : List ℕ) (keys : Keys) (facts : List (List ℕ)) → terms.moment ≡ None
@@ -45,8 +51,9 @@ pub now-no_clock : (terms : Terms) (g : Grant) (payload name token : List ℕ) (
     → answer_of terms (Payload payload) ≡ refused refusal.NoClock
 now-no_clock terms g payload name token keys facts none found asks =
     now-answer terms g payload name token facts asks
-    ∙ ap (λ (m : Option ℕ). now_reply g token facts m (keys_of terms name)) none
-    ∙ ap (now_reply g token facts None) found
+    ∙ ap (λ (m : Option ℕ). unless_revoked (back terms name token) (now_reply g token facts m (keys_of terms name))) none
+    ∙ ap (λ (f : Option Keys). unless_revoked (back terms name token) (now_reply g token facts None f)) found
+    ∙ kept-refused (back terms name token) refusal.NoClock
 
 -- ---- whose the token is
 
@@ -74,7 +81,8 @@ pub owner-same : (terms : Terms) (bare owner name token : List ℕ) (facts : Lis
     → answer_of terms (Payload owner) ≡ with_owner (read_of token) (answer_of terms (Payload bare))
 owner-same terms bare owner name token facts asks_bare asks_owner =
     now-answer terms grant.Owner owner name token facts asks_owner
-    ∙ now-same token facts terms.moment (keys_of terms name)
+    ∙ ap (unless_revoked (back terms name token)) (now-same token facts terms.moment (keys_of terms name))
+    ∙ kept-with_owner (read_of token) (back terms name token) (now_reply grant.Bare token facts terms.moment (keys_of terms name))
     ∙ ap (with_owner (read_of token)) (sym (now-answer terms grant.Bare bare name token facts asks_bare))
 
 -- granted, and so told
@@ -106,7 +114,8 @@ pub owner-told : (terms : Terms) (payload name token identifier location : List 
     → IsOwners (keys_of terms name) token (record { moment = moment; facts = facts }) identifier location
 owner-told terms payload name token identifier location moment facts is asks e =
     owner-found (keys_of terms name) token facts moment identifier location
-    (ap (λ (m : Option ℕ). now_reply grant.Owner token facts m (keys_of terms name)) (sym is) ∙ sym (now-answer terms grant.Owner payload name token facts asks) ∙ e)
+    (kept-owner (back terms name token) _ identifier location
+    (ap (λ (m : Option ℕ). unless_revoked (back terms name token) (now_reply grant.Owner token facts m (keys_of terms name))) (sym is) ∙ sym (now-answer terms grant.Owner payload name token facts asks) ∙ e)).0
 
 -- what is granted is told so
 abbrev IsToldOwner : Reply → Type 0
@@ -120,10 +129,11 @@ owner-back found token facts moment g =
     (g.token.identifier, g.token.location, rw (g.has_keys, g.is_read, verdict) refl)
 
 pub owner-granted : (terms : Terms) (name token : List ℕ) (moment : ℕ) (facts : List (List ℕ)) → terms.moment ≡ Some moment
-    → IsToldOwner (answer_to terms (verify_now grant.Owner name token facts)) ↔ IsGranted (keys_of terms name) token (record { moment = moment; facts = facts })
+    → IsToldOwner (answer_to terms (verify_now grant.Owner name token facts)) ↔ (IsGranted (keys_of terms name) token (record { moment = moment; facts = facts }) × (back terms name token ≡ false))
 owner-granted terms name token moment facts is =
-    let same : answer_to terms (verify_now grant.Owner name token facts) ≡ now_reply grant.Owner token facts (Some moment) (keys_of terms name)
-    = ap (λ (m : Option ℕ). now_reply grant.Owner token facts m (keys_of terms name)) is in (
-      (λ told. (owner-found (keys_of terms name) token facts moment told.0 told.1 (sym same ∙ told.2)).0),
-      (λ g. subst IsToldOwner (sym same) (owner-back (keys_of terms name) token facts moment g)),
+    let same : answer_to terms (verify_now grant.Owner name token facts) ≡ unless_revoked (back terms name token) (now_reply grant.Owner token facts (Some moment) (keys_of terms name))
+    = ap (λ (m : Option ℕ). unless_revoked (back terms name token) (now_reply grant.Owner token facts m (keys_of terms name))) is in (
+      (λ told. let kept = kept-owner (back terms name token) _ told.0 told.1 (sym same ∙ told.2) in ((owner-found (keys_of terms name) token facts moment told.0 told.1 kept.0).0, kept.1)),
+      (λ (g, kept). let told = owner-back (keys_of terms name) token facts moment g in
+          (told.0, told.1, same ∙ ap (λ b. unless_revoked b (now_reply grant.Owner token facts (Some moment) (keys_of terms name))) kept ∙ told.2)),
     )

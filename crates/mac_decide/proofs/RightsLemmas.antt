@@ -2,7 +2,9 @@
 use Rattle.std.proofs.Common.{◌≡◌, ℕ, List, Option, Some, None, Result, Ok, Err, Bool, true, false, if◌then◌else◌, refl, sym, ap, ◌∙◌, subst}
 use Rattle.std.specs.Prelude.{option_and_then}
 use Rattle.std.specs.FinMap as map
-use Rattle.mac_keys.specs.Table.{Table, listed}
+use Rattle.mac_keys.specs.KeyTable.{Table}
+use Rattle.mac_keys.specs.Keys.{listed}
+use Rattle.mac_keys.specs.Revoked.{Revoked}
 use Rattle.mac_keys.specs.declared.keys.Keys.{Keys}
 use Rattle.mac_wire.specs.Reading.{request_of, key_name_of}
 use Rattle.mac_wire.specs.Request.{Asked, mint, attenuate, verify, verify_now, Asks, IsBytes}
@@ -20,11 +22,13 @@ use Rattle.mac_token.specs.Read.{read_of}
 use Rattle.mac_token.specs.declared.fault.TokenRefusal.{TokenRefusal}
 use Rattle.mac_decide.specs.Answer.{refused, told, keyed, timed, verdict_reply, request_reply, asked_reply, reply_of, keys_of, keys_for, basis_of, answer_of, IsAttenuate}
 use Rattle.mac_decide.specs.Reading.{verdict_of}
+use Rattle.mac_decide.specs.Revocation.{is_arrival_revoked}
 use Rattle.mac_decide.specs.Terms.{Terms, with_all_names}
 use Rattle.mac_decide.specs.declared.context.Context.{Context}
 use Rattle.mac_decide.specs.declared.job.Basis.{Basis}
 use Rattle.mac_decide.specs.declared.verdict.Verdict.{Verdict}
 use Rattle.mac_decide.specs.declared.verdict.Verdict.TheVariants.{Granted, BadSignature, Unsatisfied}
+use Rattle.mac_decide.proofs.RevocationLemmas.{kept-token}
 
 -- a mint that isn't allowed is refused
 pub mint-refused : (terms : Terms) (payload name location identifier : List ℕ) (form : TokenForm) (caveats : List (List ℕ)) → Asks payload (mint form name location identifier caveats)
@@ -61,9 +65,9 @@ asked-attenuates payload (mint form name location identifier caveats) basis byte
 asked-attenuates payload (attenuate form token caveats) basis bytes are asks none e =
     record { payload = payload; is_payload = refl; form = form; token = token; caveats = caveats; asks = asks-request_of payload (attenuate form token caveats) are asks }
 asked-attenuates payload (verify name token moment facts) basis bytes are asks none e =
-    absurd (keyed-no_token basis.keys _ bytes (λ keys. told-no_token grant.Bare (read_of token) keys (record { moment = moment; facts = facts }) bytes) e)
+    absurd (keyed-no_token basis.keys _ bytes (λ keys. told-no_token grant.Bare (read_of token) keys (record { moment = moment; facts = facts }) bytes) (kept-token basis.is_revoked _ bytes e))
 asked-attenuates payload (verify_now g name token facts) basis bytes are asks none e =
-    absurd (keyed-no_token basis.keys _ bytes (λ keys. timed-no_token basis.moment _ bytes (λ second. told-no_token g (read_of token) keys (record { moment = second; facts = facts }) bytes)) e)
+    absurd (keyed-no_token basis.keys _ bytes (λ keys. timed-no_token basis.moment _ bytes (λ second. told-no_token g (read_of token) keys (record { moment = second; facts = facts }) bytes)) (kept-token basis.is_revoked _ bytes e))
 
 found-attenuates : (payload : List ℕ) (q : Option Asked) (basis : Basis) (bytes : List ℕ) → IsBytes payload → request_of payload ≡ q → basis.may_mint ≡ false → asked_reply q basis ≡ reply.Token bytes → IsAttenuate (Payload payload)
 found-attenuates payload None basis bytes are asks none e = absurd (cc)
@@ -76,14 +80,15 @@ token-attenuates terms (Payload payload) bytes are none e = found-attenuates pay
 token-attenuates terms Oversize bytes are none e = absurd (cc)
 
 -- names that may not be used are as if no key had them
-same_found : (terms : Terms) (few : Table) → ((name : List ℕ) → map.get few name ≡ keys_of terms name) → (name : Option (List ℕ))
+same_found : (terms : Terms) (few : Table) → ((name : List ℕ) → map.get few.keys name ≡ keys_of terms name) → (name : Option (List ℕ))
     → option_and_then (keys_of terms) name ≡ option_and_then (keys_of (with_all_names few terms)) name
 same_found terms few same None = refl
 same_found terms few same (Some name) = sym (same name)
 
-pub names-narrow : (terms : Terms) (few : Table) (arrival : Arrival) → ((name : List ℕ) → map.get few name ≡ keys_of terms name)
+pub names-narrow : (terms : Terms) (few : Table) (arrival : Arrival) → few.revoked ≡ terms.table.revoked → ((name : List ℕ) → map.get few.keys name ≡ keys_of terms name)
     → answer_of terms arrival ≡ answer_of (with_all_names few terms) arrival
 unfolding answer_of
-names-narrow terms few Oversize same = refl
-names-narrow terms few (Payload payload) same =
-    ap (λ (found : Option Keys). reply_of (Payload payload) (record { keys = found; may_mint = terms.rights.may_mint; moment = terms.moment })) (same_found terms few same (key_name_of payload))
+names-narrow terms few Oversize list same = refl
+names-narrow terms few (Payload payload) list same =
+    ap (λ (found : Option Keys). reply_of (Payload payload) (record { keys = found; is_revoked = is_arrival_revoked terms.table.revoked (Payload payload); may_mint = terms.rights.may_mint; moment = terms.moment })) (same_found terms few same (key_name_of payload))
+    ∙ ap (λ (revoked : Revoked). reply_of (Payload payload) (record { keys = keys_for (with_all_names few terms) (Payload payload); is_revoked = is_arrival_revoked revoked (Payload payload); may_mint = terms.rights.may_mint; moment = terms.moment })) (sym list)

@@ -15,11 +15,11 @@ use Rattle.mac_wire.specs.declared.request.Grant.{Grant}
 use Rattle.mac_wire.specs.declared.request.Grant.TheVariants as grant
 use Rattle.mac_wire.specs.declared.request.Request.{Request}
 use Rattle.mac_wire.specs.declared.request.Request.TheVariants as request
-use Rattle.mac_decide.specs.Answer.{keyed, request_reply, timed, told, verdict_reply, verify_reply}
+use Rattle.mac_decide.specs.Answer.{keyed, request_reply, tells_minted, timed, told, verdict_reply, verify_reply}
 use Rattle.mac_decide.specs.Asking.{asking_basis, asking_reply}
 use Rattle.mac_decide.specs.Prepared.{reply_to_job}
 use Rattle.mac_decide.specs.Reading.{caveats_verdict, is_minted, verdict_of}
-use Rattle.mac_decide.specs.Seen.{AreReady, is_minted_read, is_minted_text, tells_minted}
+use Rattle.mac_decide.specs.Seen.{AreReady, is_minted_read, is_minted_text}
 use Rattle.mac_decide.specs.Verdict.{IsFirstUnsatisfied, Satisfied, found_verdict}
 use Rattle.mac_decide.specs.Viewed.{viewed}
 use Rattle.mac_decide.specs.declared.asking.Asking.{Asking}
@@ -27,6 +27,7 @@ use Rattle.mac_decide.specs.declared.context.Context.{Context}
 use Rattle.mac_decide.specs.declared.job_view.JobView.{JobView}
 use Rattle.mac_decide.specs.declared.looking.Sight.{Sight}
 use Rattle.mac_decide.specs.declared.verdict.Verdict.TheVariants.{BadSignature}
+use Rattle.mac_decide.proofs.RevocationLemmas.{kept-minted}
 use Rattle.mac_decide.proofs.VerdictLemmas.{found-caveats}
 
 -- the verdict on a token that is minted is the one on its caveats
@@ -41,7 +42,7 @@ tested g x t true e = refl
 tested g x t false e = e
 
 -- a reply to a verify that tells so is given to a token that is minted
-read-minted : (g : Grant) (x : Context) (keys : Keys) (r : Result TokenParts TokenRefusal)
+pub read-minted : (g : Grant) (x : Context) (keys : Keys) (r : Result TokenParts TokenRefusal)
     → tells_minted (told r (λ t. verdict_reply g t (verdict_of (listed keys) t x))) ≡ true → is_minted_read keys r ≡ true
 unfolding verdict_of
 read-minted g x keys (Ok t) e = tested g x t (is_minted (listed keys) t) e
@@ -54,7 +55,7 @@ verify-minted a key token moment facts keys r asks named due e =
     let x : Context = record { moment = moment; facts = facts } in
     read-minted grant.Bare x keys.now (read_of token.now)
     (subst (λ (o : Option (Bor Keys)). tells_minted (keyed (option_copied o) (verify_reply grant.Bare token.now x)) ≡ true) named
-    (subst (λ (q : Request). tells_minted (request_reply (asked q) (asking_basis a)) ≡ true) asks (subst (λ s. tells_minted s ≡ true) due e)))
+    (kept-minted _ _ (subst (λ (q : Request). tells_minted (request_reply (asked q) (asking_basis a)) ≡ true) asks (subst (λ s. tells_minted s ≡ true) due e))))
 
 -- the same at the clock's moment
 timed-minted : (g : Grant) (token : List ℕ) (facts : List (List ℕ)) (keys : Keys) (moment : Option ℕ)
@@ -67,7 +68,7 @@ pub now-minted : (a : Asking) (g : Grant) (key token : Bor (List ℕ)) (facts : 
 now-minted a g key token facts keys r asks named due e =
     timed-minted g token.now facts keys.now a.moment
     (subst (λ (o : Option (Bor Keys)). tells_minted (keyed (option_copied o) (λ k. timed a.moment (λ at. verify_reply g token.now (record { moment = at; facts = facts }) k))) ≡ true) named
-    (subst (λ (q : Request). tells_minted (request_reply (asked q) (asking_basis a)) ≡ true) asks (subst (λ s. tells_minted s ≡ true) due e)))
+    (kept-minted _ _ (subst (λ (q : Request). tells_minted (request_reply (asked q) (asking_basis a)) ≡ true) asks (subst (λ s. tells_minted s ≡ true) due e))))
 
 -- where nothing is left, what is prepared is ready
 pub none-left : (sights rest : List Sight) (came : List Reply) → length rest ≡ 0 → ((others : List Reply) → AreReady rest others → AreReady sights (came ++ others)) → AreReady sights came

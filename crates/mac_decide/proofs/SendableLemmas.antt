@@ -40,6 +40,7 @@ use Rattle.mac_decide.specs.declared.job.Job.{Job}
 use Rattle.mac_decide.specs.declared.verdict.Verdict.{Verdict}
 use Rattle.mac_decide.specs.declared.verdict.Verdict.TheVariants.{Granted, BadSignature, Unsatisfied}
 use Rattle.mac_decide.proofs.ReadingLemmas.{each_passes}
+use Rattle.mac_decide.proofs.RevocationLemmas.{kept-sent}
 use Rattle.mac_decide.proofs.VerdictLemmas.{verdict_of-is}
 
 -- a refusal can be sent
@@ -143,11 +144,11 @@ request-sent (mint form name location identifier caveats) basis =
 request-sent (attenuate form token caveats) basis = told-sent (read_of token) (λ t. token_reply form (add t caveats)) (λ t e. token-sent form (add t caveats))
 request-sent (verify name token moment facts) basis =
     let x : Context = record { moment = moment; facts = facts } in
-    keyed-sent basis.keys (verify_reply grant.Bare token x) (verify-sent grant.Bare token x)
+    kept-sent basis.is_revoked _ (keyed-sent basis.keys (verify_reply grant.Bare token x) (verify-sent grant.Bare token x))
 request-sent (verify_now g name token facts) basis =
     let tell : Keys → ℕ → Reply = λ keys second. verify_reply g token (record { moment = second; facts = facts }) keys in
-    keyed-sent basis.keys (λ keys. timed basis.moment (tell keys))
-    (λ keys. timed-sent basis.moment (tell keys) (λ second. verify-sent g token (record { moment = second; facts = facts }) keys))
+    kept-sent basis.is_revoked _ (keyed-sent basis.keys (λ keys. timed basis.moment (tell keys))
+    (λ keys. timed-sent basis.moment (tell keys) (λ second. verify-sent g token (record { moment = second; facts = facts }) keys)))
 
 asked-sent : (asked : Option Asked) (basis : Basis) → IsReply (asked_reply asked basis)
 asked-sent None basis = refused-sent refusal.BadRequest

@@ -1,7 +1,8 @@
 -- The reply to each arrival (this project's own).
-use Rattle.std.specs.Prelude.{◌≡◌, ℕ, List, Option, Some, None, option_and_then, Result, Ok, Err, if◌then◌else◌}
+use Rattle.std.specs.Prelude.{◌≡◌, ℕ, List, Bool, true, false, Option, Some, None, option_and_then, Result, Ok, Err, if◌then◌else◌}
 use Rattle.std.specs.FinMap as map
-use Rattle.mac_keys.specs.Table.{Table, listed}
+use Rattle.mac_keys.specs.KeyTable.{Table}
+use Rattle.mac_keys.specs.Keys.{listed}
 use Rattle.mac_keys.specs.declared.keys.Keys.{Keys}
 use Rattle.mac_token.specs.RawToken.{TokenParts}
 use Rattle.mac_token.specs.Limits.{token_or_limit}
@@ -25,6 +26,7 @@ use Rattle.mac_wire.specs.declared.request.TokenForm.{TokenForm}
 use Rattle.mac_wire.specs.declared.request.TokenForm.TheVariants as asked_form
 use Rattle.mac_decide.specs.Minted.{minted, add}
 use Rattle.mac_decide.specs.Reading.{verdict_of}
+use Rattle.mac_decide.specs.Revocation.{is_arrival_revoked, is_revoked}
 use Rattle.mac_decide.specs.Terms.{Terms, full, is_allowed}
 use Rattle.mac_decide.specs.Verdict.{Accepts}
 use Rattle.mac_decide.specs.declared.context.Context.{Context}
@@ -84,6 +86,20 @@ verdict_reply g t verdict.Granted = grant_reply g t
 verdict_reply g t verdict.BadSignature = refused refusal.BadSignature
 verdict_reply g t (verdict.Unsatisfied index) = reply.Unsatisfied index
 
+-- whether the reply to a verify tells that one of the keys gives the signature
+abbrev pub tells_minted : Reply → Bool
+tells_minted reply.Granted = true
+tells_minted (reply.GrantedTo identifier location) = true
+tells_minted (reply.Unsatisfied index) = true
+tells_minted (reply.Token bytes) = false
+tells_minted (reply.Refused reason) = false
+
+-- the reply, where it may be about a token that was taken back: then what would tell that a key gives
+-- the signature is refused, and what is refused stays so
+abbrev pub unless_revoked : Bool → Reply → Reply
+unless_revoked false r = r
+unless_revoked true r = if tells_minted r then refused refusal.Revoked else r
+
 -- what is told under the keys of a name, if it has any
 abbrev pub keyed : Option Keys → (Keys → Reply) → Reply
 keyed None tell = refused refusal.UnknownKey
@@ -100,7 +116,8 @@ verify_reply g token x keys =
     told (read_of token) (λ t. verdict_reply g t (verdict_of (listed keys) t x))
 
 -- the reply to a request, on its basis: whether it may mint is asked before its name has a key; the
--- first key mints, and a verify takes either; the clock's moment stands for one that is asked for
+-- first key mints, and a verify takes either; the clock's moment stands for one that is asked for; a
+-- token that was taken back is refused behind its signature, before its caveats
 abbrev pub request_reply : Asked → Basis → Reply
 request_reply (mint form name location identifier caveats) basis =
     if basis.may_mint
@@ -110,11 +127,13 @@ request_reply (mint form name location identifier caveats) basis =
 request_reply (attenuate form token caveats) basis =
     told (read_of token) (λ t. token_reply form (add t caveats))
 request_reply (verify name token moment facts) basis =
-    keyed basis.keys (verify_reply grant.Bare token (record { moment = moment; facts = facts }))
+    unless_revoked basis.is_revoked
+    (keyed basis.keys (verify_reply grant.Bare token (record { moment = moment; facts = facts })))
 request_reply (verify_now g name token facts) basis =
-    keyed basis.keys
+    unless_revoked basis.is_revoked
+    (keyed basis.keys
     (λ keys. timed basis.moment
-    (λ moment. verify_reply g token (record { moment = moment; facts = facts }) keys))
+    (λ moment. verify_reply g token (record { moment = moment; facts = facts }) keys)))
 
 -- the reply to what a payload asks, if it asks something
 abbrev pub asked_reply : Option Asked → Basis → Reply
@@ -142,7 +161,7 @@ pub record IsGranted (keys : Option Keys) (bytes : List ℕ) (x : Context) : Typ
 -- the keys of a name: the table's, where the name may be used
 abbrev pub keys_of : Terms → List ℕ → Option Keys
 keys_of terms name =
-    if is_allowed terms.rights.names name then map.get terms.table name else None
+    if is_allowed terms.rights.names name then map.get terms.table.keys name else None
 
 -- the keys of the name in an arrival's front
 abbrev pub keys_for : Terms → Arrival → Option Keys
@@ -158,11 +177,15 @@ pub record IsAttenuate (a : Arrival) : Type 0 where
   pub caveats : List (List ℕ)
   pub asks : Asks payload (attenuate form token caveats)
 
--- what an arrival is answered on: the keys of the name in its front, whether it may mint, and the
--- moment
+-- what an arrival is answered on: the keys of the name in its front, whether its token was taken
+-- back, whether it may mint, and the moment
 abbrev pub basis_of : Terms → Arrival → Basis
-basis_of terms a =
-    record { keys = keys_for terms a; may_mint = terms.rights.may_mint; moment = terms.moment }
+basis_of terms a = record {
+  keys = keys_for terms a;
+  is_revoked = is_arrival_revoked terms.table.revoked a;
+  may_mint = terms.rights.may_mint;
+  moment = terms.moment;
+}
 
 -- the answer to an arrival under these terms
 unfoldable pub answer_of : Terms → Arrival → Reply
@@ -172,6 +195,7 @@ answer_of terms a = reply_of a (basis_of terms a)
 abbrev pub asked_basis : Terms → Asked → Basis
 asked_basis terms request = record {
   keys = option_and_then (keys_of terms) (key_of request);
+  is_revoked = is_revoked terms.table.revoked request;
   may_mint = terms.rights.may_mint;
   moment = terms.moment;
 }

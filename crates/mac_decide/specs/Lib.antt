@@ -5,8 +5,10 @@ pub mod Folding
 pub mod Minted
 pub mod Prepared
 pub mod Reading
+pub mod Revocation
 pub mod SameJobs
 pub mod Seen
+pub mod Telling
 pub mod Terms
 pub mod Time
 pub mod Verdict

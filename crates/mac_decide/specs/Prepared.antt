@@ -11,9 +11,10 @@ use Rattle.mac_token.specs.declared.fault.TokenFault.{TokenFault}
 use Rattle.mac_token.specs.declared.form.Form.{Form}
 use Rattle.mac_wire.specs.declared.reply.Reply.{Reply}
 use Rattle.mac_wire.specs.declared.reply.Reply.TheVariants.{Token as TokenReply}
-use Rattle.mac_decide.specs.Answer.{reply_of, told, verdict_reply}
+use Rattle.mac_decide.specs.Answer.{reply_of, told}
 use Rattle.mac_decide.specs.Folding.{end_of}
 use Rattle.mac_decide.specs.Reading.{caveats_verdict, is_minted}
+use Rattle.mac_decide.specs.Telling.{verdict_told}
 use Rattle.mac_decide.specs.declared.context.Context.{Context}
 use Rattle.mac_decide.specs.declared.job.Job.{Job}
 use Rattle.mac_decide.specs.declared.prepared.Prepared.{Prepared}
@@ -53,7 +54,7 @@ verdict_on q signature = verdict_by signature q.second q.token q.context
 
 -- what a verify is answered, by the same
 abbrev pub question_reply : Question → List ℕ → Reply
-question_reply q signature = verdict_reply q.grant q.token (verdict_on q signature)
+question_reply q signature = verdict_told q.telling q.token (verdict_on q signature)
 
 -- the reply, once the signature is there
 abbrev pub reply_by : Purpose → List ℕ → Reply

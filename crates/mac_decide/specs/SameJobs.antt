@@ -43,19 +43,26 @@ same_keys test tells k l e =
     let second = same_options test tells k.second l.second both.1 in
     λ i. record { first = first i; second = second i }
 
--- bases whose keys, leave to mint and moment are found equal are the same
+-- bases whose keys, two tests and moment are found equal are the same
 pub same_bases : (keys : Keys → Keys → Bool) (leaves : Bool → Bool → Bool) (times : ℕ → ℕ → Bool)
     → TellsApart keys → TellsApart leaves → TellsApart times → (a b : Basis)
-    → (option_eq keys a.keys b.keys
-    && (leaves a.may_mint b.may_mint && option_eq times a.moment b.moment)) ≡ true → a ≡ b
+    → (option_eq keys a.keys b.keys && (leaves a.is_revoked b.is_revoked
+    && (leaves a.may_mint b.may_mint && option_eq times a.moment b.moment))) ≡ true → a ≡ b
 same_bases keys leaves times keys_tell leaves_tell times_tell a b e =
     let more = and_parts (option_eq keys a.keys b.keys) _ e in
     let alike = option_eq times a.moment b.moment in
-    let last = and_parts (leaves a.may_mint b.may_mint) alike more.1 in
+    let others = and_parts (leaves a.is_revoked b.is_revoked) _ more.1 in
+    let last = and_parts (leaves a.may_mint b.may_mint) alike others.1 in
     let same = same_options keys keys_tell a.keys b.keys more.0 in
+    let is_revoked = leaves_tell a.is_revoked b.is_revoked others.0 in
     let may_mint = leaves_tell a.may_mint b.may_mint last.0 in
     let moment = same_options times times_tell a.moment b.moment last.1 in
-    λ i. record { keys = same i; may_mint = may_mint i; moment = moment i }
+    λ i. record {
+      keys = same i;
+      is_revoked = is_revoked i;
+      may_mint = may_mint i;
+      moment = moment i;
+    }
 
 -- jobs whose arrivals and bases are found equal are the same
 pub same_jobs : (arrivals : Arrival → Arrival → Bool) (bases : Basis → Basis → Bool)

@@ -1,7 +1,7 @@
 -- Which tokens need no signature computed again (this project's own).
 use Rattle.std.specs.Prelude.{◌≡◌, ℕ, Bool, true, false, List, Result, Ok, Err}
 use Rattle.std.specs.List.{AllZip}
-use Rattle.mac_keys.specs.Table.{listed}
+use Rattle.mac_keys.specs.Keys.{listed}
 use Rattle.mac_keys.specs.declared.keys.Keys.{Keys}
 use Rattle.mac_token.specs.RawToken.{TokenParts}
 use Rattle.mac_token.specs.Read.{read_of}
@@ -40,11 +40,3 @@ IsReady (sight.Asked asking) came = came ≡ asking_reply asking
 -- the same of each
 abbrev pub AreReady : List Sight → List Reply → Type 0
 AreReady = AllZip IsReady
-
--- whether the reply to a verify tells that one of the keys gives the signature
-abbrev pub tells_minted : Reply → Bool
-tells_minted reply.Granted = true
-tells_minted (reply.GrantedTo identifier location) = true
-tells_minted (reply.Unsatisfied index) = true
-tells_minted (reply.Token bytes) = false
-tells_minted (reply.Refused reason) = false

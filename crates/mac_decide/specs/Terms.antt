@@ -2,11 +2,11 @@
 use Rattle.std.specs.Prelude.{ℕ, List, Option, Some, None, Bool, true}
 use Rattle.std.specs.List.{list_any}
 use Rattle.std.specs.Str.{bytes_eq}
-use Rattle.mac_keys.specs.Table.{Table}
+use Rattle.mac_keys.specs.KeyTable.{Table, bare}
 use Rattle.mac_decide.specs.declared.rights.Rights.{Rights}
 use Rattle.mac_decide.specs.declared.rights.Terms.{Terms as LentTerms}
 
--- the key table that is up, what the connection's socket allows, and the moment, in seconds since
+-- the key table that is up, with what was taken back, what the connection's socket allows, and the moment, in seconds since
 -- 1970, if the clock tells one
 pub record Terms : Type 0 where
   pub table : Table
@@ -25,6 +25,10 @@ all_rights = record { may_mint = true; names = None }
 -- a table under which everything is allowed, at a moment
 abbrev pub full : Table → Option ℕ → Terms
 full table moment = record { table = table; rights = all_rights; moment = moment }
+
+-- the same terms, where nothing was taken back
+abbrev pub without_list : Terms → Terms
+without_list terms = record terms { table = bare terms.table.keys }
 
 -- the same terms over another table, but with all of its names
 abbrev pub with_all_names : Table → Terms → Terms

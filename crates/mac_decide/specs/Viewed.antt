@@ -2,6 +2,7 @@
 use Rattle.std.specs.Option.{option_copied}
 use Rattle.mac_wire.specs.declared.arrival.Arrival.{Arrival}
 use Rattle.mac_wire.specs.declared.arrival.Arrival.TheVariants as arrival
+use Rattle.mac_decide.specs.Revocation.{asked_in, asked_revoked}
 use Rattle.mac_decide.specs.declared.job.Basis.{Basis}
 use Rattle.mac_decide.specs.declared.job.Job.{Job}
 use Rattle.mac_decide.specs.declared.job_view.ArrivalView.{ArrivalView}
@@ -15,8 +16,12 @@ arrival_of view.Oversize = arrival.Oversize
 
 -- what it is answered on
 abbrev pub viewed_basis : JobView → Basis
-viewed_basis job =
-    record { keys = option_copied job.keys; may_mint = job.may_mint; moment = job.moment }
+viewed_basis job = record {
+  keys = option_copied job.keys;
+  is_revoked = asked_revoked job.revoked (asked_in (arrival_of job.arrival));
+  may_mint = job.may_mint;
+  moment = job.moment;
+}
 
 -- the job whose arrival lies there
 abbrev pub viewed : JobView → Job

@@ -7,9 +7,10 @@ ghost use Rattle.mac_decide.specs.Answer.{asked_basis};
 ghost use Rattle.mac_decide.specs.Asking.{asking_basis};
 ghost use Rattle.mac_decide.specs.Terms.{lent_terms};
 
+use crate::revocation::{Revocation, Telling};
 use crate::rights::Terms;
 use mac_keys::Keys;
-use mac_wire::Request;
+use mac_wire::{Grant, Request};
 
 /// A request, where its parts lie, with what it is answered on: the keys are lent.
 #[derive(Drop)]
@@ -17,6 +18,8 @@ pub struct Asking<'a> {
     pub request: Request<'a>,
     /// The keys of its name; none where the table has none for it, and where it may not be used.
     pub keys: Option<&'a Keys>,
+    /// Whether its token was taken back.
+    pub revoked: Revocation<'a>,
     /// Whether a mint is answered.
     pub may_mint: bool,
     /// The moment, in seconds since 1970, if the clock told one.
@@ -37,8 +40,22 @@ impl<'a> Asking<'a> {
         Asking {
             request,
             keys,
+            revoked: Revocation::In(&terms.table.revoked),
             may_mint: terms.rights.may_mint,
             moment: terms.moment,
+        }
+    }
+
+    /// What is told of a verify beside its verdict, under the name of its key.
+    pub(crate) fn telling(&self, grant: Grant, name: &'a [u8]) -> Telling<'a>
+        ensures grant { result.grant ≡ grant }
+        ensures name { result.name.now ≡ name.now }
+        ensures revoked { result.revoked ≡ self.now.revoked }
+    {
+        Telling {
+            grant,
+            name,
+            revoked: self.revoked,
         }
     }
 }

@@ -7,6 +7,7 @@ ghost use Rattle.mac_decide.specs.Viewed.{arrival_of, viewed};
 ghost use Rattle.mac_decide.specs.World.{job_under};
 
 use crate::job::{Job, keys_named};
+use crate::revocation::Revocation;
 use crate::rights::Terms;
 use mac_keys::Keys;
 use mac_wire::Arrival;
@@ -37,6 +38,7 @@ impl<'a> ArrivalView<'a> {
 pub struct JobView<'a> {
     pub arrival: ArrivalView<'a>,
     pub keys: Option<&'a Keys>,
+    pub revoked: Revocation<'a>,
     pub may_mint: bool,
     pub moment: Option<u64>,
 }
@@ -49,6 +51,7 @@ impl<'a> JobView<'a> {
         JobView {
             arrival: ArrivalView::of(&job.arrival),
             keys: job.basis.keys.as_ref(),
+            revoked: Revocation::Known(job.basis.is_revoked),
             may_mint: job.basis.may_mint,
             moment: job.basis.moment,
         }
@@ -62,6 +65,7 @@ impl Default for JobView<'_> {
         JobView {
             arrival: ArrivalView::Oversize,
             keys: None,
+            revoked: Revocation::Known(false),
             may_mint: false,
             moment: None,
         }
@@ -75,6 +79,7 @@ pub fn job_view_of<'a>(terms: Terms<'a>, payload: &'a [u8]) -> JobView<'a>
     JobView {
         arrival: ArrivalView::Payload(payload),
         keys: keys_named(terms, payload),
+        revoked: Revocation::In(&terms.table.revoked),
         may_mint: terms.rights.may_mint,
         moment: terms.moment,
     }

@@ -9,7 +9,9 @@ ghost use Rattle.mac_token.specs.RawToken.{TokenParts, IsToken};
 ghost use Rattle.mac_token.specs.Read.{read_of};
 ghost use Rattle.mac_decide.specs.declared.context.Context.{Context as PlainContext};
 ghost use Rattle.mac_decide.specs.declared.verdict.Verdict.{Verdict as PlainVerdict};
-ghost use Rattle.mac_keys.specs.Table.{Table, listed};
+ghost use Rattle.mac_keys.specs.KeyTable.{Table};
+ghost use Rattle.mac_keys.specs.Revoked.{is_listed, nothing};
+ghost use Rattle.mac_keys.specs.Keys.{listed};
 ghost use Rattle.mac_keys.specs.declared.keys.Keys.{Keys};
 ghost use Rattle.mac_wire.specs.Reply.{IsReply};
 ghost use Rattle.mac_wire.specs.Request.{Asked, Asks, IsBytes, mint, attenuate, verify, verify_now};
@@ -20,10 +22,11 @@ ghost use Rattle.mac_wire.specs.declared.reply.Reply.{Reply as PlainReply};
 ghost use Rattle.mac_decide.specs.declared.job.Basis.{Basis as PlainBasis};
 ghost use Rattle.mac_decide.specs.declared.job.Job.{Job as PlainJob};
 ghost use Rattle.mac_decide.specs.World.{job_under};
-ghost use Rattle.mac_decide.specs.Answer.{reply_of, answer_of, answer_to, keys_of, refused, with_owner, IsAttenuate, IsGranted};
+ghost use Rattle.mac_decide.specs.Answer.{reply_of, answer_of, answer_to, basis_of, keys_of, refused, with_owner, IsAttenuate, IsGranted};
+ghost use Rattle.mac_decide.specs.Revocation.{is_listed_read};
 ghost use Rattle.mac_decide.specs.Minted.{Signs, Minted, minted, add};
 ghost use Rattle.mac_decide.specs.Reading.{limit_of, since_of, verdict_of};
-ghost use Rattle.mac_decide.specs.Terms.{Terms, with_all_names};
+ghost use Rattle.mac_decide.specs.Terms.{Terms, with_all_names, without_list};
 ghost use Rattle.mac_decide.specs.Time.{IsTimeLimit, IsLowerBound};
 ghost use Rattle.mac_decide.specs.Verdict.{Satisfied, Accepts, IsVerdict};
 
@@ -98,12 +101,62 @@ pub fn bounds_begin_and_end()
 {}
 
 /// A verify is granted exactly where its name has keys under its terms, its bytes spell a token,
-/// and those keys accept the token at its moment with its facts.
+/// those keys accept the token at its moment with its facts, and it was not taken back.
 pub fn verify_is_granted()
     ensures { (terms : Terms) (payload name token : List ℕ) (moment : ℕ) (facts : List (List ℕ))
         → Asks payload (verify name token moment facts)
         → (answer_of terms (Arrival.Payload payload) ≡ Reply.Granted)
-        ↔ IsGranted (keys_of terms name) token (record { moment = moment; facts = facts }) }
+        ↔ (IsGranted (keys_of terms name) token (record { moment = moment; facts = facts })
+        × (is_listed_read terms.table.revoked name (read_of token) ≡ false)) }
+{}
+
+/// Where nothing was taken back, each reply is what it is with no list at all.
+pub fn empty_list_changes_nothing()
+    ensures arrival { (terms : Terms) (arrival : PlainArrival) → terms.table.revoked ≡ nothing
+        → answer_of terms arrival
+        ≡ reply_of arrival (record (basis_of terms arrival) { is_revoked = false }) }
+    ensures request { (terms : Terms) (request : Asked) → terms.table.revoked ≡ nothing
+        → answer_to terms request ≡ answer_to (without_list terms) request }
+{}
+
+/// Mints and attenuates are answered as with no list, whatever was taken back.
+pub fn lists_are_for_verifies()
+    ensures mint { (terms : Terms) (form : TokenForm) (name location identifier : List ℕ)
+        (caveats : List (List ℕ)) → answer_to terms (mint form name location identifier caveats)
+        ≡ answer_to (without_list terms) (mint form name location identifier caveats) }
+    ensures attenuate { (terms : Terms) (form : TokenForm) (token : List ℕ)
+        (caveats : List (List ℕ)) → answer_to terms (attenuate form token caveats)
+        ≡ answer_to (without_list terms) (attenuate form token caveats) }
+{}
+
+/// A verify is granted exactly where it is with no list, and its token was not taken back.
+pub fn revoked_is_not_granted()
+    ensures { (terms : Terms) (name token : List ℕ) (moment : ℕ) (facts : List (List ℕ))
+        → (answer_to terms (verify name token moment facts) ≡ Reply.Granted)
+        ↔ ((answer_to (without_list terms) (verify name token moment facts) ≡ Reply.Granted)
+        × (is_listed_read terms.table.revoked name (read_of token) ≡ false)) }
+{}
+
+/// A token that was taken back is refused as revoked exactly where one of the name's keys gives its
+/// signature, whatever its caveats: who has no such token isn't told what was taken back.
+pub fn revoked_is_told_behind_the_signature()
+    ensures told { (terms : Terms) (name token : List ℕ) (moment : ℕ) (facts : List (List ℕ))
+        → answer_to terms (verify name token moment facts) ≡ refused Refusal.Revoked
+        → (keys : Keys) × (t : TokenParts) × (keys_of terms name ≡ Some keys)
+        × (read_of token ≡ Ok t) × Minted (listed keys) t
+        × (is_listed terms.table.revoked name t.identifier ≡ true) }
+    ensures refused { (terms : Terms) (name token : List ℕ) (moment : ℕ) (facts : List (List ℕ))
+        (keys : Keys) (t : TokenParts) → keys_of terms name ≡ Some keys → read_of token ≡ Ok t
+        → Minted (listed keys) t → is_listed terms.table.revoked name t.identifier ≡ true
+        → answer_to terms (verify name token moment facts) ≡ refused Refusal.Revoked }
+{}
+
+/// A token that was narrowed is taken back with the one that it was made of: the identifier stays.
+pub fn narrowed_follow_their_first()
+    ensures { (terms : Terms) (name old new : List ℕ) (t : TokenParts) (caveats : List (List ℕ))
+        → read_of old ≡ Ok t → read_of new ≡ Ok (add t caveats)
+        → is_listed_read terms.table.revoked name (read_of new)
+        ≡ is_listed_read terms.table.revoked name (read_of old) }
 {}
 
 /// A request is answered as the payload that asks it is, whatever way it came by: so each law of
@@ -121,7 +174,8 @@ pub fn owner_is_granted()
         → ((identifier : List ℕ) × (location : List ℕ)
         × (answer_to terms (verify_now Grant.Owner name token facts)
         ≡ Reply.GrantedTo identifier location))
-        ↔ IsGranted (keys_of terms name) token (record { moment = moment; facts = facts }) }
+        ↔ (IsGranted (keys_of terms name) token (record { moment = moment; facts = facts })
+        × (is_listed_read terms.table.revoked name (read_of token) ≡ false)) }
 {}
 
 /// A verify at the clock is answered as one at the moment of its terms, so that each law of the one
@@ -181,11 +235,12 @@ pub fn who_may_not_mint_has_no_token_minted()
 {}
 
 /// Names that a connection may not use are as if no key had them: where a table has the keys of the
-/// others alone, all is answered as under it with no name forbidden. So an answer doesn't tell
+/// others alone, and what was taken back, all is answered as under it with no name forbidden. So an answer doesn't tell
 /// whether such a name has a key.
 pub fn other_names_have_no_keys()
     ensures { (terms : Terms) (few : Table) (arrival : PlainArrival)
-        → ((name : List ℕ) → map.get few name ≡ keys_of terms name)
+        → few.revoked ≡ terms.table.revoked
+        → ((name : List ℕ) → map.get few.keys name ≡ keys_of terms name)
         → answer_of terms arrival ≡ answer_of (with_all_names few terms) arrival }
 {}
 

@@ -5,6 +5,7 @@ ghost use Rattle.mac_wire.specs.Reading.{request_of};
 ghost use Rattle.mac_decide.specs.Answer as answers;
 ghost use Rattle.mac_decide.specs.Asking.{asking_reply};
 ghost use Rattle.mac_decide.specs.Prepared.{reply_to_job};
+ghost use Rattle.mac_decide.specs.Revocation.{asked_revoked};
 ghost use Rattle.mac_decide.specs.Seen.{due_of};
 ghost use Rattle.mac_decide.specs.Viewed.{viewed, viewed_basis};
 
@@ -12,6 +13,7 @@ use crate::asking::Asking;
 use crate::context::Context;
 use crate::job_view::{ArrivalView, JobView};
 use crate::reply::refused;
+use crate::revocation::Telling;
 use crate::rooms::RUN;
 use crate::seen::SeenTokens;
 use arrayvec::ArrayVec;
@@ -87,13 +89,16 @@ fn look_at_payload<'a>(
     job: &JobView<'a>,
 ) -> Result<Sight<'a>, NoMemory>
     ensures { IfOk result (λ sight. due_of sight
-        ≡ answers.asked_reply (request_of payload.now) (viewed_basis job.now)) }
+        ≡ answers.asked_reply (request_of payload.now) (record (viewed_basis job.now) {
+          is_revoked = asked_revoked job.now.revoked (request_of payload.now);
+        })) }
 {
     match parse_request(payload) {
         Some(request) => {
             let asking = Asking {
                 request,
                 keys: job.keys,
+                revoked: job.revoked,
                 may_mint: job.may_mint,
                 moment: job.moment,
             };
@@ -127,30 +132,32 @@ fn tell(seen: &SeenTokens, alloc: Global, asking: &Asking<'_>) -> Result<Option<
     match (&asking.request, asking.keys, asking.moment) {
         (
             Request::Verify {
+                key,
                 token,
                 moment,
                 facts,
-                ..
             },
             Some(keys),
             _,
         ) => {
             let facts = facts.walk();
             let moment = *moment;
-            seen.reply(alloc, keys, token, Grant::Bare, &Context { moment, facts })
+            let telling = asking.telling(Grant::Bare, key);
+            seen.reply(alloc, keys, token, telling, &Context { moment, facts })
         }
         (
             Request::VerifyNow {
                 grant,
+                key,
                 token,
                 facts,
-                ..
             },
             Some(keys),
             Some(moment),
         ) => {
             let facts = facts.walk();
-            seen.reply(alloc, keys, token, *grant, &Context { moment, facts })
+            let telling = asking.telling(*grant, key);
+            seen.reply(alloc, keys, token, telling, &Context { moment, facts })
         }
         _ => Ok(None),
     }

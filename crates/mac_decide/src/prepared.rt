@@ -8,16 +8,17 @@ ghost use Rattle.mac_decide.specs.Prepared.{comes_to, ends_in, left_of, question
 use crate::context::Context;
 use crate::folding::Folding;
 use crate::reply::{signed_reply, verdict_reply};
+use crate::revocation::Telling;
 use crate::verdict_view::verdict_by;
 use mac_hmac::{RootKey, Sig, same};
 use mac_token::{Draft, TokenView};
-use mac_wire::{Grant, NoMemory, Reply};
+use mac_wire::{NoMemory, Reply};
 use std::alloc::Global;
 
 /// What a verify asks, but for the name's first key.
 #[derive(Drop)]
 pub struct Question<'a> {
-    pub grant: Grant,
+    pub telling: Telling<'a>,
     pub second: Option<RootKey>,
     pub token: TokenView<'a>,
     pub context: Context<'a>,
@@ -50,7 +51,9 @@ impl<'a> Question<'a> {
         let token = &self.token;
         let verdict = verdict_by(signature, self.second, token, &self.context);
         let identifier = token.identifier();
-        verdict_reply(alloc, self.grant, identifier, token.location(), verdict)
+        let grant = self.telling.grant;
+        let reply = verdict_reply(alloc, grant, identifier, token.location(), verdict)?;
+        Ok(self.telling.keep(reply, identifier))
     }
 }
 

@@ -55,31 +55,33 @@ pub(crate) fn prepare<'a>(
             caveats,
         } => prepare_attenuate(room, alloc, *form, token, caveats.walk()),
         Request::Verify {
+            key,
             token,
             moment,
             facts,
-            ..
         } => match asking.keys {
             Some(keys) => {
                 let facts = facts.walk();
                 let moment = *moment;
                 let context = Context { moment, facts };
-                prepare_verify(room, alloc, Grant::Bare, keys, token, context)
+                let telling = asking.telling(Grant::Bare, key);
+                prepare_verify(room, alloc, telling, keys, token, context)
             }
             None => Ok(told(Refusal::UnknownKey)),
         },
         Request::VerifyNow {
             grant,
+            key,
             token,
             facts,
-            ..
         } => match (asking.keys, asking.moment) {
             (None, _) => Ok(told(Refusal::UnknownKey)),
             (Some(_), None) => Ok(told(Refusal::NoClock)),
             (Some(keys), Some(moment)) => {
                 let facts = facts.walk();
                 let context = Context { moment, facts };
-                prepare_verify(room, alloc, *grant, keys, token, context)
+                let telling = asking.telling(*grant, key);
+                prepare_verify(room, alloc, telling, keys, token, context)
             }
         },
     }

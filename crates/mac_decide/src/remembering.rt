@@ -1,8 +1,8 @@
 //! What is remembered of a verify, for those of the same token.
 
 ghost use Rattle.std.specs.Prelude.{◌≡◌};
+ghost use Rattle.mac_decide.specs.Answer.{tells_minted};
 ghost use Rattle.mac_decide.specs.Asking.{asking_reply};
-ghost use Rattle.mac_decide.specs.Seen.{tells_minted};
 
 use crate::asking::Asking;
 use crate::seen::SeenTokens;
@@ -24,7 +24,7 @@ pub(crate) fn remember(seen: &SeenTokens, alloc: Global, asking: &Asking<'_>, re
 }
 
 /// Whether the reply to a verify tells that one of the keys gives the signature.
-fn tells_minted(reply: &Reply) -> bool
+pub(crate) fn tells_minted(reply: &Reply) -> bool
     ensures { result ≡ tells_minted reply.now }
 {
     match reply {

@@ -1,6 +1,6 @@
 //! The answer to a job.
 
-ghost use Rattle.std.specs.Prelude.{◌≡◌, ◌↔◌, IfOk, OnErr, List, ℕ};
+ghost use Rattle.std.specs.Prelude.{◌≡◌, ◌↔◌, IfOk, OnErr, List, ℕ, false};
 ghost use Rattle.mac_token.specs.RawToken.{TokenParts};
 ghost use Rattle.mac_wire.specs.Reading.{request_of};
 ghost use Rattle.mac_wire.specs.Reply.{IsReply};
@@ -11,6 +11,7 @@ ghost use Rattle.mac_decide.specs.Prepared.{signed_reply};
 use crate::asking::Asking;
 use crate::job::{Basis, Job};
 use crate::one_by_one::answer_request;
+use crate::revocation::Revocation;
 use crate::seen::SeenTokens;
 use crate::verdict::Verdict;
 use mac_hmac::Sig;
@@ -24,11 +25,13 @@ pub fn answer(alloc: Global, job: &Job) -> Result<Reply, NoMemory>
     ensures sendable { IfOk result IsReply }
     ensures memory { OnErr result (answers.TakesMemory job.now.arrival) }
 
-    // The headline: a verify is granted exactly where its keys are there and accept its token.
+    // The headline: a verify is granted exactly where its keys are there and accept its token, and it
+    // was not taken back.
     ensures granted { (payload name token : List ℕ) (moment : ℕ) (facts : List (List ℕ))
         → job.now.arrival ≡ Arrival.Payload payload → Asks payload (verify name token moment facts)
         → IfOk result (λ r. (r ≡ Reply.Granted)
-        ↔ answers.IsGranted job.now.basis.keys token (record { moment = moment; facts = facts })) }
+        ↔ (answers.IsGranted job.now.basis.keys token (record { moment = moment; facts = facts })
+        × (job.now.basis.is_revoked ≡ false))) }
 {
     arrival_reply(alloc, &job.arrival, &job.basis)
 }
@@ -44,7 +47,7 @@ fn arrival_reply(alloc: Global, arrival: &Arrival, basis: &Basis) -> Result<Repl
     }
 }
 
-fn payload_reply(alloc: Global, payload: &[u8], basis: &Basis) -> Result<Reply, NoMemory>
+fn payload_reply<'a>(alloc: Global, payload: &'a [u8], basis: &'a Basis) -> Result<Reply, NoMemory>
     ensures { IfOk result (λ r. r ≡ answers.asked_reply (request_of payload.now) basis.now) }
 {
     match parse_request(payload) {
@@ -52,6 +55,7 @@ fn payload_reply(alloc: Global, payload: &[u8], basis: &Basis) -> Result<Reply, 
             let asking = Asking {
                 request,
                 keys: basis.keys.as_ref(),
+                revoked: Revocation::Known(basis.is_revoked),
                 may_mint: basis.may_mint,
                 moment: basis.moment,
             };

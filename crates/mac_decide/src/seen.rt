@@ -10,17 +10,18 @@
 ghost use Rattle.std.specs.Prelude.{◌≡◌, IfOk, IfSome, IsTrue, Ok, true};
 ghost use Rattle.mac_keys.specs.Keys.{listed};
 ghost use Rattle.mac_token.specs.Read.{read_of};
-ghost use Rattle.mac_decide.specs.Answer as answers;
 ghost use Rattle.mac_decide.specs.Reading.{is_minted, verdict_of};
 ghost use Rattle.mac_decide.specs.Seen.{IsFound, is_minted_text};
+ghost use Rattle.mac_decide.specs.Telling.{verdict_told, verify_told};
 
 use crate::context::Context;
 use crate::reply::verdict_reply;
+use crate::revocation::Telling;
 use crate::verdict::{found_verdict, unsatisfied_of};
 use lru::LruCache;
 use mac_keys::Keys;
 use mac_token::{Token, TokenFault, read};
-use mac_wire::{Grant, NoMemory, Reply};
+use mac_wire::{NoMemory, Reply};
 use std::alloc::Global;
 use std::hash::{BuildHasher, Hasher, RandomState};
 use std::sync::atomic::Ordering::SeqCst;
@@ -28,7 +29,7 @@ use std::sync::atomic::{AtomicBool, AtomicU32};
 use std::sync::{Arc, RwLock, RwLockReadGuard, RwLockWriteGuard};
 
 /// The longest text of a token that is remembered, in bytes.
-pub const SEEN_MAX: usize = 2_048;
+pub const SEEN_MAX: usize = 8_192;
 
 /// What a token takes beside its text and what that spells, about: its keys, its place among
 /// others, and what an allocator adds.
@@ -264,15 +265,17 @@ fn reply_to(
     alloc: Global,
     keys: &Keys,
     token: &Token,
-    grant: Grant,
+    telling: Telling<'_>,
     context: &Context<'_>,
 ) -> Result<Reply, NoMemory>
     requires { is_minted (listed keys.now) token.now ≡ true }
-    ensures { IfOk result (λ r. r ≡ answers.verdict_reply grant token.now
+    ensures { IfOk result (λ r. r ≡ verdict_told telling.entry token.now
         (verdict_of (listed keys.now) token.now context.now)) }
 {
     let verdict = found_verdict(unsatisfied_of(token, context));
-    verdict_reply(alloc, grant, token.identifier(), token.location(), verdict)
+    let identifier = token.identifier();
+    let reply = verdict_reply(alloc, telling.grant, identifier, token.location(), verdict)?;
+    Ok(telling.keep(reply, identifier))
 }
 
 /// A memory of tokens that were found to be minted, each with the keys under which it was; or none.
@@ -337,11 +340,11 @@ impl SeenTokens {
         alloc: Global,
         keys: &Keys,
         text: &[u8],
-        grant: Grant,
+        telling: Telling<'_>,
         context: &Context<'_>,
     ) -> Result<Option<Reply>, NoMemory>
         ensures { IfOk result (λ found. IfSome found (λ r.
-            r ≡ answers.verify_reply grant text.now context.now keys.now)) }
+            r ≡ verify_told telling.entry text.now context.now keys.now)) }
     {
         let Some(mark) = self.mark(text) else {
             return Ok(None);
@@ -351,7 +354,7 @@ impl SeenTokens {
         };
         let part = &*guard;
         match part.find(mark, keys, text) {
-            Some(token) => Ok(Some(reply_to(alloc, keys, token, grant, context)?)),
+            Some(token) => Ok(Some(reply_to(alloc, keys, token, telling, context)?)),
             None => Ok(None),
         }
     }

@@ -1,11 +1,13 @@
 //! What the connections of a server are answered by: faces of a daemon, or a site.
 
 use crate::daemon::OwnDaemon;
+use crate::draws::SystemDraws;
 use crate::looping::HttpLoop;
 use crate::shared::Shared;
 use crate::terms::HttpTerms;
 use http_server::Service;
 use mac_board::{Follower, Followers, Moments, Tables};
+use mac_calls::Draws;
 use mac_decide::Rights;
 use mac_http::{Face, Monitor, Way};
 use mac_page::{PageFace, Site};
@@ -47,7 +49,7 @@ impl<'a, K: Tables, M: Moments, S: Monitor> Answers for Face<'a, K, M, S> {
     }
 }
 
-impl<'a> Answers for PageFace<'a> {
+impl<'a, D: Draws> Answers for PageFace<'a, D> {
     // A page is asked at a port alone.
     fn come_by(&mut self, _way: Way) {}
 }
@@ -91,7 +93,7 @@ impl Content {
         match self {
             Content::Daemon(parts) => parts.serve(rt, alloc, server, own),
             Content::Site(site) => {
-                let mut face = PageFace::new(alloc, &site);
+                let mut face = PageFace::new(alloc, &site, SystemDraws(rt));
                 own.run(rt, alloc, server, &mut face);
             }
         }

@@ -1,13 +1,16 @@
 //! What a face over HTTP tells of its daemon, and tells it.
 
+use crate::draws::SystemDraws;
 use crate::noting::{exchange_of, request_of};
 use crate::shared::Shared;
 use http::StatusCode;
+use mac_calls::Draws;
 use mac_count::{Number, append_metrics, append_status, append_version};
 use mac_decide::SeenTokens;
 use mac_host::Host;
 use mac_http::{Monitor, Noted, Page, Told};
 use std::alloc::{AllocError, Global};
+use std::random::RandomSource;
 use std::sync::Wait;
 use std::time::Clock;
 
@@ -40,21 +43,23 @@ impl<'a, R: Wait + Clock> OwnDaemon<'a, R> {
         Ok(Told::Well)
     }
 
-    /// Logs a request and the status that it was answered with, where requests are logged. Without
-    /// memory for its name it isn't logged.
+    /// Logs a request and the status that it was answered with, where requests or mints are logged.
     fn log(&self, noted: Noted<'_>, status: StatusCode) {
-        if !self.host().notices().has_requests() {
-            return;
+        let notices = self.host().notices();
+        if notices.logged().is_some() {
+            let exchange = exchange_of(self.alloc, noted, status);
+            notices.tell_exchange(self.rt, None, exchange);
         }
-        let Ok(name) = Vec::from_slice(self.alloc, noted.name) else {
-            return;
-        };
-        let exchange = exchange_of(noted.asks, name, status);
-        self.host().notices().tell_exchange(self.rt, None, exchange);
     }
 }
 
-impl<'a, R: Wait + Clock> Monitor for OwnDaemon<'a, R> {
+impl<'a, R: Wait + Clock + RandomSource> Draws for OwnDaemon<'a, R> {
+    fn draw(&self) -> Option<[u8; 16]> {
+        SystemDraws(self.rt).draw()
+    }
+}
+
+impl<'a, R: Wait + Clock + RandomSource> Monitor for OwnDaemon<'a, R> {
     fn is_ending(&self) -> bool {
         self.server.is_ending()
     }
@@ -84,7 +89,7 @@ impl<'a, R: Wait + Clock> Monitor for OwnDaemon<'a, R> {
     }
 
     fn note(&self, noted: Noted<'_>, status: StatusCode) {
-        if let Some(request) = request_of(noted.asks, status) {
+        if let Some(request) = request_of(noted.asks, noted.is_revoked, status) {
             self.host().numbers().count_request(request);
         }
         self.log(noted, status);

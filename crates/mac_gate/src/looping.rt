@@ -107,8 +107,8 @@ impl HttpLoop {
         }
     }
 
-    /// Where there are as many connections as there may be, and one gives way, lets that go to
-    /// which nothing was sent for longest.
+    /// Where there are as many connections as there may be, and one gives way, lets that go to which
+    /// nothing was sent for longest.
     fn make_room<R: Wait>(&mut self, rt: &R, server: &Shared) {
         let is_full = self.connections.count() >= self.bounds.connections;
         if self.bounds.gives_way && is_full && self.connections.drop_stalest() {
@@ -144,8 +144,8 @@ impl HttpLoop {
         }
     }
 
-    /// Looks at all connections, where it is time for that, and lets those go whose peers have
-    /// taken too long.
+    /// Looks at all connections, where it is time for that, and lets those go whose peers have taken
+    /// too long.
     fn sweep<R: Wait>(&mut self, rt: &R, server: &Shared) {
         if !self.connections.begins_look() {
             return;

@@ -47,8 +47,8 @@ impl HttpTerms {
         }
     }
 
-    /// What the face of a connection does with a request, where its address allows this and its
-    /// peer comes by this way.
+    /// What the face of a connection does with a request, where its address allows this and its peer
+    /// comes by this way.
     pub(crate) fn rules<'a>(&self, rights: &'a Rights, way: Way) -> Rules<'a>
         ensures sources { result.sources ≡ self.now.sources }
         ensures granted { result.granted ≡ self.now.granted }

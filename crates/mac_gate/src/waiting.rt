@@ -11,8 +11,8 @@ use std::io;
 use std::net::Net;
 use std::time::{Clock, Duration};
 
-/// How many microseconds pass at most until one that is owed something is looked at again, though
-/// no event told of it.
+/// How many microseconds pass at most until one that is owed something is looked at again, though no
+/// event told of it.
 const OWED: u64 = 1_000_000;
 
 /// The connections of a loop, each in its slot.

@@ -1,5 +1,39 @@
 //! What is logged of a request.
 
+ghost use Rattle.std.specs.Prelude.{◌≡◌, ◌||◌, IfOk, take};
+ghost use Rattle.mac_host.specs.Exchange.{told_name};
+ghost use Rattle.mac_host.specs.declared.exchange.TheConstants.{IDENTIFIER_NOTED};
+
+use mac_log::is_told_name;
+use std::alloc::{AllocError, Global};
+
+/// How many bytes of an identifier are noted: a line has room for fewer.
+pub const IDENTIFIER_NOTED: usize = 1_024;
+
+/// What is logged besides what a daemon tells of itself.
+#[derive(Clone, Copy, Debug, PartialEq, Eq)]
+pub struct Logged {
+    /// A line for each request.
+    pub requests: bool,
+    /// A line for each token that is minted.
+    pub mints: bool,
+}
+
+impl Logged {
+    /// Nothing.
+    pub const NOTHING: Logged = Logged {
+        requests: false,
+        mints: false,
+    };
+
+    /// Whether anything is.
+    pub fn is_some(self) -> bool
+        ensures { result ≡ (self.requests || self.mints) }
+    {
+        self.requests || self.mints
+    }
+}
+
 /// A request, and what it was answered.
 #[derive(Drop)]
 pub struct Exchange {
@@ -11,4 +45,28 @@ pub struct Exchange {
     pub verdict: &'static str,
     /// The number of a refusal.
     pub code: Option<u16>,
+    /// The identifier of the token that it was answered with, where that was minted.
+    pub minted: Option<Vec<u8>>,
+}
+
+/// A copy of the name that a request says, where a line may tell it. Of anything else, as a token
+/// that stands in its place, none is made: it takes no memory.
+pub fn copy_told_name(alloc: Global, name: &[u8]) -> Result<Vec<u8>, AllocError>
+    ensures { IfOk result (λ copy. copy.items ≡ told_name name.now) }
+{
+    if is_told_name(name) {
+        Vec::from_slice(alloc, name)
+    } else {
+        Ok(Vec::new(alloc))
+    }
+}
+
+/// A copy of what an identifier begins with: more than a line has room for.
+pub fn copy_told_identifier(alloc: Global, identifier: &[u8]) -> Result<Vec<u8>, AllocError>
+    ensures { IfOk result (λ copy. copy.items ≡ take IDENTIFIER_NOTED identifier.now) }
+{
+    match identifier.get(..IDENTIFIER_NOTED) {
+        Some(front) => Vec::from_slice(alloc, front),
+        None => Vec::from_slice(alloc, identifier),
+    }
 }

@@ -2,8 +2,9 @@
 
 use crate::badge::{Badge, Life};
 use crate::clock::microseconds;
-use crate::exchange::Exchange;
-use mac_board::{News, Refusal};
+use crate::exchange::{Exchange, Logged};
+use crate::minted::minted_fields;
+use mac_board::{ListNews, ListRefusal, News, Refusal};
 use mac_log::{Fields, Key, Kind, Log, NoMemory, is_told_name, start_log};
 use std::alloc::Global;
 use std::fmt::Display;
@@ -36,15 +37,14 @@ pub struct Notices {
     alloc: Global,
     // None prints nothing.
     log: Option<Arc<Log, Global>>,
-    // Whether each request is told.
-    has_requests: bool,
+    // What is told besides.
+    logged: Logged,
 }
 
 impl Notices {
     /// Starts the thread that prints lines, each with its priority where systemd's journal reads
-    /// them. There is one for each request where that is asked for. Without a thread for it there
-    /// is no log.
-    pub fn start<R>(rt: R, alloc: Global, is_journal: bool, has_requests: bool) -> Option<Notices>
+    /// them. What is logged besides is told too. Without a thread for it there is no log.
+    pub fn start<R>(rt: R, alloc: Global, is_journal: bool, logged: Logged) -> Option<Notices>
     where
         R: Threads + Wait + Clock + Eprint + Copy + Send + 'static,
     {
@@ -52,7 +52,7 @@ impl Notices {
         Some(Notices {
             alloc,
             log: Some(log),
-            has_requests,
+            logged,
         })
     }
 
@@ -61,7 +61,7 @@ impl Notices {
         Notices {
             alloc,
             log: None,
-            has_requests: false,
+            logged: Logged::NOTHING,
         }
     }
 
@@ -74,7 +74,7 @@ impl Notices {
         Ok(Notices {
             alloc: self.alloc,
             log,
-            has_requests: self.has_requests,
+            logged: self.logged,
         })
     }
 
@@ -84,15 +84,51 @@ impl Notices {
         }
     }
 
-    /// Whether each request is told.
-    pub fn has_requests(&self) -> bool {
-        self.has_requests
+    /// What is told besides.
+    pub fn logged(&self) -> Logged {
+        self.logged
     }
 
-    /// Tells a request, the connection that it came on, and what it was answered.
-    pub fn tell_exchange<R: Wait + Clock>(&self, rt: &R, badge: Option<Badge>, exchange: Exchange) {
-        let fields = exchange_fields(self.alloc, badge, exchange);
-        self.post(rt, Kind::Request, fields);
+    /// Tells a request, the connection that it came on, and what it was answered: the token that it
+    /// minted, the request, or both. One for which there was no memory is counted as left out.
+    pub fn tell_exchange<R: Wait + Clock>(
+        &self,
+        rt: &R,
+        badge: Option<Badge>,
+        exchange: Result<Exchange, NoMemory>,
+    ) {
+        if self.logged.mints {
+            self.tell_mint(rt, badge, &exchange);
+        }
+        if self.logged.requests {
+            let fields = exchange.and_then(|exchange| exchange_fields(self.alloc, badge, exchange));
+            self.post(rt, Kind::Request, fields);
+        }
+    }
+
+    /// Tells the token that a request minted, if it did.
+    fn tell_mint<R: Wait + Clock>(
+        &self,
+        rt: &R,
+        badge: Option<Badge>,
+        exchange: &Result<Exchange, NoMemory>,
+    ) {
+        match exchange {
+            Ok(
+                Exchange {
+                    name,
+                    minted: Some(identifier),
+                    ..
+                },
+            ) => {
+                let fields = connection_fields(self.alloc, badge).and_then(|fields| minted_fields(
+                    fields, name, identifier,
+                ));
+                self.post(rt, Kind::Mint, fields);
+            },
+            Ok(_) => {},
+            Err(refused) => self.post(rt, Kind::Mint, Err(*refused)),
+        }
     }
 
     /// Tells that the daemon serves.
@@ -143,6 +179,20 @@ impl Notices {
             News::Nothing => return,
             News::Taken(names) => (Kind::KeysRead, taken_fields(self.alloc, file, names)),
             News::Refused(why) => (Kind::KeysRefused, refused_fields(self.alloc, file, why)),
+        };
+        self.post(rt, kind, fields);
+    }
+
+    /// Tells what came of a look at the list of tokens that were taken back, if there is anything
+    /// to be told.
+    pub fn tell_revoked<R: Wait + Clock>(&self, rt: &R, file: &str, news: ListNews) {
+        let (kind, fields) = match news {
+            ListNews::Nothing => return,
+            ListNews::Taken(lines) => (Kind::RevokedRead, listed_fields(self.alloc, file, lines)),
+            ListNews::Refused(why) => (
+                Kind::RevokedRefused,
+                unlisted_fields(self.alloc, file, why),
+            ),
         };
         self.post(rt, kind, fields);
     }
@@ -203,16 +253,21 @@ fn parting_fields<R: Clock, W: Display>(
     }
 }
 
+/// The number of a connection, where there is one.
+fn connection_fields(alloc: Global, badge: Option<Badge>) -> Result<Fields, NoMemory> {
+    match badge {
+        Some(badge) => Fields::new(alloc).with_number(alloc, Key::Connection, badge.number),
+        None => Ok(Fields::new(alloc)),
+    }
+}
+
 /// What a request asked for, under which name, and what it was answered: no token and no fact.
 fn exchange_fields(
     alloc: Global,
     badge: Option<Badge>,
     exchange: Exchange,
 ) -> Result<Fields, NoMemory> {
-    let mut fields = Fields::new(alloc);
-    if let Some(badge) = badge {
-        fields = fields.with_number(alloc, Key::Connection, badge.number)?;
-    }
+    let mut fields = connection_fields(alloc, badge)?;
     fields = fields.with_text(Key::Asks, exchange.asks.as_bytes())?;
     if is_told_name(exchange.name.as_slice()) {
         fields = fields.with_text(Key::Name, exchange.name.as_slice())?;
@@ -242,6 +297,19 @@ fn taken_fields(alloc: Global, file: &str, names: usize) -> Result<Fields, NoMem
 }
 
 fn refused_fields(alloc: Global, file: &str, why: Refusal) -> Result<Fields, NoMemory> {
+    let why = why.to_string(alloc)?;
+    Fields::new(alloc)
+        .with_text(Key::File, file.as_bytes())?
+        .with_text(Key::Fault, why.as_bytes())
+}
+
+fn listed_fields(alloc: Global, file: &str, lines: usize) -> Result<Fields, NoMemory> {
+    Fields::new(alloc)
+        .with_text(Key::File, file.as_bytes())?
+        .with_number(alloc, Key::Count, lines as u64)
+}
+
+fn unlisted_fields(alloc: Global, file: &str, why: ListRefusal) -> Result<Fields, NoMemory> {
     let why = why.to_string(alloc)?;
     Fields::new(alloc)
         .with_text(Key::File, file.as_bytes())?

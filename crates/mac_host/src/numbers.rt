@@ -1,7 +1,7 @@
 //! What a daemon counts, for all its threads. No contract speaks of the counts.
 
 use crate::traffic::Traffic;
-use mac_board::{Moments, News};
+use mac_board::{ListNews, Moments, News};
 use mac_count::{Counters, Number, REQUESTS, Request, Snapshot};
 use mac_system::SystemMoments;
 use std::alloc::{AllocError, Global};
@@ -44,7 +44,7 @@ impl Numbers {
         }
     }
 
-    /// A connection has ended, which no desk has.
+    /// A connection has ended, which waits for no worker.
     pub fn count_ended(&self, is_faulty: bool) {
         self.counters.take(Number::Connections, 1);
         self.counters.take(Number::ConnectionsPlain, 1);
@@ -61,27 +61,19 @@ impl Numbers {
         self.add_some(Number::BytesOut, traffic.went);
     }
 
-    /// A connection got a desk.
+    /// A connection waits for a worker's answer.
     pub fn count_widened(&self) {
         self.counters.take(Number::ConnectionsPlain, 1);
         self.counters.add(Number::ConnectionsWide, 1);
     }
 
-    /// A connection gave its desk back.
-    pub fn count_narrowed(&self) {
+    /// A connection waits for a worker no more. Whether it has the answer.
+    pub fn count_narrowed(&self, is_answered: bool) {
         self.counters.take(Number::ConnectionsWide, 1);
         self.counters.add(Number::ConnectionsPlain, 1);
-    }
-
-    /// A wide connection was sent so many replies, of so many bytes.
-    pub fn count_wide(&self, sent: u64, written: u64) {
-        self.add_some(Number::RequestsWide, sent);
-        self.add_some(Number::BytesOut, written);
-    }
-
-    /// So many bytes came on a wide connection.
-    pub fn count_came(&self, count: usize) {
-        self.add_some(Number::BytesIn, count as u64);
+        if is_answered {
+            self.counters.add(Number::RequestsWide, 1);
+        }
     }
 
     /// A connection over HTTP has begun.
@@ -112,6 +104,18 @@ impl Numbers {
             News::Nothing => {}
             News::Taken(names) => self.set_keys(rt, *names),
             News::Refused(_) => self.counters.set(Number::KeysRefused, 1),
+        }
+    }
+
+    /// The list of tokens that were taken back has so many lines.
+    pub fn set_revoked(&self, lines: usize) {
+        self.counters.set(Number::Revoked, lines as u64);
+    }
+
+    /// Notes what came of a look at that list.
+    pub fn note_revoked(&self, news: &ListNews) {
+        if let ListNews::Taken(lines) = news {
+            self.set_revoked(*lines);
         }
     }
 

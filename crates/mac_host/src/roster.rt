@@ -103,7 +103,7 @@ impl Roster {
         }
     }
 
-    /// Notes whether a connection is wide.
+    /// Notes whether a connection waits for a worker's answer.
     pub fn set_wide(&self, life: Life, is_wide: bool) {
         if let Some((_, row)) = self.row_of(life) {
             row.is_wide.store(is_wide, SeqCst);

@@ -5,7 +5,7 @@ use Rattle.http.specs.declared.request.Request.{Request}
 use Rattle.http_server.specs.declared.response.Response.{Response}
 use Rattle.http_server.specs.Exchange.{Call, Chain}
 use Rattle.mac_board.specs.Follows.{Known, Takes}
-use Rattle.mac_keys.specs.Table.{Table}
+use Rattle.mac_keys.specs.KeyTable.{Table}
 use Rattle.mac_http.specs.declared.rules.Rules.{Rules}
 use Rattle.mac_http.specs.Faced.{IsRight}
 use Rattle.mac_http.specs.Turn.{AnswersOnce}

@@ -5,17 +5,20 @@ use Rattle.std.proofs.lemmas.List.Elements.{Contains-push, Contains-push_cases, 
 use Rattle.http.specs.declared.request.Parts.{Parts}
 use Rattle.http_uri.specs.Uri.{uri_path}
 use Rattle.mac_calls.specs.Counted.{are_few}
-use Rattle.mac_decide.specs.Answer.{IsGranted, answer_to, keyed, keys_of, timed, told, verdict_reply, verify_reply}
+use Rattle.mac_decide.specs.Answer.{IsGranted, answer_to, keyed, keys_of, timed, told, unless_revoked, verdict_reply, verify_reply}
 use Rattle.mac_decide.specs.Reading.{verdict_of}
+use Rattle.mac_decide.specs.Revocation.{is_listed_read}
 use Rattle.mac_decide.specs.Terms.{Terms}
 use Rattle.mac_decide.specs.declared.context.Context.{Context}
 use Rattle.mac_decide.proofs.NowLemmas.{owner-granted}
-use Rattle.mac_keys.specs.Table.{Table, listed}
+use Rattle.mac_keys.specs.KeyTable.{Table}
+use Rattle.mac_keys.specs.Keys.{listed}
 use Rattle.mac_keys.specs.declared.keys.Keys.{Keys}
 use Rattle.mac_token.specs.RawToken.{TokenParts}
 use Rattle.mac_token.specs.Read.{read_of}
 use Rattle.mac_token.specs.declared.fault.TokenRefusal.{TokenRefusal}
 use Rattle.mac_wire.specs.Request.{verify_now}
+use Rattle.mac_wire.specs.declared.reply.Refusal.TheVariants as refusal
 use Rattle.mac_wire.specs.declared.reply.Reply.{Reply}
 use Rattle.mac_wire.specs.declared.reply.Reply.TheVariants as reply
 use Rattle.mac_wire.specs.declared.request.Grant.TheVariants as grant
@@ -35,6 +38,7 @@ granted_by scheme reply.Granted identifier location e = absurd (cc)
 granted_by scheme (reply.GrantedTo i l) identifier location e = cc
 granted_by scheme (reply.Token bytes) identifier location e = absurd (cc)
 granted_by scheme (reply.Unsatisfied index) identifier location e = absurd (cc)
+granted_by scheme (reply.Refused refusal.Revoked) identifier location e = absurd (cc)
 granted_by scheme (reply.Refused reason) identifier location e = absurd (cc)
 
 -- where no fragment and no unsafe path is told and the facts are few, what is found with them
@@ -45,23 +49,31 @@ found_plainly sources terms head target credentials whole safe few = rw (whole, 
 
 -- what is found at the moment of the terms, under keys that the name has
 pub found_now : (terms : Terms) (name : List ℕ) (credentials : Scheme × List ℕ) (facts : List (List ℕ)) (moment : ℕ) (keys : Keys) → terms.moment ≡ Some moment → keys_of terms name ≡ Some keys
-    → found_at terms name credentials facts terms.moment ≡ found_by credentials.0 (verify_reply grant.Owner credentials.1 (record { moment = moment; facts = facts }) keys)
+    → found_at terms name credentials facts terms.moment
+    ≡ found_by credentials.0 (unless_revoked (is_listed_read terms.table.revoked name (read_of credentials.1)) (verify_reply grant.Owner credentials.1 (record { moment = moment; facts = facts }) keys))
 found_now terms name credentials facts moment keys is named =
+    let back = is_listed_read terms.table.revoked name (read_of credentials.1) in
     let tell : Option ℕ → Keys → Reply = λ at k. timed at (λ m. verify_reply grant.Owner credentials.1 (record { moment = m; facts = facts }) k) in
     ap (found_at terms name credentials facts) is
-    ∙ ap (λ (k : Option Keys). found_by credentials.0 (keyed k (tell terms.moment))) named
-    ∙ ap (λ (m : Option ℕ). found_by credentials.0 (tell m keys)) is
+    ∙ ap (λ (k : Option Keys). found_by credentials.0 (unless_revoked back (keyed k (tell terms.moment)))) named
+    ∙ ap (λ (m : Option ℕ). found_by credentials.0 (unless_revoked back (tell m keys))) is
 
 -- two contexts by which each token has one verdict find one thing
-pub found_alike : (scheme : Scheme) (keys : Keys) (x y : Context) (r : Result TokenParts TokenRefusal)
+pub found_alike : (scheme : Scheme) (keys : Keys) (back : Bool) (x y : Context) (r : Result TokenParts TokenRefusal)
     → ((t : TokenParts) → verdict_of (listed keys) t x ≡ verdict_of (listed keys) t y)
-    → found_by scheme (told r (λ t. verdict_reply grant.Owner t (verdict_of (listed keys) t x))) ≡ found_by scheme (told r (λ t. verdict_reply grant.Owner t (verdict_of (listed keys) t y)))
-found_alike scheme keys x y (Err why) same = refl
-found_alike scheme keys x y (Ok t) same = ap (λ v. found_by scheme (verdict_reply grant.Owner t v)) (same t)
+    → found_by scheme (unless_revoked back (told r (λ t. verdict_reply grant.Owner t (verdict_of (listed keys) t x))))
+    ≡ found_by scheme (unless_revoked back (told r (λ t. verdict_reply grant.Owner t (verdict_of (listed keys) t y))))
+found_alike scheme keys back x y (Err why) same = refl
+found_alike scheme keys back x y (Ok t) same = ap (λ v. found_by scheme (unless_revoked back (verdict_reply grant.Owner t v))) (same t)
 
 -- ---- what is granted
 
 module _ (table : Table) (rules : Rules) (moment : Option ℕ) (head : Parts) (identifier location : List ℕ) where
+  granted_so : (name behind : List ℕ) (credentials : Scheme × List ℕ) (second : ℕ) → moment ≡ Some second → found_at (terms_of table rules moment) name credentials (facts_of rules.sources head behind) (Some second) ≡ Granted identifier location
+      → IsGranted (keys_of (terms_of table rules moment) name) credentials.1 (context_of rules.sources second head behind) × (is_listed_read table.revoked name (read_of credentials.1) ≡ false)
+  granted_so name behind credentials second is e =
+      (owner-granted (terms_of table rules moment) name credentials.1 second (facts_of rules.sources head behind) is).0 (identifier, location, granted_by credentials.0 _ identifier location e)
+
   at_moment : (name behind : List ℕ) (credentials : Scheme × List ℕ) (m : Option ℕ) → target_in (uri_path head.uri) ≡ Some (name, behind)
       → credentials_in head.headers ≡ Some credentials → tells_fragment rules.sources head behind ≡ false → tells_unsafe rules.sources head behind ≡ false
       → are_few (facts_of rules.sources head behind) ≡ true → moment ≡ m
@@ -79,7 +91,8 @@ module _ (table : Table) (rules : Rules) (moment : Option ℕ) (head : Parts) (i
     few = few;
     second = second;
     told = is;
-    granted = (owner-granted (terms_of table rules moment) name credentials.1 second (facts_of rules.sources head behind) is).0 (identifier, location, granted_by credentials.0 _ identifier location e);
+    granted = (granted_so name behind credentials second is e).0;
+    kept = (granted_so name behind credentials second is e).1;
   }
 
   with_facts : (name behind : List ℕ) (credentials : Scheme × List ℕ) (broken unsafe few : Bool) → target_in (uri_path head.uri) ≡ Some (name, behind)
@@ -115,7 +128,7 @@ granted_back table rules moment head g =
     let sources = rules.sources in
     let terms = terms_of table rules moment in
     let facts = facts_of sources head g.behind in
-    let owner = (owner-granted terms g.name g.token g.second facts g.told).1 g.granted in (
+    let owner = (owner-granted terms g.name g.token g.second facts g.told).1 (g.granted, g.kept) in (
       owner.0,
       owner.1,
       ap (found_in sources terms head) g.named

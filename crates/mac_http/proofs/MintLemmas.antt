@@ -1,6 +1,6 @@
 -- Which calls are answered, and by what status.
 use Rattle.std.proofs.Common.{◌≡◌, ◌⊎◌, ◌++◌, ℕ, List, [], Bool, true, false, Option, Some, None, inl, inr, refl, sym, subst, ◌∙◌, ⊎_elim, arith}
-use Rattle.std.specs.Prelude.{codes, if◌then◌else◌, ◌&&◌, bytes_eq}
+use Rattle.std.specs.Prelude.{codes, if◌then◌else◌, ◌&&◌, bytes_eq, length}
 use Rattle.http.specs.Request.{head_of, body_of}
 use Rattle.http.specs.declared.request.Request.{Request}
 use Rattle.http_server.specs.declared.response.Response.{Response}
@@ -11,7 +11,7 @@ use Rattle.mac_calls.specs.declared.call.Call.{Call}
 use Rattle.mac_calls.specs.declared.call.Call.TheVariants.{Mint}
 use Rattle.mac_calls.specs.Outcome.{outcome_of}
 use Rattle.mac_decide.specs.Terms.{is_allowed}
-use Rattle.mac_keys.specs.Table.{Table}
+use Rattle.mac_keys.specs.KeyTable.{Table}
 use Rattle.mac_http.specs.declared.rules.Rules.{Rules}
 use Rattle.mac_http.specs.declared.rules.Way.{Way}
 use Rattle.mac_http.specs.declared.rules.Way.TheVariants.{Socket, Port}
@@ -88,10 +88,11 @@ answer_not_done false table rules moment request name response other path answer
 answer_not_done true table rules moment request name response other path answer ok =
     let is_post = bytes_eq (head_of request).method (codes "POST") in
     ⊎_elim
-    (λ (t : TellsUnlessRefused (refusal_of rules.way (head_of request)) is_post (allowed_outcome rules table (Mint, name) (body_of request)) response).
+    (λ (t : (drawn : List ℕ) × (length drawn ≡ 16)
+    × TellsUnlessRefused (refusal_of rules.way (head_of request)) is_post (allowed_outcome rules table (Mint, name) drawn (body_of request)) response).
     way_refuses rules.way request is_post response
     (subst (λ b. TellsUnlessRefused (refusal_of rules.way (head_of request)) is_post
-    (if b then outcome_of table name Mint (body_of request) else NoKey) response) other t) ok)
+    (if b then outcome_of table name Mint t.0 (body_of request) else NoKey) response) other t.2) ok)
     (λ t. overloaded_not_done response t ok)
     answer
 
@@ -109,6 +110,10 @@ pub page_refused : (table : Table) (rules : Rules) (request : Request (List ℕ)
     → IsResponse 403 [] [] response ⊎ IsOverloaded response
 page_refused table rules request asked response port page answer =
     let is_post = bytes_eq (head_of request).method (codes "POST") in
-    let outcome = allowed_outcome rules table asked (body_of request) in
     let refused : refusal_of rules.way (head_of request) ≡ Some 403 = rw (port, page) refl in
-    subst (λ r. TellsUnlessRefused r is_post outcome response ⊎ IsOverloaded response) refused answer
+    ⊎_elim
+    (λ (t : (drawn : List ℕ) × (length drawn ≡ 16)
+    × TellsUnlessRefused (refusal_of rules.way (head_of request)) is_post (allowed_outcome rules table asked drawn (body_of request)) response).
+    inl (subst (λ r. TellsUnlessRefused r is_post (allowed_outcome rules table asked t.0 (body_of request)) response) refused t.2))
+    (λ t. inr t)
+    answer

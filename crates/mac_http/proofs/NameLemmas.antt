@@ -5,11 +5,15 @@ use Rattle.std.specs.FinMap as map
 use Rattle.http.specs.declared.request.Parts.{Parts}
 use Rattle.http_uri.specs.Uri.{uri_path}
 use Rattle.mac_calls.specs.Counted.{are_few}
-use Rattle.mac_decide.specs.Answer.{answer_to, keyed, keys_of, timed, verify_reply}
+use Rattle.mac_decide.specs.Answer.{answer_to, keyed, keys_of, refused, timed, unless_revoked, verify_reply}
+use Rattle.mac_decide.specs.Revocation.{is_listed_read}
 use Rattle.mac_decide.specs.Terms.{Terms, is_allowed}
-use Rattle.mac_keys.specs.Table.{Table}
+use Rattle.mac_keys.specs.KeyTable.{Table}
 use Rattle.mac_keys.specs.declared.keys.Keys.{Keys}
+use Rattle.mac_decide.proofs.RevocationLemmas.{kept-refused}
+use Rattle.mac_token.specs.Read.{read_of}
 use Rattle.mac_wire.specs.Request.{verify_now}
+use Rattle.mac_wire.specs.declared.reply.Refusal.TheVariants as refusal
 use Rattle.mac_wire.specs.declared.reply.Reply.{Reply}
 use Rattle.mac_wire.specs.declared.reply.Reply.TheVariants as reply
 use Rattle.mac_wire.specs.declared.request.Grant.TheVariants as grant
@@ -32,13 +36,15 @@ by_reply scheme reply.Granted = inr refl
 by_reply scheme (reply.GrantedTo identifier location) = inl tt
 by_reply scheme (reply.Token bytes) = inr refl
 by_reply scheme (reply.Unsatisfied index) = inl tt
+by_reply scheme (reply.Refused refusal.Revoked) = inl tt
 by_reply scheme (reply.Refused reason) = inr refl
 
 -- a name without keys has no token
 unkeyed : (terms : Terms) (name : List ℕ) (credentials : Scheme × List ℕ) (facts : List (List ℕ)) → keys_of terms name ≡ None
     → found_by credentials.0 (answer_to terms (verify_now grant.Owner name credentials.1 facts)) ≡ Invalid credentials.0
 unkeyed terms name credentials facts none =
-    ap (λ (k : Option Keys). found_by credentials.0 (keyed k (λ keys. timed terms.moment (λ m. verify_reply grant.Owner credentials.1 (record { moment = m; facts = facts }) keys)))) none
+    ap (λ (k : Option Keys). found_by credentials.0 (unless_revoked (is_listed_read terms.table.revoked name (read_of credentials.1)) (keyed k (λ keys. timed terms.moment (λ m. verify_reply grant.Owner credentials.1 (record { moment = m; facts = facts }) keys))))) none
+    ∙ ap (found_by credentials.0) (kept-refused (is_listed_read terms.table.revoked name (read_of credentials.1)) refusal.UnknownKey)
 
 at_moment : (terms bare : Terms) (name : List ℕ) (credentials : Scheme × List ℕ) (facts : List (List ℕ)) (moment : Option ℕ) → keys_of bare name ≡ None
     → IsUntold (found_at terms name credentials facts moment) (found_at bare name credentials facts moment)
@@ -77,18 +83,18 @@ under_keys sources table bare rules moment head target (Some credentials) none =
     (if_safe unsafe _ _ (if_few few f g (at_moment terms bared target.0 credentials facts moment none)))
 
 -- a table without keys has none that may be used
-no_keys : (bare : Table) (name : List ℕ) (b : Bool) → map.get bare name ≡ None → ◌≡◌ {A = Option Keys} (if b then map.get bare name else None) None
+no_keys : (bare : Table) (name : List ℕ) (b : Bool) → map.get bare.keys name ≡ None → ◌≡◌ {A = Option Keys} (if b then map.get bare.keys name else None) None
 no_keys bare name true none = none
 no_keys bare name false none = refl
 
-in_target : (table bare : Table) (rules : Rules) (moment : Option ℕ) (head : Parts) (o : Option (List ℕ × List ℕ)) → ((name : List ℕ) → map.get bare name ≡ None)
+in_target : (table bare : Table) (rules : Rules) (moment : Option ℕ) (head : Parts) (o : Option (List ℕ × List ℕ)) → ((name : List ℕ) → map.get bare.keys name ≡ None)
     → IsUntold (found_in rules.sources (terms_of table rules moment) head o) (found_in rules.sources (terms_of bare rules moment) head o)
 in_target table bare rules moment head None none = inr refl
 in_target table bare rules moment head (Some target) none =
     under_keys rules.sources table bare rules moment head target (credentials_in head.headers)
     (no_keys bare target.0 (is_allowed rules.rights.now.names target.0) (none target.0))
 
-pub told_to_holders : (table bare : Table) (rules : Rules) (moment : Option ℕ) (head : Parts) → ((name : List ℕ) → map.get bare name ≡ None)
+pub told_to_holders : (table bare : Table) (rules : Rules) (moment : Option ℕ) (head : Parts) → ((name : List ℕ) → map.get bare.keys name ≡ None)
     → IsUntold (found_of table rules moment head) (found_of bare rules moment head)
 told_to_holders table bare rules moment head none = in_target table bare rules moment head (target_in (uri_path head.uri)) none
 
@@ -111,7 +117,7 @@ both_under sources table bare rules moment head target (Some credentials) none b
 another : (table : Table) (rules : Rules) (moment : Option ℕ) (name : List ℕ) → is_allowed rules.rights.now.names name ≡ false → keys_of (terms_of table rules moment) name ≡ None
 another table rules moment name other = rw other refl
 
-pub others_as_none : (table bare : Table) (rules : Rules) (moment : Option ℕ) (head : Parts) (name behind : List ℕ) → ((other : List ℕ) → map.get bare other ≡ None)
+pub others_as_none : (table bare : Table) (rules : Rules) (moment : Option ℕ) (head : Parts) (name behind : List ℕ) → ((other : List ℕ) → map.get bare.keys other ≡ None)
     → target_in (uri_path head.uri) ≡ Some (name, behind) → is_allowed rules.rights.now.names name ≡ false
     → found_of table rules moment head ≡ found_of bare rules moment head
 others_as_none table bare rules moment head name behind none named other =

@@ -1,17 +1,17 @@
 -- Calls that bring JSON, and the responses to them (this project's own).
-use Rattle.std.specs.Prelude.{ℕ, ◌⊎◌, Bool, true, false, not, ◌&&◌, if◌then◌else◌, List, [], ◌∷◌, codes, bytes_eq, Option, Some, None, option_map}
+use Rattle.std.specs.Prelude.{ℕ, ◌≡◌, ◌⊎◌, length, Bool, true, false, not, ◌&&◌, if◌then◌else◌, List, [], ◌∷◌, codes, bytes_eq, Option, Some, None, option_map}
 use Rattle.http.specs.Request.{head_of, body_of}
 use Rattle.http.specs.declared.request.Request.{Request}
 use Rattle.http1.specs.Fields.{Header}
 use Rattle.http_server.specs.declared.response.Response.{Response}
 use Rattle.http_server.specs.Response.{IsResponse}
-use Rattle.mac_calls.specs.Outcome.{outcome_of}
+use Rattle.mac_calls.specs.Outcome.{minted_identifier, outcome_of}
 use Rattle.mac_calls.specs.declared.answering.Outcome.{Outcome}
-use Rattle.mac_calls.specs.declared.answering.Outcome.TheVariants.{NoKey, Reply, Refused}
+use Rattle.mac_calls.specs.declared.answering.Outcome.TheVariants.{NoKey, Minted, Reply, Refused}
 use Rattle.mac_calls.specs.declared.call.Call.{Call}
 use Rattle.mac_calls.specs.declared.call.Call.TheVariants.{Mint, Attenuate, Inspect, Check}
 use Rattle.mac_decide.specs.Terms.{is_allowed}
-use Rattle.mac_keys.specs.Table.{Table}
+use Rattle.mac_keys.specs.KeyTable.{Table}
 use Rattle.mac_http.specs.declared.rules.Calls.{Calls}
 use Rattle.mac_http.specs.declared.rules.Rules.{Rules}
 use Rattle.mac_http.specs.Browsing.{refusal_of}
@@ -31,11 +31,12 @@ abbrev pub may_use : Option (List (List ℕ)) → Call → List ℕ → Bool
 may_use names Mint name = is_allowed names name
 may_use names call name = true
 
--- what comes of a call: a mint under a name that may not be used is one of a name without keys
-abbrev pub allowed_outcome : Rules → Table → Call × List ℕ → List ℕ → Outcome
-allowed_outcome rules table asked body =
-    if may_use rules.rights.now.names asked.0 asked.1 then outcome_of table asked.1 asked.0 body
-    else NoKey
+-- what comes of a call with these random bytes: a mint under a name that may not be used is one of a
+-- name without keys
+abbrev pub allowed_outcome : Rules → Table → Call × List ℕ → List ℕ → List ℕ → Outcome
+allowed_outcome rules table asked drawn body =
+    if may_use rules.rights.now.names asked.0 asked.1
+    then outcome_of table asked.1 asked.0 drawn body else NoKey
 
 -- the name of a key in a path that asks for a mint
 abbrev pub mint_in : List ℕ → Option (Call × List ℕ)
@@ -60,6 +61,7 @@ takes_post = (codes "allow", codes "POST") ∷ []
 -- the response that tells what came of a call
 abbrev pub TellsOutcome : Outcome → Response → Type 0
 TellsOutcome NoKey = IsResponse 404 [] []
+TellsOutcome (Minted json identifier) = IsResponse 200 is_json json
 TellsOutcome (Reply json) = IsResponse 200 is_json json
 TellsOutcome (Refused json) = IsResponse 400 is_json json
 
@@ -73,9 +75,37 @@ abbrev pub TellsUnlessRefused : Option ℕ → Bool → Outcome → Response →
 TellsUnlessRefused (Some status) is_post o = IsResponse status [] []
 TellsUnlessRefused None is_post o = TellsCall is_post o
 
--- the response to a request for this call, want of memory aside
-abbrev pub RespondsToCall : Table → Rules → Call × List ℕ → Request (List ℕ) → Response → Type 0
-RespondsToCall table rules asked request response =
+-- the response to a request for this call with these random bytes, want of memory aside
+abbrev pub RespondsWith : List ℕ → Table → Rules → Call × List ℕ → Request (List ℕ) → Response
+    → Type 0
+RespondsWith drawn table rules asked request response =
     TellsUnlessRefused (refusal_of rules.way (head_of request))
     (bytes_eq (head_of request).method (codes "POST"))
-    (allowed_outcome rules table asked (body_of request)) response ⊎ IsOverloaded response
+    (allowed_outcome rules table asked drawn (body_of request)) response ⊎ IsOverloaded response
+
+-- the same with some 16 random bytes
+abbrev pub RespondsToCall : Table → Rules → Call × List ℕ → Request (List ℕ) → Response → Type 0
+RespondsToCall table rules asked request response = ((drawn : List ℕ) × (length drawn ≡ 16)
+    × TellsUnlessRefused (refusal_of rules.way (head_of request))
+    (bytes_eq (head_of request).method (codes "POST"))
+    (allowed_outcome rules table asked drawn (body_of request)) response)
+    ⊎ IsOverloaded response
+
+-- the identifier of the token that a response brings, if the method is POST
+abbrev pub minted_by_post : Bool → Outcome → Option (List ℕ)
+minted_by_post true o = minted_identifier o
+minted_by_post false o = None
+
+-- the same, unless the call is refused before by a status
+abbrev pub minted_unless_refused : Option ℕ → Bool → Outcome → Option (List ℕ)
+minted_unless_refused (Some status) is_post o = None
+minted_unless_refused None is_post o = minted_by_post is_post o
+
+-- the identifier is that of the token that the response brings, where it brings one that was minted
+abbrev pub IsMintedFor : List ℕ → Table → Rules → Call × List ℕ → Request (List ℕ) → Response
+    → Option (List ℕ) → Type 0
+IsMintedFor drawn table rules asked request response minted =
+    (minted ≡ minted_unless_refused (refusal_of rules.way (head_of request))
+    (bytes_eq (head_of request).method (codes "POST"))
+    (allowed_outcome rules table asked drawn (body_of request)))
+    ⊎ ((minted ≡ None) × IsOverloaded response)

@@ -11,7 +11,7 @@ use Rattle.http_server.specs.declared.response.Response.{Response}
 use Rattle.http_uri.specs.Uri.{uri_path}
 use Rattle.mac_board.specs.Follows.{Known, Takes}
 use Rattle.mac_calls.specs.declared.call.Call.{Call}
-use Rattle.mac_keys.specs.Table.{Table}
+use Rattle.mac_keys.specs.KeyTable.{Table}
 use Rattle.mac_http.specs.declared.attending.TheConstants.{CONFIG}
 use Rattle.mac_http.specs.declared.page.Page.{Page}
 use Rattle.mac_http.specs.declared.rules.Rules.{Rules}

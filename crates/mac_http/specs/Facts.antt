@@ -1,5 +1,5 @@
 -- The facts that a request brings, by the sources that are named (this project's own).
-use Rattle.std.specs.Prelude.{ℕ, Bool, ◌==◌, nat_lt, nat_le, not, ◌&&◌, false, position, unwrap_or, List, [], ◌∷◌, ◌++◌, length, take, map, codes, bytes_eq, Option, Some, None, option_map, if◌then◌else◌}
+use Rattle.std.specs.Prelude.{ℕ, Bool, ◌==◌, nat_lt, nat_le, not, ◌&&◌, ◌||◌, false, position, unwrap_or, List, [], ◌∷◌, ◌++◌, length, take, map, codes, bytes_eq, Option, Some, None, option_map, if◌then◌else◌}
 use Rattle.std.specs.List.{flat_map, list_any}
 use Rattle.std.specs.Str.Lossy.{utf8_lossy}
 use Rattle.form_urlencoded.specs.Form.{raw_pairs, decode}
@@ -76,6 +76,20 @@ abbrev pub labelled : List ℕ → Option (List ℕ) → List (List ℕ)
 labelled label None = []
 labelled label (Some value) = (label ++ value) ∷ []
 
+-- a method that asks for no change (RFC 9110, section 9.2.1)
+abbrev pub is_safe : List ℕ → Bool
+is_safe method = bytes_eq method (codes "GET") || (bytes_eq method (codes "HEAD")
+    || (bytes_eq method (codes "OPTIONS") || bytes_eq method (codes "TRACE")))
+
+-- that a method is safe
+abbrev pub safe_fact : Bool → List (List ℕ)
+safe_fact is_safe = if is_safe then codes "method is safe" ∷ [] else []
+
+-- the method, and that it is safe, where it is
+abbrev pub method_facts : Option (List ℕ) → List (List ℕ)
+method_facts None = []
+method_facts (Some method) = (codes "method = " ++ method) ∷ safe_fact (is_safe method)
+
 -- the host that was asked for, the address of the gateway's peer, and the scheme
 abbrev pub host_fact : Parts → List (List ℕ)
 host_fact head =
@@ -97,7 +111,7 @@ path_facts (Some path) =
 -- what the fields tell, where they tell this method and this target
 abbrev pub forwarded_facts : Parts → Option (List ℕ) → Option (List ℕ) → List (List ℕ)
 forwarded_facts head method target =
-    labelled (codes "method = ") method
+    method_facts method
     ++ (host_fact head ++ (address_fact head ++ (scheme_fact head
     ++ path_facts (option_map path_of target))))
 

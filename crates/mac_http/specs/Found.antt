@@ -1,20 +1,23 @@
 -- What is found of a request under a table of keys, at a moment (this project's own). The first
 -- case that holds is the answer.
-use Rattle.std.specs.Prelude.{◌≡◌, true, false, ℕ, List, Option, Some, None, if◌then◌else◌}
+use Rattle.std.specs.Prelude.{◌≡◌, Bool, true, false, ℕ, List, Option, Some, None, if◌then◌else◌}
 use Rattle.http.specs.declared.request.Parts.{Parts}
 use Rattle.http_uri.specs.Uri.{uri_path}
 use Rattle.mac_calls.specs.Counted.{are_few}
 use Rattle.mac_decide.specs.Answer.{IsGranted, answer_to, keys_of}
+use Rattle.mac_decide.specs.Revocation.{is_listed_read}
+use Rattle.mac_token.specs.Read.{read_of}
 use Rattle.mac_decide.specs.Terms.{Terms}
 use Rattle.mac_decide.specs.declared.context.Context.{Context}
-use Rattle.mac_keys.specs.Table.{Table}
+use Rattle.mac_keys.specs.KeyTable.{Table}
 use Rattle.mac_wire.specs.Request.{verify_now}
+use Rattle.mac_wire.specs.declared.reply.Refusal.TheVariants as refusal
 use Rattle.mac_wire.specs.declared.reply.Reply.{Reply}
 use Rattle.mac_wire.specs.declared.reply.Reply.TheVariants as reply
 use Rattle.mac_wire.specs.declared.request.Grant.TheVariants as grant
 use Rattle.mac_http.specs.declared.authorization.Scheme.{Scheme}
 use Rattle.mac_http.specs.declared.finding.Finding.{Finding}
-use Rattle.mac_http.specs.declared.finding.Finding.TheVariants.{Unknown, NoToken, Fragment, UnsafePath, ManyFacts, NoMoment, Invalid, Unsatisfied, Granted}
+use Rattle.mac_http.specs.declared.finding.Finding.TheVariants.{Unknown, NoToken, Fragment, UnsafePath, ManyFacts, NoMoment, Invalid, Revoked, Unsatisfied, Granted}
 use Rattle.mac_http.specs.declared.rules.Rules.{Rules}
 use Rattle.mac_http.specs.declared.rules.Sources.{Sources}
 use Rattle.mac_http.specs.Authorization.{credentials_in}
@@ -27,6 +30,7 @@ found_by scheme (reply.GrantedTo identifier location) = Granted identifier locat
 found_by scheme (reply.Unsatisfied index) = Unsatisfied index
 found_by scheme reply.Granted = Invalid scheme
 found_by scheme (reply.Token bytes) = Invalid scheme
+found_by scheme (reply.Refused refusal.Revoked) = Revoked scheme
 found_by scheme (reply.Refused reason) = Invalid scheme
 
 -- what is found of a token with these facts, if the clock told a moment: what the answer to a verify
@@ -77,13 +81,21 @@ abbrev pub found_of : Table → Rules → Option ℕ → Parts → Finding
 found_of table rules moment head =
     found_in rules.sources (terms_of table rules moment) head (target_in (uri_path head.uri))
 
--- a token of the request is good under the name's keys, whether its caveats hold or not
+-- the token of the request was taken back
+abbrev pub is_revoked : Finding → Bool
+is_revoked (Revoked scheme) = true
+is_revoked _ = false
+
+-- a token of the request is good under the name's keys, whether its caveats hold or not, and whether
+-- it was taken back or not
 abbrev pub IsHeld : Finding → Type 0
 IsHeld (Granted identifier location) = Unit {0}
 IsHeld (Unsatisfied index) = Unit {0}
+IsHeld (Revoked scheme) = Unit {0}
 IsHeld _ = ⊥
 
--- the request names keys that may be used and grant its token at the moment with its facts
+-- the request names keys that may be used and grant its token at the moment with its facts, and the
+-- token was not taken back
 pub record IsGrantedBy (table : Table) (rules : Rules) (moment : Option ℕ) (head : Parts)
     : Type 0 where
   pub name : List ℕ
@@ -99,3 +111,4 @@ pub record IsGrantedBy (table : Table) (rules : Rules) (moment : Option ℕ) (he
   pub told : moment ≡ Some second
   pub granted : IsGranted (keys_of (terms_of table rules moment) name) token
       (context_of rules.sources second head behind)
+  pub kept : is_listed_read table.revoked name (read_of token) ≡ false

@@ -7,7 +7,7 @@ use Rattle.http_server.specs.Exchange.{Calls}
 use Rattle.http_server.specs.declared.connection.Connection.{Connection}
 use Rattle.http_server.specs.declared.response.Response.{Response}
 use Rattle.mac_board.specs.Follows.{Known, IsUp, Looks}
-use Rattle.mac_keys.specs.Table.{Table}
+use Rattle.mac_keys.specs.KeyTable.{Table}
 use Rattle.mac_http.specs.declared.rules.Rules.{Rules}
 use Rattle.mac_http.specs.Faced.{IsRight}
 

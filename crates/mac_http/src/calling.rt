@@ -1,11 +1,13 @@
 //! Calls that bring JSON.
 
-ghost use Rattle.std.specs.Prelude.{◌≡◌, ◌∷◌, [], IfOk, OnOk, bytes_eq, codes, option_map};
+ghost use Rattle.std.specs.Prelude.{◌≡◌, ◌∷◌, [], IfOk, OnOk, bytes_eq, codes};
+ghost use Rattle.std.specs.Prelude.{option_map};
 ghost use Rattle.http.specs.Request.{body_of, head_of};
 ghost use Rattle.http_server.specs.Response.{IsBlank, IsResponse, fields_of};
 ghost use Rattle.mac_http.specs.Browsing.{refusal_of};
-ghost use Rattle.mac_http.specs.Calling.{RespondsToCall, TellsCall, TellsOutcome};
+ghost use Rattle.mac_http.specs.Calling.{IsMintedFor, RespondsWith, TellsCall, TellsOutcome};
 ghost use Rattle.mac_http.specs.Calling.{TellsUnlessRefused, allowed_outcome, call_in, is_json};
+ghost use Rattle.mac_http.specs.Calling.{minted_by_post, minted_unless_refused};
 ghost use Rattle.mac_http.specs.Calling.{may_use, takes_post};
 
 use crate::browsing::refusal_of;
@@ -15,8 +17,9 @@ use bytes::{BufMut, Bytes};
 use http::header::{ALLOW, CONTENT_TYPE, HeaderValue};
 use http::{Method, Request, StatusCode};
 use http_server::Response;
-use mac_calls::{Call, Outcome, answer};
+use mac_calls::{Brought, Call, Outcome, answer};
 use mac_decide::Rights;
+use mac_wire::Bytes as Identifier;
 use std::alloc::{AllocError, Global};
 
 /// The paths of calls.
@@ -36,6 +39,14 @@ pub struct Asked<'a> {
     pub call: Call,
     /// The name of the key, empty where the call is about none.
     pub name: &'a [u8],
+}
+
+/// A request that asks for a call, and what was drawn for it.
+#[derive(Clone, Copy)]
+pub(crate) struct Called<'a> {
+    pub(crate) asked: Asked<'a>,
+    pub(crate) request: &'a Request<Bytes>,
+    pub(crate) drawn: &'a [u8; 16],
 }
 
 /// The call that a path asks for, where it is allowed.
@@ -69,43 +80,57 @@ pub fn call_in(calls: Calls, path: &[u8]) -> Option<Asked<'_>>
 }
 
 /// Fills a blank response to a request for a call. Where memory is refused it is a 503 without
-/// fields.
+/// fields. The identifier of the token that was minted, if the response brings one.
 pub(crate) fn respond_to_call(
     alloc: Global,
     footing: Footing<'_>,
-    asked: Asked<'_>,
-    request: &Request<Bytes>,
+    called: Called<'_>,
     response: &mut Response,
-)
+) -> Option<Identifier>
     requires { IsBlank response.old }
-    ensures { RespondsToCall footing.entry.keys.now footing.entry.rules
-        (asked.entry.call, asked.entry.name.now) request.now response.new }
+    ensures told { RespondsWith called.entry.drawn.now footing.entry.keys.now footing.entry.rules
+        (called.entry.asked.call, called.entry.asked.name.now) called.entry.request.now
+        response.new }
+    ensures minted { IsMintedFor called.entry.drawn.now footing.entry.keys.now
+        footing.entry.rules (called.entry.asked.call, called.entry.asked.name.now)
+        called.entry.request.now response.new result }
 {
-    if fill(alloc, footing, asked, request, response).is_err() {
-        response.clear();
-        response.status = StatusCode::SERVICE_UNAVAILABLE;
+    match fill(alloc, footing, called, response) {
+        Ok(minted) => minted,
+        Err(_) => {
+            response.clear();
+            response.status = StatusCode::SERVICE_UNAVAILABLE;
+            None
+        }
     }
 }
 
 fn fill(
     alloc: Global,
     footing: Footing<'_>,
-    asked: Asked<'_>,
-    request: &Request<Bytes>,
+    called: Called<'_>,
     response: &mut Response,
-) -> Result<(), AllocError>
+) -> Result<Option<Identifier>, AllocError>
     requires { IsBlank response.old }
-    ensures { OnOk result (TellsUnlessRefused
-        (refusal_of footing.entry.rules.way (head_of request.now)) (bytes_eq (head_of request.now).method (codes "POST"))
+    ensures told { OnOk result (TellsUnlessRefused
+        (refusal_of footing.entry.rules.way (head_of called.entry.request.now))
+        (bytes_eq (head_of called.entry.request.now).method (codes "POST"))
         (allowed_outcome footing.entry.rules footing.entry.keys.now
-        (asked.entry.call, asked.entry.name.now) (body_of request.now)) response.new) }
+        (called.entry.asked.call, called.entry.asked.name.now) called.entry.drawn.now
+        (body_of called.entry.request.now)) response.new) }
+    ensures minted { IfOk result (λ minted. minted ≡ minted_unless_refused
+        (refusal_of footing.entry.rules.way (head_of called.entry.request.now))
+        (bytes_eq (head_of called.entry.request.now).method (codes "POST"))
+        (allowed_outcome footing.entry.rules footing.entry.keys.now
+        (called.entry.asked.call, called.entry.asked.name.now) called.entry.drawn.now
+        (body_of called.entry.request.now))) }
 {
-    match refusal_of(footing.rules.way, request) {
+    match refusal_of(footing.rules.way, called.request) {
         Some(status) => {
             response.status = status;
-            Ok(())
+            Ok(None)
         }
-        None => fill_unrefused(alloc, footing, asked, request, response),
+        None => fill_unrefused(alloc, footing, called, response),
     }
 }
 
@@ -113,34 +138,47 @@ fn fill(
 fn fill_unrefused(
     alloc: Global,
     footing: Footing<'_>,
-    asked: Asked<'_>,
-    request: &Request<Bytes>,
+    called: Called<'_>,
     response: &mut Response,
-) -> Result<(), AllocError>
+) -> Result<Option<Identifier>, AllocError>
     requires { IsBlank response.old }
-    ensures { OnOk result (TellsCall (bytes_eq (head_of request.now).method (codes "POST"))
+    ensures told { OnOk result (TellsCall
+        (bytes_eq (head_of called.entry.request.now).method (codes "POST"))
         (allowed_outcome footing.entry.rules footing.entry.keys.now
-        (asked.entry.call, asked.entry.name.now) (body_of request.now)) response.new) }
+        (called.entry.asked.call, called.entry.asked.name.now) called.entry.drawn.now
+        (body_of called.entry.request.now)) response.new) }
+    ensures minted { IfOk result (λ minted. minted ≡ minted_by_post
+        (bytes_eq (head_of called.entry.request.now).method (codes "POST"))
+        (allowed_outcome footing.entry.rules footing.entry.keys.now
+        (called.entry.asked.call, called.entry.asked.name.now) called.entry.drawn.now
+        (body_of called.entry.request.now))) }
 {
-    if *request.method() != Method::POST {
-        return refuse_method(response);
+    if *called.request.method() != Method::POST {
+        refuse_method(response)?;
+        return Ok(None);
     }
-    let outcome = answer_allowed(alloc, footing, asked, request.body())?;
-    tell(&outcome, response)
+    let outcome = answer_allowed(alloc, footing, called)?;
+    tell(&outcome, response)?;
+    Ok(outcome.into_identifier())
 }
 
 /// What comes of a call. A mint under a name that may not be used is as one of a name without keys.
 fn answer_allowed(
     alloc: Global,
     footing: Footing<'_>,
-    asked: Asked<'_>,
-    body: &[u8],
+    called: Called<'_>,
 ) -> Result<Outcome, AllocError>
     ensures { IfOk result (λ o. o ≡ allowed_outcome footing.entry.rules footing.entry.keys.now
-        (asked.entry.call, asked.entry.name.now) body.now) }
+        (called.entry.asked.call, called.entry.asked.name.now) called.entry.drawn.now
+        (body_of called.entry.request.now)) }
 {
+    let asked = called.asked;
     if may_use(footing.rules.rights, asked) {
-        answer(alloc, footing.keys, asked.name, asked.call, body)
+        let brought = Brought {
+            body: called.request.body(),
+            drawn: called.drawn,
+        };
+        answer(alloc, footing.keys, asked.name, asked.call, brought)
     } else {
         Ok(Outcome::NoKey)
     }
@@ -175,6 +213,7 @@ fn tell(outcome: &Outcome, response: &mut Response) -> Result<(), AllocError>
             response.status = StatusCode::NOT_FOUND;
             Ok(())
         }
+        Outcome::Minted { json, .. } => put_json(StatusCode::OK, json.as_slice(), response),
         Outcome::Reply(json) => put_json(StatusCode::OK, json.as_slice(), response),
         Outcome::Refused(json) => put_json(StatusCode::BAD_REQUEST, json.as_slice(), response),
     }

@@ -2,19 +2,21 @@
 
 ghost use Rattle.std.specs.Prelude.{◌≡◌};
 ghost use Rattle.http_server.specs.Response.{IsBlank};
+ghost use Rattle.mac_http.specs.Calling.{RespondsToCall};
 ghost use Rattle.mac_http.specs.Faced.{IsAnswer, IsPlainAnswer};
 ghost use Rattle.mac_http.specs.Turn.{AnswersOnce};
 
-use crate::calling::{call_in, respond_to_call};
+use crate::calling::{Asked, Called, call_in, respond_to_call};
 use crate::footing::Footing;
 use crate::noted::{note_of_call, note_of_path};
 use crate::page::{Monitor, announce_close, page_in, tell_page};
 use crate::rules::{Rules, Way};
 use crate::saying::respond;
 use bytes::Bytes;
-use http::Request;
+use http::{Request, StatusCode};
 use http_server::{Response, Service};
 use mac_board::{Moments, Tables};
+use mac_calls::Call;
 use std::alloc::{AllocError, Global};
 
 /// Answers the requests of connections, each under the table that is up and at a moment that its
@@ -120,14 +122,48 @@ fn answer_plain<S: Monitor>(
         footing.rules.allowed_calls(),
         request.uri().path().as_bytes(),
     ) {
-        Some(asked) => {
-            respond_to_call(alloc, footing, asked, request, response);
-            monitor.note(note_of_call(asked), response.status);
-        }
+        Some(asked) => answer_call(alloc, footing, monitor, asked, request, response),
         None => {
-            respond(alloc, footing, request, response);
-            let noted = note_of_path(request.uri().path().as_bytes());
+            let revoked = respond(alloc, footing, request, response);
+            let noted = note_of_path(request.uri().path().as_bytes(), revoked);
             monitor.note(noted, response.status);
         }
+    }
+}
+
+/// Fills a blank response with what comes of a call, and notes that. Where a mint gets no random bytes
+/// it is a 503 without fields.
+fn answer_call<S: Monitor>(
+    alloc: Global,
+    footing: Footing<'_>,
+    monitor: &S,
+    asked: Asked<'_>,
+    request: &Request<Bytes>,
+    response: &mut Response,
+)
+    requires { IsBlank response.old }
+    ensures { RespondsToCall footing.entry.keys.now footing.entry.rules
+        (asked.entry.call, asked.entry.name.now) request.now response.new }
+{
+    let Some(drawn) = drawn_for(monitor, asked.call) else {
+        response.status = StatusCode::SERVICE_UNAVAILABLE;
+        monitor.note(note_of_call(asked, None), response.status);
+        return;
+    };
+    let called = Called {
+        asked,
+        request,
+        drawn: &drawn,
+    };
+    let minted = respond_to_call(alloc, footing, called, response);
+    let identifier = minted.as_ref().map(|identifier| identifier.as_slice());
+    monitor.note(note_of_call(asked, identifier), response.status);
+}
+
+/// Random bytes for a call: a mint alone takes any.
+fn drawn_for<S: Monitor>(monitor: &S, call: Call) -> Option<[u8; 16]> {
+    match call {
+        Call::Mint => monitor.draw(),
+        Call::Attenuate | Call::Inspect | Call::Check | Call::Verify => Some([0u8; 16]),
     }
 }

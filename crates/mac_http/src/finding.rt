@@ -5,7 +5,8 @@ ghost use Rattle.http.specs.Request.{head_of};
 ghost use Rattle.mac_calls.specs.Counted.{are_few};
 ghost use Rattle.mac_token.specs.RawToken.{byte_lists};
 ghost use Rattle.mac_wire.specs.Request.{counted_fields};
-ghost use Rattle.mac_http.specs.Found.{found_at, found_by, found_few, found_of, terms_of};
+ghost use Rattle.mac_http.specs.Found.{found_at, found_by, found_few, found_of, is_revoked};
+ghost use Rattle.mac_http.specs.Found.{terms_of};
 
 use crate::authorization::{Credentials, Scheme, credentials_in};
 use crate::facts::{facts_of, tells_fragment, tells_unsafe};
@@ -15,7 +16,7 @@ use bytes::Bytes as Body;
 use http::Request as HttpRequest;
 use mac_calls::counted_facts;
 use mac_decide::{Asking, answer_request};
-use mac_wire::{Bytes, FieldList, Grant, Reply, Request};
+use mac_wire::{Bytes, FieldList, Grant, Refusal, Reply, Request};
 use std::alloc::{AllocError, Global};
 
 /// What is found of a request. The first that applies is told.
@@ -33,13 +34,24 @@ pub enum Finding {
     ManyFacts,
     /// The clock told no moment.
     NoMoment,
-    /// The token is none under the name's keys, or the name has none that may be used. It came by
-    /// this scheme.
+    /// The token is none under the name's keys, or the name has none that may be used. It came by this
+    /// scheme.
     Invalid(Scheme),
+    /// The token is one under the name's keys that was taken back. It came by this scheme.
+    Revoked(Scheme),
     /// The index of the first caveat that isn't satisfied, from 0.
     Unsatisfied(u16),
     /// The token is granted: its identifier, and its location.
     Granted(Bytes, Bytes),
+}
+
+impl Finding {
+    /// Whether the token was taken back.
+    pub(crate) fn is_revoked(&self) -> bool
+        ensures { result ≡ is_revoked self.now }
+    {
+        matches!(self, Finding::Revoked(_))
+    }
 }
 
 /// What is found of a request. No token is read that the memory has.
@@ -110,6 +122,7 @@ fn found_by(scheme: Scheme, reply: Reply) -> Finding
             location,
         } => Finding::Granted(identifier, location),
         Reply::Unsatisfied(index) => Finding::Unsatisfied(index),
+        Reply::Refused(Refusal::Revoked) => Finding::Revoked(scheme),
         Reply::Granted | Reply::Token(_) | Reply::Refused(_) => Finding::Invalid(scheme),
     }
 }

@@ -18,7 +18,8 @@ ghost use Rattle.mac_calls.specs.Counted.{are_few};
 ghost use Rattle.mac_decide.specs.Reading.{verdict_of};
 ghost use Rattle.mac_decide.specs.Answer.{keys_of};
 ghost use Rattle.mac_decide.specs.Terms.{Terms, is_allowed};
-ghost use Rattle.mac_keys.specs.Table.{Table, listed};
+ghost use Rattle.mac_keys.specs.KeyTable.{Table};
+ghost use Rattle.mac_keys.specs.Keys.{listed};
 ghost use Rattle.mac_keys.specs.declared.keys.Keys.{Keys};
 ghost use Rattle.mac_token.specs.RawToken.{TokenParts};
 ghost use Rattle.percent_encoding.specs.Percent.{percent_decode};
@@ -46,7 +47,7 @@ use http_server::Service;
 
 /// A request is granted exactly where its path names keys that may be used, it brings one token, no
 /// fragment and no unsafe path is told, the facts are few, the clock tells a moment, and the keys
-/// grant the token at that moment with those facts.
+/// grant the token at that moment with those facts, and it was not taken back.
 pub fn granted_exactly()
     ensures { (table : Table) (rules : PlainRules) (moment : Option ℕ) (head : Parts)
         → ((identifier : List ℕ) × (location : List ℕ)
@@ -58,7 +59,7 @@ pub fn granted_exactly()
 /// has keys. So he can't tell a name that exists from one that doesn't.
 pub fn names_are_told_to_holders_alone()
     ensures { (table bare : Table) (rules : PlainRules) (moment : Option ℕ) (head : Parts)
-        → ((name : List ℕ) → map.get bare name ≡ None)
+        → ((name : List ℕ) → map.get bare.keys name ≡ None)
         → IsHeld (found_of table rules moment head)
         ⊎ (found_of table rules moment head ≡ found_of bare rules moment head) }
 {}
@@ -66,7 +67,7 @@ pub fn names_are_told_to_holders_alone()
 /// A name that may not be used at an address is there as one without keys, whatever token comes.
 pub fn other_names_have_no_keys()
     ensures { (table bare : Table) (rules : PlainRules) (moment : Option ℕ) (head : Parts)
-        (name behind : List ℕ) → ((other : List ℕ) → map.get bare other ≡ None)
+        (name behind : List ℕ) → ((other : List ℕ) → map.get bare.keys other ≡ None)
         → target_in (uri_path head.uri) ≡ Some (name, behind)
         → is_allowed rules.rights.now.names name ≡ false
         → found_of table rules moment head ≡ found_of bare rules moment head }
@@ -77,6 +78,13 @@ pub fn response_tells_the_finding()
     ensures { (granted : PlainGranted) (f : PlainFinding) (r s : Response)
         → Tells granted f r → Tells granted f s
         → (r.status ≡ s.status) × (fields_of r ≡ fields_of s) × (r.body.items ≡ s.body.items) }
+{}
+
+/// A token that was taken back is told as one that isn't valid: a response doesn't say which it is.
+pub fn revoked_is_told_as_invalid()
+    ensures { (granted : PlainGranted) (scheme : PlainScheme) (response : Response)
+        → Tells granted (Finding.Revoked scheme) response
+        ↔ Tells granted (Finding.Invalid scheme) response }
 {}
 
 /// At an address that isn't allowed to mint, or where that call isn't answered, a path below
@@ -148,9 +156,8 @@ pub fn turns_compose<S: Service>()
 {}
 
 /// A service that answers each request by one look at its tables and at one moment of its clock, as
-/// a [`Face`](crate::Face) does, has written to a connection, from its begin to the end of each of
-/// its turns, the responses to its requests, in order, each right under its table and at its
-/// moment.
+/// a [`Face`](crate::Face) does, has written to a connection, from its begin to the end of each of its
+/// turns, the responses to its requests, in order, each right under its table and at its moment.
 pub fn turns_are_faced<S: Service>()
     ensures { (tells : Bool) (known : S → Known) (rules : S → PlainRules)
         (told : S → List (Option ℕ))

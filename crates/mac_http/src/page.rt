@@ -11,6 +11,7 @@ use bytes::BufMut;
 use http::StatusCode;
 use http::header::{CONNECTION, CONTENT_TYPE, HeaderValue};
 use http_server::Response;
+use mac_calls::Draws;
 use mac_decide::SeenTokens;
 use std::alloc::{AllocError, Global};
 
@@ -46,7 +47,7 @@ pub enum Told {
 }
 
 /// Speaks for the daemon that a face belongs to.
-pub trait Monitor {
+pub trait Monitor: Draws {
     /// Whether its connections are to end.
     fn is_ending(&self) -> bool;
 

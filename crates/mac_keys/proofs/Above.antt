@@ -16,9 +16,9 @@ use Rattle.mac_hmac.specs.Chain.{root_of}
 use Rattle.mac_keys.specs.declared.fault.LineFault.{LineFault}
 use Rattle.mac_keys.specs.declared.fault.LineFault.TheVariants.{BadName, BadHex, EmptySecret, Twice, TooMany, BadLine}
 use Rattle.mac_keys.specs.declared.keys.Keys.{Keys}
-use Rattle.mac_keys.specs.declared.table.TheConstants.{NAMES_MAX}
+use Rattle.mac_keys.specs.declared.key_map.TheConstants.{NAMES_MAX}
 use Rattle.mac_keys.specs.Line.{Given, line_of}
-use Rattle.mac_keys.specs.Table.{Table, key_said, keys_given, first_two, keys_of, fault_of_keys, fault_below}
+use Rattle.mac_keys.specs.Table.{NamedKeys, key_said, keys_given, first_two, keys_of, fault_of_keys, fault_below}
 use Rattle.mac_keys.specs.Taken.{keys_with, table_with}
 use Rattle.mac_keys.specs.Meaning.{GivesName, TwoOf, name_said, names_given, IsTwice, IsTooMany}
 use Rattle.mac_keys.proofs.Names.{order, order-IsAntisymmetric}
@@ -35,19 +35,19 @@ are_two None = false
 are_two (Some keys) = is_some keys.second
 
 -- the line gives a secret to a name that has two keys
-pub record GivesThird (table : Table) (line : List ℕ) : Type 0 where
+pub record GivesThird (table : NamedKeys) (line : List ℕ) : Type 0 where
   pub given : Given
   pub said : line_of line ≡ Ok (Some given)
   pub known : are_two (map.get table given.name) ≡ true
 
 -- the line gives a secret to a name that has none
-pub record GivesFirst (table : Table) (line : List ℕ) : Type 0 where
+pub record GivesFirst (table : NamedKeys) (line : List ℕ) : Type 0 where
   pub given : Given
   pub said : line_of line ≡ Ok (Some given)
   pub new : map.get table given.name ≡ None
 
 -- what a fault of a line says below the table that those above it make
-abbrev pub HasFaultBelow : Table → List ℕ → LineFault → Type 0
+abbrev pub HasFaultBelow : NamedKeys → List ℕ → LineFault → Type 0
 HasFaultBelow table line Twice = GivesThird table line
 HasFaultBelow table line TooMany = GivesFirst table line × (NAMES_MAX ≤ map.len table)
 HasFaultBelow table line BadLine = HasFault line BadLine
@@ -55,7 +55,7 @@ HasFaultBelow table line BadName = HasFault line BadName
 HasFaultBelow table line EmptySecret = HasFault line EmptySecret
 HasFaultBelow table line BadHex = HasFault line BadHex
 
-of_itself : (table : Table) (line : List ℕ) (fault : LineFault) → HasFault line fault → HasFaultBelow table line fault
+of_itself : (table : NamedKeys) (line : List ℕ) (fault : LineFault) → HasFault line fault → HasFaultBelow table line fault
 of_itself table line Twice has = absurd has
 of_itself table line TooMany has = absurd has
 of_itself table line BadLine has = has
@@ -63,7 +63,7 @@ of_itself table line BadName has = has
 of_itself table line EmptySecret has = has
 of_itself table line BadHex has = has
 
-of_first : (table : Table) (line : List ℕ) (fault : LineFault) → GivesFirst table line → cond (nat_le NAMES_MAX (map.len table)) (Some TooMany) None ≡ Some fault → HasFaultBelow table line fault
+of_first : (table : NamedKeys) (line : List ℕ) (fault : LineFault) → GivesFirst table line → cond (nat_le NAMES_MAX (map.len table)) (Some TooMany) None ≡ Some fault → HasFaultBelow table line fault
 of_first table line fault first e =
     elim (nat_le NAMES_MAX (map.len table)) as (λ b. nat_le NAMES_MAX (map.len table) ≡ b → cond b (Some TooMany) None ≡ Some fault → HasFaultBelow table line fault) [
       | true ↦ λ full found.
@@ -72,33 +72,33 @@ of_first table line fault first e =
       | false ↦ λ room found. cc
     ] refl e
 
-of_third : (table : Table) (line : List ℕ) (fault : LineFault) (g : Given) (two : Bool) → line_of line ≡ Ok (Some g) → are_two (map.get table g.name) ≡ two → cond two (Some Twice) None ≡ Some fault
+of_third : (table : NamedKeys) (line : List ℕ) (fault : LineFault) (g : Given) (two : Bool) → line_of line ≡ Ok (Some g) → are_two (map.get table g.name) ≡ two → cond two (Some Twice) None ≡ Some fault
     → HasFaultBelow table line fault
 of_third table line fault g true said known e =
     let same : Twice ≡ fault = cc in
     subst (λ (f : LineFault). HasFaultBelow table line f) same (record { given = g; said = said; known = known })
 of_third table line fault g false said known e = cc
 
-of_keys : (table : Table) (line : List ℕ) (fault : LineFault) (g : Given) (keys : Option Keys) → line_of line ≡ Ok (Some g) → map.get table g.name ≡ keys → fault_of_keys (map.len table) keys ≡ Some fault
+of_keys : (table : NamedKeys) (line : List ℕ) (fault : LineFault) (g : Given) (keys : Option Keys) → line_of line ≡ Ok (Some g) → map.get table g.name ≡ keys → fault_of_keys (map.len table) keys ≡ Some fault
     → HasFaultBelow table line fault
 of_keys table line fault g None said new e = of_first table line fault (record { given = g; said = said; new = new }) e
 of_keys table line fault g (Some keys) said known e = of_third table line fault g (is_some keys.second) said (ap are_two known) e
 
-found_below : (table : Table) (line : List ℕ) (fault : LineFault) (said : Result (Option Given) LineFault) → line_of line ≡ said → fault_below table said ≡ Some fault → HasFaultBelow table line fault
+found_below : (table : NamedKeys) (line : List ℕ) (fault : LineFault) (said : Result (Option Given) LineFault) → line_of line ≡ said → fault_below table said ≡ Some fault → HasFaultBelow table line fault
 found_below table line fault (Err other) is e =
     let same : other ≡ fault = cc in
     subst (λ (f : LineFault). HasFaultBelow table line f) same (of_itself table line other (HasFault-from_line line other is))
 found_below table line fault (Ok None) is e = cc
 found_below table line fault (Ok (Some g)) is e = of_keys table line fault g (map.get table g.name) is refl e
 
-itself : (table : Table) (line : List ℕ) (fault : LineFault) → HasFault line fault → fault_below table (line_of line) ≡ Some fault
+itself : (table : NamedKeys) (line : List ℕ) (fault : LineFault) → HasFault line fault → fault_below table (line_of line) ≡ Some fault
 itself table line fault has = ap (fault_below table) (line_of-fault line fault has)
 
-told_twice : (table : Table) (keys : Option Keys) → are_two keys ≡ true → fault_of_keys (map.len table) keys ≡ Some Twice
+told_twice : (table : NamedKeys) (keys : Option Keys) → are_two keys ≡ true → fault_of_keys (map.len table) keys ≡ Some Twice
 told_twice table None two = absurd (false≢true two)
 told_twice table (Some keys) two = ap (λ b. cond b (Some Twice) None) two
 
-fault_below-is : (table : Table) (line : List ℕ) (fault : LineFault) → HasFaultBelow table line fault → fault_below table (line_of line) ≡ Some fault
+fault_below-is : (table : NamedKeys) (line : List ℕ) (fault : LineFault) → HasFaultBelow table line fault → fault_below table (line_of line) ≡ Some fault
 fault_below-is table line Twice has = ap (fault_below table) has.said ∙ told_twice table (map.get table has.given.name) has.known
 fault_below-is table line TooMany has =
     ap (fault_below table) has.0.said
@@ -109,7 +109,7 @@ fault_below-is table line BadName has = itself table line BadName has
 fault_below-is table line EmptySecret has = itself table line EmptySecret has
 fault_below-is table line BadHex has = itself table line BadHex has
 
-pub has_fault_below : (table : Table) (line : List ℕ) (fault : LineFault) → (fault_below table (line_of line) ≡ Some fault) ↔ HasFaultBelow table line fault
+pub has_fault_below : (table : NamedKeys) (line : List ℕ) (fault : LineFault) → (fault_below table (line_of line) ≡ Some fault) ↔ HasFaultBelow table line fault
 has_fault_below table line fault = (found_below table line fault (line_of line) refl, fault_below-is table line fault)
 
 -- ---- the names that the lines give secrets once, and twice

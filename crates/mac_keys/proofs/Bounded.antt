@@ -13,9 +13,9 @@ use Rattle.mac_hmac.specs.Chain.{root_of}
 use Rattle.mac_keys.specs.declared.fault.LineFault.{LineFault}
 use Rattle.mac_keys.specs.declared.fault.LineFault.TheVariants.{TooMany}
 use Rattle.mac_keys.specs.declared.keys.Keys.{Keys}
-use Rattle.mac_keys.specs.declared.table.TheConstants.{NAMES_MAX}
+use Rattle.mac_keys.specs.declared.key_map.TheConstants.{NAMES_MAX}
 use Rattle.mac_keys.specs.Line.{Given, line_of}
-use Rattle.mac_keys.specs.Table.{Table, listed, key_said, keys_given, first_two, keys_of, fault_of_keys, fault_below}
+use Rattle.mac_keys.specs.Table.{NamedKeys, listed, key_said, keys_given, first_two, keys_of, fault_of_keys, fault_below}
 use Rattle.mac_keys.specs.Taken.{keys_with, table_with}
 use Rattle.mac_keys.specs.Meaning.{AreFaultless, keys_at}
 use Rattle.mac_keys.proofs.Names.{order}
@@ -31,7 +31,7 @@ len_after : (keys : Option Keys) (n : ℕ) → fault_of_keys n keys ≡ None →
 len_after None n none h = one_more (nat_le NAMES_MAX n) n refl none
 len_after (Some keys) n none h = h
 
-len-table_with-le : (table : Table) (said : Result (Option Given) LineFault) → fault_below table said ≡ None → map.len table ≤ NAMES_MAX → map.len (table_with table said) ≤ NAMES_MAX
+len-table_with-le : (table : NamedKeys) (said : Result (Option Given) LineFault) → fault_below table said ≡ None → map.len table ≤ NAMES_MAX → map.len (table_with table said) ≤ NAMES_MAX
 len-table_with-le table (Ok None) none h = h
 len-table_with-le table (Ok (Some g)) none h =
     subst (λ (n : ℕ). n ≤ NAMES_MAX) (sym (map.len-insert nat_list_cmp_total table g.name (keys_with (map.get table g.name) (root_of g.secret))))
@@ -83,7 +83,7 @@ listed-first_two (first ∷ []) h = refl
 listed-first_two (first ∷ second ∷ []) h = refl
 listed-first_two (first ∷ second ∷ third ∷ others) h = absurd (omega arith)
 
-pub keys_at-faultless : (lines : List (List ℕ)) (table : Table) (name : List ℕ) → AreFaultless lines × (table ≡ keys_of lines) → keys_at table name ≡ keys_given name lines
+pub keys_at-faultless : (lines : List (List ℕ)) (table : NamedKeys) (name : List ℕ) → AreFaultless lines × (table ≡ keys_of lines) → keys_at table name ≡ keys_given name lines
 keys_at-faultless lines table name (faultless, made) =
     ap (λ t. keys_at t name) made
     ∙ ap (λ keys. option_map_or listed keys []) (get-keys_of lines name)

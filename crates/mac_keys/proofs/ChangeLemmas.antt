@@ -17,7 +17,7 @@ use Rattle.mac_keys.specs.Change.{AddsKey, AddsLower, DropsFirst, DropsKey, HasK
 use Rattle.mac_keys.specs.Found.{IsFound, is_line_of}
 use Rattle.mac_keys.specs.Line.{Given, line_of}
 use Rattle.mac_keys.specs.Meaning.{GivesName}
-use Rattle.mac_keys.specs.Table.{Table, fault_below, fault_of_keys, first_two, is_line_feed, key_said, keys_given, keys_of, lines_of, listed, table_of}
+use Rattle.mac_keys.specs.Table.{NamedKeys, fault_below, fault_of_keys, first_two, is_line_feed, key_said, keys_given, keys_of, lines_of, listed, table_of}
 use Rattle.mac_keys.specs.Taken.{keys_with, table_with}
 use Rattle.mac_keys.proofs.Above.{any_named, has_named}
 use Rattle.mac_keys.proofs.Bounded.{keys_at-faultless}
@@ -48,7 +48,7 @@ gives_said name key line (Ok (Some g)) is e =
     ] refl e
 
 -- the keys that a table has at a name are those of its lines
-keys_there : (lines : List (List ℕ)) (table : Table) (name : List ℕ) (keys : Keys) → Reads (keys_of []) lines table → map.get table name ≡ Some keys → keys_given name lines ≡ listed keys
+keys_there : (lines : List (List ℕ)) (table : NamedKeys) (name : List ℕ) (keys : Keys) → Reads (keys_of []) lines table → map.get table name ≡ Some keys → keys_given name lines ≡ listed keys
 keys_there lines table name keys reads there =
     sym (keys_at-faultless lines table name (faultless_made lines table (table_of_reads lines table reads)))
     ∙ ap (λ found. option_map_or listed found []) there
@@ -71,14 +71,14 @@ only_key None keys key some e = absurd (false≢true some)
 only_key (Some found) keys key some e = (let same : found ≡ key = cc in ap Some same, cc)
 
 -- what is read above a line that has the name, at it and below it
-pub record Meets (name key : List ℕ) (above : List (List ℕ)) (old : List ℕ) (below : List (List ℕ)) (table : Table) : Type 0 where
+pub record Meets (name key : List ℕ) (above : List (List ℕ)) (old : List ℕ) (below : List (List ℕ)) (table : NamedKeys) : Type 0 where
   pub first : Reads (keys_of []) above (keys_of above)
   pub none : fault_below (keys_of above) (line_of old) ≡ None
   pub gives : Gives name key old
   pub rest : Reads (table_with (keys_of above) (line_of old)) below table
   pub others : keys_given name below ≡ []
 
-meets : (name key : List ℕ) (above : List (List ℕ)) (old : List ℕ) (below : List (List ℕ)) (table : Table) → Reads (keys_of []) (above ++ old ∷ below) table → is_line_of name old ≡ true
+meets : (name key : List ℕ) (above : List (List ℕ)) (old : List ℕ) (below : List (List ℕ)) (table : NamedKeys) → Reads (keys_of []) (above ++ old ∷ below) table → is_line_of name old ≡ true
     → cons_option (key_said name (line_of old)) (keys_given name below) ≡ key ∷ [] → Meets name key above old below table
 meets name key above old below table reads named given =
     let (between, first, (here, rest)) = reads_apart above (old ∷ below) (keys_of []) table reads in
@@ -87,15 +87,15 @@ meets name key above old below table reads named given =
     let some = sym (named_key name old (keys_of above) (line_of old) refl none) ∙ named in
     let (said, others) = only_key (key_said name (line_of old)) (keys_given name below) key some given in
     record {
-      first = subst (λ (t : Table). Reads (keys_of []) above t) made first;
+      first = subst (λ (t : NamedKeys). Reads (keys_of []) above t) made first;
       none = none;
       gives = gives_said name key old (line_of old) refl said;
-      rest = subst (λ (t : Table). Reads (table_with t (line_of old)) below table) made rest;
+      rest = subst (λ (t : NamedKeys). Reads (table_with t (line_of old)) below table) made rest;
       others = others;
     }
 
 -- what a line that gives the name a key makes of a table
-with_line : (name key line : List ℕ) (table : Table) (found : Option Keys) → Gives name key line → map.get table name ≡ found
+with_line : (name key line : List ℕ) (table : NamedKeys) (found : Option Keys) → Gives name key line → map.get table name ≡ found
     → table_with table (line_of line) ≡ map.insert table name (keys_with found key)
 with_line name key line table found gives there =
     ap (table_with table) gives.said
@@ -109,7 +109,7 @@ abbrev two : List ℕ → List ℕ → Keys
 two first second = record { first = first; second = Some second }
 
 -- the lines with one more, above the only one of the name
-add_reads : (name key first line : List ℕ) (above : List (List ℕ)) (old : List ℕ) (below : List (List ℕ)) (table : Table) → Reads (keys_of []) (above ++ old ∷ below) table
+add_reads : (name key first line : List ℕ) (above : List (List ℕ)) (old : List ℕ) (below : List (List ℕ)) (table : NamedKeys) → Reads (keys_of []) (above ++ old ∷ below) table
     → count_by (is_line_of name) above ≡ 0 → is_line_of name old ≡ true → map.get table name ≡ Some (one first) → Gives name key line
     → Reads (keys_of []) (above ++ line ∷ old ∷ below) (map.insert table name (two key first))
 add_reads name key first line above old below table reads none_named named there gives =
@@ -132,7 +132,7 @@ add_reads name key first line above old below table reads none_named named there
     let room : fault_below before (line_of line) ≡ None = ap (fault_below before) gives.said ∙ sym (ap (fault_below before) met.gives.said) ∙ met.none in
     let fits : fault_below (table_with before (line_of line)) (line_of old) ≡ None =
     ap (fault_below (table_with before (line_of line))) met.gives.said ∙ one_has_room (map.len (table_with before (line_of line))) (map.get (table_with before (line_of line)) name) there_now in
-    let rest = subst (λ (t : Table). Reads t below (map.insert table name (two key first))) over
+    let rest = subst (λ (t : NamedKeys). Reads t below (map.insert table name (two key first))) over
     (reads_with name (two key first) below (table_with before (line_of old)) table known met.others met.rest) in
     reads_joined above (line ∷ old ∷ below) (keys_of []) before (map.insert table name (two key first)) met.first (room, (fits, rest))
   where
@@ -140,7 +140,7 @@ add_reads name key first line above old below table reads none_named named there
     one_has_room names found is = ap (fault_of_keys names) is
 
 -- the lines without the second of the name
-drop_reads : (name first second : List ℕ) (above : List (List ℕ)) (old : List ℕ) (below : List (List ℕ)) (table : Table) → Reads (keys_of []) (above ++ old ∷ below) table
+drop_reads : (name first second : List ℕ) (above : List (List ℕ)) (old : List ℕ) (below : List (List ℕ)) (table : NamedKeys) → Reads (keys_of []) (above ++ old ∷ below) table
     → count_by (is_line_of name) above ≡ 1 → is_line_of name old ≡ true → map.get table name ≡ Some (two first second)
     → (Reads (keys_of []) above (keys_of above)) × Reads (keys_of above) below (map.insert table name (one first))
 drop_reads name first second above old below table reads one_named named there =
@@ -159,7 +159,7 @@ drop_reads name first second above old below table reads one_named named there =
     let back : map.insert (table_with before (line_of old)) name (one first) ≡ before =
     ap (λ t. map.insert t name (one first)) with_both ∙ last_insert before name (two first second) (one first) ∙ same_insert before name (one first) had in (
       met.first,
-      subst (λ (t : Table). Reads t below (map.insert table name (one first))) back
+      subst (λ (t : NamedKeys). Reads t below (map.insert table name (one first))) back
           (reads_with name (one first) below (table_with before (line_of old)) table known met.others met.rest),
     )
 
@@ -200,13 +200,13 @@ around : (name text : List ℕ) (above start end : ℕ) (found : IsFound name te
 around name text above start end found = around_by name text above start end found found.ended
 
 -- what is read of a text, in lines
-reads_text : (text : List ℕ) (lines : List (List ℕ)) (table : Table) → lines_of text ≡ lines → table_of text ≡ Ok table → Reads (keys_of []) lines table
+reads_text : (text : List ℕ) (lines : List (List ℕ)) (table : NamedKeys) → lines_of text ≡ lines → table_of text ≡ Ok table → Reads (keys_of []) lines table
 reads_text text lines table same made = subst (λ (ls : List (List ℕ)). Reads (keys_of []) ls table) same (reads_of_table (lines_of text) table made)
 
-table_text : (text : List ℕ) (lines : List (List ℕ)) (table : Table) → lines_of text ≡ lines → Reads (keys_of []) lines table → table_of text ≡ Ok table
+table_text : (text : List ℕ) (lines : List (List ℕ)) (table : NamedKeys) → lines_of text ≡ lines → Reads (keys_of []) lines table → table_of text ≡ Ok table
 table_text text lines table same reads = table_of_reads (lines_of text) table (subst (λ (ls : List (List ℕ)). Reads (keys_of []) ls table) (sym same) reads)
 
-lines_counted : (text name : List ℕ) (table : Table) (keys : Keys) → table_of text ≡ Ok table → map.get table name ≡ Some keys → count_by (is_line_of name) (lines_of text) ≡ length (listed keys)
+lines_counted : (text name : List ℕ) (table : NamedKeys) (keys : Keys) → table_of text ≡ Ok table → map.get table name ≡ Some keys → count_by (is_line_of name) (lines_of text) ≡ length (listed keys)
 lines_counted text name table keys made there =
     let reads = reads_of_table (lines_of text) table made in
     count_keys name (lines_of text) (keys_of []) table reads ∙ ap length (keys_there (lines_of text) table name keys reads there)
@@ -222,17 +222,17 @@ two_found text name (first, second, (table, made, there)) few = let counted = li
 gives_name : (name key line : List ℕ) → Gives name key line → GivesName name line
 gives_name name key line gives = (gives.secret, Spells-from_line line _ gives.said)
 
-no_name : (name : List ℕ) (lines : List (List ℕ)) (after : Table) → Reads (keys_of []) lines after → count_by (is_line_of name) lines ≡ 0 → ¬ Any (GivesName name) lines
+no_name : (name : List ℕ) (lines : List (List ℕ)) (after : NamedKeys) → Reads (keys_of []) lines after → count_by (is_line_of name) lines ≡ 0 → ¬ Any (GivesName name) lines
 no_name name lines after reads none = λ any.
     false≢true (ap has (sym (none_above (keys_given name lines) (sym (count_keys name lines (keys_of []) after reads) ∙ none))) ∙ has_named name lines any)
 
-some_name : (name : List ℕ) (lines : List (List ℕ)) (after : Table) → Reads (keys_of []) lines after → count_by (is_line_of name) lines ≡ 1 → Any (GivesName name) lines
+some_name : (name : List ℕ) (lines : List (List ℕ)) (after : NamedKeys) → Reads (keys_of []) lines after → count_by (is_line_of name) lines ≡ 1 → Any (GivesName name) lines
 some_name name lines after reads counted =
     let (key, is) = one_above (keys_given name lines) (sym (count_keys name lines (keys_of []) after reads) ∙ counted) in
     any_named name lines (ap has is)
 
 -- a line with the name, in a text without a fault, gives the name a key
-named_gives : (name : List ℕ) (above : List (List ℕ)) (old : List ℕ) (below : List (List ℕ)) (table : Table) → Reads (keys_of []) (above ++ old ∷ below) table → is_line_of name old ≡ true → GivesName name old
+named_gives : (name : List ℕ) (above : List (List ℕ)) (old : List ℕ) (below : List (List ℕ)) (table : NamedKeys) → Reads (keys_of []) (above ++ old ∷ below) table → is_line_of name old ≡ true → GivesName name old
 named_gives name above old below table reads named =
     let (between, first, (none, rest)) = reads_apart above (old ∷ below) (keys_of []) table reads in
     go (key_said name (line_of old)) refl (sym (named_key name old between (line_of old) refl none) ∙ named)
@@ -314,7 +314,7 @@ takes_lower name text changed start end (first, second, (table, made, there)) fo
       lower = (found.line, is_line, named_gives name found.lines found.line a.below table reads found.named);
     }
 
-without_line : (before after : Table) (below : List (List ℕ)) (behind : List ℕ) → ((below ≡ lines_of behind) ⊎ ((below ≡ []) × (behind ≡ []))) → Reads before below after → Reads before (lines_of behind) after
+without_line : (before after : NamedKeys) (below : List (List ℕ)) (behind : List ℕ) → ((below ≡ lines_of behind) ⊎ ((below ≡ []) × (behind ≡ []))) → Reads before below after → Reads before (lines_of behind) after
 without_line before after below behind (inl same) reads = subst (λ (ls : List (List ℕ)). Reads before ls after) same reads
 without_line before after below behind (inr (none, last)) reads =
     subst (λ (b : List ℕ). Reads before (lines_of b) after) (sym last) (refl, subst (λ (ls : List (List ℕ)). Reads before ls after) none reads)
@@ -341,7 +341,7 @@ drops_key name text changed start end (first, second, (table, made, there)) foun
 -- ---- the second line of a name
 
 -- the second line of a name gives it its second key
-second_gives : (name first second : List ℕ) (above : List (List ℕ)) (old : List ℕ) (below : List (List ℕ)) (table : Table) → Reads (keys_of []) (above ++ old ∷ below) table
+second_gives : (name first second : List ℕ) (above : List (List ℕ)) (old : List ℕ) (below : List (List ℕ)) (table : NamedKeys) → Reads (keys_of []) (above ++ old ∷ below) table
     → count_by (is_line_of name) above ≡ 1 → is_line_of name old ≡ true → map.get table name ≡ Some (two first second) → Gives name second old
 second_gives name first second above old below table reads one_named named there =
     let (between, front, _) = reads_apart above (old ∷ below) (keys_of []) table reads in
@@ -389,14 +389,14 @@ abbrev second_key : Option Keys → List ℕ
 second_key None = []
 second_key (Some keys) = key_or_none keys.second
 
-abbrev table_in : Result Table KeyFault → Table → Table
+abbrev table_in : Result NamedKeys KeyFault → NamedKeys → NamedKeys
 table_in (Ok table) other = table
 table_in (Err fault) other = other
 
-one_table : (text : List ℕ) (one other : Table) → table_of text ≡ Ok one → table_of text ≡ Ok other → one ≡ other
+one_table : (text : List ℕ) (one other : NamedKeys) → table_of text ≡ Ok one → table_of text ≡ Ok other → one ≡ other
 one_table text one other made again = ap (λ r. table_in r one) (sym made ∙ again)
 
-put_again : (table between : Table) (name : List ℕ) (x y z : Keys) → between ≡ map.insert table name x → y ≡ z → map.insert between name y ≡ map.insert table name z
+put_again : (table between : NamedKeys) (name : List ℕ) (x y z : Keys) → between ≡ map.insert table name x → y ≡ z → map.insert between name y ≡ map.insert table name z
 put_again table between name x y z is same = ap (λ t. map.insert t name y) is ∙ last_insert table name x y ∙ ap (map.insert table name) same
 
 pub one_left : (name text changed : List ℕ) → DropsKey name text changed → HasOne changed name

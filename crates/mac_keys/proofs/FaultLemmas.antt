@@ -2,7 +2,7 @@
 use Rattle.std.proofs.Common.{◌≡◌, ℕ, ◌<◌, ◌≤◌, nat_le, cond, true, false, Some, None, ap, arith}
 use Rattle.std.proofs.lemmas.Bool.Decides.{nat_tests}
 use Rattle.mac_keys.specs.declared.fault.LineFault.TheVariants.{TooMany}
-use Rattle.mac_keys.specs.declared.table.TheConstants.{NAMES_MAX}
+use Rattle.mac_keys.specs.declared.key_map.TheConstants.{NAMES_MAX}
 use Rattle.mac_keys.specs.Table.{fault_of_keys}
 
 full : (n : ℕ) → NAMES_MAX ≤ n → nat_le NAMES_MAX n ≡ true

@@ -2,7 +2,7 @@
 use Rattle.std.proofs.Common.{◌≡◌, ◌≢◌, ℕ, ◌+◌, List, [], ◌∷◌, Option, Some, None, Ok, Err, option_map, refl, sym, ap, ◌∙◌, zero-add}
 use Rattle.mac_keys.specs.declared.fault.LineFault.{LineFault}
 use Rattle.mac_keys.specs.declared.fault.KeyFault.TheVariants as faults
-use Rattle.mac_keys.specs.Table.{Table, keys_of, table_or_first, fault_at, faults_of}
+use Rattle.mac_keys.specs.Table.{NamedKeys, keys_of, table_or_first, fault_at, faults_of}
 use Rattle.mac_keys.specs.Meaning.{fault_in_place, AreFaultless, IsFirstFault}
 use Rattle.mac_keys.proofs.Numbered.{each_None, results-none, first_of, results-first}
 
@@ -31,21 +31,21 @@ none_from_AreFaultless lines faultless =
     results-none (fault_at lines) 0 lines (λ place line there.
     fault_at-zero_add lines place line ∙ ap (option_map {U = ℕ × LineFault} (λ fault. (place + 1, fault))) (faultless place line there))
 
-of_table_or_first : (table made : Table) (found : List (ℕ × LineFault)) → table_or_first made found ≡ Ok table → (found ≡ []) × (table ≡ made)
+of_table_or_first : (table made : NamedKeys) (found : List (ℕ × LineFault)) → table_or_first made found ≡ Ok table → (found ≡ []) × (table ≡ made)
 of_table_or_first table made [] e = (refl, cc)
 of_table_or_first table made (first ∷ others) e = cc
 
-pub faultless_made : (lines : List (List ℕ)) (table : Table) → table_or_first (keys_of lines) (faults_of lines) ≡ Ok table → AreFaultless lines × (table ≡ keys_of lines)
+pub faultless_made : (lines : List (List ℕ)) (table : NamedKeys) → table_or_first (keys_of lines) (faults_of lines) ≡ Ok table → AreFaultless lines × (table ≡ keys_of lines)
 faultless_made lines table e =
     let made = of_table_or_first table (keys_of lines) (faults_of lines) e in
     (AreFaultless-from_none lines made.0, made.1)
 
-pub made_of_faultless : (lines : List (List ℕ)) (table : Table) → AreFaultless lines × (table ≡ keys_of lines) → table_or_first (keys_of lines) (faults_of lines) ≡ Ok table
+pub made_of_faultless : (lines : List (List ℕ)) (table : NamedKeys) → AreFaultless lines × (table ≡ keys_of lines) → table_or_first (keys_of lines) (faults_of lines) ≡ Ok table
 made_of_faultless lines table (faultless, made) = ap (table_or_first (keys_of lines)) (none_from_AreFaultless lines faultless) ∙ ap Ok (sym made)
 
 -- ---- the first fault
 
-of_first : (made : Table) (found : List (ℕ × LineFault)) (number : ℕ) (fault : LineFault) → table_or_first made found ≡ Err (faults.Line number fault)
+of_first : (made : NamedKeys) (found : List (ℕ × LineFault)) (number : ℕ) (fault : LineFault) → table_or_first made found ≡ Err (faults.Line number fault)
     → (others : List (ℕ × LineFault)) × (found ≡ (number, fault) ∷ others)
 of_first made [] number fault e = cc
 of_first made (first ∷ others) number fault e =
@@ -79,7 +79,7 @@ told_first lines number fault first =
     ap (table_or_first (keys_of lines)) is
     ∙ ap (λ n. Err (faults.Line n fault)) (sym first.numbered)
 
-not_memory : (made : Table) (found : List (ℕ × LineFault)) → table_or_first made found ≢ Err faults.Memory
+not_memory : (made : NamedKeys) (found : List (ℕ × LineFault)) → table_or_first made found ≢ Err faults.Memory
 not_memory made [] e = cc
 not_memory made (first ∷ others) e = cc
 

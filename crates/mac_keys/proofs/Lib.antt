@@ -10,5 +10,9 @@ pub mod Names
 pub mod Numbered
 pub mod Pairs
 pub mod Refused
+pub mod RevokedCount
+pub mod RevokedLemmas
+pub mod RevokedMeaning
 pub mod Spelling
 pub mod Whole
+pub mod CopiedLemmas

@@ -11,7 +11,7 @@ use Rattle.mac_keys.specs.declared.fault.LineFault.{LineFault}
 use Rattle.mac_keys.specs.declared.fault.KeyFault.{KeyFault}
 use Rattle.mac_keys.specs.declared.fault.KeyFault.TheVariants as faults
 use Rattle.mac_keys.specs.Line.{line_of}
-use Rattle.mac_keys.specs.Table.{Table, keys_of, table_or_first, fault_below, fault_at, faults_of}
+use Rattle.mac_keys.specs.Table.{NamedKeys, keys_of, table_or_first, fault_below, fault_at, faults_of}
 use Rattle.mac_keys.specs.declared.line.Refusal.{Refusal}
 use Rattle.mac_keys.specs.declared.line.Refusal.TheVariants.{Line, Memory}
 use Rattle.mac_keys.specs.Taken.{table_with, IsFor, fault_of_line}
@@ -43,12 +43,12 @@ turn lines n index line t =
     }
 
 -- the first n lines have no fault, and give this table
-pub record SoFar (lines : List (List ℕ)) (n : ℕ) (table : Table) : Type 0 where
+pub record SoFar (lines : List (List ℕ)) (n : ℕ) (table : NamedKeys) : Type 0 where
   pub given : table ≡ keys_of (take n lines)
   pub faultless : filter_map (fault_at lines) (take n (enumerate_from 0 lines)) ≡ []
   pub above : AreFaultlessAbove lines n
 
-pub SoFar-none : (lines : List (List ℕ)) (table : Table) → table ≡ keys_of (take 0 lines) → SoFar lines 0 table
+pub SoFar-none : (lines : List (List ℕ)) (table : NamedKeys) → table ≡ keys_of (take 0 lines) → SoFar lines 0 table
 SoFar-none lines table given = record {
   given = given;
   faultless = refl;
@@ -68,11 +68,11 @@ further lines n line above here none higher other less there =
     ] refl
 
 -- what is wrong with the line, among the lines and below the table so far
-same_fault : (lines : List (List ℕ)) (n : ℕ) (line : List ℕ) (table : Table) (found : Option LineFault) → SoFar lines n table → fault_below table (line_of line) ≡ found → fault_below (keys_of (take n lines)) (line_of line) ≡ found
+same_fault : (lines : List (List ℕ)) (n : ℕ) (line : List ℕ) (table : NamedKeys) (found : Option LineFault) → SoFar lines n table → fault_below table (line_of line) ≡ found → fault_below (keys_of (take n lines)) (line_of line) ≡ found
 same_fault lines n line table found so_far e = ap (λ k. fault_below k (line_of line)) (sym so_far.given) ∙ e
 
 -- a line without a fault is taken
-pub SoFar-push : (lines : List (List ℕ)) (n m index : ℕ) (line : List ℕ) (table after : Table) → Turn lines n index line → SoFar lines n table → m ≡ n + 1
+pub SoFar-push : (lines : List (List ℕ)) (n m index : ℕ) (line : List ℕ) (table after : NamedKeys) → Turn lines n index line → SoFar lines n table → m ≡ n + 1
     → (fault_below table (line_of line) ≡ None) × (after ≡ table_with table (line_of line)) → SoFar lines m after
 SoFar-push lines n m index line table after t so_far next taken =
     let none = same_fault lines n line table None so_far taken.0 in
@@ -95,7 +95,7 @@ SoFar-push lines n m index line table after t so_far next taken =
     }
 
 -- the first line with a fault gives the first fault
-first_fault : (lines : List (List ℕ)) (n index : ℕ) (line : List ℕ) (table : Table) (fault : LineFault) → Turn lines n index line → SoFar lines n table
+first_fault : (lines : List (List ℕ)) (n index : ℕ) (line : List ℕ) (table : NamedKeys) (fault : LineFault) → Turn lines n index line → SoFar lines n table
     → fault_below table (line_of line) ≡ Some fault → table_or_first (keys_of lines) (faults_of lines) ≡ Err (faults.Line (n + 1) fault)
 first_fault lines n index line table fault t so_far e =
     let later = drop (n + 1) (enumerate_from 0 lines) in
@@ -106,7 +106,7 @@ first_fault lines n index line table fault t so_far e =
     ∙ ap (λ found. cons_option (option_map {U = ℕ × LineFault} (λ f. (n + 1, f)) found) (filter_map (fault_at lines) later)) (same_fault lines n line table (Some fault) so_far e))
 
 -- a line that is refused gives the first fault, or memory ran out
-pub SoFar-refused : (lines : List (List ℕ)) (n index : ℕ) (line : List ℕ) (table : Table) (refusal : Refusal) (told : KeyFault) → Turn lines n index line → SoFar lines n table
+pub SoFar-refused : (lines : List (List ℕ)) (n index : ℕ) (line : List ℕ) (table : NamedKeys) (refusal : Refusal) (told : KeyFault) → Turn lines n index line → SoFar lines n table
     → IsFor (fault_below table (line_of line)) refusal → told ≡ fault_of_line index refusal
     → (told ≡ faults.Memory) ⊎ (table_or_first (keys_of lines) (faults_of lines) ≡ Err told)
 SoFar-refused lines n index line table (Line fault) told t so_far e named =
@@ -114,8 +114,8 @@ SoFar-refused lines n index line table (Line fault) told t so_far e named =
 SoFar-refused lines n index line table Memory told t so_far e named = inl named
 
 -- a line that is refused for want of memory takes some
-pub TakeMemory-refused : (lines : List (List ℕ)) (n index : ℕ) (line : List ℕ) (table : Table) (refusal : Refusal) (told : KeyFault) → Turn lines n index line → SoFar lines n table
-    → (IsErrOf {T = Unit {0}} (Err refusal) Memory → HasPairs line) → told ≡ fault_of_line index refusal → IsErrOf {T = Table} (Err told) faults.Memory → TakeMemory lines
+pub TakeMemory-refused : (lines : List (List ℕ)) (n index : ℕ) (line : List ℕ) (table : NamedKeys) (refusal : Refusal) (told : KeyFault) → Turn lines n index line → SoFar lines n table
+    → (IsErrOf {T = Unit {0}} (Err refusal) Memory → HasPairs line) → told ≡ fault_of_line index refusal → IsErrOf {T = NamedKeys} (Err told) faults.Memory → TakeMemory lines
 TakeMemory-refused lines n index line table (Line fault) told t so_far memory is e = let no : told ≡ faults.Memory = cc in cc
 TakeMemory-refused lines n index line table Memory told t so_far memory is e = record {
   place = n;
@@ -126,7 +126,7 @@ TakeMemory-refused lines n index line table Memory told t so_far memory is e = r
 }
 
 -- at the end of the lines there is no fault
-pub SoFar-all : (lines : List (List ℕ)) (n : ℕ) (table : Table) → SoFar lines n table → n ≡ length (enumerate_from 0 lines) → table_or_first (keys_of lines) (faults_of lines) ≡ Ok table
+pub SoFar-all : (lines : List (List ℕ)) (n : ℕ) (table : NamedKeys) → SoFar lines n table → n ≡ length (enumerate_from 0 lines) → table_or_first (keys_of lines) (faults_of lines) ≡ Ok table
 SoFar-all lines n table so_far all =
     ap (table_or_first (keys_of lines)) (ap (filter_map (fault_at lines)) (sym (take_all n (enumerate_from 0 lines) (omega arith))) ∙ so_far.faultless)
     ∙ ap (λ ls. Ok (keys_of ls)) (sym (take_all n lines (omega (arith, length-enumerate_from 0 lines))))

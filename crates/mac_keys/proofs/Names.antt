@@ -13,7 +13,7 @@ use Rattle.std.specs.FinMap as map
 use Rattle.std.specs.FinMap.Entries.{find, put, by_order, find-put}
 use Rattle.std.specs.Prelude.{map as map_list}
 use Rattle.mac_keys.specs.declared.keys.Keys.{Keys}
-use Rattle.mac_keys.specs.Keys.{Table, by_name, listed}
+use Rattle.mac_keys.specs.Keys.{NamedKeys, by_name, listed}
 use Rattle.mac_keys.specs.Names.{names_of}
 
 -- the order of names, and that of their vectors
@@ -115,7 +115,7 @@ counted-by_name [] = refl
 counted-by_name (e ∷ es) = ap (λ rest. (e.0.items, length (listed e.1)) ∷ rest) (counted-by_name es)
 
 -- so the names of a table are counted where they lie
-pub counted-names : (es : List (Vec ℕ Global × Keys)) (table : Table) → IsStrictlySortedBy order_of (keys_of es) → map.from_entries {R = order} (by_name es) ≡ table → counted es ≡ names_of table
+pub counted-names : (es : List (Vec ℕ Global × Keys)) (table : NamedKeys) → IsStrictlySortedBy order_of (keys_of es) → map.from_entries {R = order} (by_name es) ≡ table → counted es ≡ names_of table
 counted-names es table ordered seen =
     sym (ap (map_list (λ e. (e.0, length (listed e.1)))) (entries-by_name es ordered) ∙ counted-by_name es)
     ∙ ap names_of seen

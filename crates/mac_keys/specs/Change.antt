@@ -11,7 +11,7 @@ use Rattle.mac_keys.specs.declared.fault.KeyFault.TheVariants as faults
 use Rattle.mac_keys.specs.declared.keys.Keys.{Keys}
 use Rattle.mac_keys.specs.Line.{line_of}
 use Rattle.mac_keys.specs.Meaning.{GivesName}
-use Rattle.mac_keys.specs.Table.{Table, lines_of, table_of}
+use Rattle.mac_keys.specs.Table.{NamedKeys, lines_of, table_of}
 
 -- ---- where a line stands
 
@@ -57,11 +57,11 @@ pub record TakesLower (name text changed : List ℕ) : Type 0 where
 
 -- the key file has no fault, and these keys at the name
 abbrev pub HasKeys : List ℕ → List ℕ → Option Keys → Type 0
-HasKeys text name keys = (table : Table) × (table_of text ≡ Ok table) × (get table name ≡ keys)
+HasKeys text name keys = (table : NamedKeys) × (table_of text ≡ Ok table) × (get table name ≡ keys)
 
 -- the name had one key, which is its second now, below a new one; each other name has its own
 pub record AddsKey (name key text changed : List ℕ) : Type 0 where
-  pub table : Table
+  pub table : NamedKeys
   pub first : List ℕ
   pub old : table_of text ≡ Ok table
   pub had : get table name ≡ Some (record { first = first; second = None })
@@ -70,7 +70,7 @@ pub record AddsKey (name key text changed : List ℕ) : Type 0 where
 
 -- the name had two keys, of which it has the first alone now; each other name has its own
 pub record DropsKey (name text changed : List ℕ) : Type 0 where
-  pub table : Table
+  pub table : NamedKeys
   pub first : List ℕ
   pub second : List ℕ
   pub old : table_of text ≡ Ok table
@@ -79,7 +79,7 @@ pub record DropsKey (name text changed : List ℕ) : Type 0 where
 
 -- the name had one key, which is its first now, above a new one; each other name has its own
 pub record AddsLower (name key text changed : List ℕ) : Type 0 where
-  pub table : Table
+  pub table : NamedKeys
   pub first : List ℕ
   pub old : table_of text ≡ Ok table
   pub had : get table name ≡ Some (record { first = first; second = None })
@@ -88,7 +88,7 @@ pub record AddsLower (name key text changed : List ℕ) : Type 0 where
 
 -- the name had two keys, of which the second is its first now; each other name has its own
 pub record SwapsKeys (name text changed : List ℕ) : Type 0 where
-  pub table : Table
+  pub table : NamedKeys
   pub first : List ℕ
   pub second : List ℕ
   pub old : table_of text ≡ Ok table
@@ -98,7 +98,7 @@ pub record SwapsKeys (name text changed : List ℕ) : Type 0 where
 
 -- the name had two keys, of which it has the second alone now; each other name has its own
 pub record DropsFirst (name text changed : List ℕ) : Type 0 where
-  pub table : Table
+  pub table : NamedKeys
   pub first : List ℕ
   pub second : List ℕ
   pub old : table_of text ≡ Ok table

@@ -9,8 +9,8 @@ use Rattle.std.specs.FinMap.{FinMap}
 use Rattle.mac_keys.specs.declared.keys.Keys.{Keys}
 
 -- a finite map from names, each as its bytes, to their keys
-abbrev pub Table : Type 0
-Table = FinMap (slice_cmp nat_cmp) Keys
+abbrev pub NamedKeys : Type 0
+NamedKeys = FinMap (slice_cmp nat_cmp) Keys
 
 -- the keys of a name as a list, of one or two
 abbrev pub listed : Keys → List (List ℕ)

@@ -2,10 +2,12 @@ pub mod Answers
 pub mod Change
 pub mod Fault
 pub mod Found
+pub mod KeyTable
 pub mod Keys
 pub mod Line
 pub mod Meaning
 pub mod Names
+pub mod Revoked
 pub mod Table
 pub mod Taken
 pub mod Weak

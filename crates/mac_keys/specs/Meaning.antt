@@ -9,9 +9,9 @@ use Rattle.std.specs.FinSet.{FinSet, from_list, len}
 use Rattle.hex.specs.Hex.{decode_of}
 use Rattle.mac_hmac.specs.Chain.{root_of}
 use Rattle.mac_keys.specs.declared.fault.LineFault.{LineFault}
-use Rattle.mac_keys.specs.declared.table.TheConstants.{NAMES_MAX}
+use Rattle.mac_keys.specs.declared.key_map.TheConstants.{NAMES_MAX}
 use Rattle.mac_keys.specs.Line.{Given, is_name, line_of}
-use Rattle.mac_keys.specs.Keys.{Table, listed}
+use Rattle.mac_keys.specs.Keys.{NamedKeys, listed}
 use Rattle.mac_keys.specs.Table.{keys_of, fault_below}
 
 -- the line is `key `, the name, a space, and digits that spell the secret
@@ -23,7 +23,7 @@ pub record Spells (line : List ℕ) (g : Given) : Type 0 where
   pub some : 0 < length digits
 
 -- the keys that a table has for a name, in their order
-abbrev pub keys_at : Table → List ℕ → List (List ℕ)
+abbrev pub keys_at : NamedKeys → List ℕ → List (List ℕ)
 keys_at table name = option_map_or listed (get table name) []
 
 -- the line gives the name a secret of which this is the root key

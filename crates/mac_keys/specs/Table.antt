@@ -6,14 +6,14 @@ use Rattle.std.specs.List.{filter_map, enumerate_from, slice_split}
 use Rattle.std.specs.Str.{bytes_eq}
 use Rattle.std.specs.FinMap.{from_entries, get, len}
 use Rattle.mac_hmac.specs.Chain.{root_of}
-use Rattle.mac_keys.specs.declared.table.TheConstants.{NAMES_MAX}
+use Rattle.mac_keys.specs.declared.key_map.TheConstants.{NAMES_MAX}
 use Rattle.mac_keys.specs.declared.keys.Keys.{Keys}
 use Rattle.mac_keys.specs.declared.fault.LineFault.{LineFault}
 use Rattle.mac_keys.specs.declared.fault.LineFault.TheVariants.{Twice, TooMany}
 use Rattle.mac_keys.specs.declared.fault.KeyFault.{KeyFault}
 use Rattle.mac_keys.specs.declared.fault.KeyFault.TheVariants as faults
 use Rattle.mac_keys.specs.Line.{Given, line_of}
-pub use Rattle.mac_keys.specs.Keys.{Table, listed}
+pub use Rattle.mac_keys.specs.Keys.{NamedKeys, listed}
 
 abbrev pub is_line_feed : ℕ → Bool
 is_line_feed b = b == 10
@@ -46,7 +46,7 @@ entry_said lines (Ok None) = None
 entry_said lines (Err fault) = None
 
 -- the map from each name to which a line gives a secret to its keys
-abbrev pub keys_of : List (List ℕ) → Table
+abbrev pub keys_of : List (List ℕ) → NamedKeys
 keys_of lines = from_entries (filter_map (λ line. entry_said lines (line_of line)) lines)
 
 -- a name that has two keys may not get another, and a table has no more than 1,000 names
@@ -54,11 +54,11 @@ abbrev pub fault_of_keys : ℕ → Option Keys → Option LineFault
 fault_of_keys names None = if nat_le NAMES_MAX names then Some TooMany else None
 fault_of_keys names (Some keys) = if is_some keys.second then Some Twice else None
 
-abbrev pub fault_of_name : Table → List ℕ → Option LineFault
+abbrev pub fault_of_name : NamedKeys → List ℕ → Option LineFault
 fault_of_name table name = fault_of_keys (len table) (get table name)
 
 -- what is wrong with what a line says, where the lines above it make this table
-abbrev pub fault_below : Table → Result (Option Given) LineFault → Option LineFault
+abbrev pub fault_below : NamedKeys → Result (Option Given) LineFault → Option LineFault
 fault_below table (Err fault) = Some fault
 fault_below table (Ok None) = None
 fault_below table (Ok (Some g)) = fault_of_name table g.name
@@ -74,10 +74,10 @@ abbrev pub faults_of : List (List ℕ) → List (ℕ × LineFault)
 faults_of lines = filter_map (fault_at lines) (enumerate_from 0 lines)
 
 -- the table where no line has a fault, and else the first fault
-abbrev pub table_or_first : Table → List (ℕ × LineFault) → Result Table KeyFault
+abbrev pub table_or_first : NamedKeys → List (ℕ × LineFault) → Result NamedKeys KeyFault
 table_or_first table [] = Ok table
 table_or_first table (first ∷ others) = Err (faults.Line first.0 first.1)
 
 -- what a key file says
-abbrev pub table_of : List ℕ → Result Table KeyFault
+abbrev pub table_of : List ℕ → Result NamedKeys KeyFault
 table_of text = table_or_first (keys_of (lines_of text)) (faults_of (lines_of text))

@@ -9,7 +9,7 @@ use Rattle.mac_keys.specs.declared.keys.Keys.{Keys}
 use Rattle.mac_keys.specs.declared.line.Refusal.{Refusal}
 use Rattle.mac_keys.specs.declared.line.Refusal.TheVariants.{Line, Memory}
 use Rattle.mac_keys.specs.Line.{Given}
-use Rattle.mac_keys.specs.Table.{Table}
+use Rattle.mac_keys.specs.Table.{NamedKeys}
 
 -- a name's keys once it gets another: a third is left out
 abbrev pub keys_with : Option Keys → List ℕ → Keys
@@ -23,7 +23,7 @@ Gets (Ok given) fault keys = (fault ≡ None) × (given ≡ keys)
 Gets (Err told) fault keys = fault ≡ Some told
 
 -- the table, with the key that a line gives a name
-abbrev pub table_with : Table → Result (Option Given) LineFault → Table
+abbrev pub table_with : NamedKeys → Result (Option Given) LineFault → NamedKeys
 table_with table (Err fault) = table
 table_with table (Ok None) = table
 table_with table (Ok (Some g)) =

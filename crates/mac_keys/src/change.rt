@@ -13,9 +13,9 @@ ghost use Rattle.mac_keys.specs.declared.change.ChangeFault.TheVariants.{File};
 ghost use Rattle.mac_keys.specs.declared.fault.KeyFault.TheVariants.{Memory};
 
 use crate::fault::KeyFault;
+use crate::key_map::KeyMap;
 use crate::keys::Keys;
 use crate::line::is_line_of;
-use crate::table::KeyTable;
 use std::alloc::{AllocError, Global};
 use thiserror::Error;
 
@@ -158,7 +158,7 @@ fn read_keys(alloc: Global, text: &[u8], name: &[u8]) -> Result<Option<Keys>, Ke
     ensures keys { IfOk result (HasKeys text.now name.now) }
     ensures fault { IfErr result (IsFileFault text.now) }
 {
-    let table = KeyTable::read(alloc, text)?;
+    let table = KeyMap::read(alloc, text)?;
     Ok(table.find(name).copied())
 }
 

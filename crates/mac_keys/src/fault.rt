@@ -2,8 +2,8 @@
 ghost use Rattle.std.specs.Prelude.{◌≡◌};
 ghost use Rattle.mac_keys.specs.Fault.{code_of};
 
+use crate::key_map::NAMES_MAX;
 use crate::line::NAME_MAX;
-use crate::table::NAMES_MAX;
 use thiserror::Error;
 
 /// What is wrong with a line of a key file.

@@ -105,7 +105,7 @@ pub(crate) fn is_line_of(line: &[u8], name: &[u8]) -> bool
     }
 }
 
-fn is_ignored(line: &[u8]) -> bool
+pub(crate) fn is_ignored(line: &[u8]) -> bool
     ensures { result ≡ is_ignored line.now }
 {
     match line.first() {
@@ -122,7 +122,7 @@ pub(crate) fn fields(line: &[u8]) -> Option<(&[u8], &[u8])>
 }
 
 /// What stands before the first space, and behind it.
-fn parted(rest: &[u8]) -> Option<(&[u8], &[u8])>
+pub(crate) fn parted(rest: &[u8]) -> Option<(&[u8], &[u8])>
     ensures { option_map (λ found. (found.0.now, found.1.now)) result ≡ parted rest.now }
 {
     let space = first_space(rest)?;

@@ -20,8 +20,8 @@ moment_added millis old new text dt low separator places nanos e1 e2 e3 is at sh
     (text, (dt, at ∙ is, shown ∙ lower ∙ apart ∙ placed), added)
 
 pub line_added : (has_priority : Bool) (line : Line) (o0 o1 o2 o3 o4 o5 o6 : List ℕ) → o1 ≡ o0 ++ front_text has_priority (kind_level line.kind) → AddsMoment line.millis o1 o2
-    → o3 ≡ o2 ++ 32 ∷ level_word (kind_level line.kind) → o4 ≡ o3 ++ 32 ∷ kind_word line.kind → o5 ≡ o4 ++ line.fields → o6 ≡ o5 ++ 10 ∷ [] → AddsLine has_priority line o0 o6
+    → o3 ≡ o2 ++ 32 ∷ level_word (kind_level line.kind) → o4 ≡ o3 ++ 32 ∷ kind_word line.kind → o5 ≡ o4 ++ line.fields.text → o6 ≡ o5 ++ 10 ∷ [] → AddsLine has_priority line o0 o6
 line_added has_priority line o0 o1 o2 o3 o4 o5 o6 e1 (time, is, e2) e3 e4 e5 e6 =
     let front = front_text has_priority (kind_level line.kind) in
     let words = two o2 o3 o4 (32 ∷ level_word (kind_level line.kind)) (32 ∷ kind_word line.kind) e3 e4 in
-    (front ++ (time ++ (kind_text line.kind ++ (line.fields ++ 10 ∷ []))), (time, is, refl), five o0 o1 o2 o4 o5 o6 front time (kind_text line.kind) line.fields (10 ∷ []) e1 e2 words e5 e6)
+    (front ++ (time ++ (kind_text line.kind ++ (line.fields.text ++ 10 ∷ []))), (time, is, refl), five o0 o1 o2 o4 o5 o6 front time (kind_text line.kind) line.fields.text (10 ∷ []) e1 e2 words e5 e6)

@@ -1,5 +1,5 @@
 -- No value ends a line or passes for a key.
-use Rattle.std.proofs.Common.{◌≡◌, ℕ, zero, suc, ◌+◌, ◌<◌, ◌≤◌, ◌/◌, ◌%◌, ◌==◌, Bool, true, false, not, ◌&&◌, cond, List, [], ◌∷◌, ◌++◌, length, refl, sym, ap, ◌∙◌, arith}
+use Rattle.std.proofs.Common.{◌≡◌, ℕ, zero, suc, ◌+◌, ◌<◌, ◌≤◌, ◌/◌, ◌%◌, ◌==◌, Bool, true, false, not, ◌&&◌, cond, List, [], ◌∷◌, ◌++◌, length, take, refl, ap, ◌∙◌, arith}
 use Rattle.std.specs.Prelude.{slice_index, nat_le}
 use Rattle.std.specs.List.{All, count_by, list_all}
 use Rattle.std.proofs.lemmas.Bool.{and_from, and_parts}
@@ -14,9 +14,10 @@ use Rattle.mac_log.specs.declared.kind.Kind.{Kind}
 use Rattle.mac_log.specs.declared.kind.Kind.TheVariants as kind
 use Rattle.mac_log.specs.Key.{key_word}
 use Rattle.mac_log.specs.Value.{escaped, escaped_byte, is_bare, is_bare_byte, is_shown, value_text}
-use Rattle.mac_log.specs.Fields.{Field, field_text, fields_text}
+use Rattle.mac_log.specs.Fields.{Field, FieldsText, cut_text, field_text, fitting, no_fields, told_fields, value_room, whole_text, with_field, with_fields}
 use Rattle.mac_log.specs.Line.{kind_text}
 use Rattle.mac_log.specs.Printed.{IsPrinted}
+use Rattle.mac_log.proofs.CutLemmas.{each, told-whole}
 
 abbrev is_printed : ℕ → Bool
 is_printed byte = nat_le 32 byte && nat_le byte 126
@@ -106,6 +107,7 @@ safe-key key.Value = refl
 safe-key key.Cause = refl
 safe-key key.Asks = refl
 safe-key key.Name = refl
+safe-key key.Identifier = refl
 safe-key key.Verdict = refl
 safe-key key.Code = refl
 safe-key key.Unsent = refl
@@ -115,6 +117,8 @@ pub printed-kind_bytes : (k : Kind) → ArePrinted (kind_text k)
 printed-kind_bytes kind.Start = refl
 printed-kind_bytes kind.KeysRead = refl
 printed-kind_bytes kind.KeysRefused = refl
+printed-kind_bytes kind.RevokedRead = refl
+printed-kind_bytes kind.RevokedRefused = refl
 printed-kind_bytes kind.KeysEmpty = refl
 printed-kind_bytes kind.ConnectionFault = refl
 printed-kind_bytes kind.ConnectionIdle = refl
@@ -124,6 +128,7 @@ printed-kind_bytes kind.LimitLow = refl
 printed-kind_bytes kind.AcceptFault = refl
 printed-kind_bytes kind.SystemFault = refl
 printed-kind_bytes kind.Request = refl
+printed-kind_bytes kind.Mint = refl
 printed-kind_bytes kind.Replaced = refl
 printed-kind_bytes kind.Drain = refl
 printed-kind_bytes kind.End = refl
@@ -141,11 +146,32 @@ printed-field field bytes =
     printed-append (key_word field.0) (61 ∷ value_text field.1) (printed-safe (key_word field.0) (safe-key field.0))
     (printed-safe (value_text field.1) (safe-value field.1 bytes))
 
-printed-fields_bytes : (fields : List Field) → All (λ field. IsBytes field.1) fields → ArePrinted (fields_text fields)
-printed-fields_bytes [] bytes = refl
-printed-fields_bytes (f ∷ fields) bytes =
-    printed-append (field_text f.0 f.1) (fields_text fields) (printed-field f (All-head (λ (field : Field). IsBytes field.1) f fields bytes))
-    (printed-fields_bytes fields (All-tail (λ (field : Field). IsBytes field.1) f fields bytes))
+safe-front : (n : ℕ) (value : List ℕ) → IsBytes value → AreSafe (escaped (take n value))
+safe-front zero value bytes = refl
+safe-front (suc n) [] bytes = refl
+safe-front (suc n) (b ∷ value) bytes =
+    safe-append (escaped_byte b) (escaped (take n value)) (safe-byte b (bytes 0)) (safe-front n value (λ i. bytes (suc i)))
+
+safe-cut : (n : ℕ) (value : List ℕ) → IsBytes value → AreSafe (34 ∷ (escaped (take n value) ++ 34 ∷ 32 ∷ 46 ∷ 46 ∷ 46 ∷ []))
+safe-cut n value bytes = safe-append (34 ∷ escaped (take n value)) (34 ∷ 32 ∷ 46 ∷ 46 ∷ 46 ∷ []) (safe-front n value bytes) refl
+
+printed-cut : (room : ℕ) (field : Field) → IsBytes field.1 → ArePrinted (cut_text room field.0 field.1)
+printed-cut room field bytes =
+    let n = fitting room field.1 in
+    printed-append (key_word field.0) (61 ∷ 34 ∷ (escaped (take n field.1) ++ 34 ∷ 32 ∷ 46 ∷ 46 ∷ 46 ∷ [])) (printed-safe (key_word field.0) (safe-key field.0))
+    (printed-safe (34 ∷ (escaped (take n field.1) ++ 34 ∷ 32 ∷ 46 ∷ 46 ∷ 46 ∷ [])) (safe-cut n field.1 bytes))
+
+abbrev TextPrinted : FieldsText → Type 0
+TextPrinted fields = ArePrinted fields.text
+
+printed-behind : (before : FieldsText) (fields : List Field) → All (λ field. IsBytes field.1) fields → TextPrinted before → TextPrinted (with_fields before fields)
+printed-behind before [] bytes is = is
+printed-behind before (f ∷ fields) bytes is =
+    let here = All-head (λ (field : Field). IsBytes field.1) f fields bytes in
+    printed-behind (with_field before f.0 f.1) fields (All-tail (λ (field : Field). IsBytes field.1) f fields bytes)
+    (each TextPrinted before f.0 f.1 is
+    (λ uncut. printed-append before.text (field_text f.0 f.1) is (printed-field f here))
+    (λ uncut. printed-append before.text (cut_text (value_room before.text f.0) f.0 f.1) is (printed-cut (value_room before.text f.0) f here)))
 
 printed-byte : (b : ℕ) → is_printed b ≡ true → IsPrinted b
 printed-byte b printed = (grind (arith, nat_tests), grind (arith, nat_tests))
@@ -154,8 +180,8 @@ all_printed : (bytes : List ℕ) → ArePrinted bytes → All IsPrinted bytes
 all_printed bytes printed =
     All-weaker (λ b. is_printed b ≡ true) IsPrinted printed-byte bytes (AllPass-from_list_all is_printed bytes printed)
 
-pub printed-fields : (fields : List Field) → All (λ field. IsBytes field.1) fields → All IsPrinted (fields_text fields)
-printed-fields fields bytes = all_printed (fields_text fields) (printed-fields_bytes fields bytes)
+pub printed-fields : (fields : List Field) → All (λ field. IsBytes field.1) fields → All IsPrinted (told_fields fields).text
+printed-fields fields bytes = all_printed (told_fields fields).text (printed-behind no_fields fields bytes refl)
 
 pub printed-kind : (k : Kind) → All IsPrinted (kind_text k)
 printed-kind k = all_printed (kind_text k) (printed-kind_bytes k)
@@ -187,13 +213,45 @@ count-field field bytes =
     let space : count_by is_equals (field_text field.0 field.1) ≡ 0 + count_by is_equals (key_word field.0 ++ 61 ∷ value_text field.1) = sum_by-cons one 32 (key_word field.0 ++ 61 ∷ value_text field.1) in
     omega arith
 
-pub count-fields : (fields : List Field) → All (λ field. IsBytes field.1) fields → count_by is_equals (fields_text fields) ≡ length fields
-count-fields [] bytes = refl
-count-fields (f ∷ fields) bytes =
+count-cut : (room : ℕ) (field : Field) → IsBytes field.1 → count_by is_equals (cut_text room field.0 field.1) ≡ 1
+count-cut room field bytes =
+    let n = fitting room field.1 in
+    let value = 34 ∷ (escaped (take n field.1) ++ 34 ∷ 32 ∷ 46 ∷ 46 ∷ 46 ∷ []) in
+    let k : count_by is_equals (key_word field.0) ≡ 0 = count-safe (key_word field.0) (safe-key field.0) in
+    let v : count_by is_equals value ≡ 0 = count-safe value (safe-cut n field.1 bytes) in
+    let both : count_by is_equals (key_word field.0 ++ 61 ∷ value) ≡ count_by is_equals (key_word field.0) + count_by is_equals (61 ∷ value)
+    = sum_by-append one (key_word field.0) (61 ∷ value) in
+    let sign : count_by is_equals (61 ∷ value) ≡ 1 + count_by is_equals value = sum_by-cons one 61 value in
+    let space : count_by is_equals (cut_text room field.0 field.1) ≡ 0 + count_by is_equals (key_word field.0 ++ 61 ∷ value) = sum_by-cons one 32 (key_word field.0 ++ 61 ∷ value) in
+    omega arith
+
+-- no more equals signs than so many
+abbrev HasAtMost : ℕ → FieldsText → Type 0
+HasAtMost n fields = count_by is_equals fields.text ≤ n
+
+count-behind : (n : ℕ) (before : FieldsText) (fields : List Field) → All (λ field. IsBytes field.1) fields → HasAtMost n before → HasAtMost (n + length fields) (with_fields before fields)
+count-behind n before [] bytes is = omega arith
+count-behind n before (f ∷ fields) bytes is =
+    let here = All-head (λ (field : Field). IsBytes field.1) f fields bytes in
+    let next = each (HasAtMost (n + 1)) before f.0 f.1 (omega arith)
+    (λ uncut. let more = sum_by-append one before.text (field_text f.0 f.1) in let this = count-field f here in omega arith)
+    (λ uncut. let more = sum_by-append one before.text (cut_text (value_room before.text f.0) f.0 f.1) in let this = count-cut (value_room before.text f.0) f here in omega arith) in
+    let ih = count-behind (n + 1) (with_field before f.0 f.1) fields (All-tail (λ (field : Field). IsBytes field.1) f fields bytes) next in
+    omega arith
+
+pub count-told : (fields : List Field) → All (λ field. IsBytes field.1) fields → count_by is_equals (told_fields fields).text ≤ length fields
+count-told fields bytes = let at = count-behind 0 no_fields fields bytes (omega arith) in omega arith
+
+count-each : (fields : List Field) → All (λ field. IsBytes field.1) fields → count_by is_equals (whole_text fields) ≡ length fields
+count-each [] bytes = refl
+count-each (f ∷ fields) bytes =
     let here : count_by is_equals (field_text f.0 f.1) ≡ 1 = count-field f (All-head (λ (field : Field). IsBytes field.1) f fields bytes) in
-    let rest : count_by is_equals (fields_text fields) ≡ length fields = count-fields fields (All-tail (λ (field : Field). IsBytes field.1) f fields bytes) in
-    let both : count_by is_equals (field_text f.0 f.1 ++ fields_text fields) ≡ count_by is_equals (field_text f.0 f.1) + count_by is_equals (fields_text fields)
-    = sum_by-append one (field_text f.0 f.1) (fields_text fields) in
-    let step : count_by is_equals (fields_text (f ∷ fields)) ≡ count_by is_equals (field_text f.0 f.1 ++ fields_text fields) = refl in
+    let rest : count_by is_equals (whole_text fields) ≡ length fields = count-each fields (All-tail (λ (field : Field). IsBytes field.1) f fields bytes) in
+    let both : count_by is_equals (field_text f.0 f.1 ++ whole_text fields) ≡ count_by is_equals (field_text f.0 f.1) + count_by is_equals (whole_text fields)
+    = sum_by-append one (field_text f.0 f.1) (whole_text fields) in
+    let step : count_by is_equals (whole_text (f ∷ fields)) ≡ count_by is_equals (field_text f.0 f.1 ++ whole_text fields) = refl in
     let longer : length (f ∷ fields) ≡ 1 + length fields = omega arith in
     omega arith
+
+pub count-whole : (fields : List Field) → All (λ field. IsBytes field.1) fields → (told_fields fields).is_cut ≡ false → count_by is_equals (told_fields fields).text ≡ length fields
+count-whole fields bytes uncut = rw (told-whole fields uncut) (count-each fields bytes)

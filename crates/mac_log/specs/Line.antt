@@ -19,7 +19,7 @@ kind_text kind = 32 ∷ level_word (kind_level kind) ++ 32 ∷ kind_word kind
 abbrev pub IsLineText : Bool → Line → List ℕ → Type 0
 IsLineText has_priority line text =
     (time : List ℕ) × IsMoment line.millis time
-    × (text ≡ front_text has_priority (kind_level line.kind) ++ (time ++ (kind_text line.kind ++ (line.fields ++ 10 ∷ []))))
+    × (text ≡ front_text has_priority (kind_level line.kind) ++ (time ++ (kind_text line.kind ++ (line.fields.text ++ 10 ∷ []))))
 
 -- the line behind what was there
 abbrev pub AddsLine : Bool → Line → List ℕ → List ℕ → Type 0

@@ -1,5 +1,5 @@
 -- How many lines of a kind are printed in a second.
-use Rattle.std.specs.Prelude.{ℕ, zero, ◌+◌, ◌-◌, ◌*◌, ◌==◌, ◌&&◌, not, nat_le, nat_lt, min, is_some, unwrap_or, Bool, if◌then◌else◌, List, [], ◌∷◌, Option, Some, None}
+use Rattle.std.specs.Prelude.{ℕ, ◌+◌, ◌-◌, ◌&&◌, nat_le, nat_lt, min, is_some, unwrap_or, Bool, if◌then◌else◌, List, [], ◌∷◌, Option, Some, None}
 use Rattle.mac_log.specs.declared.quota.Quota.{Quota}
 use Rattle.mac_log.specs.declared.quota.TheConstants.{LINES_MAX, SECOND}
 

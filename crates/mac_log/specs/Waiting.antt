@@ -7,4 +7,5 @@ use Rattle.mac_log.specs.declared.log.TheConstants.{REQUESTS_WAITING_MAX, WAITIN
 -- a line of this kind is let in only while fewer lines than that wait
 abbrev pub waiting_max : Kind → ℕ
 waiting_max kind.Request = REQUESTS_WAITING_MAX
+waiting_max kind.Mint = REQUESTS_WAITING_MAX
 waiting_max _ = WAITING_MAX

@@ -44,6 +44,8 @@ pub enum Key {
     Asks,
     /// The name of a key, and never the key, nor a token that stands in its place.
     Name,
+    /// The identifier of a token that was minted.
+    Identifier,
     /// What a request was answered.
     Verdict,
     /// The number of a refusal.
@@ -79,6 +81,7 @@ impl Key {
             Key::Cause => "cause",
             Key::Asks => "asks",
             Key::Name => "name",
+            Key::Identifier => "identifier",
             Key::Verdict => "verdict",
             Key::Code => "code",
             Key::Unsent => "unsent",

@@ -6,7 +6,7 @@ ghost use Rattle.mac_log.specs.Kind.{is_bounded, kind_level, kind_word};
 use crate::level::Level;
 
 /// How many kinds of lines there are.
-pub const KINDS: usize = 16;
+pub const KINDS: usize = 19;
 
 /// What a line tells of.
 #[derive(Clone, Copy, Debug, PartialEq, Eq)]
@@ -19,6 +19,10 @@ pub enum Kind {
     KeysRefused,
     /// A key file has no key.
     KeysEmpty,
+    /// A list of tokens that were taken back was read anew.
+    RevokedRead,
+    /// Such a list was refused, and the one that was there stays.
+    RevokedRefused,
     /// A connection ended in a fault.
     ConnectionFault,
     /// A connection was closed that had sent nothing whole for a while.
@@ -35,6 +39,8 @@ pub enum Kind {
     SystemFault,
     /// A request was answered.
     Request,
+    /// A token was minted.
+    Mint,
     /// Another daemon's socket is in the place of the daemon's own.
     Replaced,
     /// The daemon was told to end, and answers what it has read.
@@ -52,6 +58,8 @@ impl Kind {
         Kind::KeysRead,
         Kind::KeysRefused,
         Kind::KeysEmpty,
+        Kind::RevokedRead,
+        Kind::RevokedRefused,
         Kind::ConnectionFault,
         Kind::ConnectionIdle,
         Kind::ConnectionDropped,
@@ -60,6 +68,7 @@ impl Kind {
         Kind::AcceptFault,
         Kind::SystemFault,
         Kind::Request,
+        Kind::Mint,
         Kind::Replaced,
         Kind::Drain,
         Kind::End,
@@ -75,6 +84,8 @@ impl Kind {
             Kind::KeysRead => "keys_read",
             Kind::KeysRefused => "keys_refused",
             Kind::KeysEmpty => "keys_empty",
+            Kind::RevokedRead => "revoked_read",
+            Kind::RevokedRefused => "revoked_refused",
             Kind::ConnectionFault => "connection_fault",
             Kind::ConnectionIdle => "connection_idle",
             Kind::ConnectionDropped => "connection_dropped",
@@ -83,6 +94,7 @@ impl Kind {
             Kind::AcceptFault => "accept_fault",
             Kind::SystemFault => "system_fault",
             Kind::Request => "request",
+            Kind::Mint => "mint",
             Kind::Replaced => "replaced",
             Kind::Drain => "drain",
             Kind::End => "end",
@@ -95,7 +107,8 @@ impl Kind {
         ensures { result ≡ kind_level self }
     {
         match self {
-            Kind::KeysRefused | Kind::AcceptFault | Kind::SystemFault => Level::Error,
+            Kind::KeysRefused | Kind::RevokedRefused | Kind::AcceptFault | Kind::SystemFault =>
+                Level::Error,
             Kind::KeysEmpty
             | Kind::ConnectionFault
             | Kind::ConnectionDropped
@@ -104,20 +117,22 @@ impl Kind {
             | Kind::LeftOut => Level::Warning,
             Kind::Start
             | Kind::KeysRead
+            | Kind::RevokedRead
             | Kind::ConnectionIdle
             | Kind::Request
+            | Kind::Mint
             | Kind::Replaced
             | Kind::Drain
             | Kind::End => Level::Info,
         }
     }
 
-    /// Whether few of its lines are printed in a second. Of requests each is, where that was asked
-    /// for.
+    /// Whether few of its lines are printed in a second. Of requests and mints each is, where that
+    /// was asked for.
     pub fn is_bounded(self) -> bool
         ensures { result ≡ is_bounded self }
     {
-        self != Kind::Request
+        self != Kind::Request && self != Kind::Mint
     }
 
     /// Its place among the kinds.

@@ -1,28 +1,48 @@
 //! Laws of the definitions, as functions whose contracts state them.
-ghost use Rattle.std.specs.Prelude.{◌≡◌, ℕ, ◌+◌, ◌≤◌, ◌<◌, ◌^◌, List, length, count_by, ◌==◌};
+ghost use Rattle.std.specs.Prelude.{◌≡◌, ℕ, ◌+◌, ◌≤◌, ◌<◌, ◌^◌, List, ◌++◌, codes, false, length, take, true, count_by, ◌==◌};
 ghost use Rattle.std.specs.List.{All};
 ghost use Rattle.hex.specs.Hex.{IsBytes};
 ghost use Rattle.mac_log.specs.declared.quota.Quota.{Quota};
 ghost use Rattle.mac_log.specs.declared.quota.TheConstants.{LINES_MAX, SECOND};
 ghost use Rattle.mac_log.specs.declared.kind.Kind.{Kind};
-ghost use Rattle.mac_log.specs.Fields.{Field, fields_text};
+ghost use Rattle.mac_log.specs.Fields.{Field, fitting, told_fields, whole_text};
 ghost use Rattle.mac_log.specs.Line.{kind_text};
 ghost use Rattle.mac_log.specs.Printed.{IsPrinted};
+ghost use Rattle.mac_log.specs.Value.{escaped};
 ghost use Rattle.mac_log.specs.Quota.{after, printed_count, told_count};
 
 /// Whatever its values are, a line has printable ASCII alone behind its time, and so no line feed
 /// but its last byte.
 pub fn line_is_one_line()
     ensures fields { (fields : List Field) → All (λ field. IsBytes field.1) fields →
-        All IsPrinted (fields_text fields) }
+        All IsPrinted (told_fields fields).text }
     ensures words { (kind : Kind) → All IsPrinted (kind_text kind) }
 {}
 
-/// Whatever their values are, fields have as many equals signs as there are of them: no value
-/// passes for a key.
+/// Whatever their values are, fields of which none was cut have as many equals signs as there are
+/// of them, and others no more than that: no value passes for a key.
 pub fn no_value_passes_for_a_key()
-    ensures { (fields : List Field) → All (λ field. IsBytes field.1) fields →
-        count_by (λ byte. byte == 61) (fields_text fields) ≡ length fields }
+    ensures whole { (fields : List Field) → All (λ field. IsBytes field.1) fields →
+        (told_fields fields).is_cut ≡ false →
+        count_by (λ byte. byte == 61) (told_fields fields).text ≡ length fields }
+    ensures cut { (fields : List Field) → All (λ field. IsBytes field.1) fields →
+        count_by (λ byte. byte == 61) (told_fields fields).text ≤ length fields }
+{}
+
+/// Fields that were cut end in the mark that says so, and others are told as they are.
+pub fn what_is_cut_is_marked()
+    ensures cut { (fields : List Field) → (told_fields fields).is_cut ≡ true →
+        (front : List ℕ) × ((told_fields fields).text ≡ front ++ codes " ...") }
+    ensures whole { (fields : List Field) → (told_fields fields).is_cut ≡ false →
+        (told_fields fields).text ≡ whole_text fields }
+{}
+
+/// Of a value that is cut no byte is left out that fits.
+pub fn no_byte_is_left_out_that_fits()
+    ensures fits { (room : ℕ) → (value : List ℕ) → 0 < room →
+        length (escaped (take (fitting room value) value)) < room }
+    ensures next { (room : ℕ) → (value : List ℕ) → fitting room value < length value →
+        room ≤ length (escaped (take (fitting room value + 1) value)) }
 {}
 
 /// In a second at most ten lines of a kind are printed.

@@ -4,7 +4,8 @@
 //! Who posts a line never waits for who reads it: one thread prints what waits in a bounded queue.
 //! Of each kind but that of requests at most ten lines a second are printed, and then one that says
 //! how many were left out. Lines of requests leave a quarter of the queue to the others. No value
-//! can end a line or pass for a key of it ([`laws`]), and no token stands where a name is told.
+//! can end a line or pass for a key of it ([`laws`]), and no token stands where a name is told. A line
+//! has at most `LINE_MAX` bytes: what is longer is cut, and ends in ` ...`.
 #![tactic(auto)]
 
 mod clock;
@@ -21,11 +22,11 @@ mod printer;
 mod quota;
 mod value;
 
-pub use fields::Fields;
+pub use fields::{FIELDS_MAX, FIELDS_ROOM, Fields};
 pub use key::Key;
 pub use kind::{KINDS, Kind};
 pub use level::Level;
-pub use line::Line;
+pub use line::{LINE_MAX, Line};
 pub use log::{Log, REQUESTS_WAITING_MAX, WAITING_MAX};
 pub use moment::MOMENT_MAX;
 pub use name::{TOKEN_MIN, is_told_name};

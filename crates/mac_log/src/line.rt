@@ -1,6 +1,6 @@
 //! A line, as it is printed.
 
-ghost use Rattle.std.specs.Prelude.{◌≡◌, ◌∷◌, ◌++◌, OnOk};
+ghost use Rattle.std.specs.Prelude.{◌≡◌, ◌+◌, ◌≤◌, ◌∷◌, ◌++◌, length, OnOk};
 ghost use Rattle.mac_log.specs.Line.{AddsLine, front_text};
 
 use crate::NoMemory;
@@ -8,6 +8,9 @@ use crate::fields::Fields;
 use crate::kind::Kind;
 use crate::level::Level;
 use crate::moment::append_moment;
+
+/// The most bytes of a line, its line feed among them.
+pub const LINE_MAX: usize = 1_024;
 
 /// What happened, when, and what there is to say of it.
 #[derive(Drop)]
@@ -24,7 +27,8 @@ impl Line {
     /// Appends the line with its line feed, and in front of it the level's priority for systemd's
     /// journal where that is asked for.
     pub fn append_to(&self, has_priority: bool, out: &mut Vec<u8>) -> Result<(), NoMemory>
-        ensures { OnOk result (AddsLine has_priority self.now out.old.items out.new.items) }
+        ensures text { OnOk result (AddsLine has_priority self.now out.old.items out.new.items) }
+        ensures short { OnOk result (length out.new.items ≤ length out.old.items + LINE_MAX) }
     {
         let level = self.kind.level();
         append_front(has_priority, level, out)?;

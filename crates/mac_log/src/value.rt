@@ -1,6 +1,6 @@
 //! Values, written so that none ends its line or passes for a key.
 
-ghost use Rattle.std.specs.Prelude.{◌≡◌, ◌++◌, OnOk};
+ghost use Rattle.std.specs.Prelude.{◌≡◌, ◌++◌, length, OnOk};
 ghost use Rattle.std.specs.List.{list_all};
 ghost use Rattle.mac_log.specs.Value.{escaped, escaped_byte, is_bare, is_bare_byte, is_shown, value_text};
 
@@ -47,13 +47,20 @@ fn is_shown(byte: u8) -> bool
 }
 
 /// Appends bytes as they stand between quotation marks.
-fn append_escaped(bytes: &[u8], out: &mut Vec<u8>) -> Result<(), NoMemory>
+pub fn append_escaped(bytes: &[u8], out: &mut Vec<u8>) -> Result<(), NoMemory>
     ensures { OnOk result (out.new.items ≡ out.old.items ++ escaped bytes.now) }
 {
     for byte in bytes {
         append_byte(*byte, out)?;
     }
     Ok(())
+}
+
+/// How many bytes a byte takes between quotation marks.
+pub fn escaped_size(byte: u8) -> usize
+    ensures { result ≡ length (escaped_byte byte) }
+{
+    if is_shown(byte) { 1 } else { 4 }
 }
 
 /// Appends a byte as it stands between quotation marks.

@@ -7,6 +7,7 @@
 //! from other loops: few clients share a loop for as long as it keeps up.
 #![tactic(auto)]
 
+mod asks;
 mod handover;
 mod inbox;
 mod looping;

@@ -1,11 +1,14 @@
 //! A loop: a thread's turns over its clients.
 
 ghost use Rattle.std.specs.Prelude.{◌≡◌, ◌≤◌, IsTrue};
+ghost use Rattle.mac_loop.specs.Asks.{home_of};
 ghost use Rattle.mac_plain.specs.Client.{may_move};
 
+mod asking;
 mod sharing;
 mod sweeping;
 
+use crate::asks::Asks;
 use crate::handover::Handover;
 use crate::inbox::Loops;
 use crate::members::{Lent, Member};
@@ -13,11 +16,12 @@ use crate::meter::Shares;
 use crate::port::SocketPort;
 use crate::watch::{PlainFault, Turn, Watch};
 use mac_board::Outlook;
-use mac_decide::SeenTokens;
+use mac_decide::{Macaroons, SeenTokens};
 use mac_host::{Traffic, microseconds, microseconds_of};
-use mac_plain::{Client, Course, Round};
+use mac_plain::{Came, Client, Round};
+use mac_queue::Desk;
 use mac_sockets::{Connections, Inbox, WaitFault};
-use mio::Token;
+use mio::{Token, Waker};
 use std::alloc::Global;
 use std::net::Net;
 use std::sync::{Arc, Wait};
@@ -36,11 +40,17 @@ const TURN_LONG: u64 = 2_000;
 /// A turn that took less may have more parts.
 const TURN_SHORT: u64 = 500;
 
+/// How many microseconds pass before a job is put again that the workers' line had no room for.
+const RETRY: u64 = 10_000;
+
 /// A loop, with the clients of its slots.
 #[derive(Drop)]
 pub struct Loop {
     number: usize,
+    alloc: Global,
     members: Connections<Member>,
+    // What ends its waits once workers have answered.
+    waker: Option<Waker>,
     // The slots and the clients of a turn.
     turn: Vec<Lent>,
     batch: Vec<Client<SocketPort>>,
@@ -84,6 +94,8 @@ pub fn make_loops<R: Net>(
         loops.push(Inbox::new(alloc, waker)?)?;
         made.push(Loop {
             number,
+            alloc,
+            waker: Some(members.waker()?),
             members,
             turn: Vec::with_capacity(alloc, PARTS_MAX)?,
             batch: Vec::with_capacity(alloc, PARTS_MAX)?,
@@ -105,32 +117,66 @@ pub fn make_loops<R: Net>(
 
 impl Loop {
     /// Serves clients until the loops are closed and this one has none, what they send in each turn
-    /// under the key table that is up once it is read, and at the moment of then.
-    pub fn run<R, K, W>(mut self, rt: &R, loops: &Loops, outlook: &mut K, watch: &W)
+    /// under the key table that is up once it is read, and at the moment of then. What a loop must
+    /// not answer goes to workers from this desk, which comes back.
+    pub fn run<R, K, W>(
+        mut self,
+        rt: &R,
+        loops: &Loops,
+        outlook: &mut K,
+        watch: &W,
+        desk: Desk<Macaroons>,
+    ) -> Desk<Macaroons>
     where
         R: Wait + Clock + Threads + Sync,
         K: Outlook,
         W: Watch,
+        ensures { home_of result ≡ home_of desk }
+    {
+        let mut asks = Asks::new(self.alloc, desk, self.waker.take());
+        self.take_turns(rt, loops, outlook, &mut asks, watch);
+        asks.into_desk()
+    }
+
+    /// The same, beside what it has workers answer.
+    fn take_turns<R, K, W>(
+        &mut self,
+        rt: &R,
+        loops: &Loops,
+        outlook: &mut K,
+        asks: &mut Asks,
+        watch: &W,
+    )
+    where
+        R: Wait + Clock + Threads + Sync,
+        K: Outlook,
+        W: Watch,
+        ensures { asks.new ≡ asks.old }
     {
         for _ in rt.forever() {
-            let patience = self.patience();
+            let patience = self.patience(asks);
             self.members.wait(rt, patience);
             self.now = microseconds_of(self.members.now());
             self.take_in_all(rt, loops, outlook, watch);
+            self.take_answers(rt, loops, asks, watch);
             self.drain(loops);
-            self.serve_ready(rt, loops, outlook, watch);
+            self.serve_ready(rt, loops, outlook, asks, watch);
             self.sweep(rt, loops, watch);
             self.keep_time(rt, loops, outlook, watch);
             if self.members.slots.count() == 0 && loops.is_closed() {
                 return;
             }
         }
+        unreachable!()
     }
 
     /// For how long it waits at most where no client is ready.
-    fn patience(&self) -> Option<Duration> {
+    fn patience(&self, asks: &Asks) -> Option<Duration> {
         if self.members.slots.count() == 0 {
             return None;
+        }
+        if asks.has_unput() {
+            return Some(Duration::from_micros(RETRY));
         }
         Some(Duration::from_micros(self.sweep_span()))
     }
@@ -210,8 +256,6 @@ impl Loop {
             return false;
         }
         let client = Client::new(port, session, rights);
-        // Who has to go on wide waits for bytes first.
-        let is_ready = client.course() == Course::Open || client.unsent() > 0;
         loops.count_unsent(0, client.unsent());
         let _ = self
             .members
@@ -219,7 +263,7 @@ impl Loop {
             .put(slot, Member::new(client, since, badge, self.looks));
         if self.is_draining {
             self.end_reading(slot);
-        } else if is_ready {
+        } else {
             self.members.slots.list(slot);
         }
         true
@@ -231,8 +275,11 @@ impl Loop {
         rt: &R,
         loops: &Loops,
         outlook: &mut K,
+        asks: &mut Asks,
         watch: &W,
-    ) {
+    )
+        ensures { asks.new ≡ asks.old }
+    {
         self.pick(rt, loops);
         self.unsent_max = loops.unsent_max();
         let spare = loops.begin_turn();
@@ -251,7 +298,7 @@ impl Loop {
             loops.count_unsent(0, client.unsent());
             let mut member = Member { client, note };
             traffic = traffic.plus(member.count_traffic());
-            self.look_after(rt, slot, member, loops, outlook, watch);
+            self.look_after(rt, slot, member, loops, outlook, asks, watch);
         }
         watch.count(&Turn {
             requests: self.round.take_counts(),
@@ -299,24 +346,43 @@ impl Loop {
         mut member: Member,
         loops: &Loops,
         outlook: &K,
+        asks: &mut Asks,
         watch: &W,
-    ) {
+    )
+        ensures { asks.new ≡ asks.old }
+    {
         member.tell_exchanges(rt, watch);
-        if member.client.is_over() {
+        if self.ask(rt, slot, &mut member, outlook, asks) {
+            watch.widen(member.life());
+        }
+        if member.client.is_over() && !self.drops_rest(slot, &mut member) {
             loops.count_unsent(member.client.unsent(), 0);
             let _ = self.members.slots.release(slot);
-            watch.end(rt, member.life(), PlainFault::of(&member.client));
-            return;
-        }
-        if member.client.course() == Course::Wide {
-            loops.count_unsent(member.client.unsent(), 0);
-            let client = self.part(slot, member, outlook);
-            watch.widen(rt, client);
+            end_member(rt, watch, &member, PlainFault::of(&member.client));
             return;
         }
         watch.see(member.life(), member.client.unsent());
         self.note_turn(slot, &mut member);
         let _ = self.members.slots.put(slot, member);
+    }
+
+    /// Where a frame was too long and is refused, drops what has come behind it. Whether more may
+    /// come.
+    fn drops_rest(&mut self, slot: usize, member: &mut Member) -> bool {
+        if !member.is_parting() {
+            return false;
+        }
+        match member.drop_piece(self.now) {
+            Came::Bytes(_) => {
+                self.members.slots.list(slot);
+                true
+            }
+            Came::Later => {
+                self.is_owing = true;
+                true
+            }
+            Came::End | Came::Fault => false,
+        }
     }
 
     /// A client that leaves its slot and the loop's poll. It takes along how far the tables were
@@ -348,7 +414,9 @@ impl Loop {
         let client = &mut member.client;
         let awaits = client.unsent() > 0;
         // A read that ends within a request may have left some of it.
-        if member.note.is_closing || (client.has_begun() && client.port().has_read()) {
+        let may_have_left = client.has_begun() && client.port().has_read();
+        let may_have_more = member.note.is_closing || may_have_left || client.port().is_put_off();
+        if may_have_more && !client.port().is_full() {
             client.wake_reading();
         }
         member.note.is_deep = client.is_busy(self.unsent_max);
@@ -386,4 +454,17 @@ impl Loop {
             self.spread(rt, loops, outlook, watch);
         }
     }
+}
+
+/// Tells that a client has ended, which may have waited for a worker's answer.
+fn end_member<R: Wait + Clock, W: Watch>(
+    rt: &R,
+    watch: &W,
+    member: &Member,
+    fault: Option<PlainFault>,
+) {
+    if member.client.is_waiting() {
+        watch.narrow(member.life(), false);
+    }
+    watch.end(rt, member.life(), fault);
 }

@@ -5,7 +5,7 @@ ghost use Rattle.std.specs.Prelude.{◌≡◌};
 use crate::port::SocketPort;
 use crate::watch::Watch;
 use mac_host::{Badge, Life, Traffic};
-use mac_plain::Client;
+use mac_plain::{Came, Client, Course};
 use mac_sockets::{Readiness, Wakes};
 use std::sync::Wait;
 use std::time::Clock;
@@ -37,7 +37,15 @@ pub struct Note {
     pub badge: Badge,
     /// What had come and gone when that was last counted.
     pub traffic: Traffic,
+    /// How many reads have dropped what came behind a frame that was too long.
+    pub dropped: usize,
 }
+
+/// How many such reads there are at most.
+const DROPPED_READS: usize = 64;
+
+/// How many microseconds the peer has to end after the last of them.
+const DROPPED_MICROS: u64 = 100_000;
 
 /// What a slot of a loop holds.
 #[derive(Drop)]
@@ -77,6 +85,7 @@ impl Member {
             since,
             badge,
             traffic: client.port().traffic(),
+            dropped: 0,
         };
         Member { client, note }
     }
@@ -115,6 +124,30 @@ impl Member {
         self.client.unsent() > 0 || self.client.has_begun() || self.client.port().has_read()
     }
 
+    /// Whether its frame that was too long is refused, and what still comes is to be dropped.
+    pub fn is_parting(&self) -> bool {
+        self.client.course() == Course::TooLong && self.client.unsent() == 0
+    }
+
+    /// Drops what has come behind a frame that was too long, so that the peer reads an end and no
+    /// reset. What may come further: none once enough was dropped.
+    pub fn drop_piece(&mut self, now: u64) -> Came {
+        if self.note.dropped == 0 {
+            self.client.port().end_writing();
+        }
+        if self.note.dropped >= DROPPED_READS {
+            return Came::End;
+        }
+        self.note.dropped += 1;
+        self.note.since = now;
+        self.client.port().drop_piece()
+    }
+
+    /// Whether its peer has had the time to end behind the last piece that was dropped.
+    pub fn has_parted(&self, now: u64) -> bool {
+        self.note.dropped > 0 && now.saturating_sub(self.note.since) >= DROPPED_MICROS
+    }
+
     /// Takes nothing more from it than what has come.
     pub fn end_reading(&mut self) {
         self.client.port().end_reading();
@@ -136,8 +169,8 @@ impl Member {
         self.note.look == looks
     }
 
-    /// It begins a turn behind so many looks. How many parts of the turn it takes: one, or `deep`
-    /// of them where it has more to be read than a turn takes.
+    /// It begins a turn behind so many looks. How many parts of the turn it takes: one, or `deep` of
+    /// them where it has more to be read than a turn takes.
     pub fn begin_turn(&mut self, deep: usize, looks: u64) -> usize {
         self.note.look = looks;
         if self.note.is_deep { deep } else { 1 }

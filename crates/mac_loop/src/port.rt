@@ -7,10 +7,14 @@ use crate::transcript::Transcript;
 use mac_host::{Exchange, Traffic};
 use mac_plain::{Came, Port, Went};
 use mac_sockets::Stream;
+use std::alloc::AllocError;
 use std::cell::RefCell;
 use std::io;
 use std::io::ErrorKind;
 use std::net::Shutdown;
+
+/// How many bytes one read behind a frame that is too long drops at most.
+const DROPPED_PIECE: usize = 16_384;
 
 /// A socket that a loop reads and writes.
 #[derive(Drop)]
@@ -18,6 +22,8 @@ pub struct SocketPort {
     stream: Stream,
     // Whether the last read gave bytes.
     has_read: bool,
+    // Whether the last read was put off, since too many requests wait for their replies.
+    is_put_off: bool,
     traffic: Traffic,
     // What comes and goes on it, where that is logged: apart, since most have none.
     transcript: Option<Box<RefCell<Transcript>>>,
@@ -31,28 +37,35 @@ impl SocketPort {
         Ok(SocketPort {
             stream,
             has_read: false,
+            is_put_off: false,
             traffic: Traffic::NONE,
             transcript: transcript.and_then(|transcript| transcript.apart()),
         })
     }
 
-    /// The stream, whose reads and writes still don't wait, and the transcript.
-    pub fn into_stream(self) -> (Stream, Option<Transcript>) {
-        let SocketPort {
-            stream,
-            has_read: _,
-            traffic: _,
-            transcript,
-        } = self;
-        let transcript = transcript.map(|apart| Box::into_inner(apart).into_inner());
-        (stream, transcript)
-    }
-
-    /// The next request whose reply has gone out whole, where that is logged.
-    pub fn next_exchange(&self) -> Option<Exchange> {
+    /// The next request whose reply has gone out whole, where that is logged; or that there was no
+    /// memory to note one.
+    pub fn next_exchange(&self) -> Option<Result<Exchange, AllocError>> {
         let transcript = self.transcript.as_ref()?;
         let mut transcript = transcript.try_borrow_mut().ok()?;
         transcript.next_exchange()
+    }
+
+    /// Whether its requests are noted, and as many wait for their replies as may be: then it isn't
+    /// read.
+    pub fn is_full(&self) -> bool {
+        let Some(transcript) = &self.transcript else {
+            return false;
+        };
+        match transcript.try_borrow() {
+            Ok(transcript) => transcript.is_full(),
+            Err(_) => false,
+        }
+    }
+
+    /// Whether the last read was put off, since it was full.
+    pub fn is_put_off(&self) -> bool {
+        self.is_put_off
     }
 
     /// Takes note of bytes that came, or went.
@@ -81,6 +94,17 @@ impl SocketPort {
         self.stream.shut(Shutdown::Read);
     }
 
+    /// Writes nothing more: the peer reads an end behind what was written.
+    pub fn end_writing(&self) {
+        self.stream.shut(Shutdown::Write);
+    }
+
+    /// Reads what has come, once, and drops it.
+    pub fn drop_piece(&self) -> Came {
+        let mut piece = [0u8; DROPPED_PIECE];
+        read(&self.stream, &mut piece)
+    }
+
     /// Its stream.
     pub fn stream(&self) -> &Stream {
         &self.stream
@@ -97,11 +121,17 @@ impl Port for SocketPort {
     ghost written = { λ _. [] };
 
     fn read(&mut self, buf: &mut [u8]) -> Came {
+        self.is_put_off = self.is_full();
+        if self.is_put_off {
+            self.has_read = false;
+            return Came::Later;
+        }
         let came = read(&self.stream, buf);
         self.has_read = matches!(came, Came::Bytes(_));
         if let Came::Bytes(count) = came {
             self.traffic.came = self.traffic.came.saturating_add(count as u64);
-            self.note(buf.get(..count).unwrap_or(&[]), &[]);
+            let bytes = &buf[..count];
+            self.note(bytes, &[]);
         }
         came
     }
@@ -110,7 +140,8 @@ impl Port for SocketPort {
         let went = write(&self.stream, buf);
         if let Went::Bytes(count) = went {
             self.traffic.went = self.traffic.went.saturating_add(count as u64);
-            self.note(&[], buf.get(..count).unwrap_or(&[]));
+            let bytes = &buf[..count];
+            self.note(&[], bytes);
         }
         went
     }

@@ -1,21 +1,31 @@
 //! What a connection is asked and answered, read off the bytes of its socket, for who logs that. No
-//! contract speaks of it.
+//! contract speaks of the bytes; which token a request minted, once both are cut out, is one's.
 
-use mac_host::Exchange;
+ghost use Rattle.std.specs.Prelude.{◌≡◌};
+ghost use Rattle.std.specs.Option.{option_copied, option_map};
+ghost use Rattle.mac_loop.specs.Minted.{identifier_asked, minted_by};
+
+use mac_host::{Exchange, copy_told_identifier, copy_told_name};
 use mac_wire::{
-    Arrival, Cut, FeedFault, FrameReader, ReplyKind, RequestKind, Version, key_name, next_frame,
-    reply_kind, request_kind,
+    Arrival, Cut, FeedFault, FrameReader, ReplyKind, Request, RequestKind, Version, key_name,
+    next_frame, parse_request, reply_kind, request_kind,
 };
 use std::alloc::{AllocError, Global};
 use std::cell::RefCell;
 use std::collections::VecDeque;
 use std::mem;
 
+/// How many requests may wait for their replies, where they are noted, and their connection is
+/// still read. What one read brings may pass it.
+pub const NOTES_MAX: usize = 4_096;
+
 /// A request that has come, and waits for its reply.
 #[derive(Drop)]
 struct Asked {
     what: &'static str,
     name: Vec<u8>,
+    // Of the token that it is to mint.
+    identifier: Option<Vec<u8>>,
 }
 
 /// What comes and goes on a connection, in requests and their replies. Once memory is refused to
@@ -29,6 +39,8 @@ pub struct Transcript {
     begun: Vec<u8>,
     exchanges: VecDeque<Exchange>,
     is_broken: bool,
+    // Whether that is told.
+    is_told: bool,
 }
 
 impl Transcript {
@@ -41,12 +53,19 @@ impl Transcript {
             begun: Vec::new(alloc),
             exchanges: VecDeque::new(alloc),
             is_broken: false,
+            is_told: false,
         }
     }
 
     /// The same in memory of its own, unless that is refused.
     pub(crate) fn apart(self) -> Option<Box<RefCell<Transcript>>> {
         Box::new(self.alloc, RefCell::new(self)).ok()
+    }
+
+    /// Whether as many requests wait for their replies as may be, so that nothing more is to be read
+    /// until some have gone out.
+    pub fn is_full(&self) -> bool {
+        !self.is_broken && self.asked.len() >= NOTES_MAX
     }
 
     /// Takes note of bytes that came.
@@ -63,9 +82,17 @@ impl Transcript {
         }
     }
 
-    /// The next request whose reply has gone out whole, with what it was answered.
-    pub fn next_exchange(&mut self) -> Option<Exchange> {
-        self.exchanges.pop_front()
+    /// The next request whose reply has gone out whole, with what it was answered; and behind the
+    /// last one, once, that memory was refused.
+    pub fn next_exchange(&mut self) -> Option<Result<Exchange, AllocError>> {
+        if let Some(exchange) = self.exchanges.pop_front() {
+            return Some(Ok(exchange));
+        }
+        if self.is_told || !self.is_broken {
+            return None;
+        }
+        self.is_told = true;
+        Some(Err(AllocError))
     }
 
     fn note_requests(&mut self, bytes: &[u8]) -> Result<(), AllocError> {
@@ -116,7 +143,7 @@ impl Transcript {
     }
 }
 
-/// What an arrival asks for, and under which name.
+/// What an arrival asks for, and under which name where it is a whole request.
 fn asked_by(alloc: Global, arrival: &Arrival) -> Result<Asked, AllocError> {
     let payload: &[u8] = match arrival {
         Arrival::Payload(payload) => payload.as_slice(),
@@ -128,8 +155,41 @@ fn asked_by(alloc: Global, arrival: &Arrival) -> Result<Asked, AllocError> {
         Some(RequestKind::Verify) => "verify",
         None => "nothing",
     };
-    let name = Vec::from_slice(alloc, key_name(payload).unwrap_or(&[]))?;
-    Ok(Asked { what, name })
+    let name = match parse_request(payload) {
+        Some(_) => key_name(payload).unwrap_or(&[]),
+        None => &[],
+    };
+    let identifier = match identifier_asked(payload) {
+        Some(identifier) => Some(copy_told_identifier(alloc, identifier)?),
+        None => None,
+    };
+    Ok(Asked {
+        what,
+        name: copy_told_name(alloc, name)?,
+        identifier,
+    })
+}
+
+/// The identifier of the token that a payload is to mint, if it asks for one.
+fn identifier_asked(payload: &[u8]) -> Option<&[u8]>
+    ensures { option_copied result ≡ identifier_asked payload.now }
+{
+    match parse_request(payload)? {
+        Request::Mint { identifier, .. } => Some(identifier),
+        Request::Attenuate { .. } | Request::Verify { .. } | Request::VerifyNow { .. } => None,
+    }
+}
+
+/// The identifier of the token that was minted: the one that was asked for, where the reply brings
+/// the token.
+fn minted_by(asked: Option<Vec<u8>>, told: ReplyKind) -> Option<Vec<u8>>
+    ensures { option_map (λ identifier. identifier.items) result
+        ≡ minted_by (option_map (λ identifier. identifier.items) asked) told }
+{
+    match told {
+        ReplyKind::Token => asked,
+        ReplyKind::Granted | ReplyKind::Unsatisfied | ReplyKind::Refused(_) => None,
+    }
 }
 
 /// A request with what its reply tells.
@@ -140,11 +200,16 @@ fn answered(asked: Asked, told: ReplyKind) -> Exchange {
         ReplyKind::Unsatisfied => ("unsatisfied", None),
         ReplyKind::Refused(code) => ("refused", Some(code as u16)),
     };
-    let Asked { what, name } = asked;
+    let Asked {
+        what,
+        name,
+        identifier,
+    } = asked;
     Exchange {
         asks: what,
         name,
         verdict,
         code,
+        minted: minted_by(identifier, told),
     }
 }

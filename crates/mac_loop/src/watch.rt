@@ -1,10 +1,10 @@
 //! What loops ask of the daemon around them.
 
-use crate::handover::Handover;
 use crate::port::SocketPort;
 use mac_count::REQUESTS;
 use mac_host::{Badge, Exchange, Life, Traffic};
 use mac_plain::{Client, Course, Ended, Fall};
+use std::alloc::AllocError;
 use std::sync::Wait;
 use std::time::Clock;
 use thiserror::Error;
@@ -36,7 +36,11 @@ impl PlainFault {
     /// The fault that a client ended in, on which nothing more is to be done.
     pub fn of(client: &Client<SocketPort>) -> Option<PlainFault> {
         match client.course() {
-            Course::Open | Course::Wide => Some(PlainFault::Write),
+            Course::Open | Course::Held | Course::Wide | Course::Awaiting(_) => {
+                Some(PlainFault::Write)
+            }
+            Course::TooLong if client.unsent() > 0 => Some(PlainFault::Write),
+            Course::TooLong => None,
             Course::Ended(Ended::Fault) => Some(PlainFault::Read),
             Course::Ended(Ended::Peer) if client.unsent() > 0 => Some(PlainFault::Write),
             Course::Ended(Ended::Peer) if client.has_begun() => Some(PlainFault::Torn),
@@ -64,12 +68,16 @@ pub trait Watch: Send + Sync {
     /// A turn has ended.
     fn count(&self, turn: &Turn);
 
-    /// A client of this badge was sent the reply to a request, and that is logged.
-    fn tell<R: Wait + Clock>(&self, rt: &R, badge: Badge, exchange: Exchange);
+    /// A client of this badge was sent the reply to a request, and that is logged; or there was no
+    /// memory to note one.
+    fn tell<R: Wait + Clock>(&self, rt: &R, badge: Badge, exchange: Result<Exchange, AllocError>);
 
     /// A client that stays has had a turn, and so many bytes are unsent.
     fn see(&self, life: Life, unsent: usize);
 
-    /// A client asks for what a loop must not do: it goes on in threads of its own.
-    fn widen<R: Wait + Clock>(&self, rt: &R, client: Handover);
+    /// A client asks for what a loop must not answer, and waits for a worker.
+    fn widen(&self, life: Life);
+
+    /// A client waits for a worker no more. Whether it has the answer.
+    fn narrow(&self, life: Life, is_answered: bool);
 }

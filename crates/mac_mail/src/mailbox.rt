@@ -12,12 +12,13 @@ use crossbeam_queue::protocol::{Free, Lesson, Outcome, Protocol};
 use crossbeam_queue::{Pass, RuledArrayQueue};
 use crossbeam_utils::CachePadded;
 use mac_order::{NoMemory, Service};
+use mio::Waker;
 use std::alloc::Global;
 use std::collections::LinkedList;
 use std::marker::Model;
-use std::sync::Wait;
 use std::sync::atomic::AtomicU64;
 use std::sync::atomic::Ordering::SeqCst;
+use std::sync::{OnceLock, Wait};
 
 /// The most posts that a mailbox holds.
 pub const MAIL_MAX: usize = 128;
@@ -72,6 +73,8 @@ pub struct Mailbox<S: Service> {
     queue: RuledArrayQueue<Post<S>, Handled<S::Job>, Told>,
     // Who waits for posts sleeps on it.
     pub(crate) posts: Bell,
+    // Where who waits for posts waits by a poll, this ends its wait.
+    pub(crate) waker: OnceLock<Waker>,
     // Who waits for posts waits for the one at this place, or for one before it.
     due: CachePadded<AtomicU64>,
     room: Bell,
@@ -103,6 +106,7 @@ impl<S: Service> Mailbox<S> {
         let mail = Mailbox {
             queue,
             posts: Bell::new(),
+            waker: OnceLock::new(),
             due: CachePadded::new(AtomicU64::new(u64::MAX)),
             room: Bell::new(),
             came: CachePadded::new(AtomicU64::new(0)),
@@ -187,7 +191,7 @@ impl<S: Service> Mailbox<S> {
                 Err(back) => back,
             };
             // Who takes the posts must not sleep while somebody waits for room.
-            self.posts.ring();
+            self.ring();
             let notice = self.room.announce();
             post = match self.try_deliver(rt, post) {
                 Ok(delivery) => {
@@ -218,6 +222,9 @@ impl<S: Service> Mailbox<S> {
     /// Wakes who waits for posts.
     pub fn ring(&self) {
         self.posts.ring();
+        if let Some(waker) = self.waker.get() {
+            let _ = waker.wake();
+        }
     }
 
     /// Closes the mailbox to further posts, and wakes all who wait at it.

@@ -9,6 +9,7 @@ use crate::bell::Notice;
 use crate::mailbox::{MailPass, Mailbox};
 use crate::post::Post;
 use mac_order::{NoMemory, Service};
+use mio::Waker;
 use std::alloc::Global;
 use std::marker::Model;
 use std::sync::{Arc, Wait};
@@ -46,6 +47,12 @@ impl<S: Service> Taker<S> {
         let mail = Arc::new(alloc, mail)?;
         let theirs = Arc::try_clone(&mail)?;
         Ok((Taker { mail, pass }, theirs))
+    }
+
+    /// Has this end the wait of a thread that waits by a poll, where a post has come. What is set
+    /// first stays.
+    pub fn wake_by(&self, waker: Waker) {
+        let _ = self.mail.waker.try_set(waker);
     }
 
     /// Takes the oldest post, if there is one.

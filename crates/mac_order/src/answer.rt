@@ -51,6 +51,15 @@ impl<S: Service> Answer<S> {
         Ok(answers)
     }
 
+    /// The job, and its reply.
+    pub fn into_parts(self) -> (S::Job, S::Reply)
+        ensures job { result.0 ≡ self }
+        ensures reply { result.1 ≡ S.reply_to self }
+    {
+        let Answer { job, reply } = self;
+        (job, reply)
+    }
+
     /// Whether this is an answer to the job, by `==` of jobs.
     pub(crate) fn is_to(&self, job: &S::Job) -> bool
         ensures { result ≡ S.Job.eq self.now job.now }

@@ -1,6 +1,6 @@
 -- Requests that are asked of the site by its own page, and others.
-use Rattle.std.proofs.Common.{◌≡◌, ◌⊎◌, ℕ, List, [], Bool, true, false, Option, Some, None, inl, inr, refl, subst, ap}
-use Rattle.std.specs.Prelude.{◌&&◌, bytes_eq, codes, string_bytes}
+use Rattle.std.proofs.Common.{◌≡◌, ◌⊎◌, ℕ, List, [], Bool, true, false, Option, Some, None, inl, inr, refl, subst, ap, ⊎_elim}
+use Rattle.std.specs.Prelude.{◌&&◌, bytes_eq, codes, length, string_bytes}
 use Rattle.std.proofs.lemmas.Bool.{and_parts, false≢true}
 use Rattle.std.proofs.lemmas.Slice.Eq.{bytes_eq-Decides}
 use Rattle.http.specs.Request.{head_of}
@@ -21,15 +21,23 @@ use Rattle.mac_page.specs.Told.{Responds, Tells, guards, told_of}
 pub others_told : (site : Site) (request : Request (List ℕ)) (response : Response) → file_in (uri_path (head_of request).uri) ≡ None
     → is_at_home site (head_of request) ≡ false → Responds site request response → IsResponse 403 guards [] response ⊎ IsOverloaded response
 others_told site request response no_file foreign told =
-    let same : told_of site request ≡ Foreign = rw (no_file, foreign) refl in
-    subst (λ t. Tells site t response ⊎ IsOverloaded response) same told
+    ⊎_elim
+    (λ (t : (drawn : List ℕ) × (length drawn ≡ 16) × Tells site (told_of site drawn request) response).
+    let same : told_of site t.0 request ≡ Foreign = rw (no_file, foreign) refl in
+    inl (subst (λ x. Tells site x response) same t.2))
+    (λ t. inr t)
+    told
 
 pub others_shown : (site : Site) (request : Request (List ℕ)) (response : Response) (file : File)
     → file_in (uri_path (head_of request).uri) ≡ Some file → is_shown site (head_of request) ≡ false → Responds site request response
     → IsResponse 403 guards [] response ⊎ IsOverloaded response
 others_shown site request response file is_file foreign told =
-    let same : told_of site request ≡ Foreign = rw (is_file, foreign) refl in
-    subst (λ t. Tells site t response ⊎ IsOverloaded response) same told
+    ⊎_elim
+    (λ (t : (drawn : List ℕ) × (length drawn ≡ 16) × Tells site (told_of site drawn request) response).
+    let same : told_of site t.0 request ≡ Foreign = rw (is_file, foreign) refl in
+    inl (subst (λ x. Tells site x response) same t.2))
+    (λ t. inr t)
+    told
 
 abbrev IsOne : Site → Option (List ℕ) → Type 0
 IsOne site name = (name ≡ Some (string_bytes site.address)) ⊎ (name ≡ Some (string_bytes site.local))

@@ -1,6 +1,6 @@
 -- What a request to the page is told, and the response that tells it (this project's own). The first
 -- case that holds is the answer.
-use Rattle.std.specs.Prelude.{ℕ, ◌⊎◌, Bool, true, false, if◌then◌else◌, List, [], ◌∷◌, ◌++◌, map, codes, bytes_eq, Option, Some, None}
+use Rattle.std.specs.Prelude.{ℕ, ◌≡◌, ◌⊎◌, length, Bool, true, false, if◌then◌else◌, List, [], ◌∷◌, ◌++◌, map, codes, bytes_eq, Option, Some, None}
 use Rattle.http.specs.Request.{head_of, body_of}
 use Rattle.http.specs.declared.request.Request.{Request}
 use Rattle.http1.specs.Fields.{Header}
@@ -36,22 +36,23 @@ is_post request = bytes_eq (head_of request).method (codes "POST")
 abbrev pub told_names : Site → Told
 told_names site = if site.has_keys then Names (names_json site.keys) else Unknown
 
--- what a path that names no file is told: what comes of a call, or there is nothing
-abbrev pub told_call : Site → Request (List ℕ) → Option (Call × List ℕ) → Told
-told_call site request None = Unknown
-told_call site request (Some asked) =
+-- what a path that names no file is told: what comes of a call with these random bytes, or there is
+-- nothing
+abbrev pub told_call : Site → List ℕ → Request (List ℕ) → Option (Call × List ℕ) → Told
+told_call site drawn request None = Unknown
+told_call site drawn request (Some asked) =
     where_taken (is_post request)
-    (Called (outcome_of site.keys asked.1 asked.0 (body_of request))) NoPost
+    (Called (outcome_of site.keys asked.1 asked.0 drawn (body_of request))) NoPost
 
 -- what a request is told that asks who answers
 abbrev pub told_here : Request (List ℕ) → Told
 told_here request = where_taken (is_get request) Here NoGet
 
 -- what a path is told that names no file: the names, a call, or nothing
-abbrev pub told_plain : Site → Request (List ℕ) → List ℕ → Told
-told_plain site request path =
+abbrev pub told_plain : Site → List ℕ → Request (List ℕ) → List ℕ → Told
+told_plain site drawn request path =
     if bytes_eq path (codes "/names") then where_taken (is_get request) (told_names site) NoGet
-    else told_call site request (asked_in path)
+    else told_call site drawn request (asked_in path)
 
 -- what a request for this file is told: nothing where another page asks, or another site is asked
 abbrev pub told_file : Site → Request (List ℕ) → File → Told
@@ -60,24 +61,26 @@ told_file site request file =
     then where_taken (is_get request) (Shown file) NoGet else Foreign
 
 -- what a request for no file is told: nothing where the site's own page doesn't ask
-abbrev pub told_elsewhere : Site → Request (List ℕ) → Told
-told_elsewhere site request =
+abbrev pub told_elsewhere : Site → List ℕ → Request (List ℕ) → Told
+told_elsewhere site drawn request =
     if is_at_home site (head_of request)
     then (if bytes_eq (uri_path (head_of request).uri) (codes "/here") then told_here request
-    else told_plain site request (uri_path (head_of request).uri)) else Foreign
+    else told_plain site drawn request (uri_path (head_of request).uri)) else Foreign
 
--- what a request is told
-abbrev pub told_at : Site → Request (List ℕ) → Option File → Told
-told_at site request (Some file) = told_file site request file
-told_at site request None = told_elsewhere site request
+-- what a request is told with these random bytes
+abbrev pub told_at : Site → List ℕ → Request (List ℕ) → Option File → Told
+told_at site drawn request (Some file) = told_file site request file
+told_at site drawn request None = told_elsewhere site drawn request
 
-abbrev pub told_of : Site → Request (List ℕ) → Told
-told_of site request = told_at site request (file_in (uri_path (head_of request).uri))
+abbrev pub told_of : Site → List ℕ → Request (List ℕ) → Told
+told_of site drawn request =
+    told_at site drawn request (file_in (uri_path (head_of request).uri))
 
 -- ---- the response
 
 abbrev pub status_of_outcome : Outcome → ℕ
 status_of_outcome outcome.NoKey = 404
+status_of_outcome (outcome.Minted json identifier) = 200
 status_of_outcome (outcome.Reply json) = 200
 status_of_outcome (outcome.Refused json) = 400
 
@@ -103,6 +106,7 @@ takes method = (codes "allow", method) ∷ []
 
 abbrev pub fields_of_outcome : Outcome → List Header
 fields_of_outcome outcome.NoKey = []
+fields_of_outcome (outcome.Minted json identifier) = is_json
 fields_of_outcome (outcome.Reply json) = is_json
 fields_of_outcome (outcome.Refused json) = is_json
 
@@ -138,6 +142,7 @@ text_of site Script = site.texts.script.now
 
 abbrev pub body_of_outcome : Outcome → List ℕ
 body_of_outcome outcome.NoKey = []
+body_of_outcome (outcome.Minted json identifier) = json
 body_of_outcome (outcome.Reply json) = json
 body_of_outcome (outcome.Refused json) = json
 
@@ -155,7 +160,12 @@ body_for site (Called o) = body_of_outcome o
 abbrev pub Tells : Site → Told → Response → Type 0
 Tells site told = IsResponse (status_of told) (fields_for told ++ guards) (body_for site told)
 
--- the response to a request, out of memory aside
+-- the response to a request with these random bytes, out of memory aside
+abbrev pub RespondsWith : List ℕ → Site → Request (List ℕ) → Response → Type 0
+RespondsWith drawn site request response =
+    Tells site (told_of site drawn request) response ⊎ IsOverloaded response
+
+-- the same with some 16 random bytes
 abbrev pub Responds : Site → Request (List ℕ) → Response → Type 0
-Responds site request response =
-    Tells site (told_of site request) response ⊎ IsOverloaded response
+Responds site request response = ((drawn : List ℕ) × (length drawn ≡ 16)
+    × Tells site (told_of site drawn request) response) ⊎ IsOverloaded response

@@ -4,7 +4,7 @@ ghost use Rattle.std.specs.Prelude.{◌≡◌, ◌∷◌, [], ◌++◌, OnOk, co
 ghost use Rattle.http_header.specs.FieldValue.{plain_value};
 ghost use Rattle.http_server.specs.Response.{IsBlank, fields_of};
 ghost use Rattle.mac_http.specs.Calling.{is_json};
-ghost use Rattle.mac_page.specs.Told.{Responds, Tells, body_for, body_of_outcome, fields_for};
+ghost use Rattle.mac_page.specs.Told.{RespondsWith, Tells, body_for, body_of_outcome, fields_for};
 ghost use Rattle.mac_page.specs.Told.{fields_of_outcome, guards, status_of, status_of_outcome};
 ghost use Rattle.mac_page.specs.Told.{text_of, told_of, type_of};
 
@@ -33,11 +33,17 @@ const RESOURCE_POLICY: &str = "cross-origin-resource-policy";
 const OPENER_POLICY: &str = "cross-origin-opener-policy";
 
 /// Fills a blank response to a request. Where memory is refused it is a 503 without fields.
-pub(crate) fn respond(alloc: Global, site: &Site, request: &Request<Bytes>, response: &mut Response)
+pub(crate) fn respond(
+    alloc: Global,
+    site: &Site,
+    drawn: &[u8; 16],
+    request: &Request<Bytes>,
+    response: &mut Response,
+)
     requires { IsBlank response.old }
-    ensures { Responds site.now request.now response.new }
+    ensures { RespondsWith drawn.now site.now request.now response.new }
 {
-    if fill(alloc, site, request, response).is_err() {
+    if fill(alloc, site, drawn, request, response).is_err() {
         response.clear();
         response.status = StatusCode::SERVICE_UNAVAILABLE;
     }
@@ -46,13 +52,14 @@ pub(crate) fn respond(alloc: Global, site: &Site, request: &Request<Bytes>, resp
 fn fill(
     alloc: Global,
     site: &Site,
+    drawn: &[u8; 16],
     request: &Request<Bytes>,
     response: &mut Response,
 ) -> Result<(), AllocError>
     requires { IsBlank response.old }
-    ensures { OnOk result (Tells site.now (told_of site.now request.now) response.new) }
+    ensures { OnOk result (Tells site.now (told_of site.now drawn.now request.now) response.new) }
 {
-    let told = told_of(alloc, site, request)?;
+    let told = told_of(alloc, site, drawn, request)?;
     say(site, &told, response)
 }
 
@@ -85,7 +92,7 @@ fn outcome_status(outcome: &Outcome) -> StatusCode
 {
     match outcome {
         Outcome::NoKey => StatusCode::NOT_FOUND,
-        Outcome::Reply(_) => StatusCode::OK,
+        Outcome::Minted { .. } | Outcome::Reply(_) => StatusCode::OK,
         Outcome::Refused(_) => StatusCode::BAD_REQUEST,
     }
 }
@@ -134,7 +141,7 @@ fn put_outcome(outcome: &Outcome, response: &mut Response) -> Result<(), AllocEr
 {
     match outcome {
         Outcome::NoKey => Ok(()),
-        Outcome::Reply(_) | Outcome::Refused(_) => put_json(response),
+        Outcome::Minted { .. } | Outcome::Reply(_) | Outcome::Refused(_) => put_json(response),
     }
 }
 
@@ -202,6 +209,7 @@ fn put_outcome_body(outcome: &Outcome, body: &mut Rope) -> Result<(), AllocError
 {
     match outcome {
         Outcome::NoKey => Ok(()),
+        Outcome::Minted { json, .. } => body.put_slice(json.as_slice()),
         Outcome::Reply(json) | Outcome::Refused(json) => body.put_slice(json.as_slice()),
     }
 }

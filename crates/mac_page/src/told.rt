@@ -11,7 +11,7 @@ use crate::route::{File, asked_in, file_in};
 use crate::site::Site;
 use bytes::Bytes;
 use http::{Method, Request};
-use mac_calls::{Outcome, answer, names_json};
+use mac_calls::{Brought, Outcome, answer, names_json};
 use mac_http::Asked;
 use std::alloc::{AllocError, Global};
 
@@ -42,17 +42,18 @@ pub enum Told {
     Called(Outcome),
 }
 
-/// What a request is told.
+/// What a request is told, with these random bytes for a token that it may ask for.
 pub(crate) fn told_of(
     alloc: Global,
     site: &Site,
+    drawn: &[u8; 16],
     request: &Request<Bytes>,
 ) -> Result<Told, AllocError>
-    ensures { IfOk result (λ told. told ≡ told_of site.now request.now) }
+    ensures { IfOk result (λ told. told ≡ told_of site.now drawn.now request.now) }
 {
     match file_in(request.uri().path().as_bytes()) {
         Some(file) => Ok(told_file(site, request, file)),
-        None => told_elsewhere(alloc, site, request),
+        None => told_elsewhere(alloc, site, drawn, request),
     }
 }
 
@@ -70,8 +71,13 @@ fn told_file(site: &Site, request: &Request<Bytes>, file: File) -> Told
 }
 
 /// What a request for no file is told.
-fn told_elsewhere(alloc: Global, site: &Site, request: &Request<Bytes>) -> Result<Told, AllocError>
-    ensures { IfOk result (λ told. told ≡ told_elsewhere site.now request.now) }
+fn told_elsewhere(
+    alloc: Global,
+    site: &Site,
+    drawn: &[u8; 16],
+    request: &Request<Bytes>,
+) -> Result<Told, AllocError>
+    ensures { IfOk result (λ told. told ≡ told_elsewhere site.now drawn.now request.now) }
 {
     if !is_at_home(site, request) {
         return Ok(Told::Foreign);
@@ -80,7 +86,7 @@ fn told_elsewhere(alloc: Global, site: &Site, request: &Request<Bytes>) -> Resul
     if path == HERE {
         return Ok(told_here(request));
     }
-    told_plain(alloc, site, request, path)
+    told_plain(alloc, site, drawn, request, path)
 }
 
 /// What a request is told that asks who answers.
@@ -98,13 +104,14 @@ fn told_here(request: &Request<Bytes>) -> Told
 fn told_plain(
     alloc: Global,
     site: &Site,
+    drawn: &[u8; 16],
     request: &Request<Bytes>,
     path: &[u8],
 ) -> Result<Told, AllocError>
-    ensures { IfOk result (λ told. told ≡ told_plain site.now request.now path.now) }
+    ensures { IfOk result (λ told. told ≡ told_plain site.now drawn.now request.now path.now) }
 {
     if path != NAMES {
-        return told_call(alloc, site, request, asked_in(path));
+        return told_call(alloc, site, drawn, request, asked_in(path));
     }
     if is_get(request) {
         told_names(alloc, site)
@@ -128,17 +135,22 @@ fn told_names(alloc: Global, site: &Site) -> Result<Told, AllocError>
 fn told_call(
     alloc: Global,
     site: &Site,
+    drawn: &[u8; 16],
     request: &Request<Bytes>,
     asked: Option<Asked<'_>>,
 ) -> Result<Told, AllocError>
-    ensures { IfOk result (λ told. told ≡ told_call site.now request.now
+    ensures { IfOk result (λ told. told ≡ told_call site.now drawn.now request.now
         (option_map (λ a. (a.call, a.name.now)) asked.entry)) }
 {
     match asked {
         None => Ok(Told::Unknown),
         Some(_) if !is_post(request) => Ok(Told::NoPost),
         Some(asked) => {
-            let outcome = answer(alloc, &site.keys, asked.name, asked.call, request.body())?;
+            let brought = Brought {
+                body: request.body(),
+                drawn,
+            };
+            let outcome = answer(alloc, &site.keys, asked.name, asked.call, brought)?;
             Ok(Told::Called(outcome))
         }
     }

@@ -78,7 +78,6 @@ owes_more {P} tells taken written current a b c first second x y = record {
   gone = x.gone ++ y.gone;
   rights_kept = y.rights_kept ∙ x.rights_kept;
   cheap = All-append (λ (p : List ℕ). is_dear p ≡ false) first second x.cheap y.cheap;
-  widens = λ wide. y.widens (x.widens wide);
   took = λ told. y.took told ∙ ap (λ (l : List ℕ). l ++ y.came) (x.took told) ∙ append_assoc (taken a.port) x.came y.came;
   wrote = λ told. y.wrote told ∙ ap (λ (l : List ℕ). l ++ y.gone) (x.wrote told) ∙ append_assoc (written a.port) x.gone y.gone;
   goes_on = λ read sent done owed o. joined read sent done owed
@@ -97,7 +96,6 @@ answers_more {P} tells taken written current a b c first second x y = record {
   gone = x.gone ++ y.gone;
   rights_kept = y.rights_kept ∙ x.rights_kept;
   cheap = x.cheap;
-  widens = λ wide. y.widens (x.widens wide);
   took = λ told. y.took told ∙ ap (λ (l : List ℕ). l ++ y.came) (x.took told) ∙ append_assoc (taken a.port) x.came y.came;
   wrote = λ told. y.wrote told ∙ ap (λ (l : List ℕ). l ++ y.gone) (x.wrote told) ∙ append_assoc (written a.port) x.gone y.gone;
   goes_on = λ read sent done owed o. joined read sent done owed
@@ -119,7 +117,6 @@ serves {P} tells taken written current a b c d payloads x y z = record {
   rights_kept = z.rights_kept ∙ (y.rights_kept ∙ x.rights_kept);
   payloads = payloads;
   cheap = x.cheap;
-  widens = λ wide. z.widens (y.widens (x.widens wide));
   answers = record {
     came = x.came ++ (y.came ++ z.came);
     gone = x.gone ++ (y.gone ++ z.gone);
@@ -204,7 +201,7 @@ each_set R Q xs ys i now next are there step others k x z first last = elim (cas
 -- nothing is done, and nothing owed
 pub nothing_goes : {P : Type 0} (tells : Bool) (taken written : P → List ℕ) (current : Current) (x : Client P) → Goes tells taken written current x x [] []
 nothing_goes tells taken written current x =
-    goes_still tells taken written current x x [] refl refl (λ read sent done owed o. none_done x.course x.session read sent done owed o) (λ wide. wide)
+    goes_still tells taken written current x x [] refl refl (λ read sent done owed o. none_done x.course x.session read sent done owed o)
 
 -- of no client anything
 pub nobody_goes : {P : Type 0} (tells : Bool) (taken written : P → List ℕ) (current : Current) (xs : List (Client P)) → EachPair (λ _ (b a : Client P). Goes tells taken written current b a [] []) xs xs

@@ -14,7 +14,6 @@ use Rattle.mac_wire.specs.Steps.{told_after, frames_after}
 use Rattle.mac_wire.specs.Stream.{version_or_one}
 use Rattle.mac_wire.proofs.Sessions.{come_more, come_cut, come_fronts}
 use Rattle.mac_decide.specs.declared.job.Job.{Job}
-use Rattle.mac_plain.specs.Dear.{GoesWide}
 use Rattle.mac_plain.specs.Client.{HasFallen, arrivals, replies}
 use Rattle.mac_plain.specs.Goes.{Owes, OwesSo, asked}
 use Rattle.mac_plain.specs.Requests.{Adds, payload_at}
@@ -59,16 +58,12 @@ falls_reading before after piece version_is unsent_is read sent done owed o =
 leaves_so : (goes : Course) (session : Session) (read sent : List ℕ) (done : List Job) (owed : List (List ℕ)) → Leaves goes session.carried.items
     → Owes session read sent done owed → OwesSo goes session read sent done owed
 leaves_so course.Open session read sent done owed leaves o = (o, leaves)
-leaves_so course.Wide session read sent done owed leaves o = o
+leaves_so course.Held session read sent done owed leaves o = absurd leaves
+leaves_so course.Wide session read sent done owed leaves o = (o, leaves)
+leaves_so (course.Awaiting basis) session read sent done owed leaves o = absurd leaves
+leaves_so course.TooLong session read sent done owed leaves o = absurd leaves
 leaves_so (course.Ended why) session read sent done owed leaves o = absurd leaves
 leaves_so (course.Fallen why) session read sent done owed leaves o = absurd leaves
-
--- what a rest that is left so goes wide for
-pub wide_leaves : (goes : Course) (rest : List ℕ) → Leaves goes rest → goes ≡ course.Wide → GoesWide rest
-wide_leaves course.Open rest leaves e = absurd cc
-wide_leaves course.Wide rest leaves e = leaves
-wide_leaves (course.Ended why) rest leaves e = absurd cc
-wide_leaves (course.Fallen why) rest leaves e = absurd cc
 
 -- a piece came behind what is carried, and there is no whole frame yet
 pub waits_more : (before after : Session) (piece : List ℕ) → after.version ≡ told_after before.version piece → after.unsent ≡ before.unsent → after.answered ≡ before.answered
@@ -127,3 +122,12 @@ pub came_so : (goes : Course) (s : Session) (read sent : List ℕ) (done : List 
     → OwesSo goes s read (sent ++ []) (done ++ []) owed
 came_so goes s read sent done owed o =
     subst (λ (l : List Job). OwesSo goes s read (sent ++ []) l owed) (sym (append-nil done)) (subst (λ (l : List ℕ). OwesSo goes s read l done owed) (sym (append-nil sent)) o)
+
+-- what is owed of a client that is read
+pub open_owes : (c : Course) (s : Session) (read sent : List ℕ) (done : List Job) (owed : List (List ℕ)) → c ≡ course.Open → OwesSo c s read sent done owed
+    → Owes s read sent done owed
+open_owes c s read sent done owed is o = (subst (λ (k : Course). OwesSo k s read sent done owed) is o).0
+
+pub held_owes : (c : Course) (s : Session) (read sent : List ℕ) (done : List Job) (owed : List (List ℕ)) → c ≡ course.Held → OwesSo c s read sent done owed
+    → Owes s read sent done owed
+held_owes c s read sent done owed is o = subst (λ (k : Course). OwesSo k s read sent done owed) is o

@@ -14,11 +14,12 @@ use Rattle.mac_wire.proofs.Opening.{told_is}
 use Rattle.mac_wire.proofs.Sessions.{come_fronts}
 use Rattle.mac_decide.specs.declared.job.Job.{Job}
 use Rattle.mac_decide.specs.declared.rights.Rights.{Rights}
-use Rattle.mac_plain.specs.Client.{Answers, HasAnswered, HasFallen, IsPromised, StandsSo, arrivals, jobs_of, replies, terms_for}
+use Rattle.mac_plain.specs.Client.{Answers, HasAnswered, HasFallen, IsPromised, StandsSo, arrivals, jobs_of, replies, terms_for, wide_job}
 use Rattle.mac_plain.specs.Rounds.{AnswersUnder, ServesUnder, jobs_under}
 use Rattle.mac_plain.specs.declared.client.Client.{Client}
 use Rattle.mac_plain.specs.declared.course.Course.{Course}
 use Rattle.mac_plain.specs.declared.course.Course.TheVariants as course
+use Rattle.mac_plain.proofs.Steps.{answers_none}
 
 pub composes : {P : Type 0} (tells : Bool) (taken written : P → List ℕ) (a b c : Client P) (jobs more : List Job) → Answers tells taken written a b jobs → Answers tells taken written b c more
     → Answers tells taken written a c (jobs ++ more)
@@ -36,25 +37,12 @@ composes {P} tells taken written a b c jobs more x y = record {
       (subst (λ (l : List ℕ). HasAnswered c ((read ++ x.came) ++ y.came) l (done ++ (jobs ++ more))) (append_assoc sent x.gone y.gone)
       (subst (λ (l : List Job). HasAnswered c ((read ++ x.came) ++ y.came) ((sent ++ x.gone) ++ y.gone) l) (append_assoc done jobs more) h))
 
--- nothing was answered
-answers-none : {P : Type 0} (tells : Bool) (taken written : P → List ℕ) (a : Client P) → Answers tells taken written a a []
-answers-none {P} tells taken written a = record {
-  came = [];
-  gone = [];
-  took = λ told. sym (append-nil (taken a.port));
-  wrote = λ told. sym (append-nil (written a.port));
-  goes_on = λ read sent done h.
-      subst (λ (l : List ℕ). HasAnswered a l (sent ++ []) (done ++ [])) (sym (append-nil read))
-      (subst (λ (l : List ℕ). HasAnswered a read l (done ++ [])) (sym (append-nil sent))
-      (subst (λ (l : List Job). HasAnswered a read sent l) (sym (append-nil done)) h));
-}
-
 pub keeps-tables : {P : Type 0} (tells : Bool) (taken written : P → List ℕ) (tables : List Current) (a b : Client P) → ServesUnder tells taken written tables a b
     → AnswersUnder tells taken written tables a b
 keeps-tables {P} tells taken written [] a b is = record {
   rounds = [];
   currents_are = refl;
-  answers = subst (λ (c : Client P). Answers tells taken written a c []) (sym is) (answers-none tells taken written a);
+  answers = subst (λ (c : Client P). Answers tells taken written a c []) (sym is) (answers_none tells taken written a);
 }
 keeps-tables {P} tells taken written (t ∷ tables) a b (now, served, rest) =
     let h = keeps-tables tells taken written tables now b rest in
@@ -95,6 +83,28 @@ fallen session read written jobs f = record {
 
 pub promised : (c : Course) (session : Session) (read written : List ℕ) (jobs : List Job) → StandsSo c session read written jobs → IsPromised read written jobs
 promised course.Open session read written jobs h = standing session read written jobs h.0
-promised course.Wide session read written jobs h = standing session read written jobs h
+promised course.Held session read written jobs h = standing session read written jobs h
+promised course.Wide session read written jobs h = standing session read written jobs h.0
+promised (course.Awaiting basis) session read written jobs h =
+    let f = come_fronts session.version read session.carried.items (arrivals h.done) []
+    (subst (λ (l : List Arrival). HasCome session.version read l session.carried.items) (sym (append-nil (arrivals h.done))) h.stands.came) in
+    record {
+      done = h.done;
+      missed = wide_job basis session ∷ [];
+      are = h.are;
+      others = f.lost;
+      came = f.came;
+      rest = session.unsent;
+      went = h.stands.went ∙ ap (λ (v : Version). reply_text v (replies h.done)) (told_version session.version read f.told);
+    }
+promised course.TooLong session read written jobs h = record {
+  done = jobs;
+  missed = [];
+  are = sym (append-nil jobs);
+  others = [];
+  came = h.came ∙ sym (append-nil (arrivals jobs));
+  rest = session.unsent;
+  went = h.went ∙ ap (λ (v : Version). reply_text v (replies jobs)) (told_version session.version read h.told);
+}
 promised (course.Ended why) session read written jobs h = standing session read written jobs h.0
 promised (course.Fallen why) session read written jobs h = fallen session read written jobs h

@@ -1,6 +1,8 @@
 -- Which requests are too dear for a loop (this project's own).
 use Rattle.std.specs.Prelude.{◌≡◌, ℕ, ◌+◌, ◌≤◌, ◌<◌, ◌⊎◌, Bool, false, IsTrue, List, length, take, drop, Option, Some, None, All, unwrap_or, ◌*◌, if◌then◌else◌, nat_lt, slice_get, ◌==◌, ◌&&◌, ◌||◌}
 use Rattle.mac_wire.specs.Frame.{told_length}
+use Rattle.mac_wire.specs.declared.arrival.Arrival.{Arrival}
+use Rattle.mac_wire.specs.declared.arrival.Arrival.TheVariants as arrival
 use Rattle.mac_wire.specs.Reading.{key_name_of, request_kind_of}
 use Rattle.mac_wire.specs.declared.arrival.TheConstants.{FRAME_MAX}
 use Rattle.mac_wire.specs.declared.request.RequestKind.{RequestKind}
@@ -85,6 +87,13 @@ AreCheap payloads = All (λ p. is_dear p ≡ false) payloads
 -- what a connection goes wide for, in front of these bytes: a length that no frame has, or a whole
 -- frame whose payload is too dear for a loop
 abbrev pub GoesWide : List ℕ → Type 0
-GoesWide bytes = (FRAME_MAX < told_length bytes)
-    ⊎ ((4 + told_length bytes ≤ length bytes)
-    × IsTrue (is_dear (take (told_length bytes) (drop 4 bytes))))
+GoesWide bytes = (4 ≤ length bytes)
+    × ((FRAME_MAX < told_length bytes)
+    ⊎ ((told_length bytes ≤ FRAME_MAX) × (4 + told_length bytes ≤ length bytes)
+    × IsTrue (is_dear (take (told_length bytes) (drop 4 bytes)))))
+
+-- the arrival that stands in front of these bytes, where one goes wide for it
+abbrev pub front_of : List ℕ → Arrival
+front_of bytes =
+    if nat_lt FRAME_MAX (told_length bytes) then arrival.Oversize
+    else arrival.Payload (take (told_length bytes) (drop 4 bytes))

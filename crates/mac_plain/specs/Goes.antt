@@ -11,8 +11,8 @@ use Rattle.mac_wire.specs.Reply.{reply_text, reply_frame}
 use Rattle.mac_wire.specs.Session.{HasCome}
 use Rattle.mac_decide.specs.declared.job.Job.{Job}
 use Rattle.mac_plain.specs.Pairs.{EachPair}
-use Rattle.mac_plain.specs.Dear.{AreCheap}
-use Rattle.mac_plain.specs.Client.{HasFallen, IsRightlyWide, Passed, arrivals, jobs_of, replies, terms_for}
+use Rattle.mac_plain.specs.Dear.{AreCheap, GoesWide}
+use Rattle.mac_plain.specs.Client.{Awaits, EndsTooLong, HasFallen, Passed, arrivals, jobs_of, replies, terms_for}
 use Rattle.mac_plain.specs.declared.client.Client.{Client}
 use Rattle.mac_plain.specs.declared.course.Course.{Course}
 use Rattle.mac_plain.specs.declared.course.Course.TheVariants as course
@@ -33,7 +33,13 @@ pub record Owes (session : Session) (read written : List ℕ) (done : List Job)
 abbrev pub OwesSo : Course → Session → (read written : List ℕ) → List Job → List (List ℕ) → Type 0
 OwesSo course.Open session read written done owed =
     Owes session read written done owed × IsUnfinished session.carried.items
-OwesSo course.Wide session read written done owed = Owes session read written done owed
+OwesSo course.Held session read written done owed = Owes session read written done owed
+OwesSo course.Wide session read written done owed =
+    Owes session read written done owed × GoesWide session.carried.items
+OwesSo (course.Awaiting basis) session read written jobs owed =
+    Awaits basis session read written jobs × (owed ≡ [])
+OwesSo course.TooLong session read written done owed =
+    EndsTooLong session read written done × (owed ≡ [])
 OwesSo (course.Ended why) session read written done owed =
     Owes session read written done owed × IsUnfinished session.carried.items
 OwesSo (course.Fallen why) session read written done owed = HasFallen session read written done
@@ -57,7 +63,6 @@ pub record Goes {P : Type 0} (tells : Bool) (taken written : P → List ℕ) (cu
   pub wrote : Passed tells (written before.port) (written after.port) gone
   pub rights_kept : after.rights ≡ before.rights
   pub cheap : AreCheap more
-  pub widens : IsRightlyWide before → IsRightlyWide after
   pub goes_on : (read sent : List ℕ) (done : List Job) (owed : List (List ℕ))
       → OwesSo before.course before.session read sent done (answered ++ owed)
       → OwesSo after.course after.session (read ++ came) (sent ++ gone)

@@ -1,6 +1,8 @@
 -- what the contracts mean
 pub mod Port
+pub mod Asking
 pub mod Client
+pub mod Lives
 pub mod Dear
 pub mod Pairs
 pub mod Goes

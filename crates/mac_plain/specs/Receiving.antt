@@ -5,7 +5,7 @@ use Rattle.mac_wire.specs.declared.session.Session.{Session}
 use Rattle.mac_wire.specs.Frame.{Arrive, IsUnfinished}
 use Rattle.mac_decide.specs.declared.job.Job.{Job}
 use Rattle.mac_plain.specs.Dear.{AreCheap, GoesWide}
-use Rattle.mac_plain.specs.Goes.{Goes, OwesSo, asked}
+use Rattle.mac_plain.specs.Goes.{Goes, Owes, OwesSo, asked}
 use Rattle.mac_plain.specs.Requests.{Adds, payload_at}
 use Rattle.mac_plain.specs.declared.client.Client.{Client}
 use Rattle.mac_plain.specs.declared.course.Course.{Course}
@@ -25,7 +25,10 @@ Joins before first second (Err e) after = Joined before first second after
 -- one what it goes wide for
 abbrev pub Leaves : Course → List ℕ → Type 0
 Leaves course.Open rest = IsUnfinished rest
+Leaves course.Held rest = ⊥
 Leaves course.Wide rest = GoesWide rest
+Leaves (course.Awaiting basis) rest = ⊥
+Leaves course.TooLong rest = ⊥
 Leaves (course.Ended why) rest = ⊥
 Leaves (course.Fallen why) rest = ⊥
 
@@ -55,9 +58,8 @@ pub record TakesIn (owner : ℕ) (piece : List ℕ) (before after : Session) (ar
   pub own : List Request
   pub adds : Adds owner (length arena') requests requests' own
   pub cheap : AreCheap (map (payload_at arena') own)
-  pub widens : goes ≡ course.Wide → GoesWide after.carried.items
   pub goes_on : (read sent : List ℕ) (done : List Job) (owed : List (List ℕ))
-      → OwesSo course.Open before read sent done owed
+      → Owes before read sent done owed
       → OwesSo goes after (read ++ piece) sent done
       (owed ++ map (payload_at arena') own)
 

@@ -27,7 +27,7 @@ job_at current arena request (Some client) =
 job_at current arena request None =
     record {
       arrival = arrival.Oversize;
-      basis = record { keys = None; may_mint = false; moment = None };
+      basis = record { keys = None; is_revoked = false; may_mint = false; moment = None };
     }
 
 -- the jobs of requests under a table and at a moment, each under the rights of its own client

@@ -6,6 +6,7 @@ use Rattle.mac_count.specs.declared.number.Told.{Told}
 use Rattle.mac_count.specs.declared.number.Told.TheVariants as told
 use Rattle.mac_wire.specs.declared.arrival.Arrival.{Arrival}
 use Rattle.mac_wire.specs.declared.arrival.Arrival.TheVariants as arrival
+use Rattle.mac_wire.specs.declared.reply.Refusal.TheVariants as refusal
 use Rattle.mac_wire.specs.declared.reply.Reply.{Reply}
 use Rattle.mac_wire.specs.declared.reply.Reply.TheVariants as reply
 
@@ -29,4 +30,5 @@ told_by reply.Granted = told.Granted
 told_by (reply.GrantedTo identifier location) = told.Granted
 told_by (reply.Token bytes) = told.Token
 told_by (reply.Unsatisfied index) = told.Unsatisfied
+told_by (reply.Refused refusal.Revoked) = told.Revoked
 told_by (reply.Refused reason) = told.Refused

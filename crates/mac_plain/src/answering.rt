@@ -18,7 +18,8 @@ use crate::tally::Tally;
 use arrayvec::ArrayVec;
 use mac_board::Current;
 use mac_decide::{
-    ArrivalView, JobView, RUN, Rooms, SeenTokens, Terms, answer_one, answer_run, job_view_of,
+    ArrivalView, JobView, RUN, Revocation, Rooms, SeenTokens, Terms, answer_one, answer_run,
+    job_view_of,
 };
 use mac_wire::Reply;
 use std::alloc::Global;
@@ -262,6 +263,7 @@ fn job_of_request<'a, P: Port>(
         None => JobView {
             arrival: ArrivalView::Oversize,
             keys: None,
+            revoked: Revocation::Known(false),
             may_mint: false,
             moment: None,
         },

@@ -39,7 +39,7 @@ pub struct Client<P> {
 
 impl<P: Port> Client<P> {
     /// A connection that goes on from a session, with these rights. Where more than the beginning
-    /// of a request is carried it goes on wide.
+    /// of a request is carried, that is answered first.
     pub fn new(port: P, session: Session, rights: Arc<Rights, Global>) -> Client<P>
         ensures rights { result.rights ≡ rights }
         ensures stands { (read written : List ℕ) (done : List Job)
@@ -48,7 +48,7 @@ impl<P: Port> Client<P> {
     {
         let course = match next_frame(session.carried.as_slice(), FRAME_MAX) {
             Cut::Unfinished => Course::Open,
-            Cut::Whole(_, _) | Cut::TooLong(_) => Course::Wide,
+            Cut::Whole(_, _) | Cut::TooLong(_) => Course::Held,
         };
         Client {
             port,
@@ -65,7 +65,7 @@ impl<P: Port> Client<P> {
     pub fn may_move(&self) -> bool
         ensures { result ≡ may_move self.now.course }
     {
-        matches!(self.course, Course::Open | Course::Wide)
+        matches!(self.course, Course::Open | Course::Held | Course::Wide)
     }
 
     /// The device, the session and the rights, for who answers it from now on.
@@ -133,21 +133,29 @@ impl<P: Port> Client<P> {
     /// Whether nothing more is to be done on it: nothing comes, and nothing goes out.
     pub fn is_over(&self) -> bool {
         match self.course {
-            Course::Open | Course::Wide => self.is_mute,
-            Course::Ended(_) | Course::Fallen(_) => {
+            Course::Open | Course::Held | Course::Wide | Course::Awaiting(_) => self.is_mute,
+            Course::TooLong | Course::Ended(_) | Course::Fallen(_) => {
                 self.is_mute || self.session.unsent.is_empty()
             }
         }
     }
 
-    /// Whether it is to be read: it is open, something may be there, and not too much is unsent.
+    /// Whether it waits for a worker's answer.
+    pub fn is_waiting(&self) -> bool {
+        matches!(self.course, Course::Awaiting(_))
+    }
+
+    /// Whether it is to be read: it is open and something may be there, or requests are carried;
+    /// and not too much is unsent.
     pub(crate) fn may_read(&self, unsent_max: usize) -> bool
         ensures { IsTrue result → length self.now.session.unsent < unsent_max }
     {
-        self.course == Course::Open
-            && self.is_readable
-            && !self.is_mute
-            && self.session.unsent.len() < unsent_max
+        let has_some = match self.course {
+            Course::Open => self.is_readable,
+            Course::Held => true,
+            _ => false,
+        };
+        has_some && !self.is_mute && self.session.unsent.len() < unsent_max
     }
 
     /// Whether something is unsent and the device may take it.
@@ -176,7 +184,7 @@ impl<P: Port> Client<P> {
     }
 
     /// Puts a reply's frame behind what is unsent.
-    fn put(&mut self, reply: &Reply) -> Result<(), Fall>
+    pub(crate) fn put(&mut self, reply: &Reply) -> Result<(), Fall>
         requires { IsReply reply.now }
         ensures put { OnOk result (self.new
             ≡ record self.old { session = after_reply self.old.session reply.now }) }

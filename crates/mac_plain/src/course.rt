@@ -1,13 +1,21 @@
-//! How a plain connection goes on.
+//! How a connection goes on.
+
+use mac_decide::Basis;
 
 /// How a connection goes on.
 #[derive(Clone, Copy, PartialEq, Eq)]
 pub enum Course {
     /// It is read and answered.
     Open,
-    /// A request that a loop must not answer stands in front of what is carried: the connection
-    /// goes on wide.
+    /// Whole requests may be carried. They are answered before more is read.
+    Held,
+    /// In front of what is carried stands what a loop must not answer: a worker is to be asked.
     Wide,
+    /// A worker was asked. What stands in front of what is carried is answered on this basis.
+    Awaiting(Basis),
+    /// A frame was too long, and is refused: nothing behind it is a request. What is unsent is
+    /// still to be written.
+    TooLong,
     /// Nothing more comes. What is unsent is still to be written.
     Ended(Ended),
     /// Some of what was read is lost, and has no reply. What is unsent is still to be written.

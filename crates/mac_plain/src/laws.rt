@@ -1,16 +1,21 @@
 //! What follows from the definitions alone. Each law is the contract of a function that does
 //! nothing.
 
-ghost use Rattle.std.specs.Prelude.{ℕ, List, ◌++◌};
+ghost use Rattle.std.specs.Prelude.{◌≡◌, ℕ, List, [], ◌++◌, IsTrue};
 ghost use Rattle.mac_order.specs.History.{IsReached};
 ghost use Rattle.mac_decide.specs.Prepared.{reply_to_job};
 ghost use Rattle.mac_decide.specs.declared.job.Job.{Job};
 ghost use Rattle.mac_decide.specs.declared.macaroons.Macaroons.{Macaroons};
 ghost use Rattle.mac_board.specs.Noticed.{Current};
-ghost use Rattle.mac_plain.specs.Client.{Answers, HasAnswered, IsPromised, replies};
+ghost use Rattle.mac_wire.specs.declared.session.Session.{Session};
+ghost use Rattle.mac_decide.specs.declared.rights.Rights.{Rights};
+ghost use Rattle.mac_plain.specs.Client.{Answers, HasAnswered, IsPromised, Serves, may_move, replies};
+ghost use Rattle.mac_plain.specs.Lives.{Lives, Rests, Said, SaidAll};
+ghost use Rattle.mac_plain.specs.declared.course.Course.{Course};
 ghost use Rattle.mac_plain.specs.Rounds.{AnswersUnder, ServesUnder};
 ghost use Rattle.mac_plain.specs.declared.client.Client.{Client};
 
+use crate::course::Ended;
 use crate::port::Port;
 
 /// One round and the next are as one: what the first answered, and then what the second did,
@@ -40,4 +45,36 @@ pub fn what_is_written_is_a_beginning<P: Port>()
 /// other an arrival, a claim, a finish and a send happen.
 pub fn rounds_are_events()
     ensures { (jobs : List Job) → IsReached Macaroons reply_to_job jobs (replies jobs) }
+{}
+
+/// A round keeps lives: what was answered before it and in it was asked under the client's rights,
+/// and stands over all that its device gave and took.
+pub fn a_round_keeps_lives<P: Port>()
+    ensures { (current : Current) (before after : Client P) → IsTrue P.tells
+        → Serves P.tells P.taken P.written current before after
+        → Lives before.rights.value (P.taken before.port) (P.written before.port)
+        before.course before.session
+        → Lives after.rights.value (P.taken after.port) (P.written after.port)
+        after.course after.session }
+{}
+
+/// A life that may go on elsewhere rests.
+pub fn what_may_move_rests()
+    ensures { (rights : Rights) (came went : List ℕ) (goes : Course) (session : Session)
+        → IsTrue (may_move goes) → Lives rights came went goes session
+        → Rests rights came went session }
+{}
+
+/// Of each life, however it ends, what was written begins the framed answers to what was read.
+pub fn lives_are_said()
+    ensures { (rights : Rights) (came went : List ℕ) (goes : Course) (session : Session)
+        → Lives rights came went goes session → Said rights came went }
+{}
+
+/// Of a life whose peer sends no more, of which nothing is carried and nothing is unsent, all that
+/// was read is answered, and all of the answers were written.
+pub fn what_ended_well_is_all()
+    ensures { (rights : Rights) (came went : List ℕ) (why : Ended) (session : Session)
+        → session.unsent ≡ [] → session.carried.items ≡ []
+        → Lives rights came went (Course.Ended why) session → SaidAll rights came went }
 {}

@@ -6,6 +6,7 @@
 #![tactic(auto)]
 
 mod answering;
+mod asking;
 mod client;
 mod course;
 mod dear;

@@ -14,7 +14,8 @@ use crate::port::{Came, Port};
 use crate::request::Request;
 use mac_wire::{Cut, FRAME_MAX, Session, next_frame, opened};
 
-/// Reads a client once, where it is open, and cuts what has come into requests.
+/// Reads a client once, where it is open, and cuts what has come into requests. Where it may carry
+/// whole requests, those are cut off instead.
 pub fn receive<P: Port>(
     client: &mut Client<P>,
     piece: &mut [u8],
@@ -28,9 +29,14 @@ pub fn receive<P: Port>(
         owner client.old client.new arena.old.items arena.new.items
         requests.old.items requests.new.items }
 {
-    let Course::Open = client.course else {
-        return;
-    };
+    match client.course {
+        Course::Open => {}
+        Course::Held => {
+            client.course = take_in(&mut client.session, &[], arena, requests, owner);
+            return;
+        }
+        _ => return,
+    }
     match client.port.read(piece) {
         Came::Bytes(count) => {
             client.is_readable = count == piece.len();

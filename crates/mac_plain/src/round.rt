@@ -1,7 +1,10 @@
 //! A round of a loop: what has come on many connections is answered together.
 
-ghost use Rattle.std.specs.Prelude.{◌≡◌, ◌≤◌, [], length, vec_len};
+ghost use Rattle.std.specs.Prelude.{◌≡◌, ◌≢◌, ◌≤◌, [], length, vec_len};
 ghost use Rattle.mac_board.specs.Noticed.{Current, Notices};
+ghost use Rattle.mac_plain.specs.Asking.{Takes};
+ghost use Rattle.mac_plain.specs.Client.{Answers, IsAwaited};
+ghost use Rattle.mac_plain.specs.Dear.{GoesWide};
 ghost use Rattle.mac_plain.specs.Rounds.{ServesEach};
 ghost use Rattle.mac_plain.specs.Goes.{AreAnswered, AreRead};
 ghost use Rattle.mac_plain.specs.Receiving.{Receives};
@@ -16,7 +19,8 @@ use crate::request::Request;
 use crate::tally::Tally;
 use mac_board::Outlook;
 use mac_count::REQUESTS;
-use mac_decide::{Rooms, SeenTokens};
+use mac_decide::{JobView, Macaroons, Rooms, SeenTokens};
+use mac_order::Answer;
 use std::alloc::Global;
 use std::thread::Threads;
 
@@ -92,6 +96,22 @@ impl Round {
             clients,
         );
         flush_all(clients);
+    }
+
+    /// Has a client take a worker's answer, and counts it where it is the one that the client waits
+    /// for.
+    pub fn deliver<P: Port>(&mut self, client: &mut Client<P>, answer: Answer<Macaroons>)
+        ensures takes { client.new ≢ client.old → Takes answer client.old client.new }
+        ensures own { GoesWide client.old.session.carried.items → IsAwaited answer client.old
+            → Takes answer client.old client.new }
+        ensures another { GoesWide client.old.session.carried.items → ¬ IsAwaited answer client.old
+            → client.new ≡ client.old }
+        ensures answers { Answers P.tells P.taken P.written client.old client.new [] }
+    {
+        let (job, reply) = answer.into_parts();
+        if client.take_answer(&job, &reply) {
+            self.bench.tally.count(&JobView::of(&job), &reply);
+        }
     }
 
     /// How many requests were answered since the last call, each kind at its place.

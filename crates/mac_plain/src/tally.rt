@@ -6,7 +6,7 @@ ghost use Rattle.mac_plain.specs.Tally.{asked_by, asked_as, told_by};
 
 use mac_count::{Asked, REQUESTS, Request, Told};
 use mac_decide::{ArrivalView, JobView};
-use mac_wire::Reply;
+use mac_wire::{Refusal, Reply};
 
 /// How many of each kind, at its place. No contract speaks of the counts.
 #[derive(Drop)]
@@ -80,6 +80,7 @@ fn told_by(reply: &Reply) -> Told
         Reply::Granted | Reply::GrantedTo { .. } => Told::Granted,
         Reply::Token(_) => Told::Token,
         Reply::Unsatisfied(_) => Told::Unsatisfied,
+        Reply::Refused(Refusal::Revoked) => Told::Revoked,
         Reply::Refused(_) => Told::Refused,
     }
 }

@@ -5,7 +5,7 @@ use Rattle.std.proofs.lemmas.List.Elements.{All-head, All-tail}
 use Rattle.mac_board.specs.Follows.{Takes}
 use Rattle.mac_board.specs.Noticed.{Noticed}
 use Rattle.mac_board.proofs.Taking.{one-taken}
-use Rattle.mac_keys.specs.Table.{Table}
+use Rattle.mac_keys.specs.KeyTable.{Table}
 use Rattle.mac_wire.specs.declared.arrival.Arrival.{Arrival}
 use Rattle.mac_wire.specs.declared.reply.Reply.{Reply}
 use Rattle.mac_decide.specs.Answer.{answer_of}

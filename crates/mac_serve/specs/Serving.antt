@@ -19,7 +19,7 @@ use Rattle.mac_decide.specs.Answer.{answer_of}
 use Rattle.mac_decide.specs.Terms.{Terms}
 use Rattle.mac_decide.specs.declared.job.Job.{Job}
 use Rattle.mac_decide.specs.declared.rights.Rights.{Rights}
-use Rattle.mac_keys.specs.Table.{Table}
+use Rattle.mac_keys.specs.KeyTable.{Table}
 use Rattle.mac_serve.specs.Receiving.{Gave, Past, Readings, terms_of, read_of, jobs_of, placed, IsBehind}
 use Rattle.mac_serve.specs.Posts.{AreAnswered, TookForeign}
 use Rattle.mac_serve.specs.declared.fault.ServeFault.{ServeFault}

@@ -191,7 +191,7 @@ impl Inbound {
         ensures { Receives (job_under (lent_terms terms.entry) arrival ∷ []) result self.old
             self.new }
     {
-        let job = job_of(terms, arrival);
+        let job = job_of(alloc, terms, arrival)?;
         let copy = Macaroons::copy(alloc, &job)?;
         let place = self.admit(rt, copy, signals)?;
         self.put(rt, place, job, signals)

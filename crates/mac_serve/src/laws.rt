@@ -2,7 +2,7 @@
 
 ghost use Rattle.std.specs.Prelude.{◌≡◌, ◌+◌, [], ◌∷◌, ◌++◌, Bool, List, map};
 ghost use Rattle.mac_board.specs.Noticed.{Noticed};
-ghost use Rattle.mac_keys.specs.Table.{Table};
+ghost use Rattle.mac_keys.specs.KeyTable.{Table};
 ghost use Rattle.mac_decide.specs.Answer.{answer_of};
 ghost use Rattle.mac_decide.specs.Terms.{Terms};
 ghost use Rattle.mac_decide.specs.World.{job_under};

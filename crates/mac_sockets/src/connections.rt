@@ -69,6 +69,11 @@ impl<C: Wakes + Drop> Connections<C> {
         self.poll.registry()
     }
 
+    /// A further one that ends the waits.
+    pub fn waker(&self) -> io::Result<Waker> {
+        Waker::new(self.poll.registry(), Token(WAKER))
+    }
+
     /// When the last wait ended, on a clock that begins anywhere.
     pub fn now(&self) -> Duration {
         self.now

@@ -9,7 +9,6 @@ use std::io::{ErrorKind, Read, Write};
 use std::net::{Shutdown, TcpStream};
 use std::os::fd::AsRawFd;
 use std::os::unix::net::UnixStream;
-use std::time::Duration;
 
 /// A stream whose reads and writes wait, or don't, as it is told.
 #[derive(Drop)]
@@ -28,22 +27,6 @@ impl Stream {
             Stream::Tcp(stream) => {
                 stream.set_nonblocking(true)?;
                 stream.set_nodelay(true)
-            }
-        }
-    }
-
-    /// Has reads and writes wait, each for so long at most.
-    pub fn wait_at_most(&self, reads: Duration, writes: Duration) -> io::Result<()> {
-        match self {
-            Stream::Unix(stream) => {
-                stream.set_nonblocking(false)?;
-                stream.set_read_timeout(Some(reads))?;
-                stream.set_write_timeout(Some(writes))
-            }
-            Stream::Tcp(stream) => {
-                stream.set_nonblocking(false)?;
-                stream.set_read_timeout(Some(reads))?;
-                stream.set_write_timeout(Some(writes))
             }
         }
     }

@@ -42,6 +42,7 @@ reply_front (reply.Refused refusal.BadSignature) = refl
 reply_front (reply.Refused refusal.CaveatLocation) = refl
 reply_front (reply.Refused refusal.NotAllowed) = refl
 reply_front (reply.Refused refusal.NoClock) = refl
+reply_front (reply.Refused refusal.Revoked) = refl
 
 placed : (place : ℕ) (bytes : List ℕ) → behind_place version.Two (to_be_bytes w64 place ++ bytes) ≡ Some bytes
 unfolding behind_place

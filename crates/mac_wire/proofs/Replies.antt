@@ -26,7 +26,7 @@ refusal_at n = if n == 16 then refusal.BadRequest else if n == 17 then refusal.F
     else if n == 20 then refusal.Malformed else if n == 21 then refusal.ThirdParty
     else if n == 22 then refusal.Limit else if n == 23 then refusal.BadSignature
     else if n == 26 then refusal.CaveatLocation else if n == 27 then refusal.NotAllowed
-    else refusal.NoClock
+    else if n == 28 then refusal.NoClock else refusal.Revoked
 
 refusal_at-code : (r : Refusal) → refusal_at (refusal_code r) ≡ r
 refusal_at-code refusal.BadRequest = refl
@@ -40,6 +40,7 @@ refusal_at-code refusal.BadSignature = refl
 refusal_at-code refusal.CaveatLocation = refl
 refusal_at-code refusal.NotAllowed = refl
 refusal_at-code refusal.NoClock = refl
+refusal_at-code refusal.Revoked = refl
 
 -- a number is that of one refusal at most
 pub one_refusal : (a b : Refusal) → refusal_code a ≡ refusal_code b → a ≡ b
@@ -58,6 +59,7 @@ code-high refusal.BadSignature = omega arith
 code-high refusal.CaveatLocation = omega arith
 code-high refusal.NotAllowed = omega arith
 code-high refusal.NoClock = omega arith
+code-high refusal.Revoked = omega arith
 
 code-no_index : (r : Refusal) → refusal_code r ≢ 24
 code-no_index refusal.BadRequest = λ e. omega arith
@@ -71,6 +73,7 @@ code-no_index refusal.BadSignature = λ e. omega arith
 code-no_index refusal.CaveatLocation = λ e. omega arith
 code-no_index refusal.NotAllowed = λ e. omega arith
 code-no_index refusal.NoClock = λ e. omega arith
+code-no_index refusal.Revoked = λ e. omega arith
 
 alone : (field : List ℕ) → length field < 2 ^ 16 → long_field_at (long_field field) ≡ found (field, [])
 alone field lt = ap long_field_at (sym (append-nil (long_field field))) ∙ long_again field [] lt

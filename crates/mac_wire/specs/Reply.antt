@@ -28,6 +28,7 @@ refusal_code refusal.BadSignature = 23
 refusal_code refusal.CaveatLocation = 26
 refusal_code refusal.NotAllowed = 27
 refusal_code refusal.NoClock = 28
+refusal_code refusal.Revoked = 29
 
 -- what a reply tells, whatever it carries besides
 abbrev pub kind_of : Reply → ReplyKind

@@ -49,6 +49,8 @@ pub enum Refusal {
     NotAllowed,
     /// The clock tells no moment.
     NoClock,
+    /// The token was taken back.
+    Revoked,
 }
 
 impl Refusal {
@@ -68,6 +70,7 @@ impl Refusal {
             Refusal::CaveatLocation => 26,
             Refusal::NotAllowed => 27,
             Refusal::NoClock => 28,
+            Refusal::Revoked => 29,
         }
     }
 }

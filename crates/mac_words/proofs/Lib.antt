@@ -4,3 +4,4 @@ pub mod MomentLemmas
 pub mod NearBoundLemmas
 pub mod PayloadLemmas
 pub mod KeyLineLemmas
+pub mod KeptLines

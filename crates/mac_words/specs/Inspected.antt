@@ -10,6 +10,7 @@ use Rattle.mac_token.specs.Read.{raw_read_of}
 use Rattle.mac_token.specs.declared.fault.TokenFault.{TokenFault}
 use Rattle.mac_token.specs.declared.fault.TokenFault.TheVariants as fault
 use Rattle.mac_words.specs.Escaped.{escaped}
+use Rattle.mac_words.specs.declared.inspected.Whose.{Whose}
 use Rattle.mac_words.specs.NearBound.{IsNoBound, no_bound_words}
 use Rattle.mac_words.specs.Spelling.{spelling_name, spelling_of}
 
@@ -72,11 +73,21 @@ AreLines (suc n) caveats text = (before : List ℕ) × (last : List ℕ) × (c :
 unfoldable pub line : List ℕ → List ℕ → List ℕ
 line name words = name ++ (words ++ 10 ∷ [])
 
+-- whose the token is
+abbrev pub whose_text : RawParts → List ℕ
+whose_text raw = line (codes "location: ") (escaped raw.location)
+    ++ line (codes "identifier: ") (escaped raw.identifier)
+
+-- whose token it is that the bytes spell, or why they spell none
+abbrev pub TellsWhose : List ℕ → Result Whose TokenFault → Type 0
+TellsWhose token (Ok whose) = (raw : RawParts) × (raw_read_of token ≡ Ok raw)
+    × (whose.identifier.items ≡ raw.identifier) × (whose.text.items ≡ whose_text raw)
+TellsWhose token (Err fault.Memory) = Unit {0}
+TellsWhose token (Err (fault.Refused why)) = raw_read_of token ≡ Err why
+
 -- what is told before the caveats
 abbrev pub head_text : List ℕ → RawParts → List ℕ
-head_text token raw = line (codes "form: ") (spelling_name (spelling_of token))
-    ++ (line (codes "location: ") (escaped raw.location)
-    ++ line (codes "identifier: ") (escaped raw.identifier))
+head_text token raw = line (codes "form: ") (spelling_name (spelling_of token)) ++ whose_text raw
 
 -- and behind them
 abbrev pub tail_text : List ℕ → RawParts → List ℕ

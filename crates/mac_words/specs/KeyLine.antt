@@ -7,7 +7,8 @@ use Rattle.hex.specs.Hex.{encode_lower}
 use Rattle.mac_hmac.specs.Chain.{root_of}
 use Rattle.mac_keys.specs.Change.{IsKeyLine}
 use Rattle.mac_keys.specs.Line.{is_name}
-use Rattle.mac_keys.specs.Table.{Table, table_of}
+use Rattle.mac_keys.specs.Keys.{NamedKeys}
+use Rattle.mac_keys.specs.Table.{table_of}
 use Rattle.mac_words.specs.declared.key_lines.NameFault.{NameFault}
 use Rattle.mac_words.specs.declared.key_lines.NameFault.TheVariants as fault
 
@@ -16,7 +17,7 @@ abbrev pub key_text : List ℕ → List ℕ → List ℕ
 key_text name secret = codes "key " ++ (name ++ 32 ∷ (encode_lower secret ++ 10 ∷ []))
 
 -- the table in which this name alone stands, with this root key alone
-abbrev pub only_key : List ℕ → List ℕ → Table
+abbrev pub only_key : List ℕ → List ℕ → NamedKeys
 only_key name root = from_entries ((name, record { first = root; second = None }) ∷ [])
 
 -- The line of a name: as a key file it gives that name the secret, and says nothing else; and it is

@@ -8,4 +8,5 @@ pub mod Escaped
 pub mod ReplyText
 pub mod Inspected
 pub mod KeyLine
+pub mod Revoked
 pub mod Said

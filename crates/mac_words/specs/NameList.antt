@@ -2,7 +2,7 @@
 use Rattle.std.specs.Prelude.{ℕ, ◌==◌, if◌then◌else◌, List, [], ◌∷◌, ◌++◌, codes}
 use Rattle.std.specs.List.{flat_map}
 use Rattle.mac_keys.specs.Names.{names_of}
-use Rattle.mac_keys.specs.Table.{Table}
+use Rattle.mac_keys.specs.KeyTable.{Table}
 
 -- the name, and whether it has two keys or one
 abbrev pub name_line : List ℕ × ℕ → List ℕ
@@ -11,4 +11,4 @@ name_line entry = entry.0
 
 -- a line for each name
 abbrev pub names_text : Table → List ℕ
-names_text table = flat_map name_line (names_of table)
+names_text table = flat_map name_line (names_of table.keys)

@@ -25,6 +25,7 @@ reason refusal.BadSignature = codes "the key does not give the signature of the 
 reason refusal.CaveatLocation = codes "a first-party caveat of the token has a location"
 reason refusal.NotAllowed = codes "the socket does not allow this request"
 reason refusal.NoClock = codes "the clock tells no moment"
+reason refusal.Revoked = codes "the token was taken back"
 
 -- the refusal with its number
 abbrev pub refusal_text : Refusal → List ℕ

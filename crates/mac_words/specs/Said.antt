@@ -1,7 +1,7 @@
 -- What is said to a person who asks a request in words.
 use Rattle.std.specs.Prelude.{◌≡◌, ◌⊎◌, ℕ, Bool, true, false, List, [], ◌∷◌, ◌++◌, Option, Some, None, Result, Ok, Err}
 use Rattle.mac_decide.specs.Answer.{full_answer, refusal_of}
-use Rattle.mac_keys.specs.Table.{Table, table_of}
+use Rattle.mac_keys.specs.KeyTable.{Table, table_of}
 use Rattle.mac_token.specs.RawToken.{RawParts}
 use Rattle.mac_token.specs.Read.{raw_read_of}
 use Rattle.mac_token.specs.declared.fault.TokenRefusal.{TokenRefusal}
@@ -14,6 +14,7 @@ use Rattle.mac_wire.specs.declared.request.TokenForm.TheVariants as form
 use Rattle.mac_words.specs.Inspected.{IsInspected}
 use Rattle.mac_words.specs.Payload.{first_fault}
 use Rattle.mac_words.specs.ReplyText.{refusal_text, reply_text}
+use Rattle.mac_words.specs.Revoked.{revoked_text}
 use Rattle.mac_words.specs.Spelling.{form_of, spelling_of}
 use Rattle.mac_words.specs.declared.fault.FieldFault.{FieldFault}
 use Rattle.mac_words.specs.declared.fault.FieldFault.TheVariants as fault
@@ -63,3 +64,12 @@ TellsRead token (Err why) said =
 
 abbrev pub SaysBytes : List ℕ → Said → Type 0
 SaysBytes token said = TellsRead token (raw_read_of token) said
+
+-- the same under a name, with the line that takes the token back behind what it says
+abbrev pub TellsUnder : List ℕ → List ℕ → Result RawParts TokenRefusal → Said → Type 0
+TellsUnder name token (Ok raw) said = (text : List ℕ) × IsInspected token raw text
+    × (said.text.items ≡ text ++ revoked_text name raw.identifier) × (said.is_refusal ≡ false)
+TellsUnder name token (Err why) said = TellsRead token (Err why) said
+
+abbrev pub SaysUnder : List ℕ → List ℕ → Said → Type 0
+SaysUnder name token said = TellsUnder name token (raw_read_of token) said

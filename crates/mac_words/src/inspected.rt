@@ -1,7 +1,8 @@
 //! What bytes spell, told to people.
 
 ghost use Rattle.std.specs.Prelude.{◌≡◌, ◌++◌, OnOk, IfOk};
-ghost use Rattle.mac_words.specs.Inspected.{Inspects, IsInspected, head_text, line, tail_text};
+ghost use Rattle.mac_words.specs.Inspected.{Inspects, IsInspected, TellsWhose, head_text, line};
+ghost use Rattle.mac_words.specs.Inspected.{tail_text, whose_text};
 ghost use Rattle.mac_words.specs.Escaped.{escaped};
 
 use crate::caveat_lines::append_caveats;
@@ -20,6 +21,26 @@ pub fn inspect(alloc: Global, token: &[u8]) -> Result<Vec<u8>, TokenFault>
     Ok(inspected(alloc, token, &raw)?)
 }
 
+/// Whose a token is, be it one that is taken or not.
+#[derive(Drop)]
+pub struct Whose {
+    /// Its identifier.
+    pub identifier: Vec<u8>,
+    /// The lines that tell its location and its identifier.
+    pub text: Vec<u8>,
+}
+
+/// Whose token the bytes spell.
+pub fn find_whose(alloc: Global, token: &[u8]) -> Result<Whose, TokenFault>
+    ensures { TellsWhose token.now result }
+{
+    let raw = read_raw(alloc, token)?;
+    let mut text = Vec::new(alloc);
+    append_whose(&raw, &mut text)?;
+    let identifier = Vec::from_slice(alloc, raw.identifier.as_slice())?;
+    Ok(Whose { identifier, text })
+}
+
 /// The text that tells a token which the bytes spell.
 fn inspected(alloc: Global, token: &[u8], raw: &RawToken) -> Result<Vec<u8>, NoMemory>
     ensures { IfOk result (λ text. IsInspected token.now raw.now text.items) }
@@ -36,6 +57,13 @@ fn append_head(token: &[u8], raw: &RawToken, out: &mut Vec<u8>) -> Result<(), No
     ensures { OnOk result (out.new.items ≡ out.old.items ++ head_text token.now raw.now) }
 {
     append_line(b"form: ", Spelling::of(token).name().as_bytes(), out)?;
+    append_whose(raw, out)
+}
+
+/// Appends the lines of the location and of the identifier.
+fn append_whose(raw: &RawToken, out: &mut Vec<u8>) -> Result<(), NoMemory>
+    ensures { OnOk result (out.new.items ≡ out.old.items ++ whose_text raw.now) }
+{
     append_escaped_line(b"location: ", raw.location.as_bytes(), out)?;
     append_escaped_line(b"identifier: ", raw.identifier.as_slice(), out)?;
     Ok(())

@@ -17,13 +17,14 @@ mod near_bounds;
 mod payload;
 mod refusal;
 mod reply_text;
+mod revoked;
 mod saying;
 mod spelled;
 mod token_text;
 
 pub use escaped::append_escaped;
 pub use fault::{FieldFault, TextFault};
-pub use inspected::inspect;
+pub use inspected::{Whose, find_whose, inspect};
 pub use key_lines::{NameFault, key_line};
 pub use moments::moment;
 pub use name_list::list_names;
@@ -34,6 +35,7 @@ pub use payload::{
 };
 pub use refusal::reason;
 pub use reply_text::{append_refusal, append_reply_text};
-pub use saying::{Said, say_attenuate, say_inspect, say_mint, say_verify};
+pub use revoked::{put_behind, revoked_line, told_lines, without_revoked};
+pub use saying::{Said, say_attenuate, say_inspect, say_inspect_under, say_mint, say_verify};
 pub use spelled::{Spelling, form_named};
 pub use token_text::{append_token_text, token_bytes};

@@ -89,7 +89,8 @@ pub fn reply_to(alloc: Global, table: &KeyTable, payload: Vec<u8>) -> Result<Rep
         rights,
         moment: None,
     };
-    answer(alloc, &job_of(terms, arrival))
+    let job = job_of(alloc, terms, arrival)?;
+    answer(alloc, &job)
 }
 
 /// The payload of a mint whose words a request carries.

@@ -21,5 +21,6 @@ pub fn reason(refusal: Refusal) -> &'static str
         Refusal::CaveatLocation => "a first-party caveat of the token has a location",
         Refusal::NotAllowed => "the socket does not allow this request",
         Refusal::NoClock => "the clock tells no moment",
+        Refusal::Revoked => "the token was taken back",
     }
 }

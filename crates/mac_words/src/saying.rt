@@ -2,17 +2,19 @@
 
 ghost use Rattle.std.specs.Prelude.{◌≡◌, [], IfOk};
 ghost use Rattle.mac_decide.specs.Answer.{full_answer};
-ghost use Rattle.mac_keys.specs.Table.{table_of};
+ghost use Rattle.mac_keys.specs.KeyTable.{table_of};
 ghost use Rattle.mac_wire.specs.Request.{mint, attenuate, verify};
 ghost use Rattle.mac_wire.specs.declared.arrival.Arrival.TheVariants as arrival;
 ghost use Rattle.mac_words.specs.Payload.{texts_of};
 ghost use Rattle.mac_words.specs.Said.{IsSaid, Says, SaysAlone, is_refusal, mint_form, next_form};
-ghost use Rattle.mac_words.specs.Said.{SaysBytes};
+ghost use Rattle.mac_words.specs.Said.{SaysBytes, SaysUnder};
 
 use crate::fault::FieldFault;
-use crate::inspected::inspect;
+use crate::inspected::{find_whose, inspect};
+use crate::key_lines::NameFault;
 use crate::payload::{attenuate_payload, mint_payload, reply_to, verify_payload};
 use crate::reply_text::{append_refusal, append_reply_text};
+use crate::revoked::revoked_line;
 use crate::spelled::Spelling;
 use mac_decide::refusal_of;
 use mac_keys::{KeyFault, KeyTable};
@@ -91,6 +93,22 @@ pub fn say_inspect(alloc: Global, token: &[u8]) -> Result<Said, NoMemory>
         }),
         Err(TokenFault::Refused(why)) => refused(alloc, refusal_of(why)),
         Err(TokenFault::Memory) => Err(AllocError),
+    }
+}
+
+/// The same, and behind what a token says the line that takes it back under a name.
+pub fn say_inspect_under(alloc: Global, name: &str, token: &[u8]) -> Result<Said, NameFault>
+    ensures { IfOk result (SaysUnder name.now token.now) }
+{
+    match find_whose(alloc, token) {
+        Ok(whose) => {
+            let line = revoked_line(alloc, name, whose.identifier.as_slice())?;
+            let mut said = say_inspect(alloc, token)?;
+            said.text.extend_from_slice(line.as_slice())?;
+            Ok(said)
+        }
+        Err(TokenFault::Refused(why)) => Ok(refused(alloc, refusal_of(why))?),
+        Err(TokenFault::Memory) => Err(NameFault::Memory),
     }
 }
 

@@ -18,6 +18,7 @@ use Rattle.clap.proofs.WalkLemmas.{bundle_ends, walk_stopped}
 use Rattle.macaroond.specs.declared.status.Status.{Status}
 use Rattle.macaroond.specs.declared.status.Status.TheVariants.{Done, BadLine, NoMemory}
 use Rattle.macaroond.specs.CommandLine.{LeadsTo, MayEnd, command_line, exit_status, names_another}
+use Rattle.macaroond.specs.Arguments.{option}
 use Rattle.macaroond.proofs.OptionLemmas.{neither, pipe}
 
 -- ---- statuses of lists of kinds
@@ -42,7 +43,17 @@ top = (built command_line).top
 -- the options of a level, which has the version or not
 abbrev pub options : Bool → List Rule
 options true = filled_from 1 (help_rule ∷ version_rule ∷ [])
-options false = filled_from 1 (help_rule ∷ [])
+options false = filled_from 1 (option (codes "revoked") ∷ help_rule ∷ [])
+
+-- the name isn't that of the option of `pipe`, where that is the level
+abbrev pub IsForeign : Bool → Text → Type 0
+IsForeign true name = Unit {0}
+IsForeign false name = bytes_eq (codes "revoked") name ≡ false
+
+-- the same of a word
+abbrev pub IsForeignWord : Bool → Option (Text × Option Text) → Type 0
+IsForeignWord v None = Unit {0}
+IsForeignWord v (Some p) = IsForeign v p.0
 
 -- what `--name` and `--name=value` lead to
 abbrev pub is_asked : Bool → Text → Bool
@@ -51,20 +62,20 @@ is_asked v name = bytes_eq (codes "help") name || (v && bytes_eq (codes "version
 abbrev pub long_status : Bool → Text → Option Text → Status
 long_status v name val = if is_asked v name && not (is_some val) then Done else BadLine
 
-pub long_refused : (v : Bool) (name : Text) (val : Option Text)
+pub long_refused : (v : Bool) (name : Text) (val : Option Text) → IsForeign v name
     → Refuses (long_status v name val) (long_fault (options v) false (arg_by_long (options v) name) val nothing_held)
-long_refused v name val = go v (bytes_eq (codes "help") name) refl (bytes_eq (codes "version") name) refl val
+long_refused v name val foreign = go v (bytes_eq (codes "help") name) refl (bytes_eq (codes "version") name) refl val foreign
   where
-    go : (v b : Bool) → bytes_eq (codes "help") name ≡ b → (c : Bool) → bytes_eq (codes "version") name ≡ c → (val : Option Text)
+    go : (v b : Bool) → bytes_eq (codes "help") name ≡ b → (c : Bool) → bytes_eq (codes "version") name ≡ c → (val : Option Text) → IsForeign v name
         → Refuses (long_status v name val) (long_fault (options v) false (arg_by_long (options v) name) val nothing_held)
-    go false true e c f None = rw e (refl, tt)
-    go false true e c f (Some t) = rw e (refl, tt)
-    go false false e c f val = rw e (refl, tt)
-    go true true e c f None = rw e (refl, tt)
-    go true true e c f (Some t) = rw e (refl, tt)
-    go true false e true f None = rw (e, f) (refl, tt)
-    go true false e true f (Some t) = rw (e, f) (refl, tt)
-    go true false e false f val = rw (e, f) (refl, tt)
+    go false true e c f None h = rw (h, e) (refl, tt)
+    go false true e c f (Some t) h = rw (h, e) (refl, tt)
+    go false false e c f val h = rw (h, e) (refl, tt)
+    go true true e c f None h = rw e (refl, tt)
+    go true true e c f (Some t) h = rw e (refl, tt)
+    go true false e true f None h = rw (e, f) (refl, tt)
+    go true false e true f (Some t) h = rw (e, f) (refl, tt)
+    go true false e false f val h = rw (e, f) (refl, tt)
 
 -- what the first character of a bundle of flags leads to: 104 is `h`, 86 is `V`
 abbrev pub letter_status : Bool → Option ℕ → Status
@@ -134,9 +145,14 @@ short_refused false s word None = stray_refused s
 short_refused v s word (Some flags) = bundle_refused v s word flags (slice_get (chars flags) 0) refl
 
 -- each word that is no subcommand, and not `--`, is refused
-pub word_refused : (v : Bool) (s : Shape) (word : Text) (long : Option (Text × Option Text)) → Refuses (flag_status v word long) (faults_at v s word long)
-word_refused v s word (Some p) = refuses_first (flag_status v word (Some p)) (long_fault (options v) false (arg_by_long (options v) p.0) p.1 nothing_held) _ (long_refused v p.0 p.1)
-word_refused v s word None = short_refused v s word (short_of word)
+pub word_refused : (v : Bool) (s : Shape) (word : Text) (long : Option (Text × Option Text)) → IsForeignWord v long → Refuses (flag_status v word long) (faults_at v s word long)
+word_refused v s word (Some p) foreign = refuses_first (flag_status v word (Some p)) (long_fault (options v) false (arg_by_long (options v) p.0) p.1 nothing_held) _ (long_refused v p.0 p.1 foreign)
+word_refused v s word None foreign = short_refused v s word (short_of word)
+
+-- above the subcommands each word is
+pub foreign_above : (long : Option (Text × Option Text)) → IsForeignWord true long
+foreign_above None = tt
+foreign_above (Some p) = tt
 
 -- ---- the levels
 
@@ -154,28 +170,33 @@ unfolding clap_on_literals
 dashes_after_pipe [] = refl
 dashes_after_pipe (word ∷ rest) = (refl, tt)
 
-other_after_pipe : (word : Text) (rest : List Text) → bytes_eq word (codes "--") ≡ false → Refuses (flag_status false word (long_of word)) (pipe_faults (word ∷ rest))
+other_after_pipe : (word : Text) (rest : List Text) → IsForeignWord false (long_of word) → bytes_eq word (codes "--") ≡ false → Refuses (flag_status false word (long_of word)) (pipe_faults (word ∷ rest))
 unfolding walk_fault
-other_after_pipe word rest e =
+other_after_pipe word rest foreign e =
     let turn : turn_fault pipe [] (walk_from nothing_held) word ≡ faults_at false pipe word (long_of word) = rw e refl in
-    let refused = subst (Refuses (flag_status false word (long_of word))) (sym turn) (word_refused false pipe word (long_of word)) in
+    let refused = subst (Refuses (flag_status false word (long_of word))) (sym turn) (word_refused false pipe word (long_of word) foreign) in
     refuses_first _ _ _ (refuses_first _ (turn_fault pipe [] (walk_from nothing_held) word) _ refused)
 
-pub pipe_leads : (words : List Text) → LeadsTo (after_pipe words) (pipe_faults words)
+-- the first of the words after `pipe` isn't its option
+abbrev pub BeginsForeign : List Text → Type 0
+BeginsForeign [] = Unit {0}
+BeginsForeign (word ∷ rest) = IsForeignWord false (long_of word)
+
+pub pipe_leads : (words : List Text) → BeginsForeign words → LeadsTo (after_pipe words) (pipe_faults words)
 unfolding clap_on_literals
-pipe_leads [] = refl
-pipe_leads (word ∷ []) = go (bytes_eq word (codes "--")) refl
+pipe_leads [] foreign = refl
+pipe_leads (word ∷ []) foreign = go (bytes_eq word (codes "--")) refl
   where
     go : (b : Bool) → bytes_eq word (codes "--") ≡ b → LeadsTo (after_pipe (word ∷ [])) (pipe_faults (word ∷ []))
     go true e = subst (λ w. LeadsTo (after_pipe (w ∷ [])) (pipe_faults (w ∷ []))) (sym ((bytes_eq-Decides word (codes "--")).0 e)) (dashes_after_pipe [])
     go false e =
         let status : after_pipe (word ∷ []) ≡ Some (flag_status false word (long_of word)) = rw e refl in
-        subst (λ o. LeadsTo o (pipe_faults (word ∷ []))) (sym status) (other_after_pipe word [] e)
-pipe_leads (word ∷ next ∷ rest) = go (bytes_eq word (codes "--")) refl
+        subst (λ o. LeadsTo o (pipe_faults (word ∷ []))) (sym status) (other_after_pipe word [] foreign e)
+pipe_leads (word ∷ next ∷ rest) foreign = go (bytes_eq word (codes "--")) refl
   where
     go : (b : Bool) → bytes_eq word (codes "--") ≡ b → LeadsTo (after_pipe (word ∷ next ∷ rest)) (pipe_faults (word ∷ next ∷ rest))
     go true e = subst (λ w. LeadsTo (after_pipe (w ∷ next ∷ rest)) (pipe_faults (w ∷ next ∷ rest))) (sym ((bytes_eq-Decides word (codes "--")).0 e)) (dashes_after_pipe (next ∷ rest))
-    go false e = other_after_pipe word (next ∷ rest) e
+    go false e = other_after_pipe word (next ∷ rest) foreign e
 
 -- ---- the whole line
 
@@ -194,13 +215,13 @@ abbrev faults_by : Walk → Kinds → Kinds
 faults_by w kinds = or_else kinds (or_else (entered_fault (built command_line) w.stopped) (or_else (settle_fault top.rules false w.held)
     (or_else (defaults_fault (settled top.rules w.held).rows top.rules) (check_fault top (finished top.rules w.held) (is_some (entered (built command_line) w.stopped))))))
 
-after_name : (rest : List Text) → LeadsTo (after_pipe rest) (line_faults (codes "pipe" ∷ rest))
+after_name : (rest : List Text) → BeginsForeign rest → LeadsTo (after_pipe rest) (line_faults (codes "pipe" ∷ rest))
 unfolding clap_on_literals
-after_name rest =
+after_name rest foreign =
     let stopped = sym (walk_stopped top.rules names (walk_from nothing_held) (codes "pipe") [] rest) in
     let passed = stopped_fault top names (walk_from nothing_held) (codes "pipe", []) rest in
     let same : line_faults (codes "pipe" ∷ rest) ≡ or_else (pipe_faults rest) [] = ap₂ faults_by stopped passed in
-    subst (LeadsTo (after_pipe rest)) (sym same) (leads_alone (after_pipe rest) (pipe_faults rest) (pipe_leads rest))
+    subst (LeadsTo (after_pipe rest)) (sym same) (leads_alone (after_pipe rest) (pipe_faults rest) (pipe_leads rest foreign))
 
 dashes_first : (rest : List Text) → Refuses BadLine (line_faults (codes "--" ∷ rest))
 unfolding clap_on_literals
@@ -211,13 +232,13 @@ dashes_first (word ∷ rest) = (refl, (refl, tt))
 abbrev IsNoName : Text → Type 0
 IsNoName word = (bytes_eq (codes "pipe") word ≡ false) × (bytes_eq (codes "serve") word ≡ false) × (bytes_eq (codes "listen") word ≡ false)
     × (bytes_eq (codes "page") word ≡ false) × (bytes_eq (codes "keygen") word ≡ false) × (bytes_eq (codes "check") word ≡ false) × (bytes_eq (codes "mint") word ≡ false) × (bytes_eq (codes "attenuate") word ≡ false)
-    × (bytes_eq (codes "verify") word ≡ false) × (bytes_eq (codes "inspect") word ≡ false) × (bytes_eq (codes "status") word ≡ false)
+    × (bytes_eq (codes "verify") word ≡ false) × (bytes_eq (codes "inspect") word ≡ false) × (bytes_eq (codes "status") word ≡ false) × (bytes_eq (codes "revoke") word ≡ false)
 
 other_first : (word : Text) (rest : List Text) → IsNoName word → bytes_eq word (codes "--") ≡ false → Refuses (flag_status true word (long_of word)) (line_faults (word ∷ rest))
 unfolding walk_fault
-other_first word rest (no_pipe, no_serve, no_listen, no_page, no_keygen, no_check, no_mint, no_attenuate, no_verify, no_inspect, no_status) e =
-    let turn : turn_fault top names (walk_from nothing_held) word ≡ faults_at true top word (long_of word) = rw (no_pipe, no_serve, no_listen, no_page, no_keygen, no_check, no_mint, no_attenuate, no_verify, no_inspect, no_status, e) refl in
-    let refused = subst (Refuses (flag_status true word (long_of word))) (sym turn) (word_refused true top word (long_of word)) in
+other_first word rest (no_pipe, no_serve, no_listen, no_page, no_keygen, no_check, no_mint, no_attenuate, no_verify, no_inspect, no_status, no_revoke) e =
+    let turn : turn_fault top names (walk_from nothing_held) word ≡ faults_at true top word (long_of word) = rw (no_pipe, no_serve, no_listen, no_page, no_keygen, no_check, no_mint, no_attenuate, no_verify, no_inspect, no_status, no_revoke, e) refl in
+    let refused = subst (Refuses (flag_status true word (long_of word))) (sym turn) (word_refused true top word (long_of word) (foreign_above (long_of word))) in
     refuses_first _ _ _ (refuses_first _ (turn_fault top names (walk_from nothing_held) word) _ refused)
 
 pub other_way : (a b : Text) → bytes_eq a b ≡ false → bytes_eq b a ≡ false
@@ -237,7 +258,8 @@ no_name word rest differ unnamed =
     let mint = neither (bytes_eq word (codes "mint")) _ check.1 in
     let attenuate = neither (bytes_eq word (codes "attenuate")) _ mint.1 in
     let verify = neither (bytes_eq word (codes "verify")) _ attenuate.1 in
-    let inspect = neither (bytes_eq word (codes "inspect")) _ verify.1 in (
+    let inspect = neither (bytes_eq word (codes "inspect")) _ verify.1 in
+    let status = neither (bytes_eq word (codes "status")) _ inspect.1 in (
       other_way word (codes "pipe") differ,
       other_way word (codes "serve") serve.0,
       other_way word (codes "listen") listen.0,
@@ -248,7 +270,8 @@ no_name word rest differ unnamed =
       other_way word (codes "attenuate") attenuate.0,
       other_way word (codes "verify") verify.0,
       other_way word (codes "inspect") inspect.0,
-      other_way word (codes "status") inspect.1,
+      other_way word (codes "status") status.0,
+      other_way word (codes "revoke") status.1,
     )
 
 unnamed_leads : (word : Text) (rest : List Text) → bytes_eq word (codes "pipe") ≡ false → names_another (word ∷ rest) ≡ false → Refuses (flag_status true word (long_of word)) (line_faults (word ∷ rest))
@@ -258,14 +281,19 @@ unnamed_leads word rest differ unnamed = go (bytes_eq word (codes "--")) refl
     go true e = subst (λ w. Refuses (flag_status true w (long_of w)) (line_faults (w ∷ rest))) (sym ((bytes_eq-Decides word (codes "--")).0 e)) (dashes_first rest)
     go false e = other_first word rest (no_name word rest differ unnamed) e
 
--- what all words lead to that name no subcommand but `pipe`
-pub line_leads : (words : List Text) → names_another words ≡ false → LeadsTo (of_arguments words) (line_faults words)
+-- behind `pipe` its option doesn't come first
+abbrev pub GivesNoList : List Text → Type 0
+GivesNoList [] = Unit {0}
+GivesNoList (word ∷ rest) = bytes_eq word (codes "pipe") ≡ true → BeginsForeign rest
+
+-- what all words lead to that name no subcommand but `pipe`, without its option
+pub line_leads : (words : List Text) → names_another words ≡ false → GivesNoList words → LeadsTo (of_arguments words) (line_faults words)
 unfolding clap_on_literals
-line_leads [] unnamed = (refl, tt)
-line_leads (word ∷ rest) unnamed = go (bytes_eq word (codes "pipe")) refl
+line_leads [] unnamed none = (refl, tt)
+line_leads (word ∷ rest) unnamed none = go (bytes_eq word (codes "pipe")) refl
   where
     go : (b : Bool) → bytes_eq word (codes "pipe") ≡ b → LeadsTo (of_arguments (word ∷ rest)) (line_faults (word ∷ rest))
-    go true e = subst (λ w. LeadsTo (of_arguments (w ∷ rest)) (line_faults (w ∷ rest))) (sym ((bytes_eq-Decides word (codes "pipe")).0 e)) (after_name rest)
+    go true e = subst (λ w. LeadsTo (of_arguments (w ∷ rest)) (line_faults (w ∷ rest))) (sym ((bytes_eq-Decides word (codes "pipe")).0 e)) (after_name rest (none e))
     go false e =
         let status : of_arguments (word ∷ rest) ≡ Some (flag_status true word (long_of word)) = rw e refl in
         subst (λ o. LeadsTo o (line_faults (word ∷ rest))) (sym status) (unnamed_leads word rest e unnamed)

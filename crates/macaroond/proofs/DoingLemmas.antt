@@ -3,7 +3,7 @@ use Rattle.std.proofs.Common.{inl, List, Option, Some, None, Result, Ok, Err, â„
 use Rattle.std.specs.Prelude.{IfSome}
 use Rattle.std.specs.declared.alloc.Global.{Global}
 use Rattle.std.specs.declared.string.String.{String}
-use Rattle.mac_keys.specs.Table.{Table}
+use Rattle.mac_keys.specs.KeyTable.{Table}
 use Rattle.mac_wire.specs.Request.{Asked}
 use Rattle.mac_words.specs.Said.{Says}
 use Rattle.mac_words.specs.declared.saying.Said.{Said}

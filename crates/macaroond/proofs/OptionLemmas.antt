@@ -21,7 +21,7 @@ use Rattle.clap.specs.declared.parser.matches.ArgMatches.{ArgMatches}
 use Rattle.clap.specs.declared.builder.value_parser.ValueParser.TheVariants.{Unsigned}
 use Rattle.clap.proofs.ValueTestLemmas.{accepts-Accepts}
 use Rattle.macaroond.specs.CommandLine.{command_line, listen_command, page_command, pipe_command, serve_command}
-use Rattle.macaroond.specs.People.{IsTaskName, attenuate_command, check_command, inspect_command, keygen_command, mint_command, status_command, verify_command}
+use Rattle.macaroond.specs.People.{IsTaskName, attenuate_command, check_command, inspect_command, keygen_command, mint_command, revoke_command, status_command, verify_command}
 use Rattle.macaroond.specs.Options.{HasCommand, HasListenOptions, HasServeOptions, IsGiven, IsGivenNumberFrom, MayBeNumberFrom}
 use Rattle.macaroond.proofs.OptionWalk.{Each, HasValue, IsKnown, first_none, leaf_rows, no_value, one_value, second_none, value_given, value_or_none}
 
@@ -173,28 +173,29 @@ abbrev built_sub : App → Shape
 built_sub sub = built_leaf (inherited (with_leaf_noted (marked_built command_line.top)) sub.top)
 
 abbrev people : List Shape
-people = built_sub keygen_command ∷ built_sub check_command ∷ built_sub mint_command ∷ built_sub attenuate_command ∷ built_sub verify_command ∷ built_sub inspect_command ∷ built_sub status_command ∷ []
+people = built_sub keygen_command ∷ built_sub check_command ∷ built_sub mint_command ∷ built_sub attenuate_command ∷ built_sub verify_command ∷ built_sub inspect_command ∷ built_sub status_command ∷ built_sub revoke_command ∷ []
 
 abbrev IsPeoples : Option Shape → Type 0
 IsPeoples o = (s : Shape) × (o ≡ Some s) × IsTaskName s.name
 
 one_of_people : (t : Shape → Bool) → (find t people ≡ None) ⊎ IsPeoples (find t people)
 one_of_people t =
-    go (t (built_sub keygen_command)) (t (built_sub check_command)) (t (built_sub mint_command)) (t (built_sub attenuate_command)) (t (built_sub verify_command)) (t (built_sub inspect_command)) (t (built_sub status_command))
+    go (t (built_sub keygen_command)) (t (built_sub check_command)) (t (built_sub mint_command)) (t (built_sub attenuate_command)) (t (built_sub verify_command)) (t (built_sub inspect_command)) (t (built_sub status_command)) (t (built_sub revoke_command))
   where
-    found : Bool → Bool → Bool → Bool → Bool → Bool → Bool → Option Shape
-    found a b c d e f g =
-        cond a (Some (built_sub keygen_command)) (cond b (Some (built_sub check_command)) (cond c (Some (built_sub mint_command)) (cond d (Some (built_sub attenuate_command)) (cond e (Some (built_sub verify_command)) (cond f (Some (built_sub inspect_command)) (cond g (Some (built_sub status_command)) None))))))
+    found : Bool → Bool → Bool → Bool → Bool → Bool → Bool → Bool → Option Shape
+    found a b c d e f g h =
+        cond a (Some (built_sub keygen_command)) (cond b (Some (built_sub check_command)) (cond c (Some (built_sub mint_command)) (cond d (Some (built_sub attenuate_command)) (cond e (Some (built_sub verify_command)) (cond f (Some (built_sub inspect_command)) (cond g (Some (built_sub status_command)) (cond h (Some (built_sub revoke_command)) None)))))))
 
-    go : (a b c d e f g : Bool) → (found a b c d e f g ≡ None) ⊎ IsPeoples (found a b c d e f g)
-    go true b c d e f g = inr (built_sub keygen_command, refl, inl refl)
-    go false true c d e f g = inr (built_sub check_command, refl, inr (inl refl))
-    go false false true d e f g = inr (built_sub mint_command, refl, inr (inr (inl refl)))
-    go false false false true e f g = inr (built_sub attenuate_command, refl, inr (inr (inr (inl refl))))
-    go false false false false true f g = inr (built_sub verify_command, refl, inr (inr (inr (inr (inl refl)))))
-    go false false false false false true g = inr (built_sub inspect_command, refl, inr (inr (inr (inr (inr (inl refl))))))
-    go false false false false false false true = inr (built_sub status_command, refl, inr (inr (inr (inr (inr (inr refl))))))
-    go false false false false false false false = inl refl
+    go : (a b c d e f g h : Bool) → (found a b c d e f g h ≡ None) ⊎ IsPeoples (found a b c d e f g h)
+    go true b c d e f g h = inr (built_sub keygen_command, refl, inl refl)
+    go false true c d e f g h = inr (built_sub check_command, refl, inr (inl refl))
+    go false false true d e f g h = inr (built_sub mint_command, refl, inr (inr (inl refl)))
+    go false false false true e f g h = inr (built_sub attenuate_command, refl, inr (inr (inr (inl refl))))
+    go false false false false true f g h = inr (built_sub verify_command, refl, inr (inr (inr (inr (inl refl)))))
+    go false false false false false true g h = inr (built_sub inspect_command, refl, inr (inr (inr (inr (inr (inl refl))))))
+    go false false false false false false true h = inr (built_sub status_command, refl, inr (inr (inr (inr (inr (inr (inl refl)))))))
+    go false false false false false false false true = inr (built_sub revoke_command, refl, inr (inr (inr (inr (inr (inr (inr refl)))))))
+    go false false false false false false false false = inl refl
 
 -- the subcommand that a word names
 abbrev IsOne : Option Shape → Type 0

@@ -1,8 +1,12 @@
 -- A run of the pipe, put together from what its parts did.
 use Rattle.std.proofs.Common.{◌≡◌, ◌⊎◌, inl, inr, ℕ, ◌+◌, ◌≤◌, List, [], ◌++◌, length, map, refl, sym, ap, ◌∙◌, arith}
 use Rattle.std.proofs.lemmas.List.{append_cancel_left, append-nil}
-use Rattle.std.specs.Prelude.{Bool, IsTrue, Result, Ok, Err, IsErrAnd}
-use Rattle.mac_keys.specs.Table.{Table, table_of}
+use Rattle.std.specs.Prelude.{Bool, IsTrue, Option, Result, Ok, Err, IsErrAnd}
+use Rattle.mac_decide.specs.Answer.{full_answer}
+use Rattle.mac_keys.specs.Keys.{NamedKeys}
+use Rattle.mac_keys.specs.KeyTable.{Table, bare_or_fault, table_of}
+use Rattle.mac_keys.specs.Revoked.{nothing}
+use Rattle.mac_keys.specs.Table as named
 use Rattle.mac_keys.specs.declared.fault.KeyFault.{KeyFault}
 use Rattle.mac_keys.specs.declared.fault.LineFault.{LineFault}
 use Rattle.mac_keys.specs.declared.fault.KeyFault.TheVariants as key
@@ -14,7 +18,7 @@ use Rattle.macaroond.specs.declared.input.TheConstants.{INPUT_MAX}
 use Rattle.macaroond.specs.Arrived.{arrival_of}
 use Rattle.macaroond.specs.Lines.{lines, key_text, request_lines}
 use Rattle.macaroond.specs.Inner.{EndsWriting, Takes, Tells, Writes}
-use Rattle.macaroond.specs.Pipe.{GivesOutput, TakesInput}
+use Rattle.macaroond.specs.Pipe.{GivesOutput, TakesInput, answer_beside}
 use Rattle.macaroond.specs.PipeText.{answers, answers_under, pipe_text}
 use Rattle.macaroond.proofs.OutputLemmas.{remains-begins, remains-none}
 
@@ -123,3 +127,13 @@ keys-told (fault.Keys l k) (Err g) table line kind e tells is_fault =
     inl (ap Err e ∙ cc)
 keys-told fault.Device (Err g) table line kind e tells is_fault = absurd tells
 keys-told fault.TooLong (Err g) table line kind e tells is_fault = absurd tells
+
+-- a list that takes nothing back is the one that key lines give themselves
+same_answers : (moment : Option ℕ) (requests : List (List ℕ)) (read : Result NamedKeys KeyFault)
+    → answers_under (answer_beside nothing moment) requests (bare_or_fault read) ≡ answers_under (full_answer moment) requests (bare_or_fault read)
+same_answers moment requests (Ok keys) = refl
+same_answers moment requests (Err fault) = refl
+
+pub without_list : (moment : Option ℕ) (input : List ℕ) → pipe_text (answer_beside nothing moment) input ≡ pipe_text (full_answer moment) input
+unfolding pipe_text
+without_list moment input = same_answers moment (request_lines input) (named.table_of (key_text input))

@@ -12,8 +12,8 @@ use Rattle.clap.specs.Walk.{Text}
 use Rattle.clap.specs.Faults.{fault_of}
 use Rattle.macaroond.specs.declared.status.Status.{Status}
 use Rattle.macaroond.specs.declared.status.Status.TheVariants.{Done, BadLine}
-use Rattle.macaroond.specs.CommandLine.{LeadsTo, command_line, names_another, status_after_pipe, status_of_arguments, status_of_word}
-use Rattle.macaroond.proofs.CommandLineLemmas.{after_pipe, flag_status, is_asked, letter_status, line_leads, long_status, of_arguments, other_way, short_status}
+use Rattle.macaroond.specs.CommandLine.{LeadsTo, command_line, gives_list, is_list_option, names_another, status_after_pipe, status_of_arguments, status_of_word}
+use Rattle.macaroond.proofs.CommandLineLemmas.{GivesNoList, IsForeignWord, after_pipe, flag_status, is_asked, letter_status, line_leads, long_status, of_arguments, other_way, short_status}
 
 number_other_way : (a b : ℕ) → (a == b) ≡ false → (b == a) ≡ false
 number_other_way a b differ = go (b == a) refl
@@ -165,7 +165,39 @@ arguments_are [] utf8 = refl
 arguments_are (word ∷ rest) utf8 =
     ap₂ (λ o n. if bytes_eq word (codes "pipe") then o else Some n) (words_after_pipe_are rest (All-tail IsUtf8 word rest utf8)) (word_is true word (first_word word rest utf8))
 
+behind_hyphens : (text : Text) → before_first is_equals (45 ∷ 45 ∷ text) ≡ 45 ∷ 45 ∷ before_first is_equals text
+behind_hyphens text =
+    let next : 1 + (1 + position_or_len is_equals text) ≡ suc (suc (position_or_len is_equals text)) = omega arith in
+    ap (λ k. take k (45 ∷ 45 ∷ text)) next
+
+-- a word that isn't the option of `pipe` to a reader isn't to `clap`
+foreign_long : (text : Text) → is_list_option (45 ∷ 45 ∷ text) ≡ false → IsForeignWord false (long_of (45 ∷ 45 ∷ text))
+foreign_long [] other = tt
+foreign_long (x ∷ xs) other =
+    other_way (before_first is_equals (x ∷ xs)) (codes "revoked") (subst (λ w. bytes_eq w (codes "--revoked") ≡ false) (behind_hyphens (x ∷ xs)) other)
+
+foreign_word : (word : Text) → is_list_option word ≡ false → IsForeignWord false (long_of word)
+foreign_word [] other = tt
+foreign_word (x ∷ xs) other = go (x == 45) refl xs other
+  where
+    later : (y : ℕ) (ys : Text) (t : Bool) → (y == 45) ≡ t → is_list_option (45 ∷ y ∷ ys) ≡ false → IsForeignWord false (long_of (45 ∷ y ∷ ys))
+    later y ys true e other = subst (λ n. is_list_option (45 ∷ n ∷ ys) ≡ false → IsForeignWord false (long_of (45 ∷ n ∷ ys))) (sym ((Decides-eqb y 45).0 e)) (foreign_long ys) other
+    later y ys false e other = rw e tt
+
+    hyphen : (xs : Text) → is_list_option (45 ∷ xs) ≡ false → IsForeignWord false (long_of (45 ∷ xs))
+    hyphen [] other = tt
+    hyphen (y ∷ ys) other = later y ys (y == 45) refl other
+
+    go : (t : Bool) → (x == 45) ≡ t → (xs : Text) → is_list_option (x ∷ xs) ≡ false → IsForeignWord false (long_of (x ∷ xs))
+    go true e xs other = subst (λ n. is_list_option (n ∷ xs) ≡ false → IsForeignWord false (long_of (n ∷ xs))) (sym ((Decides-eqb x 45).0 e)) (hyphen xs) other
+    go false e xs other = rw e tt
+
+no_list : (words : List Text) → gives_list words ≡ false → GivesNoList words
+no_list [] other = tt
+no_list (word ∷ []) other = λ is. tt
+no_list (word ∷ next ∷ rest) other = λ is. foreign_word next (rw is at other)
+
 -- the exit status in plain words is that of `clap`'s faults
-pub plain_status : (words : List Text) → All IsUtf8 words → names_another (drop 1 words) ≡ false → LeadsTo (status_of_arguments (drop 1 words)) (fault_of command_line words)
-plain_status words utf8 unnamed =
-    subst (λ o. LeadsTo o (fault_of command_line words)) (arguments_are (drop 1 words) (All-drop IsUtf8 1 words utf8)) (line_leads (drop 1 words) unnamed)
+pub plain_status : (words : List Text) → All IsUtf8 words → names_another (drop 1 words) ≡ false → gives_list (drop 1 words) ≡ false → LeadsTo (status_of_arguments (drop 1 words)) (fault_of command_line words)
+plain_status words utf8 unnamed unlisted =
+    subst (λ o. LeadsTo o (fault_of command_line words)) (arguments_are (drop 1 words) (All-drop IsUtf8 1 words utf8)) (line_leads (drop 1 words) unnamed (no_list (drop 1 words) unlisted))

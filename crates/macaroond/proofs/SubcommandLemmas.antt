@@ -15,7 +15,8 @@ task_begins name (inr (inr (inl e))) = subst (λ n. begins_machine n ≡ false) 
 task_begins name (inr (inr (inr (inl e)))) = subst (λ n. begins_machine n ≡ false) (sym e) refl
 task_begins name (inr (inr (inr (inr (inl e))))) = subst (λ n. begins_machine n ≡ false) (sym e) refl
 task_begins name (inr (inr (inr (inr (inr (inl e)))))) = subst (λ n. begins_machine n ≡ false) (sym e) refl
-task_begins name (inr (inr (inr (inr (inr (inr e)))))) = subst (λ n. begins_machine n ≡ false) (sym e) refl
+task_begins name (inr (inr (inr (inr (inr (inr (inl e))))))) = subst (λ n. begins_machine n ≡ false) (sym e) refl
+task_begins name (inr (inr (inr (inr (inr (inr (inr e))))))) = subst (λ n. begins_machine n ≡ false) (sym e) refl
 
 abbrev pub IsMachine : Text → Type 0
 IsMachine name = (name ≡ codes "pipe") ⊎ ((name ≡ codes "serve") ⊎ ((name ≡ codes "listen") ⊎ (name ≡ codes "page")))

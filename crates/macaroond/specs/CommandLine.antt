@@ -1,8 +1,8 @@
 -- What the program's command line means, by `clap`'s definition of a parse.
-use Rattle.std.specs.Prelude.{◌≡◌, ◌⊎◌, ◌+◌, ◌*◌, ◌≤◌, ◌||◌, ◌&&◌, ℕ, Bool, List, [], ◌∷◌, Option}
+use Rattle.std.specs.Prelude.{◌≡◌, ◌==◌, ◌⊎◌, ◌+◌, ◌*◌, ◌≤◌, ◌||◌, ◌&&◌, ℕ, Bool, List, [], ◌∷◌, Option}
 use Rattle.std.specs.Prelude.{Some, None}
 use Rattle.std.specs.Prelude.{codes, if◌then◌else◌, false, nat_eq, string_bytes, true}
-use Rattle.std.specs.List.{starts_with}
+use Rattle.std.specs.List.{before_first, starts_with}
 use Rattle.std.specs.Str.{bytes_eq}
 use Rattle.std.specs.Str.Parse.{IsNumeral, digits_value, without_leading_plus}
 use Rattle.std.specs.declared.string.String.{String}
@@ -22,6 +22,7 @@ use Rattle.macaroond.specs.declared.choices.ListenOptions.{ListenOptions}
 use Rattle.macaroond.specs.declared.choices.Mode.{Mode}
 use Rattle.macaroond.specs.declared.choices.Mode.TheVariants.{Owner, Group, Everyone}
 use Rattle.macaroond.specs.declared.choices.PageOptions.{PageOptions}
+use Rattle.macaroond.specs.declared.choices.PipeOptions.{PipeOptions}
 use Rattle.macaroond.specs.declared.choices.ServeOptions.{ServeOptions}
 use Rattle.macaroond.specs.declared.status.Status.{Status}
 use Rattle.macaroond.specs.declared.status.Status.TheVariants.{Done, BadLine, NoMemory}
@@ -30,9 +31,9 @@ use Rattle.macaroond.specs.People.{IsOptionalText, IsTask, is_set, with_people}
 
 -- ---- what `clap` is told
 
--- the subcommand `pipe`, which takes no arguments
+-- the subcommand `pipe`, whose option may be left out
 abbrev pub pipe_command : App
-pipe_command = new_app (codes "pipe")
+pipe_command = with_rule (new_app (codes "pipe")) (option (codes "revoked"))
 
 -- the program without its subcommands: one of them has to be named, and `help` is none of them;
 -- it has the option `--version`
@@ -54,9 +55,10 @@ served_app = with_rules (new_app (codes "serve"))
     ∷ required (number 1000 (option (codes "accept")))
     ∷ [])
 
--- the same with its flag
+-- the same with its flag, and with the option that may be left out
 abbrev pub serve_command : App
-serve_command = with_rule served_app (flag (codes "keys-of-others"))
+serve_command = with_rule (with_rule served_app (flag (codes "keys-of-others")))
+    (option (codes "revoked"))
 
 -- the options of `listen` for its sockets over HTTP: for gateways
 abbrev pub gateway_rules : List Rule
@@ -100,12 +102,14 @@ listen_command = with_rules (with_rules (with_rules (new_app (codes "listen"))
     ∷ flag (codes "replace")
     ∷ option (codes "log")
     ∷ flag (codes "keys-of-others")
+    ∷ option (codes "revoked")
+    ∷ flag (codes "allow-empty-revoked")
     ∷ [])) gateway_rules) calls_rules
 
--- the subcommand `page`, both of whose options may be left out
+-- the subcommand `page`, whose options may be left out
 abbrev pub page_command : App
 page_command = with_rules (new_app (codes "page"))
-    (option (codes "address") ∷ option (codes "keys") ∷ [])
+    (option (codes "address") ∷ option (codes "keys") ∷ option (codes "revoked") ∷ [])
 
 -- the whole command line
 abbrev pub command_line : App
@@ -187,6 +191,7 @@ HasServe options rows = IsText options.socket (first_of (codes "socket") rows)
     × IsNumber 16 options.workers (first_of (codes "workers") rows)
     × IsNumber 1000 options.accept (first_of (codes "accept") rows)
     × (options.keys_of_others ≡ is_set (codes "keys-of-others") rows)
+    × IsOptionalText options.revoked (codes "revoked") rows
 
 -- the values of its options for HTTP
 abbrev pub HasHttp : HttpOptions → List Row → Type 0
@@ -224,23 +229,30 @@ HasListen options rows = IsText options.socket (first_of (codes "socket") rows)
     × (options.replace ≡ is_set (codes "replace") rows)
     × IsOptionalText options.log (codes "log") rows
     × (options.keys_of_others ≡ is_set (codes "keys-of-others") rows)
+    × IsOptionalText options.revoked (codes "revoked") rows
+    × (options.allow_empty_revoked ≡ is_set (codes "allow-empty-revoked") rows)
     × HasHttp options.http rows
 
 -- the values of the options of `page`
 abbrev pub HasPage : PageOptions → List Row → Type 0
 HasPage options rows = IsOptionalText options.address (codes "address") rows
     × IsOptionalText options.keys (codes "keys") rows
+    × IsOptionalText options.revoked (codes "revoked") rows
+
+-- the values of the options of `pipe`
+abbrev pub HasPipe : PipeOptions → List Row → Type 0
+HasPipe options rows = IsOptionalText options.revoked (codes "revoked") rows
 
 -- the choice has the values of a subcommand's options
 abbrev pub HasValues : Choice → List Row → Type 0
-HasValues Pipe rows = Unit {0}
+HasValues (Pipe options) rows = HasPipe options rows
 HasValues (Serve options) rows = HasServe options rows
 HasValues (Listen options) rows = HasListen options rows
 HasValues (Page options) rows = HasPage options rows
 
 -- the subcommand that the choice stands for
 abbrev pub choice_name : Choice → Text
-choice_name Pipe = codes "pipe"
+choice_name (Pipe options) = codes "pipe"
 choice_name (Serve options) = codes "serve"
 choice_name (Listen options) = codes "listen"
 choice_name (Page options) = codes "page"
@@ -287,7 +299,7 @@ abbrev pub status_of_word : Bool → Text → Status
 status_of_word has_version word =
     if asks_for_help word || (has_version && asks_for_version word) then Done else BadLine
 
--- after `pipe` nothing is wanted, and `--`, which ends the options, may stand last
+-- after `pipe` nothing has to stand, and `--`, which ends the options, may stand last
 abbrev pub status_after_pipe : List Text → Option Status
 status_after_pipe [] = None
 status_after_pipe (word ∷ []) =
@@ -307,4 +319,15 @@ names_another (word ∷ rest) = bytes_eq word (codes "serve") || (bytes_eq word 
     || (bytes_eq word (codes "page") || (bytes_eq word (codes "keygen")
     || (bytes_eq word (codes "check") || (bytes_eq word (codes "mint")
     || (bytes_eq word (codes "attenuate") || (bytes_eq word (codes "verify")
-    || (bytes_eq word (codes "inspect") || bytes_eq word (codes "status")))))))))
+    || (bytes_eq word (codes "inspect") || (bytes_eq word (codes "status")
+    || bytes_eq word (codes "revoke"))))))))))
+
+-- the option of `pipe`: a word that is `--revoked` up to its first `=`, if it has one
+abbrev pub is_list_option : Text → Bool
+is_list_option word = bytes_eq (before_first (λ byte. byte == 61) word) (codes "--revoked")
+
+-- the words are `pipe` and, right behind it, its option
+abbrev pub gives_list : List Text → Bool
+gives_list [] = false
+gives_list (word ∷ []) = false
+gives_list (word ∷ next ∷ rest) = bytes_eq word (codes "pipe") && is_list_option next

@@ -8,24 +8,32 @@ use Rattle.std.specs.Option.{is_some}
 use Rattle.std.specs.declared.alloc.Global.{Global}
 use Rattle.std.specs.declared.string.String.{String}
 use Rattle.std.specs.declared.vec.Vec.{Vec}
+use Rattle.hex.specs.Hex.{encode_lower}
 use Rattle.mac_hmac.specs.Chain.{root_of}
 use Rattle.mac_keys.specs.Change.{AddsKey, AddsLower, DropsFirst, DropsKey, IsKeyLine, SwapsKeys}
 use Rattle.mac_keys.specs.declared.change.ChangeFault.{ChangeFault}
 use Rattle.mac_keys.specs.declared.change.ChangeFault.TheVariants as change
 use Rattle.mac_keys.specs.declared.fault.KeyFault.TheVariants as key
-use Rattle.mac_keys.specs.Table.{Table, table_of}
+use Rattle.mac_keys.specs.KeyTable.{Table, table_of}
+use Rattle.mac_keys.specs.Revoked.{Revoked, nothing, revoked_of}
 use Rattle.mac_wire.specs.declared.request.TokenForm.{TokenForm}
 use Rattle.mac_words.specs.Escaped.{escaped}
 use Rattle.mac_words.specs.KeyLine.{GivesLine}
 use Rattle.mac_words.specs.Moment.{IsMoment}
+use Rattle.mac_token.specs.RawToken.{RawParts}
+use Rattle.mac_token.specs.Read.{raw_read_of}
+use Rattle.mac_token.specs.declared.fault.TokenRefusal.{TokenRefusal}
 use Rattle.mac_words.specs.NameList.{names_text}
-use Rattle.mac_words.specs.Said.{Says, SaysAlone, SaysBytes}
+use Rattle.mac_words.specs.Revoked.{count_text, ended, kept_lines, revoked_text}
+use Rattle.mac_words.specs.Said.{Says, SaysAlone, SaysBytes, SaysUnder}
 use Rattle.mac_words.specs.TokenText.{bytes_told}
 use Rattle.mac_words.specs.declared.saying.Said.{Said}
 use Rattle.macaroond.specs.Lines.{lines}
 use Rattle.macaroond.specs.People.{GivesForm, IsToldSo, attenuate_asked, mint_asked, person_status}
 use Rattle.macaroond.specs.People.{verify_asked}
 use Rattle.macaroond.specs.declared.people.asking.AttenuateWords.{AttenuateWords}
+use Rattle.macaroond.specs.declared.people.asking.CheckWords.{CheckWords}
+use Rattle.macaroond.specs.declared.people.asking.InspectWords.{InspectWords}
 use Rattle.macaroond.specs.declared.people.asking.KeygenWords.{KeygenWords}
 use Rattle.macaroond.specs.declared.people.asking.MintWords.{MintWords}
 use Rattle.httparse.specs.Grammar.{ReadsResponse, ResponseHead, status_code}
@@ -34,7 +42,9 @@ use Rattle.macaroond.specs.declared.people.asking.VerifyWords.{VerifyWords}
 use Rattle.macaroond.specs.declared.people.asking.Task.{Task}
 use Rattle.macaroond.specs.declared.people.asking.Task.TheVariants.{Keygen, Check, Mint, Attenuate}
 use Rattle.macaroond.specs.declared.people.asking.Task.TheVariants.{Verify}
-use Rattle.macaroond.specs.declared.people.asking.Task.TheVariants.{Inspect, Status as TellStatus}
+use Rattle.macaroond.specs.declared.people.asking.Task.TheVariants.{Inspect, Revoke}
+use Rattle.macaroond.specs.declared.people.asking.Task.TheVariants.{Status as TellStatus}
+use Rattle.macaroond.specs.declared.people.asking.RevokeWords.{RevokeWords}
 use Rattle.macaroond.specs.declared.people.fault.PersonFault.{PersonFault}
 use Rattle.macaroond.specs.declared.people.fault.PersonFault.TheVariants as fault
 use Rattle.macaroond.specs.declared.people.status_page.AskedPage.{AskedPage}
@@ -52,6 +62,25 @@ use Rattle.macaroond.specs.declared.status.Status.TheVariants as status
 abbrev pub IsKeyTable : Table → Type 0
 IsKeyTable table = (text : List ℕ) × (table_of text ≡ Ok table)
 
+-- the list is that of some text
+abbrev pub IsList : Revoked → Type 0
+IsList list = (text : List ℕ) × (revoked_of text ≡ Ok list)
+
+-- the list is that of some text where one is named, else nothing was taken back
+abbrev pub IsListOf : {X : Type 0} → Option X → Revoked → Type 0
+IsListOf None list = list ≡ nothing
+IsListOf (Some place) list = IsList list
+
+-- the second table is the first one, with the list of some text where one is named
+abbrev pub TakesList : {X : Type 0} → Option X → Table → Table → Type 0
+TakesList None was now = now ≡ was
+TakesList (Some place) was now =
+    (list : Revoked) × IsList list × (now ≡ record was { revoked = list })
+
+-- the table is that of some key file, with the list of some text where one is named
+abbrev pub IsTableWith : {X : Type 0} → Option X → Table → Type 0
+IsTableWith place table = (keys : Table) × IsKeyTable keys × TakesList place keys table
+
 -- the bytes of the token that a word stands for: those that it tells itself, or where it is a hyphen
 -- those that the one line of some input tells
 abbrev pub StandsFor : List ℕ → List ℕ → Type 0
@@ -63,6 +92,16 @@ StandsFor word bytes = ((word ≢ codes "-") × (bytes_told word ≡ Ok bytes))
 abbrev pub IsMomentGiven : Option (List ℕ) → ℕ → Type 0
 IsMomentGiven (Some given) moment = IsMoment given moment
 IsMomentGiven None moment = Unit {0}
+
+-- the digits of 16 bytes, whichever the system gave
+abbrev pub IsDrawn : List ℕ → Type 0
+IsDrawn identifier =
+    (drawn : List ℕ) × (length drawn ≡ 16) × (identifier ≡ encode_lower drawn)
+
+-- the identifier is the one that was given, or where none was, one that was drawn
+abbrev pub IsIdentifier : Option (List ℕ) → List ℕ → Type 0
+IsIdentifier (Some given) identifier = identifier ≡ given
+IsIdentifier None identifier = IsDrawn identifier
 
 -- ---- what is said
 
@@ -160,15 +199,30 @@ ChecksText text (Err (fault.Checked path line kind)) = table_of text ≡ Err (ke
 ChecksText text (Err fault.Memory) = Unit {0}
 ChecksText text (Err _) = ⊥
 
--- the names of some key file
-abbrev pub DoesCheck : Said → Type 0
-DoesCheck said = (text : List ℕ) × ChecksText text (Ok said)
+-- what is told of the key file that is named, if one is: the names of some text's table
+abbrev pub TellsNames : {X : Type 0} → Option X → List ℕ → Type 0
+TellsNames None told = told ≡ []
+TellsNames (Some path) told = (text : List ℕ) × (table : Table) × (table_of text ≡ Ok table)
+    × (told ≡ names_text table)
 
--- what is said of the words under the keys of some file, in the form that they name
+-- and of the list: how many lines of some text take tokens back, none of which has a fault
+abbrev pub TellsLines : {X : Type 0} → Option X → List ℕ → Type 0
+TellsLines None told = told ≡ []
+TellsLines (Some path) told = (text : List ℕ) × (list : Revoked) × (revoked_of text ≡ Ok list)
+    × (told ≡ count_text text)
+
+-- what is told of both
+abbrev pub DoesCheck : CheckWords → Said → Type 0
+DoesCheck words said = (names lines : List ℕ) × TellsNames words.keys names
+    × TellsLines words.revoked lines × SaysOf (names ++ lines) said
+
+-- what is said of the words under the keys of some file, in the form and with the identifier that
+-- they say, or one that is drawn
 abbrev pub DoesMint : MintWords → Said → Type 0
-DoesMint words said = (form : Option TokenForm) × (table : Table)
+DoesMint words said = (form : Option TokenForm) × (table : Table) × (identifier : List ℕ)
     × GivesForm (option_map string_bytes words.form) (Ok form) × IsKeyTable table
-    × Says table [] (mint_asked form words) (Ok said)
+    × IsIdentifier (option_map string_bytes words.identifier) identifier
+    × Says table [] (mint_asked form identifier words) (Ok said)
 
 -- what is said of the words about the bytes of their token, in the form that they name
 abbrev pub DoesAttenuate : AttenuateWords → Said → Type 0
@@ -177,17 +231,22 @@ DoesAttenuate words said = (form : Option TokenForm) × (token : List ℕ)
     × StandsFor (string_bytes words.token) token
     × SaysAlone token (attenuate_asked form token words) (Ok said)
 
--- what is said of the words about the bytes of their token, under the keys of some file, at the
--- moment that they name or at any
+-- what is said of the words about the bytes of their token, under the keys of some file and the
+-- list of some text where they name one, at the moment that they name or at any
 abbrev pub DoesVerify : VerifyWords → Said → Type 0
 DoesVerify words said = (table : Table) × (moment : ℕ) × (token : List ℕ)
-    × IsKeyTable table × IsMomentGiven (option_map string_bytes words.at) moment
+    × IsTableWith words.revoked table × IsMomentGiven (option_map string_bytes words.at) moment
     × StandsFor (string_bytes words.token) token
     × Says table token (verify_asked token moment words) (Ok said)
 
--- what is said of the bytes of a token
-abbrev pub DoesInspect : List ℕ → Said → Type 0
-DoesInspect word said = (token : List ℕ) × StandsFor word token × SaysBytes token said
+-- what is said of the bytes of a token, with the line that takes it back where a name is given
+abbrev pub TellsToken : Option (List ℕ) → List ℕ → Said → Type 0
+TellsToken None token said = SaysBytes token said
+TellsToken (Some name) token said = SaysUnder name token said
+
+abbrev pub DoesInspect : InspectWords → Said → Type 0
+DoesInspect words said = (token : List ℕ) × StandsFor (string_bytes words.token) token
+    × TellsToken (option_map string_bytes words.key) token said
 
 -- the page that the words ask for; two can't be asked for
 abbrev pub GivesPage : StatusWords → Result AskedPage PersonFault → Type 0
@@ -218,15 +277,48 @@ abbrev pub DoesStatus : StatusWords → Said → Type 0
 DoesStatus words said =
     ((words.prometheus && words.connections) ≡ false) × ((reply : List ℕ) × IsPageOf reply said)
 
+-- a list's text becomes one with the line behind it, or without each such line
+abbrev pub ChangesList : List ℕ → List ℕ → List ℕ → List ℕ → Type 0
+ChangesList name identifier text changed =
+    (changed ≡ ended text ++ revoked_text name identifier)
+    ⊎ (changed ≡ kept_lines name identifier text)
+
+-- the line, where it is put into no list and dropped from none; else nothing
+abbrev pub TellsLine : {X : Type 0} → Option X → Option X → List ℕ → Said → Type 0
+TellsLine None None line said = SaysOf line said
+TellsLine _ _ line said = SaysNothing said
+
+-- the line of an identifier under the name of the words
+abbrev pub TellsRevoked : RevokeWords → List ℕ → Said → Type 0
+TellsRevoked words identifier said =
+    TellsLine words.into words.drop (revoked_text (string_bytes words.name) identifier) said
+
+-- that of the token's own identifier, or what is told of bytes that are no token
+abbrev pub TellsOwn : RevokeWords → List ℕ → Result RawParts TokenRefusal → Said → Type 0
+TellsOwn words token (Ok raw) said = TellsRevoked words raw.identifier said
+TellsOwn words token (Err why) said = SaysBytes token said
+
+-- what is said of an identifier or of a token, one of which is given
+abbrev pub DoesRevokeOf : RevokeWords → Option (List ℕ) → Option (List ℕ) → Said → Type 0
+DoesRevokeOf words (Some identifier) None said = TellsRevoked words identifier said
+DoesRevokeOf words None (Some word) said = (token : List ℕ) × StandsFor word token
+    × TellsOwn words token (raw_read_of token) said
+DoesRevokeOf words _ _ said = ⊥
+
+abbrev pub DoesRevoke : RevokeWords → Said → Type 0
+DoesRevoke words said = DoesRevokeOf words (option_map string_bytes words.identifier)
+    (option_map string_bytes words.token) said
+
 -- what is said where a task is done
 abbrev pub DoesTask : Task → Said → Type 0
 DoesTask (Keygen words) said = DoesKeygen words said
-DoesTask (Check keys) said = DoesCheck said
+DoesTask (Check words) said = DoesCheck words said
 DoesTask (Mint words) said = DoesMint words said
 DoesTask (Attenuate words) said = DoesAttenuate words said
 DoesTask (Verify words) said = DoesVerify words said
-DoesTask (Inspect token) said = DoesInspect (string_bytes token) said
+DoesTask (Inspect words) said = DoesInspect words said
 DoesTask (TellStatus words) said = DoesStatus words said
+DoesTask (Revoke words) said = DoesRevoke words said
 
 -- ---- how a run ends
 

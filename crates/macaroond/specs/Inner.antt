@@ -2,7 +2,8 @@
 use Rattle.std.specs.Prelude.{◌≡◌, ℕ, ◌+◌, ◌≤◌, List, ◌++◌, length, Result, Ok, Err}
 use Rattle.std.specs.declared.vec.Vec.{Vec}
 use Rattle.std.specs.declared.alloc.Global.{Global}
-use Rattle.mac_keys.specs.Table.{Table}
+use Rattle.mac_keys.specs.KeyTable.{Table}
+use Rattle.mac_keys.specs.Revoked.{Revoked}
 use Rattle.mac_keys.specs.declared.fault.KeyFault.{KeyFault}
 use Rattle.mac_keys.specs.declared.fault.KeyFault.TheVariants as key
 use Rattle.macaroond.specs.declared.fault.PipeFault.{PipeFault}
@@ -20,6 +21,11 @@ Takes (Err fault.Device) old new =
 Takes (Err fault.Memory) old new =
     (input : List ℕ) × (new ≡ old ++ input) × (length input ≤ INPUT_MAX + 1)
 Takes (Err (fault.Keys line kind)) old new = ⊥
+
+-- the table has the keys of a table that was read, and beside them this list of what was taken back
+abbrev pub IsTableBeside : Revoked → Result Table KeyFault → Table → Type 0
+IsTableBeside list read table =
+    (keys : Table) × (read ≡ Ok keys) × (table ≡ record keys { revoked = list })
 
 -- the fault tells that of the key lines, unless memory ran out
 abbrev pub Tells : Result Table KeyFault → PipeFault → Type 0

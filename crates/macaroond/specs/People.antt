@@ -10,7 +10,7 @@ use Rattle.clap.specs.Words.{App, Row, Rule, Text, all_of, first_of, new_app, ne
 use Rattle.clap.specs.Words.{with_subcommand}
 use Rattle.clap.specs.declared.builder.action.ArgAction.TheVariants.{Append}
 use Rattle.clap.specs.declared.builder.value_parser.ValueParser.TheVariants.{NonEmptyString}
-use Rattle.mac_keys.specs.Table.{Table, table_of}
+use Rattle.mac_keys.specs.KeyTable.{Table, table_of}
 use Rattle.mac_wire.specs.Request.{Asked, mint, attenuate, verify}
 use Rattle.mac_wire.specs.declared.request.TokenForm.{TokenForm}
 use Rattle.mac_words.specs.Moment.{IsMoment}
@@ -29,14 +29,17 @@ use Rattle.macaroond.specs.declared.status.Status.TheVariants as status
 use Rattle.macaroond.specs.declared.people.fault.PersonFault.{PersonFault}
 use Rattle.macaroond.specs.declared.people.fault.PersonFault.TheVariants as fault
 use Rattle.macaroond.specs.declared.people.asking.AttenuateWords.{AttenuateWords}
+use Rattle.macaroond.specs.declared.people.asking.CheckWords.{CheckWords}
+use Rattle.macaroond.specs.declared.people.asking.InspectWords.{InspectWords}
 use Rattle.macaroond.specs.declared.people.asking.KeygenWords.{KeygenWords}
 use Rattle.macaroond.specs.declared.people.asking.MintWords.{MintWords}
+use Rattle.macaroond.specs.declared.people.asking.RevokeWords.{RevokeWords}
 use Rattle.macaroond.specs.declared.people.asking.StatusWords.{StatusWords}
 use Rattle.macaroond.specs.declared.people.asking.VerifyWords.{VerifyWords}
 use Rattle.macaroond.specs.declared.people.asking.Task.{Task}
 use Rattle.macaroond.specs.declared.people.asking.Task.TheVariants.{Keygen, Check, Mint, Attenuate}
 use Rattle.macaroond.specs.declared.people.asking.Task.TheVariants.{Verify}
-use Rattle.macaroond.specs.declared.people.asking.Task.TheVariants.{Inspect, Status as TellStatus}
+use Rattle.macaroond.specs.declared.people.asking.Task.TheVariants.{Inspect, Revoke, Status as TellStatus}
 
 -- ---- what `clap` is told
 
@@ -55,9 +58,10 @@ keygen_command = with_rule (with_rule (with_rule (with_rule (with_rule (with_rul
     (option (codes "below"))) (option (codes "raise"))) (option (codes "drop")))
     (option (codes "drop-first"))) (required (word (codes "name")))
 
--- the subcommand `check`, with one option
+-- the subcommand `check`, with two options
 abbrev pub check_command : App
-check_command = with_rule (new_app (codes "check")) (required (option (codes "keys")))
+check_command = with_rule (with_rule (new_app (codes "check")) (option (codes "keys")))
+    (option (codes "revoked"))
 
 -- a subcommand with the options `--keys` and `--key`
 abbrev pub with_key : App → App
@@ -67,7 +71,7 @@ with_key app = with_rule (with_rule app (required (option (codes "keys"))))
 -- the subcommand `mint`, with six options
 abbrev pub mint_command : App
 mint_command = with_rule (with_rule (with_rule (with_rule (with_key (new_app (codes "mint")))
-    (option (codes "location"))) (required (option (codes "identifier"))))
+    (option (codes "location"))) (option (codes "identifier")))
     (repeated (option (codes "caveat")))) (option (codes "form"))
 
 -- the subcommand `attenuate`, with two options and a word
@@ -76,14 +80,16 @@ attenuate_command = with_rule (with_rule (with_rule (new_app (codes "attenuate")
     (required (repeated (option (codes "caveat"))))) (option (codes "form")))
     (required (word (codes "token")))
 
--- the subcommand `verify`, with four options and a word
+-- the subcommand `verify`, with five options and a word
 abbrev pub verify_command : App
-verify_command = with_rule (with_rule (with_rule (with_key (new_app (codes "verify")))
-    (repeated (option (codes "fact")))) (option (codes "at"))) (required (word (codes "token")))
+verify_command = with_rule (with_rule (with_rule (with_rule (with_key (new_app (codes "verify")))
+    (repeated (option (codes "fact")))) (option (codes "at"))) (option (codes "revoked")))
+    (required (word (codes "token")))
 
--- the subcommand `inspect`, with one word
+-- the subcommand `inspect`, with one option and a word
 abbrev pub inspect_command : App
-inspect_command = with_rule (new_app (codes "inspect")) (required (word (codes "token")))
+inspect_command = with_rule (with_rule (new_app (codes "inspect")) (option (codes "key")))
+    (required (word (codes "token")))
 
 -- the subcommand `status`, with one option and two flags
 abbrev pub status_command : App
@@ -91,12 +97,19 @@ status_command = with_rule (with_rule (with_rule (new_app (codes "status"))
     (required (option (codes "socket")))) (flag (codes "prometheus")))
     (flag (codes "connections"))
 
+-- the subcommand `revoke`, with three options, the word of a name, and that of a token, which may
+-- be left out
+abbrev pub revoke_command : App
+revoke_command = with_rule (with_rule (with_rule (with_rule (with_rule
+    (new_app (codes "revoke")) (option (codes "into"))) (option (codes "drop")))
+    (option (codes "identifier"))) (required (word (codes "name")))) (word (codes "token"))
+
 -- a program with the subcommands for people
 abbrev pub with_people : App → App
 with_people program = with_subcommand (with_subcommand (with_subcommand (with_subcommand
-    (with_subcommand (with_subcommand (with_subcommand program keygen_command.top)
-    check_command.top) mint_command.top) attenuate_command.top) verify_command.top)
-    inspect_command.top) status_command.top
+    (with_subcommand (with_subcommand (with_subcommand (with_subcommand program
+    keygen_command.top) check_command.top) mint_command.top) attenuate_command.top)
+    verify_command.top) inspect_command.top) status_command.top) revoke_command.top
 
 -- ---- what the task says of the words
 
@@ -130,11 +143,15 @@ HasKeygen words rows = IsGivenText words.name (codes "name") rows
     × IsOptionalText words.drop (codes "drop") rows
     × IsOptionalText words.drop_first (codes "drop-first") rows
 
+abbrev pub HasCheck : CheckWords → List Row → Type 0
+HasCheck words rows = IsOptionalText words.keys (codes "keys") rows
+    × IsOptionalText words.revoked (codes "revoked") rows
+
 abbrev pub HasMint : MintWords → List Row → Type 0
 HasMint words rows = IsGivenText words.keys (codes "keys") rows
     × IsGivenText words.key (codes "key") rows
     × IsGivenText words.location (codes "location") rows
-    × IsGivenText words.identifier (codes "identifier") rows
+    × IsOptionalText words.identifier (codes "identifier") rows
     × AreGivenTexts words.caveats.items (codes "caveat") rows
     × IsOptionalText words.form (codes "form") rows
 
@@ -149,31 +166,45 @@ HasVerify words rows = IsGivenText words.keys (codes "keys") rows
     × IsGivenText words.token (codes "token") rows
     × AreGivenTexts words.facts.items (codes "fact") rows
     × IsOptionalText words.at (codes "at") rows
+    × IsOptionalText words.revoked (codes "revoked") rows
+
+abbrev pub HasInspect : InspectWords → List Row → Type 0
+HasInspect words rows = IsGivenText words.token (codes "token") rows
+    × IsOptionalText words.key (codes "key") rows
 
 abbrev pub HasStatus : StatusWords → List Row → Type 0
 HasStatus words rows = IsGivenText words.socket (codes "socket") rows
     × (words.prometheus ≡ is_set (codes "prometheus") rows)
     × (words.connections ≡ is_set (codes "connections") rows)
 
+abbrev pub HasRevoke : RevokeWords → List Row → Type 0
+HasRevoke words rows = IsGivenText words.name (codes "name") rows
+    × IsOptionalText words.into (codes "into") rows
+    × IsOptionalText words.drop (codes "drop") rows
+    × IsOptionalText words.identifier (codes "identifier") rows
+    × IsOptionalText words.token (codes "token") rows
+
 -- the task has the values of a subcommand's arguments
 abbrev pub HasTask : Task → List Row → Type 0
 HasTask (Keygen words) rows = HasKeygen words rows
-HasTask (Check keys) rows = IsGivenText keys (codes "keys") rows
+HasTask (Check words) rows = HasCheck words rows
 HasTask (Mint words) rows = HasMint words rows
 HasTask (Attenuate words) rows = HasAttenuate words rows
 HasTask (Verify words) rows = HasVerify words rows
-HasTask (Inspect token) rows = IsGivenText token (codes "token") rows
+HasTask (Inspect words) rows = HasInspect words rows
 HasTask (TellStatus words) rows = HasStatus words rows
+HasTask (Revoke words) rows = HasRevoke words rows
 
 -- the subcommand that the task stands for
 abbrev pub task_name : Task → Text
 task_name (Keygen words) = codes "keygen"
-task_name (Check keys) = codes "check"
+task_name (Check words) = codes "check"
 task_name (Mint words) = codes "mint"
 task_name (Attenuate words) = codes "attenuate"
 task_name (Verify words) = codes "verify"
-task_name (Inspect token) = codes "inspect"
+task_name (Inspect words) = codes "inspect"
 task_name (TellStatus words) = codes "status"
+task_name (Revoke words) = codes "revoke"
 
 -- the task is the one that a subcommand of this name, with these arguments, stands for
 abbrev pub IsTask : Task → Option (Text × List Row) → Type 0
@@ -183,13 +214,13 @@ IsTask task met = (rows : List Row) × (met ≡ Some (task_name task, rows)) × 
 abbrev pub IsTaskName : Text → Type 0
 IsTaskName name = (name ≡ codes "keygen") ⊎ ((name ≡ codes "check") ⊎ ((name ≡ codes "mint")
     ⊎ ((name ≡ codes "attenuate") ⊎ ((name ≡ codes "verify") ⊎ ((name ≡ codes "inspect")
-    ⊎ (name ≡ codes "status"))))))
+    ⊎ ((name ≡ codes "status") ⊎ (name ≡ codes "revoke")))))))
 
 -- ---- what the words ask
 
-abbrev pub mint_asked : Option TokenForm → MintWords → Asked
-mint_asked form words = mint (mint_form form) (string_bytes words.key)
-    (string_bytes words.location) (string_bytes words.identifier) (texts_of words.caveats.items)
+abbrev pub mint_asked : Option TokenForm → List ℕ → MintWords → Asked
+mint_asked form identifier words = mint (mint_form form) (string_bytes words.key)
+    (string_bytes words.location) identifier (texts_of words.caveats.items)
 
 abbrev pub attenuate_asked : Option TokenForm → List ℕ → AttenuateWords → Asked
 attenuate_asked form token words =
@@ -237,7 +268,11 @@ person_status fault.Form = status.BadLine
 person_status fault.Moment = status.BadLine
 person_status fault.Options = status.BadLine
 person_status fault.Pages = status.BadLine
+person_status fault.RevokeOptions = status.BadLine
+person_status fault.WhichToken = status.BadLine
+person_status fault.WhichFile = status.BadLine
 person_status (fault.Checked path line kind) = status.Refused
+person_status (fault.CheckedList path line kind) = status.Refused
 person_status (fault.Change path why) = status.Refused
 person_status (fault.Exists path) = status.Refused
 person_status (fault.Beside path) = status.Refused

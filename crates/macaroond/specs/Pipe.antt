@@ -1,7 +1,9 @@
 -- What a run of the pipe does.
 use Rattle.std.specs.Prelude.{◌≡◌, ℕ, ◌+◌, ◌≤◌, Bool, IsTrue, IsOk, List, ◌++◌, length}
-use Rattle.std.specs.Prelude.{Result, Ok, Err}
-use Rattle.mac_keys.specs.Table.{Table, table_of}
+use Rattle.std.specs.Prelude.{Option, Result, Ok, Err}
+use Rattle.mac_decide.specs.Answer.{full_answer}
+use Rattle.mac_keys.specs.KeyTable.{Table, table_of}
+use Rattle.mac_keys.specs.Revoked.{Revoked}
 use Rattle.mac_keys.specs.declared.fault.KeyFault.TheVariants as key
 use Rattle.mac_wire.specs.declared.arrival.Arrival.{Arrival}
 use Rattle.mac_wire.specs.declared.reply.Reply.{Reply}
@@ -24,6 +26,11 @@ TakesInput (Err fault.Device) ended input = length input ≤ INPUT_MAX + 1
 TakesInput (Err fault.Memory) ended input = length input ≤ INPUT_MAX + 1
 
 -- ---- what holds of the output
+
+-- the reply to an arrival at a moment under the keys of a table, beside a list of what was taken
+-- back
+abbrev pub answer_beside : Revoked → Option ℕ → Table → Arrival → Reply
+answer_beside list moment keys a = full_answer moment (record keys { revoked = list }) a
 
 -- what a run with this result made of the input that it took, under the answers handed in: the
 -- output was old and is new

@@ -1,7 +1,7 @@
 -- What the pipe writes for its whole input, where each arrival under a table has the answer that is
 -- handed in.
 use Rattle.std.specs.Prelude.{ℕ, List, [], ◌++◌, ◌∷◌, map, Result, Ok, Err}
-use Rattle.mac_keys.specs.Table.{Table, table_of}
+use Rattle.mac_keys.specs.KeyTable.{Table, table_of}
 use Rattle.mac_keys.specs.declared.fault.KeyFault.{KeyFault}
 use Rattle.mac_wire.specs.declared.arrival.Arrival.{Arrival}
 use Rattle.mac_wire.specs.declared.arrival.Arrival.TheVariants as arrival

@@ -2,6 +2,8 @@
 use Rattle.std.specs.Prelude.{◌≡◌, ◌⊎◌, ℕ, Result, Ok, Err}
 use Rattle.macaroond.specs.declared.fault.PipeFault.{PipeFault}
 use Rattle.macaroond.specs.declared.fault.PipeFault.TheVariants as fault
+use Rattle.mac_board.specs.declared.listing.ListRefusal.{ListRefusal}
+use Rattle.mac_board.specs.declared.listing.ListRefusal.TheVariants as list
 use Rattle.mac_daemon.specs.declared.fault.DaemonFault.{DaemonFault}
 use Rattle.mac_daemon.specs.declared.fault.DaemonFault.TheVariants as daemon
 use Rattle.mac_gate.specs.declared.door.DoorFault.{DoorFault}
@@ -30,6 +32,11 @@ pipe_status (fault.Keys line kind) = status.BadKeys
 pipe_status fault.Device = status.DeviceFault
 pipe_status fault.TooLong = status.DeviceFault
 pipe_status fault.Memory = status.NoMemory
+
+-- a fault of a list's lines; else what the system gives of it
+abbrev pub list_status : ListRefusal → Status
+list_status (list.Faulty line kind) = status.BadKeys
+list_status _ = status.DeviceFault
 
 -- the status of a run: that all was done, or that of its fault
 abbrev pub run_status : Result (Unit {0}) PipeFault → Status

@@ -17,13 +17,20 @@ pub enum Chosen {
 #[derive(Drop)]
 pub enum Choice {
     /// Answer the requests on standard input, each by a line on standard output.
-    Pipe,
+    Pipe(PipeOptions),
     /// Answer the requests of so many connections over a socket, and end.
     Serve(ServeOptions),
     /// Answer requests over a socket until told to end.
     Listen(ListenOptions),
     /// Show a browser of this machine a page, and answer it.
     Page(PageOptions),
+}
+
+/// What `pipe` is told.
+#[derive(Drop)]
+pub struct PipeOptions {
+    /// The path of a list of tokens that were taken back.
+    pub revoked: Option<String>,
 }
 
 /// What `serve` is told.
@@ -39,6 +46,8 @@ pub struct ServeOptions {
     pub accept: u64,
     /// Whether the key file may be one that others may use.
     pub keys_of_others: bool,
+    /// The path of a list of tokens that were taken back.
+    pub revoked: Option<String>,
 }
 
 /// What `listen` is told.
@@ -73,10 +82,14 @@ pub struct ListenOptions {
     pub verify_names: Option<String>,
     /// Whether it takes its sockets over from a daemon that listens there.
     pub replace: bool,
-    /// What is logged beside the usual: the word `requests`.
+    /// What is logged beside the usual: the words `requests` and `mints`, with a comma between them.
     pub log: Option<String>,
     /// Whether the key file may be one that others may use.
     pub keys_of_others: bool,
+    /// The path of a list of tokens that were taken back.
+    pub revoked: Option<String>,
+    /// Whether a list that has lost all its lines is taken.
+    pub allow_empty_revoked: bool,
     /// Its sockets over HTTP.
     pub http: HttpOptions,
 }
@@ -125,6 +138,8 @@ pub struct PageOptions {
     pub address: Option<String>,
     /// The path of the key file.
     pub keys: Option<String>,
+    /// The path of a list of tokens that were taken back.
+    pub revoked: Option<String>,
 }
 
 /// Who may connect to a socket, as the permissions of its file say.

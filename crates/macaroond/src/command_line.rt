@@ -1,9 +1,9 @@
 //! The command line: what its words ask the program to do.
 //!
 //! `clap` says what a line means. It names one of the subcommands, `pipe`, `serve`, `listen` and
-//! `page` for programs, `keygen`, `check`, `mint`, `attenuate`, `verify`, `inspect` and `status`
-//! for people. `--help` or `-h`, before the subcommand or after it, asks for help, and `--version`
-//! or `-V` before it for the version.
+//! `page` for programs, `keygen`, `check`, `mint`, `attenuate`, `verify`, `inspect`, `status` and
+//! `revoke` for people. `--help` or `-h`, before the subcommand or after it, asks for help, and
+//! `--version` or `-V` before it for the version.
 
 ghost use Rattle.std.specs.Prelude.{◌≡◌, ◌⊎◌, [], map, IfOk, IfErr, OnOk, Some};
 ghost use Rattle.std.specs.Prelude.{string_bytes, take};

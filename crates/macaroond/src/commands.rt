@@ -5,6 +5,7 @@ ghost use Rattle.macaroond.specs.Arguments.{number, number_from, option, require
 ghost use Rattle.macaroond.specs.CommandLine.{calls_rules, command_line, gateway_rules, listen_command};
 ghost use Rattle.macaroond.specs.CommandLine.{page_command, pipe_command, serve_command, served_app};
 
+use crate::help::{LISTEN_HELP, PAGE_HELP, PIPE_HELP, SERVE_HELP};
 use crate::parts::{
     KEYS_HELP, add_arg, add_subcommand, build_flag, build_option, build_subcommand,
 };
@@ -41,99 +42,6 @@ pub const HTTP_PATIENCE_MAX: u64 = 3600;
 /// The version, as `--version` and `listen` print it. A build of a commit writes its first digits
 /// over the last word.
 pub(crate) const VERSION: &str = "0.1.0 (uncommitted)";
-
-/// What the help of `pipe` says below its options.
-const PIPE_HELP: &str = "\
-Input, of at most 16777216 bytes:
-  Key lines: `key NAME SECRET`, the secret in hexadecimal. A line that begins with # says nothing.
-  A name may have two lines: the first one's key mints, and a verify takes either.
-  An empty line.
-  Requests: a line each, its bytes in hexadecimal. One of more than 65536 bytes is answered and
-  ends the run.
-
-Output, once the whole input is read, a line for each request:
-  granted         the token is good for what was stated of the request
-  granted to DIGITS at DIGITS
-                  the same, with the token's identifier and location in hexadecimal
-  token TEXT      the token that was asked for; token hex:DIGITS if it is binary
-  refused 24 N    caveat N, counted from 0, is the first that isn't satisfied
-  refused N       16 no request, 17 too long, 18 no such key, 19 no base64 text, 20 no token,
-                  21 a third-party caveat, 22 past a limit, 23 a wrong signature,
-                  26 a caveat with a location, 28 a clock that tells no moment
-
-Exit status:
-  0  every request was answered, be it granted or refused
-  1  a key line has a fault; standard error names it as `keys: line L kind K`: 1 a bad name,
-     2 a secret that isn't hexadecimal, 3 an empty secret, 4 a name that stands on two earlier
-     lines, 5 more than 1000 names, 6 a line that is no key line
-  2  a bad command line
-  3  reading or writing failed, or the input is longer than it may be
-  4  memory ran out";
-
-/// What the help of `serve` says below its options.
-const SERVE_HELP: &str = "\
-Prints `listening` once clients can connect. Prints `served N faults M` once N connections have
-ended, M of them in a fault. PATH must not be there yet, and stays when the run ends. The key file
-has key lines, as `macaroond pipe` reads them, and at most 16777216 bytes.
-
-Example:
-  macaroond serve --socket /tmp/macaroond.sock --keys keys --workers 2 --accept 3
-
-Exit status:
-  0  all connections were served
-  1  a key line has a fault; standard error names it as `keys: line L kind K`
-  2  a bad command line
-  3  a file or the socket failed, or the key file is longer than it may be
-  4  memory ran out";
-
-/// What the help of `listen` says below its options.
-const LISTEN_HELP: &str = "\
-Prints one line once clients can connect. Standard error is a log: a line for the start and the end,
-for each connection that ended in a fault, and for each change of the key file. A socket at PATH on
-which nobody listens is taken over; anything else at PATH is left alone, and the run ends with
-status 3. A socket that systemd hands over (LISTEN_FDS) is served in place of one at PATH. The key
-file has key lines, as `macaroond pipe` reads them, and at most 16777216 bytes.
-
-Without --idle a connection is ended that has sent nothing whole for 300 seconds: one that was never
-answered, or that began a request since. One that rests, or that is owed replies, stays.
-
-Runs until SIGTERM or SIGINT. Then it takes no more connections, answers what has come, closes each
-connection once its replies are sent, and ends. A second signal ends it at once. The key file is
-looked at twice a second, and at SIGHUP. A changed one is taken where it has no fault. It has to
-belong to root or the daemon's user, be closed to others, and its group may read it at most, where
-that is the daemon's own.
-
-Over HTTP a gateway asks for /verify/NAME with the field `Authorization: Bearer TOKEN`. It gets 200
-where the token is granted, and else 401, 403 or 404. /healthz tells whether the daemon is well.
-
-The socket PATH.status is for its owner: `macaroond status` asks there how the daemon is.
-
-Example:
-  macaroond listen --socket /run/macaroond/socket --keys /etc/macaroond/keys --mode 660 --idle 60
-
-Exit status:
-  0  it was told to end
-  1  a key line has a fault; standard error names it as `error: FILE: line L:` and what is wrong
-  2  a bad command line
-  3  a file or the socket failed, or the key file is longer than it may be
-  4  memory ran out";
-
-/// What the help of `page` says below its options.
-const PAGE_HELP: &str = "\
-Prints the URL of the page once a browser can open it, and serves it until the process is ended.
-The page tells what a macaroon says, which of its caveats hold with facts at a moment, and adds
-caveats. With --keys it mints and verifies too, for whoever has the URL: behind its # stands a
-secret, fresh at each start, and a request that doesn't bring it is refused. So is one that another
-page makes, or that names another address. The key file is read once, as the run begins.
-
-Example:
-  macaroond page --keys keys
-
-Exit status:
-  1  a key line has a fault; standard error names it as `error: FILE: line L:` and what is wrong
-  2  a bad command line, or an address that other machines may reach
-  3  a file, the socket or standard output failed, or the key file is longer than it may be
-  4  memory ran out";
 
 /// What help says of the options that `serve` and `listen` share.
 const SOCKET_HELP: &str = "Where the socket is made";
@@ -178,10 +86,10 @@ const VERIFY_NAMES_HELP: &str =
 const REPLACE_HELP: &str =
     "Takes the sockets over from a daemon that listens there; that one ends without loss";
 
-const LOG_HELP: &str =
-    "What is logged besides: requests, a line for each request [default: nothing]";
+const LOG_HELP: &str = "What is logged besides: requests, mints or both, with a comma between, \
+    a line for each [default: nothing]";
 
-const OTHERS_HELP: &str = "Takes a key file that others may use too, which is refused without this";
+const OTHERS_HELP: &str = "Takes files that others may use too, which are refused without this";
 
 const HTTP_HELP: &str =
     "Where gateways ask over HTTP: unix:PATH, 127.0.0.1:PORT or [::1]:PORT, with commas between";
@@ -231,6 +139,13 @@ const PAGE_KEYS_HELP: &str = "A key file, under whose names the page mints and v
 const HTTP_ADMIN_HELP: &str =
     "Where operators ask over HTTP, at addresses of this machine; gateways get no page then";
 
+const REVOKED_HELP: &str =
+    "A list of tokens that were taken back, with lines `revoked NAME HEX`; it may change";
+
+const ONCE_REVOKED_HELP: &str = "A list of tokens that were taken back, which is read once";
+
+const EMPTY_REVOKED_HELP: &str = "Takes a list that has lost all its lines";
+
 /// The whole command line.
 pub fn build_command<'a>(alloc: Global) -> Result<Command<'a>, AllocError>
     ensures { IfOk result (λ command. app_of command ≡ command_line) }
@@ -240,27 +155,35 @@ pub fn build_command<'a>(alloc: Global) -> Result<Command<'a>, AllocError>
         .version(VERSION)
         .subcommand_required(true)
         .disable_help_subcommand(true);
-    let program = add_subcommand(program, build_pipe(alloc))?;
+    let program = add_subcommand(program, build_pipe(alloc)?)?;
     let program = add_subcommand(program, build_serve(alloc)?)?;
     let program = add_subcommand(program, build_listen(alloc)?)?;
     let program = add_subcommand(program, build_page(alloc)?)?;
     add_people(alloc, program)
 }
 
-/// The subcommand `pipe`, which takes no options.
-fn build_pipe<'a>(alloc: Global) -> Command<'a>
-    ensures { app_of result ≡ pipe_command }
+/// The subcommand `pipe`, whose option may be left out.
+fn build_pipe<'a>(alloc: Global) -> Result<Command<'a>, AllocError>
+    ensures { IfOk result (λ pipe. app_of pipe ≡ pipe_command) }
 {
     let about = "Answers the requests on standard input, one line each";
-    build_subcommand(alloc, "pipe", about, PIPE_HELP)
+    let pipe = build_subcommand(alloc, "pipe", about, PIPE_HELP);
+    add_arg(
+        pipe,
+        build_option(alloc, "revoked", "FILE", ONCE_REVOKED_HELP),
+    )
 }
 
-/// The subcommand `serve`, all of whose options have to be given but for its flag.
+/// The subcommand `serve`: four of its options have to be given.
 fn build_serve<'a>(alloc: Global) -> Result<Command<'a>, AllocError>
     ensures { IfOk result (λ serve. app_of serve ≡ serve_command) }
 {
     let serve = build_served(alloc)?;
-    add_arg(serve, build_flag(alloc, "keys-of-others", OTHERS_HELP))
+    let serve = add_arg(serve, build_flag(alloc, "keys-of-others", OTHERS_HELP))?;
+    add_arg(
+        serve,
+        build_option(alloc, "revoked", "FILE", ONCE_REVOKED_HELP),
+    )
 }
 
 /// The same with the options that have to be given.
@@ -312,10 +235,13 @@ fn build_listen<'a>(alloc: Global) -> Result<Command<'a>, AllocError>
     let listen = add_arg(listen, build_flag(alloc, "replace", REPLACE_HELP))?;
     let listen = add_arg(listen, build_option(alloc, "log", "WORDS", LOG_HELP))?;
     let listen = add_arg(listen, build_flag(alloc, "keys-of-others", OTHERS_HELP))?;
+    let listen = add_arg(listen, build_option(alloc, "revoked", "FILE", REVOKED_HELP))?;
+    let emptied = build_flag(alloc, "allow-empty-revoked", EMPTY_REVOKED_HELP);
+    let listen = add_arg(listen, emptied)?;
     add_http(alloc, listen)
 }
 
-/// The subcommand `page`, both of whose options may be left out.
+/// The subcommand `page`, whose options may be left out.
 fn build_page<'a>(alloc: Global) -> Result<Command<'a>, AllocError>
     ensures { IfOk result (λ page. app_of page ≡ page_command) }
 {
@@ -325,7 +251,11 @@ fn build_page<'a>(alloc: Global) -> Result<Command<'a>, AllocError>
         page,
         build_option(alloc, "address", "ADDRESS", PAGE_ADDRESS_HELP),
     )?;
-    add_arg(page, build_option(alloc, "keys", "FILE", PAGE_KEYS_HELP))
+    let page = add_arg(page, build_option(alloc, "keys", "FILE", PAGE_KEYS_HELP))?;
+    add_arg(
+        page,
+        build_option(alloc, "revoked", "FILE", ONCE_REVOKED_HELP),
+    )
 }
 
 /// The subcommand with its options for HTTP.

@@ -11,25 +11,13 @@ ghost use Rattle.macaroond.specs.Rights.{is_comma};
 
 use crate::choices::HttpOptions;
 use crate::commands::VERSION;
-use crate::key_watch::ListenFault;
 use crate::operating::{OPERATORS_LOOPS, OPERATORS_MAX};
 use crate::rights::read_rights;
-use mac_board::Followers;
 use mac_decide::Rights;
-use mac_gate::{
-    Address, AddressFault, Content, HttpServer, HttpTerms, ListFault, Reach, ServerFault,
-    open_door, read_addresses, start_server,
-};
-use mac_host::Host;
+use mac_gate::{Address, AddressFault, HttpTerms, ListFault, Reach, read_addresses};
 use mac_http::{Calls, Granted, Pages, Sources};
-use mac_sockets::{Doors, Holdings};
-use std::alloc::{Alloc, AllocError, Global};
-use std::fs::{File, Files};
-use std::net::{Net, TcpListener, TcpStream};
-use std::random::RandomSource;
-use std::sync::Wait;
-use std::thread::Threads;
-use std::time::{Clock, Duration};
+use std::alloc::{AllocError, Global};
+use std::time::Duration;
 
 /// How many connections over HTTP there are at a time, where nothing else is asked for.
 const CONNECTIONS: u64 = 256;
@@ -122,8 +110,8 @@ impl<'a> HttpPlan<'a> {
     }
 }
 
-/// How many descriptors a server over HTTP may need: one for each connection, two for each door
-/// with its lock, two for each loop to wait by, and three to wait at the doors.
+/// How many descriptors a server over HTTP may need: one for each connection, two for each door with its lock,
+/// two for each loop to wait by, and three to wait at the doors.
 fn server_descriptors(connections: usize, doors: usize, loops: usize) -> u64 {
     (connections as u64)
         .saturating_add((doors as u64).saturating_mul(2))
@@ -392,65 +380,4 @@ fn has_word(words: &[&[u8]], sought: &[u8]) -> bool
     ensures { result ≡ list_any (λ word. bytes_eq word.now sought.now) words.now }
 {
     words.iter().any(|word| *word == sought)
-}
-
-/// Doors that are open for one kind of peers, and what is answered there.
-#[derive(Drop)]
-pub(crate) struct OpenDoors {
-    pub(crate) doors: Doors<()>,
-    rights: Rights,
-    terms: HttpTerms,
-}
-
-/// Opens doors at a group of addresses, in their order, where these terms hold.
-pub(crate) fn open_doors<'a, R>(
-    rt: &R,
-    group: AddressGroup<'a>,
-    terms: HttpTerms,
-    holdings: &mut Holdings,
-) -> Result<OpenDoors, ListenFault<'a>>
-where
-    R: Alloc<A = Global> + Files<File = File> + Clock + Wait,
-    R: Net<Listener = TcpListener, Stream = TcpStream>,
-{
-    let AddressGroup {
-        addresses,
-        permissions,
-        rights,
-    } = group;
-    let mut doors = Doors::new(rt.alloc());
-    for address in &addresses {
-        if let Err(fault) = open_door(rt, &mut doors, *address, permissions, holdings) {
-            return Err(ListenFault::Door(*address, fault));
-        }
-    }
-    Ok(OpenDoors {
-        doors,
-        rights,
-        terms,
-    })
-}
-
-impl OpenDoors {
-    /// Has the connections that come in through them answered for a daemon, by so many loops, under
-    /// the tables that are followed.
-    pub(crate) fn serve<R>(
-        self,
-        rt: &R,
-        followers: Followers,
-        loops: usize,
-        host: Host,
-    ) -> Result<HttpServer, ServerFault>
-    where
-        R: Alloc<A = Global> + Net + Clock + RandomSource,
-        R: Threads + Wait + Sync + Copy + Send + 'static,
-    {
-        let OpenDoors {
-            doors,
-            rights,
-            terms,
-        } = self;
-        let contents = Content::faces(rt.alloc(), followers, rights, loops, terms)?;
-        start_server(rt, doors, contents, terms.bounds(), host)
-    }
 }

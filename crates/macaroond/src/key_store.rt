@@ -96,7 +96,7 @@ where
 }
 
 /// Why others may use the file of which the system tells this.
-fn exposure_told(told: &io::Result<Metadata>) -> Option<Exposure> {
+pub(crate) fn exposure_told(told: &io::Result<Metadata>) -> Option<Exposure> {
     match told {
         Ok(found) => exposure_of(access_of(found)),
         Err(_) => None,
@@ -114,12 +114,12 @@ fn read_text(alloc: Global, file: &File) -> Result<Result<Vec<u8>, ReadFault>, A
 }
 
 /// The state of the file at a path.
-fn find_state<R: Files>(rt: &R, path: &str) -> FileState {
+pub(crate) fn find_state<R: Files>(rt: &R, path: &str) -> FileState {
     state_of(fs::metadata(rt, path))
 }
 
 /// The state that the system tells of a file.
-fn state_of(told: io::Result<Metadata>) -> FileState {
+pub(crate) fn state_of(told: io::Result<Metadata>) -> FileState {
     match told {
         Ok(found) if found.is_file() => FileState::Marked(mark_of(&found)),
         Ok(_) => FileState::Unknown,

@@ -1,9 +1,11 @@
 //! The daemon whose keys follow its key file.
-ghost use Rattle.macaroond.specs.Watching.{Watches};
+ghost use Rattle.macaroond.specs.Watching.{Watches, WatchesList};
 
 use crate::commands::LOOPS_MAX;
-use crate::http::{HttpPlan, OpenDoors, open_doors};
+use crate::doors::{OpenDoors, open_doors};
+use crate::http::HttpPlan;
 use crate::key_store::{FirstKeys, KeyPlace, look_at};
+use crate::list_store::{FirstList, ListPlace, look_at_list};
 use crate::operating::{
     OperatorsServer, open_status, operators_terms, start_operators, warn_of_no_status,
 };
@@ -74,6 +76,24 @@ impl<'a> From<ServerFault> for ListenFault<'a> {
     }
 }
 
+/// The files that a daemon follows.
+#[derive(Clone, Copy)]
+pub(crate) struct Followed<'a> {
+    /// Its key file.
+    pub(crate) keys: KeyPlace<'a>,
+    /// Its list of tokens that were taken back, where it has one.
+    pub(crate) list: Option<ListPlace<'a>>,
+}
+
+/// What they gave first.
+#[derive(Drop)]
+pub(crate) struct Found {
+    /// The key file.
+    pub(crate) first: FirstKeys,
+    /// The list.
+    pub(crate) revoked: Option<FirstList>,
+}
+
 /// Listens until it is told to end, under the table that the key file at a path has at each moment.
 /// Other threads serve, and this one watches the file. What it made of its sockets and didn't put
 /// in their places is removed.
@@ -81,8 +101,8 @@ pub(crate) fn listen_and_watch<'a, R>(
     rt: &R,
     terms: DaemonTerms<'_>,
     sockets: Sockets<'a>,
-    keys: KeyPlace<'_>,
-    first: FirstKeys,
+    followed: Followed<'_>,
+    found: Found,
     claim: PathClaim,
     process: Process,
 ) -> Result<(), ListenFault<'a>>
@@ -93,7 +113,7 @@ where
 {
     let handed = handed_listener(rt, process).map_err(DaemonFault::from)?;
     let mut holdings = Holdings::new(rt.alloc(), claim, process);
-    let outcome = listen_holding(rt, terms, sockets, keys, first, handed, &mut holdings);
+    let outcome = listen_holding(rt, terms, sockets, followed, found, handed, &mut holdings);
     holdings.clear(rt);
     outcome
 }
@@ -103,8 +123,8 @@ fn listen_holding<'a, R>(
     rt: &R,
     terms: DaemonTerms<'_>,
     sockets: Sockets<'a>,
-    keys: KeyPlace<'_>,
-    first: FirstKeys,
+    followed: Followed<'_>,
+    found: Found,
     handed: Option<UnixListener>,
     holdings: &mut Holdings,
 ) -> Result<(), ListenFault<'a>>
@@ -113,16 +133,34 @@ where
     R: Net<Listener = TcpListener, Stream = TcpStream>,
     R: Threads + Wait + Sync + Copy + Send + 'static,
 {
+    let Found { first, revoked } = found;
     let FirstKeys {
         read,
         before,
         after,
     } = first;
-    let editor = Editor::new(rt.alloc(), *rt, read.table, FOLLOWERS, before, after)?;
+    let mut lines = 0;
+    let mut table = read.table;
+    if let Some(revoked) = &revoked {
+        table.take_back(&revoked.list)?;
+    }
+    let mut editor = Editor::new(rt.alloc(), *rt, table, FOLLOWERS, before, after)?;
+    if let Some(
+        FirstList {
+            list,
+            before,
+            after,
+        },
+    ) = revoked
+    {
+        editor = editor.with_list_found(before, after);
+        lines = list.lines();
+    }
     let started = start_all(rt, terms, sockets, &editor, handed, holdings)?;
+    started.daemon.tell_list_lines(lines);
     started.daemon.open(rt, terms, holdings)?;
     let watched = Watched {
-        keys,
+        followed,
         socket: terms.path,
     };
     let _kept_up = watch(rt, watched, editor, &started.daemon, holdings);
@@ -266,7 +304,7 @@ where
 /// What a daemon looks at now and then, by their paths.
 #[derive(Clone, Copy)]
 struct Watched<'a> {
-    keys: KeyPlace<'a>,
+    followed: Followed<'a>,
     socket: &'a str,
 }
 
@@ -286,20 +324,32 @@ where
     for _ in rt.forever() {
         match daemon.await_call(rt, Duration::from_millis(PAUSE_MILLIS)) {
             Call::End => return editor,
-            Call::Look => editor = look_once(rt, watched.keys, editor, daemon),
+            Call::Look => editor = look_once(rt, watched.followed, editor, daemon),
             Call::Nothing => {}
         }
         if let Some(path) = holdings.look(rt, watched.socket) {
             daemon.end_replaced(rt, path);
         }
-        editor = look_once(rt, watched.keys, editor, daemon);
+        editor = look_once(rt, watched.followed, editor, daemon);
     }
     unreachable!()
 }
 
-/// Looks at a key file once: a table that is to be taken is put up, and what came of it is told.
-/// Where memory runs out, the next look finds the same.
-fn look_once<R>(rt: &R, keys: KeyPlace<'_>, editor: Editor<R>, daemon: &Daemon) -> Editor<R>
+/// Looks at the key file and at the list once: a table that is to be taken is put up, and what came
+/// of it is told. Where memory runs out, the next look finds the same.
+fn look_once<R>(rt: &R, followed: Followed<'_>, editor: Editor<R>, daemon: &Daemon) -> Editor<R>
+where
+    R: Alloc<A = Global> + Files<File = File> + Clock + Wait + Drop,
+{
+    let editor = look_at_keys(rt, followed.keys, editor, daemon);
+    match followed.list {
+        Some(place) => look_at_revoked(rt, place, editor, daemon),
+        None => editor,
+    }
+}
+
+/// The same of the key file alone.
+fn look_at_keys<R>(rt: &R, keys: KeyPlace<'_>, editor: Editor<R>, daemon: &Daemon) -> Editor<R>
 where
     R: Alloc<A = Global> + Files<File = File> + Clock + Wait + Drop,
     ensures { Watches editor result }
@@ -310,6 +360,22 @@ where
     let (editor, told) = editor.look(rt.alloc(), sight);
     if let Ok(news) = told {
         daemon.tell_keys(rt, keys.path, news);
+    }
+    editor
+}
+
+/// The same of the list alone.
+fn look_at_revoked<R>(rt: &R, place: ListPlace<'_>, editor: Editor<R>, daemon: &Daemon) -> Editor<R>
+where
+    R: Alloc<A = Global> + Files<File = File> + Clock + Wait + Drop,
+    ensures { WatchesList editor result }
+{
+    let Ok(sight) = look_at_list(rt, place, &editor) else {
+        return editor;
+    };
+    let (editor, told) = editor.look_at_list(rt.alloc(), place.may_empty, &sight);
+    if let Ok(news) = told {
+        daemon.tell_revoked(rt, place.path, news);
     }
     editor
 }

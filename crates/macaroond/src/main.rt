@@ -4,9 +4,11 @@
 //! [`choose`] and [`pipe`].
 #![tactic(auto)]
 
-ghost use Rattle.std.specs.Prelude.{◌≡◌, ◌≤◌, if◌then◌else◌, IfErr, None};
+ghost use Rattle.std.specs.Prelude.{◌≡◌, ◌≤◌, if◌then◌else◌, IfErr, IfOk, IfSome, None};
+ghost use Rattle.std.specs.Option.{is_some};
 ghost use Rattle.mac_pool.specs.declared.pool.TheConstants.{WORKERS_MAX};
 ghost use Rattle.macaroond.specs.CommandLine.{permissions};
+ghost use Rattle.macaroond.specs.Doing.{IsKeyTable, IsList};
 ghost use Rattle.macaroond.specs.Shape.{HasCount, connections_of, drain_of, remember_of};
 ghost use Rattle.macaroond.specs.Status.{IsShown};
 ghost use Rattle.macaroond.specs.declared.commands.TheConstants.{LOOPS_MAX};
@@ -16,7 +18,9 @@ mod choices;
 mod command_line;
 mod commands;
 mod descriptors;
+mod doors;
 mod fault;
+mod help;
 mod http;
 mod input;
 mod key_fault;
@@ -25,6 +29,7 @@ mod key_store;
 mod key_watch;
 pub mod laws;
 mod lines;
+mod list_store;
 mod logging;
 mod operating;
 mod options;
@@ -39,7 +44,9 @@ mod serving;
 mod status;
 mod telling;
 
-pub use choices::{Choice, Chosen, HttpOptions, ListenOptions, Mode, PageOptions, ServeOptions};
+pub use choices::{
+    Choice, Chosen, HttpOptions, ListenOptions, Mode, PageOptions, PipeOptions, ServeOptions,
+};
 pub use command_line::{choose, read_words};
 use commands::VERSION;
 pub use commands::{
@@ -51,15 +58,17 @@ pub use fault::PipeFault;
 use http::plan_http;
 pub use input::INPUT_MAX;
 use key_store::{KeyPlace, read_first};
-use key_watch::{Sockets, listen_and_watch};
+use key_watch::{Followed, Found, Sockets, listen_and_watch};
+use list_store::{ListPlace, find_first_list, find_list};
 use logging::read_log;
 use mac_daemon::{DaemonTerms, Shape};
+use mac_host::Logged;
 use mac_pool::WORKERS_MAX;
 use mac_sockets::PathClaim;
 use mac_system::SystemMoments;
 use mac_wire::{ReaderSource, WriterSink};
 use page::run_page;
-use people::{admit_keys, run_task};
+use people::{admit_keys, run_task, warn_of_readers};
 pub use people::{PersonFault, Task};
 pub use piping::pipe;
 use rights::read_sockets;
@@ -144,7 +153,7 @@ where
     R::Reader: Send,
 {
     match choice {
-        Choice::Pipe => run_pipe(rt),
+        Choice::Pipe(options) => run_pipe(rt, &options),
         Choice::Serve(options) => run_serve(rt, &options),
         Choice::Listen(options) => run_listen(rt, &options, process),
         Choice::Page(options) => run_page(rt, &options),
@@ -189,36 +198,67 @@ where
         Ok(http) => http,
         Err(fault) => return tell_http(rt, fault),
     };
-    let Some(has_requests) = read_log(&options.log) else {
+    let Some(logged) = read_log(&options.log) else {
         return tell_log(rt);
     };
     if let Err(refused) = open_standard(rt) {
         return tell_nowhere(rt, &refused);
     }
-    let keys = KeyPlace {
-        path: options.keys.as_str(),
-        of_others: options.keys_of_others,
+    let watched = followed_by(options);
+    let found = match find_files(rt, watched) {
+        Ok(found) => found,
+        Err(status) => return status,
     };
-    let first = match read_first(rt, keys.path) {
-        Ok(first) => first,
-        Err(fault) => return tell_key_file(rt, keys.path, fault),
-    };
-    if !admit_keys(rt, keys.path, &first.read, keys.of_others) {
-        return Status::DeviceFault;
-    }
     warn_of_minting(rt, http.minting_port());
-    let names = first.read.table.len();
+    let names = found.first.read.table.len();
     let reserved = http.descriptors(count_loops(rt, options.loops));
-    let terms = name_terms(rt, options, names, reserved, has_requests);
+    let terms = name_terms(rt, options, names, reserved, logged);
     let Ok((rights, side)) = read_sockets(rt.alloc(), options) else {
         return tell_fault(rt, Status::NoMemory);
     };
     let sockets = Sockets { rights, side, http };
     let claim = claim_of(options.replace);
-    match listen_and_watch(rt, terms, sockets, keys, first, claim, process) {
+    match listen_and_watch(rt, terms, sockets, watched, found, claim, process) {
         Ok(()) => Status::Done,
         Err(fault) => tell_listen(rt, options, fault),
     }
+}
+
+/// The files that a daemon follows by its options.
+fn followed_by<'a>(options: &'a ListenOptions) -> Followed<'a> {
+    Followed {
+        keys: KeyPlace {
+            path: options.keys.as_str(),
+            of_others: options.keys_of_others,
+        },
+        list: options.revoked.as_deref().map(|path| ListPlace {
+            path,
+            of_others: options.keys_of_others,
+            may_empty: options.allow_empty_revoked,
+        }),
+    }
+}
+
+/// What these files give first. Else says why one isn't taken, and how the run ends.
+fn find_files<R>(rt: &R, followed: Followed<'_>) -> Result<Found, Status>
+where
+    R: Alloc<A = Global> + Eprint + Files<File = File>,
+    ensures { IfOk result (λ found.
+        IsKeyTable found.first.read.table × IfSome found.revoked (λ list. IsList list.list)) }
+{
+    let keys = followed.keys;
+    let first = match read_first(rt, keys.path) {
+        Ok(first) => first,
+        Err(fault) => return Err(tell_key_file(rt, keys.path, fault)),
+    };
+    if !admit_keys(rt, keys.path, &first.read, keys.of_others) {
+        return Err(Status::DeviceFault);
+    }
+    let revoked = match followed.list {
+        Some(place) => Some(find_first_list(rt, place)?),
+        None => None,
+    };
+    Ok(Found { first, revoked })
 }
 
 /// How a daemon comes by the paths of its sockets.
@@ -238,7 +278,7 @@ fn name_terms<'a, R: Threads>(
     options: &'a ListenOptions,
     names: usize,
     reserved: u64,
-    has_requests: bool,
+    logged: Logged,
 ) -> DaemonTerms<'a>
     ensures mode { result.permissions ≡ permissions options.now.mode }
     ensures idle { result.shape.idle ≡ options.now.idle }
@@ -247,7 +287,7 @@ fn name_terms<'a, R: Threads>(
     ensures remembered { result.shape.remembered ≡ remember_of options.now.remember }
     ensures loops { HasCount LOOPS_MAX options.now.loops result.shape.loops }
     ensures workers { HasCount WORKERS_MAX options.now.workers result.shape.workers }
-    ensures requests { result.has_requests ≡ has_requests }
+    ensures logged { result.logged ≡ logged }
     ensures endless { result.accept ≡ None }
 {
     DaemonTerms {
@@ -265,19 +305,39 @@ fn name_terms<'a, R: Threads>(
         },
         drain: options.drain.unwrap_or(DRAIN),
         reserved,
-        has_requests,
+        logged,
         accept: None,
     }
 }
 
 /// Pipes standard input to standard output, and says how the run ended.
-fn run_pipe<R: Alloc<A = Global> + Input + Print + Eprint + Clock + Sync>(rt: &R) -> Status
+fn run_pipe<R>(rt: &R, options: &PipeOptions) -> Status
 where
+    R: Alloc<A = Global> + Input + Print + Eprint + Files<File = File> + Clock + Sync,
     R::Reader: Send,
 {
+    let list = match find_list(rt, place_of_list(options)) {
+        Ok(list) => list,
+        Err(status) => return status,
+    };
+    if let Some(path) = &options.revoked {
+        warn_of_readers(rt, path.as_str());
+    }
     let mut source = ReaderSource::new(rt.reader());
     let mut sink = WriterSink::new(io::writer(rt));
     let mut clock = SystemMoments::new(rt);
-    let ending = pipe(rt.alloc(), &mut source, &mut clock, &mut sink);
+    let ending = pipe(rt.alloc(), &list, &mut source, &mut clock, &mut sink);
     tell_ending(rt, ending)
+}
+
+/// The place of the list of tokens that were taken back, where one is named. The pipe warns of a
+/// file that others may use, and takes it.
+fn place_of_list<'a>(options: &'a PipeOptions) -> Option<ListPlace<'a>>
+    ensures { is_some result ≡ is_some options.now.revoked }
+{
+    options.revoked.as_deref().map(|path| ListPlace {
+        path,
+        of_others: true,
+        may_empty: true,
+    })
 }

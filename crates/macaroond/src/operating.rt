@@ -1,7 +1,7 @@
 //! Where operators ask how a daemon is: a socket beside its own, and addresses of this machine.
 
 use crate::commands::VERSION;
-use crate::http::OpenDoors;
+use crate::doors::OpenDoors;
 use crate::key_watch::ListenFault;
 use mac_board::Publisher;
 use mac_daemon::{Daemon, DaemonFault};

@@ -7,7 +7,9 @@ ghost use Rattle.macaroond.specs.Options.{ChoosesHttp, HasHttpOptions, HasServeO
 ghost use Rattle.macaroond.specs.Options.{IsGiven, MayRead, Reads};
 ghost use Rattle.macaroond.specs.declared.options.OptionFault.TheVariants.{NoMemory};
 
-use crate::choices::{Choice, HttpOptions, ListenOptions, Mode, PageOptions, ServeOptions};
+use crate::choices::{
+    Choice, HttpOptions, ListenOptions, Mode, PageOptions, PipeOptions, ServeOptions,
+};
 use crate::people::{read_flag, read_optional_text};
 use clap::ArgMatches;
 use std::alloc::{AllocError, Global};
@@ -15,8 +17,7 @@ use std::alloc::{AllocError, Global};
 /// Why options that `clap` takes give no choice.
 #[derive(Clone, Copy)]
 pub enum OptionFault {
-    /// `--mode`, `--verify-mode`, `--http-mode` or `--http-calls-mode` has digits that name no
-    /// mode.
+    /// `--mode`, `--verify-mode`, `--http-mode` or `--http-calls-mode` has digits that name no mode.
     UnknownMode,
     /// Memory ran out.
     NoMemory,
@@ -40,12 +41,21 @@ pub fn read_choice(
     ensures { Chooses name.now (rows_of (found_of options.now)) result }
 {
     match name {
-        "pipe" => Ok(Choice::Pipe),
+        "pipe" => read_pipe(alloc, options),
         "serve" => read_serve(alloc, options),
         "listen" => read_listen(alloc, options),
         "page" => read_page(alloc, options),
         _ => unreachable!("the subcommand is one of those above"),
     }
+}
+
+/// The choice of the options of `pipe`.
+fn read_pipe(alloc: Global, options: &ArgMatches<'_>) -> Result<Choice, OptionFault>
+    ensures { Chooses (codes "pipe") (rows_of (found_of options.now)) result }
+{
+    Ok(Choice::Pipe(PipeOptions {
+        revoked: read_optional_text(alloc, options, "revoked")?,
+    }))
 }
 
 /// The choice of the options of `serve`.
@@ -59,6 +69,7 @@ fn read_serve(alloc: Global, options: &ArgMatches<'_>) -> Result<Choice, OptionF
         workers: read_number(options, "workers"),
         accept: read_number(options, "accept"),
         keys_of_others: read_flag(options, "keys-of-others"),
+        revoked: read_optional_text(alloc, options, "revoked")?,
     }))
 }
 
@@ -91,6 +102,8 @@ fn read_listen(alloc: Global, options: &ArgMatches<'_>) -> Result<Choice, Option
         replace: read_flag(options, "replace"),
         log: read_optional_text(alloc, options, "log")?,
         keys_of_others: read_flag(options, "keys-of-others"),
+        revoked: read_optional_text(alloc, options, "revoked")?,
+        allow_empty_revoked: read_flag(options, "allow-empty-revoked"),
         http,
     }))
 }
@@ -102,6 +115,7 @@ fn read_page(alloc: Global, options: &ArgMatches<'_>) -> Result<Choice, OptionFa
     Ok(Choice::Page(PageOptions {
         address: read_optional_text(alloc, options, "address")?,
         keys: read_optional_text(alloc, options, "keys")?,
+        revoked: read_optional_text(alloc, options, "revoked")?,
     }))
 }
 

@@ -1,8 +1,12 @@
 //! The page that a browser on this machine is shown.
+ghost use Rattle.std.specs.Prelude.{◌≡◌, IfOk};
+ghost use Rattle.std.specs.Option.{is_some};
+ghost use Rattle.macaroond.specs.Doing.{IsKeyTable};
 
 use crate::choices::PageOptions;
 use crate::descriptors::open_standard;
 use crate::key_file::read_keys;
+use crate::list_store::{ListPlace, take_list};
 use crate::page_texts::{DOCUMENT, SCRIPT, STYLE};
 use crate::people::{warn_of_no_keys, warn_of_readers};
 use crate::status::Status;
@@ -60,29 +64,52 @@ where
     if let Err(refused) = open_standard(rt) {
         return tell_nowhere(rt, &refused);
     }
-    match &options.keys {
-        Some(path) => run_with_keys(rt, address, path.as_str()),
-        None => match KeyTable::read(rt.alloc(), b"") {
-            Ok(keys) => run_under(rt, address, keys, false),
-            Err(_) => tell_fault(rt, Status::NoMemory),
-        },
+    let mut keys = match find_keys(rt, &options.keys) {
+        Ok(keys) => keys,
+        Err(status) => return status,
+    };
+    if let Err(status) = take_list(rt, place_of_list(options), &mut keys) {
+        return status;
     }
+    if let Some(path) = &options.revoked {
+        warn_of_readers(rt, path.as_str());
+    }
+    run_under(rt, address, keys, options.keys.is_some())
 }
 
-/// Serves the page under the keys of a file.
-fn run_with_keys<R>(rt: &R, address: SocketAddr, path: &str) -> Status
-where
-    R: Alloc<A = Global> + Print + Eprint + Files<File = File> + Clock + RandomSource,
-    R: Net<Listener = TcpListener, Stream = TcpStream>,
-    R: Threads + Wait + Sync + Copy + Send + 'static,
+/// The place of the list of tokens that were taken back, where one is named. A page warns of files
+/// that others may use, and takes them.
+fn place_of_list<'a>(options: &'a PageOptions) -> Option<ListPlace<'a>>
+    ensures { is_some result ≡ is_some options.now.revoked }
 {
+    options.revoked.as_deref().map(|path| ListPlace {
+        path,
+        of_others: true,
+        may_empty: true,
+    })
+}
+
+/// The keys of a file, if one is named; none else. A file that gives none is told, and how the run
+/// ends.
+fn find_keys<R>(rt: &R, named: &Option<String>) -> Result<KeyTable, Status>
+where
+    R: Alloc<A = Global> + Eprint + Files<File = File>,
+    ensures { IfOk result IsKeyTable }
+{
+    let Some(path) = named else {
+        return match KeyTable::read(rt.alloc(), b"") {
+            Ok(keys) => Ok(keys),
+            Err(_) => Err(tell_fault(rt, Status::NoMemory)),
+        };
+    };
+    let path = path.as_str();
     let keys = match read_keys(rt, path) {
         Ok(keys) => keys,
-        Err(fault) => return tell_key_file(rt, path, fault),
+        Err(fault) => return Err(tell_key_file(rt, path, fault)),
     };
     warn_of_readers(rt, path);
     warn_of_no_keys(rt, path, keys.len());
-    run_under(rt, address, keys, true)
+    Ok(keys)
 }
 
 /// Serves the page under these keys.

@@ -1,12 +1,15 @@
 //! What people ask of the program: keys, tokens, and what tokens say.
 mod answering;
 mod asking;
+mod checking;
 mod fault;
 mod given;
 mod key_files;
 mod keygen;
+mod lists;
 mod new_file;
 mod readers;
+mod revoke;
 mod status_page;
 mod subcommands;
 

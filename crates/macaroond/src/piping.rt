@@ -1,6 +1,6 @@
 //! The pipe: key lines, an empty line and request lines in, a line for each answer out.
 ghost use Rattle.std.specs.Prelude.{◌≡◌, ◌⊎◌, ◌+◌, ◌<◌, ◌≤◌, ◌++◌, [], ◌∷◌, List, Option, ℕ, length, map, IsTrue, IfOk, IfErr, OnOk};
-ghost use Rattle.mac_keys.specs.Table.{table_of};
+ghost use Rattle.mac_keys.specs.KeyTable.{table_of};
 ghost use Rattle.mac_keys.specs.declared.fault.KeyFault.TheVariants as key;
 ghost use Rattle.mac_keys.specs.declared.fault.LineFault.{LineFault};
 ghost use Rattle.mac_wire.specs.declared.arrival.Arrival.{Arrival};
@@ -10,9 +10,9 @@ ghost use Rattle.macaroond.specs.declared.input.TheConstants.{INPUT_MAX};
 ghost use Rattle.mac_decide.specs.Answer.{full_answer};
 ghost use Rattle.macaroond.specs.Arrived.{arrival_of};
 ghost use Rattle.macaroond.specs.Lines.{lines, key_text};
-ghost use Rattle.macaroond.specs.Inner.{EndsWriting, Tells, Writes};
+ghost use Rattle.macaroond.specs.Inner.{EndsWriting, IsTableBeside, Tells, Writes};
 ghost use Rattle.macaroond.specs.Output.{CountsDevice};
-ghost use Rattle.macaroond.specs.Pipe.{GivesOutput, TakesInput};
+ghost use Rattle.macaroond.specs.Pipe.{GivesOutput, TakesInput, answer_beside};
 ghost use Rattle.macaroond.specs.PipeText.{answers};
 ghost use Rattle.macaroond.specs.ReplyLine.{reply_line};
 
@@ -23,14 +23,16 @@ use crate::lines::{divide, next_line};
 use crate::reply_line::append_reply_line;
 use mac_board::Moments;
 use mac_decide::{Rights, Terms, answer, job_of};
-use mac_keys::{KeyFault, KeyTable};
+use mac_keys::{KeyFault, KeyTable, RevokedList};
 use mac_wire::{Arrival, GATHERED, NoMemory, Reply, Sink, Source, send_all};
 use std::alloc::Global;
 
 /// Reads the key lines up to the first empty line, then a request a line in hexadecimal, and writes
-/// a line for each answer, in order. The clock is asked once, when all is read.
+/// a line for each answer, in order, under the keys and beside a list of tokens that were taken
+/// back. The clock is asked once, when all is read.
 pub fn pipe<R: Source, M: Moments, W: Sink>(
     alloc: Global,
+    list: &RevokedList,
     source: &mut R,
     clock: &mut M,
     sink: &mut W,
@@ -45,7 +47,7 @@ pub fn pipe<R: Source, M: Moments, W: Sink>(
     ensures output { IsTrue R.tells → IsTrue W.tells → (input : List ℕ) (moment : Option ℕ)
         → R.taken source.new ≡ R.taken source.old ++ input
         → M.told clock.new ≡ M.told clock.old ++ moment ∷ []
-        → GivesOutput (full_answer moment) result input
+        → GivesOutput (answer_beside list.now moment) result input
         (W.written sink.old) (W.written sink.new) }
     ensures keys { IsTrue R.tells → (input : List ℕ)
         → R.taken source.new ≡ R.taken source.old ++ input
@@ -58,7 +60,7 @@ pub fn pipe<R: Source, M: Moments, W: Sink>(
     let input = read_input(alloc, source)?;
     let moment = clock.tell();
     let (keys, requests) = divide(input.as_slice());
-    let table = read_table(alloc, keys)?;
+    let table = read_table_beside(alloc, keys, list)?;
     write_answers(alloc, &table, moment, requests, sink)
 }
 
@@ -72,6 +74,16 @@ pub(crate) fn read_table(alloc: Global, text: &[u8]) -> Result<KeyTable, PipeFau
         Err(KeyFault::Line { line, kind }) => Err(PipeFault::Keys { line, kind }),
         Err(KeyFault::Memory) => Err(PipeFault::Memory),
     }
+}
+
+/// The table of the key lines, beside a list of what was taken back.
+fn read_table_beside(alloc: Global, text: &[u8], list: &RevokedList) -> Result<KeyTable, PipeFault>
+    ensures table { IfOk result (λ table. IsTableBeside list.now (table_of text.now) table) }
+    ensures fault { IfErr result (Tells (table_of text.now)) }
+{
+    let mut table = read_table(alloc, text)?;
+    table.take_back(list)?;
+    Ok(table)
 }
 
 /// Writes the answer to each line of the requests, at this moment.
@@ -147,5 +159,6 @@ fn reply_to(
         rights,
         moment,
     };
-    answer(alloc, &job_of(terms, arrival))
+    let job = job_of(alloc, terms, arrival)?;
+    answer(alloc, &job)
 }

@@ -1,6 +1,7 @@
 //! `serve`: a daemon that ends after so many connections.
 
 ghost use Rattle.std.specs.Prelude.{◌≡◌, ◌<◌, IfOk, OnOk, Some};
+ghost use Rattle.std.specs.Option.{is_some};
 ghost use Rattle.mac_pool.specs.declared.pool.TheConstants.{WORKERS_MAX};
 ghost use Rattle.macaroond.specs.Shape.{HasCount};
 
@@ -8,6 +9,7 @@ use crate::choices::ServeOptions;
 use crate::commands::{ACCEPT_MAX, VERSION};
 use crate::descriptors::open_standard;
 use crate::key_file::read_key_file;
+use crate::list_store::{ListPlace, take_list};
 use crate::people::admit_keys;
 use crate::status::Status;
 use crate::telling::{tell_daemon, tell_nowhere, tell_served_keys};
@@ -15,6 +17,7 @@ use crate::{DRAIN, REMEMBER, count_loops, count_workers};
 use mac_board::Publisher;
 use mac_daemon::{DaemonFault, DaemonTerms, Day, FOLLOWERS_MAX, Shape, Surroundings, give, listen};
 use mac_decide::Rights;
+use mac_host::Logged;
 use mac_keys::KeyTable;
 use mac_sockets::{Door, Doors, bind_new};
 use mac_wire::{Sink, WriterSink, send_all};
@@ -44,10 +47,25 @@ where
     if !admit_keys(rt, keys, &read, options.keys_of_others) {
         return Status::DeviceFault;
     }
-    match serve_counted(rt, options, read.table) {
+    let mut table = read.table;
+    if let Err(status) = take_list(rt, place_of_list(options), &mut table) {
+        return status;
+    }
+    match serve_counted(rt, options, table) {
         Ok(_) => Status::Done,
         Err(fault) => tell_daemon(rt, options.socket.as_str(), &fault),
     }
+}
+
+/// The place of the list of tokens that were taken back, where one is named.
+fn place_of_list<'a>(options: &'a ServeOptions) -> Option<ListPlace<'a>>
+    ensures { is_some result ≡ is_some options.now.revoked }
+{
+    options.revoked.as_deref().map(|path| ListPlace {
+        path,
+        of_others: options.keys_of_others,
+        may_empty: true,
+    })
 }
 
 /// Serves so many connections of a socket that it makes, and prints a line once clients can connect
@@ -105,7 +123,7 @@ fn counted_terms<'a, R: Threads>(rt: &R, options: &'a ServeOptions, names: usize
         },
         drain: DRAIN,
         reserved: 0,
-        has_requests: false,
+        logged: Logged::NOTHING,
         accept: Some(options.accept),
     }
 }

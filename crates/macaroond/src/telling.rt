@@ -2,7 +2,8 @@
 
 ghost use Rattle.std.specs.Prelude.{◌≡◌};
 ghost use Rattle.macaroond.specs.Status.{IsShown, daemon_status, door_status, http_status};
-ghost use Rattle.macaroond.specs.Status.{listen_status, pipe_status, run_status, server_status};
+ghost use Rattle.macaroond.specs.Status.{list_status, listen_status, pipe_status, run_status};
+ghost use Rattle.macaroond.specs.Status.{server_status};
 
 use crate::choices::ListenOptions;
 use crate::descriptors::NOWHERE;
@@ -11,6 +12,7 @@ use crate::http::HttpFault;
 use crate::key_fault::say_key_fault;
 use crate::key_watch::ListenFault;
 use crate::status::Status;
+use mac_board::ListRefusal;
 use mac_daemon::DaemonFault;
 use mac_gate::{Address, DoorFault, ServerFault};
 use std::fs::Files;
@@ -73,7 +75,9 @@ pub fn warn_of_minting<R: Eprint>(rt: &R, port: Option<Address<'_>>) {
 pub fn tell_log<R: Eprint>(rt: &R) -> Status
     ensures { result ≡ Status.BadLine }
 {
-    let _ = eprintln!(rt; "error: what is logged besides is requests");
+    let _ = eprintln!(rt;
+        "error: what is logged besides is requests, mints or both with a comma between them"
+    );
     Status::BadLine
 }
 
@@ -220,4 +224,15 @@ pub fn tell_fault<R: Eprint>(rt: &R, status: Status) -> Status
     let number = status.code();
     let _ = eprintln!(rt; "fault {number}");
     status
+}
+
+/// Says on standard error why a list of tokens that were taken back isn't taken.
+pub(crate) fn tell_list<R: Eprint>(rt: &R, path: &str, why: ListRefusal) -> Status
+    ensures { result ≡ list_status why }
+{
+    let _ = eprintln!(rt; "error: {path}: {why}");
+    match why {
+        ListRefusal::Faulty { .. } => Status::BadKeys,
+        _ => Status::DeviceFault,
+    }
 }

@@ -1,16 +1,21 @@
 //! Requests that are asked as HTTP and JSON calls ask them.
 
 use crate::case::{Case, CaseFault};
-use mac_decide::{Asking, SeenTokens, answer_request};
+use mac_decide::{Asking, Revocation, SeenTokens, answer_request};
 use mac_keys::Keys;
 use mac_token::Form;
 use mac_wire::{Reply, Request, TokenForm};
 
 /// The reply to a request under these keys.
-pub(crate) fn ask(case: &mut Case<'_>, keys: Option<&Keys>, request: Request<'_>) -> Option<Reply> {
+pub(crate) fn ask<'a>(
+    case: &mut Case<'_>,
+    keys: Option<&'a Keys>,
+    request: Request<'a>,
+) -> Option<Reply> {
     let asking = Asking {
         request,
         keys,
+        revoked: Revocation::Known(false),
         may_mint: true,
         moment: None,
     };

@@ -105,7 +105,9 @@ fn reply(case: &mut Case<'_>) {
         rights,
         moment: Some(MOMENT),
     };
-    let job = job_of(terms, Arrival::Payload(payload));
+    let Ok(job) = job_of(case.alloc, terms, Arrival::Payload(payload)) else {
+        return case.fail(CaseFault::Memory);
+    };
     let Ok(reply) = answer(case.alloc, &job) else {
         return case.fail(CaseFault::Memory);
     };
@@ -131,7 +133,10 @@ fn replies(case: &mut Case<'_>) {
     let mut jobs = Vec::new(case.alloc);
     for payload in payloads {
         let payload = Arrival::Payload(Bytes::new(payload));
-        case.keep(&mut jobs, job_of(terms, payload));
+        match job_of(case.alloc, terms, payload) {
+            Ok(job) => case.keep(&mut jobs, job),
+            Err(_) => return case.fail(CaseFault::Memory),
+        }
     }
     let Ok(replies) = answer_all(case.alloc, &jobs) else {
         return case.fail(CaseFault::Memory);

@@ -211,6 +211,7 @@ fn refusal_reply(name: &str) -> Option<Reply>
         ("caveat-location", Refusal::CaveatLocation),
         ("not-allowed", Refusal::NotAllowed),
         ("no-clock", Refusal::NoClock),
+        ("revoked", Refusal::Revoked),
     ] {
         if name == word {
             return Some(Reply::Refused(refusal));

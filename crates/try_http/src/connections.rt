@@ -114,6 +114,7 @@ fn monitor_of(words: &[u8], seen: SeenTokens) -> FixedMonitor {
     FixedMonitor {
         is_ending: has(words, b"ending"),
         is_well: !has(words, b"unwell"),
+        has_random: !has(words, b"drawless"),
         seen,
     }
 }

@@ -3,12 +3,16 @@
 use http::StatusCode;
 use http_server::Log;
 use mac_board::Moments;
+use mac_calls::Draws;
 use mac_decide::SeenTokens;
 use mac_http::{Monitor, Noted, Page, Told};
 use std::alloc::AllocError;
 
 /// The moment of each request: 2023-11-14T22:13:20Z.
 pub const MOMENT: u64 = 1_700_000_000;
+
+/// What is drawn for each mint.
+const DRAWN: [u8; 16] = *b"0123456789abcdef";
 
 /// A clock that stands still.
 #[derive(Drop)]
@@ -41,8 +45,16 @@ pub struct FixedMonitor {
     pub is_ending: bool,
     /// Whether it is well.
     pub is_well: bool,
+    /// Whether it has random bytes.
+    pub has_random: bool,
     /// Its memory of tokens.
     pub seen: SeenTokens,
+}
+
+impl Draws for FixedMonitor {
+    fn draw(&self) -> Option<[u8; 16]> {
+        if self.has_random { Some(DRAWN) } else { None }
+    }
 }
 
 impl Monitor for FixedMonitor {

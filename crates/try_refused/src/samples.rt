@@ -90,7 +90,7 @@ fn job(alloc: Global, payload: &[u8]) -> Result<Job, Refused> {
         rights: &Rights::all(),
         moment: None,
     };
-    Ok(job_of(terms, Arrival::Payload(payload)))
+    Ok(job_of(alloc, terms, Arrival::Payload(payload))?)
 }
 
 /// The job that asks for the token.

@@ -4,7 +4,7 @@ use crate::outcome::{Outcome, Refused, made_if, once_more, stood_if};
 use crate::samples::{
     IDENTIFIER, LOCATION, NARROWED, SIGNATURE, V2_BINARY, V2_TEXT, caveats, is_narrowed,
 };
-use mac_decide::{Asking, SeenTokens, answer_request};
+use mac_decide::{Asking, Revocation, SeenTokens, answer_request};
 use mac_token::{Token, TokenFault, bare};
 use mac_wire::{FieldList, Reply, Request, TokenForm};
 use std::alloc::Global;
@@ -74,6 +74,7 @@ fn is_attenuated(alloc: Global) -> Option<bool> {
             caveats,
         },
         keys: None,
+        revoked: Revocation::Known(false),
         may_mint: false,
         moment: None,
     };

@@ -39,7 +39,7 @@ fn minting(alloc: Global) -> Result<Vec<u8>, AllocError> {
 fn verifying(alloc: Global) -> Result<Vec<u8>, RunFault> {
     let keys = key_table(alloc)?;
     let arrival = Arrival::Payload(Bytes::new(minting(alloc)?));
-    match answer(alloc, &full_job(&keys, arrival))? {
+    match answer(alloc, &full_job(alloc, &keys, arrival)?)? {
         Reply::Token(token) => Ok(verify_request(
             alloc,
             b"bank",

@@ -118,7 +118,7 @@ impl Asked {
     fn push(&mut self, alloc: Global, keys: &KeyTable, payload: Vec<u8>) -> Result<(), RunFault> {
         append_frame(&mut self.stream, payload.as_slice())?;
         let arrival = Arrival::Payload(Bytes::new(payload));
-        let reply = answer(alloc, &full_job(keys, arrival))?;
+        let reply = answer(alloc, &full_job(alloc, keys, arrival)?)?;
         append_reply(&mut self.due, &reply, self.version, self.kinds.count())?;
         self.kinds.add(&reply);
         Ok(())
@@ -174,7 +174,7 @@ fn tokens_of(alloc: Global, keys: &KeyTable, dice: &mut Dice) -> Result<Vec<Vec<
         let caveats = dice.texts(7);
         let payload = mint_request(alloc, form, b"bank", b"user:1001", caveats)?;
         let arrival = Arrival::Payload(Bytes::new(payload));
-        match answer(alloc, &full_job(keys, arrival))? {
+        match answer(alloc, &full_job(alloc, keys, arrival)?)? {
             Reply::Token(token) => tokens.push(token.into_vec())?,
             _ => return Err(RunFault::Wrong),
         }
@@ -216,12 +216,16 @@ fn damaged_verify(alloc: Global, dice: &mut Dice, token: &[u8]) -> Result<Vec<u8
 }
 
 /// The job of an arrival, where everything is allowed.
-pub(crate) fn full_job(table: &KeyTable, arrival: Arrival) -> Job {
+pub(crate) fn full_job(
+    alloc: Global,
+    table: &KeyTable,
+    arrival: Arrival,
+) -> Result<Job, AllocError> {
     let rights = &Rights::all();
     let terms = Terms {
         table,
         rights,
         moment: Some(MOMENT),
     };
-    job_of(terms, arrival)
+    job_of(alloc, terms, arrival)
 }

@@ -224,7 +224,7 @@ func told(token string, err error) string {
 }
 
 func minted(client *macaroond.Client, _ *rand.Rand, s subject) (came, due string) {
-	mint := macaroond.Mint{Key: s.key, Identifier: s.identifier, Location: location, Caveats: s.caveats, Form: s.form}
+	mint := macaroond.Mint{Key: s.key, Identifier: s.identifier, EmptyIdentifier: true, Location: location, Caveats: s.caveats, Form: s.form}
 	return told(client.Mint(context.Background(), mint)), s.token
 }
 

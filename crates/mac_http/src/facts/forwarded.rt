@@ -6,7 +6,8 @@ ghost use Rattle.std.specs.Option.{option_map};
 ghost use Rattle.http.specs.Request.{head_of};
 ghost use Rattle.mac_token.specs.RawToken.{byte_lists};
 ghost use Rattle.mac_http.specs.Authorization.{only};
-ghost use Rattle.mac_http.specs.Facts.{address_fact, forwarded_facts, host_fact, labelled, path_facts, path_of, scheme_fact};
+ghost use Rattle.mac_http.specs.Facts.{address_fact, forwarded_facts, host_fact, is_safe, labelled};
+ghost use Rattle.mac_http.specs.Facts.{method_facts, path_facts, path_of, safe_fact, scheme_fact};
 
 use super::guarded::{Guarded, path_told};
 use super::put;
@@ -27,12 +28,58 @@ pub(super) fn put_forwarded(
         ++ forwarded_facts (head_of request.now) (option_map (λ m. m.now) guarded.entry.method)
         (option_map (λ t. t.now) guarded.entry.target)) }
 {
-    put_labelled(facts, alloc, b"method = ", guarded.method)?;
+    put_method(facts, alloc, guarded.method)?;
     put_host(facts, alloc, request)?;
     put_address(facts, alloc, request)?;
     put_scheme(facts, alloc, request)?;
     put_path(facts, alloc, guarded)?;
     Ok(())
+}
+
+/// Appends the facts of the method, if it is told.
+fn put_method(
+    facts: &mut Vec<Vec<u8>>,
+    alloc: Global,
+    method: Option<&[u8]>,
+) -> Result<(), AllocError>
+    ensures { OnOk result (byte_lists facts.new.items ≡ byte_lists facts.old.items
+        ++ method_facts (option_map (λ m. m.now) method.entry)) }
+{
+    match method {
+        Some(method) => put_method_told(facts, alloc, method),
+        None => Ok(()),
+    }
+}
+
+/// Appends a method, and that it is safe, where it is.
+fn put_method_told(facts: &mut Vec<Vec<u8>>, alloc: Global, method: &[u8]) -> Result<(), AllocError>
+    ensures { OnOk result (byte_lists facts.new.items ≡ byte_lists facts.old.items
+        ++ method_facts (Some method.now)) }
+{
+    put(facts, alloc, b"method = ", method)?;
+    put_safe(facts, alloc, is_safe(method))?;
+    Ok(())
+}
+
+/// Appends that the method is safe, where it is.
+fn put_safe(facts: &mut Vec<Vec<u8>>, alloc: Global, is_safe: bool) -> Result<(), AllocError>
+    ensures { OnOk result (byte_lists facts.new.items ≡ byte_lists facts.old.items
+        ++ safe_fact is_safe) }
+{
+    if is_safe {
+        return put(facts, alloc, b"method is ", b"safe");
+    }
+    Ok(())
+}
+
+/// Whether a method asks for no change (RFC 9110, section 9.2.1).
+fn is_safe(method: &[u8]) -> bool
+    ensures { result ≡ is_safe method.now }
+{
+    method == b"GET".as_slice()
+        || method == b"HEAD".as_slice()
+        || method == b"OPTIONS".as_slice()
+        || method == b"TRACE".as_slice()
 }
 
 /// Appends the host that was asked for, if it is told.

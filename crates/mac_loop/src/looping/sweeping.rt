@@ -1,8 +1,8 @@
-//! Clients that make no progress: a loop looks for them from time to time, and ends them. One that
-//! is owed something is looked at again, whether or not an event told of it.
+//! Clients that make no progress: a loop looks for them from time to time, and ends them. One that is
+//! owed something is looked at again, whether or not an event told of it.
 
 use crate::inbox::Loops;
-use crate::looping::Loop;
+use crate::looping::{Loop, end_member};
 use crate::members::Progress;
 use crate::watch::{PlainFault, Watch};
 use mac_sockets::Readiness;
@@ -23,8 +23,8 @@ const QUIET: u64 = 300;
 const SECOND: u64 = 1_000_000;
 
 impl Loop {
-    /// Ends the clients that have made no progress for as long as they may, and looks again at
-    /// those that are owed something. So an event that was missed delays them, and no more.
+    /// Ends the clients that have made no progress for as long as they may, and looks again at those
+    /// that are owed something. So an event that was missed delays them, and no more.
     pub(super) fn sweep<R: Wait + Clock, W: Watch>(&mut self, rt: &R, loops: &Loops, watch: &W) {
         if self.now.saturating_sub(self.swept) < self.sweep_span() {
             return;
@@ -32,16 +32,36 @@ impl Loop {
         self.swept = self.now;
         self.is_owing = false;
         for slot in 0..self.members.slots.bound() {
-            if self.is_idle(slot) {
-                if let Some(member) = self.members.slots.release(slot) {
-                    loops.count_unsent(member.client.unsent(), 0);
-                    watch.end(rt, member.life(), Some(PlainFault::Idle));
-                }
+            if self.has_parted(slot) {
+                self.end(rt, loops, watch, slot, None);
+            } else if self.is_idle(slot) {
+                self.end(rt, loops, watch, slot, Some(PlainFault::Idle));
             } else if self.is_owed(slot) {
                 self.is_owing = true;
                 self.members.wake(slot, Readiness::UNTOLD);
             }
         }
+    }
+
+    /// Ends the client of a slot.
+    fn end<R: Wait + Clock, W: Watch>(
+        &mut self,
+        rt: &R,
+        loops: &Loops,
+        watch: &W,
+        slot: usize,
+        fault: Option<PlainFault>,
+    ) {
+        if let Some(member) = self.members.slots.release(slot) {
+            loops.count_unsent(member.client.unsent(), 0);
+            end_member(rt, watch, &member, fault);
+        }
+    }
+
+    /// Whether the peer of the client of a slot has had the time to end.
+    fn has_parted(&self, slot: usize) -> bool {
+        let member = self.members.slots.get(slot);
+        member.is_some_and(|member| member.has_parted(self.now))
     }
 
     /// How many microseconds pass between two looks at who makes progress.
@@ -71,13 +91,16 @@ impl Loop {
     }
 
     /// Notes a client's progress. Whether it has made none for as long as it may, and no turn of
-    /// the loop is due to it. A request that has begun has to be whole in that time, also of who
-    /// sends a byte for each turn.
+    /// the loop and no worker's answer is due to it. A request that has begun has to be whole in
+    /// that time, also of who sends a byte for each turn.
     fn is_idle(&mut self, slot: usize) -> bool {
         let is_listed = self.members.slots.is_listed(slot);
         let Some(member) = self.members.slots.get_mut(slot) else {
             return false;
         };
+        if member.client.is_waiting() {
+            member.note.since = self.now;
+        }
         let waited = self.now.saturating_sub(member.note_progress(self.now));
         let progress = member.note.progress;
         let is_due = is_listed && !progress.has_begun;

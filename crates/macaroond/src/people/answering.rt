@@ -1,20 +1,26 @@
 //! Doing what a person asks.
-ghost use Rattle.std.specs.Prelude.{◌≡◌, [], IfOk};
+ghost use Rattle.std.specs.Prelude.{◌≡◌, ℕ, [], List, IfOk, Ok};
+ghost use Rattle.mac_words.specs.Said.{Says};
 ghost use Rattle.macaroond.specs.Doing.{DoesAttenuate, DoesInspect, DoesMint, DoesTask};
-ghost use Rattle.macaroond.specs.Doing.{DoesVerify, EndsTask};
+ghost use Rattle.macaroond.specs.Doing.{DoesVerify, EndsTask, IsDrawn};
 ghost use Rattle.macaroond.specs.People.{IsToldSo, SaysWords, SaysWordsAlone, attenuate_asked};
 ghost use Rattle.macaroond.specs.People.{mint_asked, person_status, said_status, verify_asked};
 
-use super::asking::{AttenuateWords, MintWords, VerifyWords};
-use super::given::{load_keys, read_form, read_moment, read_token};
-use super::keygen::{do_check, do_keygen};
-use super::readers::{warn_of_no_keys, warn_of_readers};
+use super::asking::{AttenuateWords, InspectWords, MintWords, VerifyWords};
+use super::checking::do_check;
+use super::given::{draw_identifier, load_keys, read_form, read_moment, read_token};
+use super::keygen::do_keygen;
+use super::lists::load_table;
+use super::readers::warn_of_readers;
+use super::revoke::do_revoke;
 use super::status_page::do_status;
 use super::{PersonFault, Task};
 use crate::status::Status;
 use mac_keys::KeyTable;
 use mac_wire::{TokenForm, WriterSink, send_all};
-use mac_words::{Said, say_attenuate, say_inspect, say_mint, say_verify, warnings};
+use mac_words::{
+    Said, say_attenuate, say_inspect, say_inspect_under, say_mint, say_verify, warnings,
+};
 use std::alloc::{Alloc, Global};
 use std::fs::{File, Files};
 use std::io;
@@ -48,25 +54,57 @@ where
 {
     match task {
         Task::Keygen(words) => do_keygen(rt, words),
-        Task::Check { keys } => do_check(rt, keys.as_str()),
+        Task::Check(words) => do_check(rt, words),
         Task::Mint(words) => do_mint(rt, words),
         Task::Attenuate(words) => do_attenuate(rt, words),
         Task::Verify(words) => do_verify(rt, words),
-        Task::Inspect { token } => do_inspect(rt, token.as_str()),
+        Task::Inspect(words) => do_inspect(rt, words),
         Task::Status(words) => do_status(rt, words),
+        Task::Revoke(words) => do_revoke(rt, words),
     }
 }
 
-/// What is said of a mint: first its form is read, then its key file.
+/// What is said of a mint: first its form is read, then its key file. An identifier that the words
+/// don't say is drawn.
 fn do_mint<'a, R>(rt: &R, words: &'a MintWords) -> Result<Said, PersonFault<'a>>
 where
-    R: Alloc<A = Global> + Files,
+    R: Alloc<A = Global> + Eprint + Files + RandomSource,
     R::File: Send,
     ensures { IfOk result (DoesMint words.now) }
 {
     let form = read_form(&words.form)?;
     let table = load_keys(rt, words.keys.as_str())?;
-    say_mint_under(rt.alloc(), &table, form, words)
+    match &words.identifier {
+        Some(identifier) => {
+            say_mint_under(rt.alloc(), &table, form, identifier.as_str(), words)
+        },
+        None => say_drawn(rt, &table, form, words),
+    }
+}
+
+/// What is said of a mint with an identifier that is drawn.
+fn say_drawn<'a, R>(
+    rt: &R,
+    table: &KeyTable,
+    form: Option<TokenForm>,
+    words: &MintWords,
+) -> Result<Said, PersonFault<'a>>
+where
+    R: Alloc<A = Global> + Eprint + RandomSource,
+    ensures { IfOk result (λ said. (identifier : List ℕ) × IsDrawn identifier
+        × Says table.now [] (mint_asked form identifier words.now) (Ok said)) }
+{
+    let drawn = draw_identifier(rt)?;
+    let said = say_mint_under(rt.alloc(), table, form, drawn.as_str(), words)?;
+    tell_drawn(rt, drawn.as_str(), &said);
+    Ok(said)
+}
+
+/// Tells on standard error which identifier was drawn for a token that was minted.
+fn tell_drawn<R: Eprint>(rt: &R, identifier: &str, said: &Said) {
+    if !said.is_refusal {
+        let _ = eprintln!(rt; "identifier {identifier}");
+    }
 }
 
 /// What is said of an attenuate: first its form is read, then its token.
@@ -81,39 +119,43 @@ where
     say_attenuate_of(rt.alloc(), form, token.as_slice(), words)
 }
 
-/// What is said of a verify: first its moment is read, then its key file, then its token.
+/// What is said of a verify: first its moment is read, then its key file with its list, then its
+/// token.
 fn do_verify<'a, R>(rt: &R, words: &'a VerifyWords) -> Result<Said, PersonFault<'a>>
 where
-    R: Alloc<A = Global> + Input + Files + Clock,
+    R: Alloc<A = Global> + Input + Files<File = File> + Clock,
     R::Reader: Send,
-    R::File: Send,
     ensures { IfOk result (DoesVerify words.now) }
 {
     let moment = read_moment(rt, &words.at)?;
-    let table = load_keys(rt, words.keys.as_str())?;
+    let table = load_table(rt, words.keys.as_str(), &words.revoked)?;
     let token = read_token(rt, words.token.as_str())?;
     say_verify_under(rt.alloc(), &table, moment, token.as_slice(), words)
 }
 
-/// What is said of a token.
-fn do_inspect<'a, R>(rt: &R, token: &str) -> Result<Said, PersonFault<'a>>
+/// What is said of a token, with the line that takes it back where a name is given.
+fn do_inspect<'a, R>(rt: &R, words: &'a InspectWords) -> Result<Said, PersonFault<'a>>
 where
     R: Alloc<A = Global> + Input,
     R::Reader: Send,
-    ensures { IfOk result (DoesInspect token.now) }
+    ensures { IfOk result (DoesInspect words.now) }
 {
-    let token = read_token(rt, token)?;
-    Ok(say_inspect(rt.alloc(), token.as_slice())?)
+    let token = read_token(rt, words.token.as_str())?;
+    match &words.key {
+        Some(name) => Ok(say_inspect_under(rt.alloc(), name.as_str(), token.as_slice())?),
+        None => Ok(say_inspect(rt.alloc(), token.as_slice())?),
+    }
 }
 
-/// What is said of the words of a mint under the keys of a table.
+/// What is said of the words of a mint with this identifier, under the keys of a table.
 fn say_mint_under<'a>(
     alloc: Global,
     table: &KeyTable,
     form: Option<TokenForm>,
+    identifier: &str,
     words: &MintWords,
 ) -> Result<Said, PersonFault<'a>>
-    ensures { SaysWords table.now [] (mint_asked form words.now) result }
+    ensures { SaysWords table.now [] (mint_asked form identifier.now words.now) result }
 {
     Ok(say_mint(
         alloc,
@@ -121,7 +163,7 @@ fn say_mint_under<'a>(
         form,
         words.key.as_str(),
         words.location.as_str(),
-        words.identifier.as_str(),
+        identifier,
         words.caveats.as_slice(),
     )?)
 }
@@ -159,8 +201,7 @@ fn say_verify_under<'a>(
 }
 
 /// Warns on standard error of what is right but seldom meant: caveats of a new token that will not
-/// hold as bounds of time, and a checked key file that others than its owner may use or that has no
-/// key.
+/// hold as bounds of time, and a key file or a list that others than its owner may use.
 fn warn<R: Alloc<A = Global> + Eprint + Files>(rt: &R, task: &Task, said: &Said) {
     if said.is_refusal {
         return;
@@ -171,12 +212,14 @@ fn warn<R: Alloc<A = Global> + Eprint + Files>(rt: &R, task: &Task, said: &Said)
             warn_of_caveats(rt, words.caveats.as_slice());
         },
         Task::Attenuate(words) => warn_of_caveats(rt, words.caveats.as_slice()),
-        Task::Check { keys } => {
-            warn_of_readers(rt, keys.as_str());
-            warn_of_no_keys(rt, keys.as_str(), said.text.len());
+        Task::Verify(words) => {
+            warn_of_readers(rt, words.keys.as_str());
+            if let Some(path) = &words.revoked {
+                warn_of_readers(rt, path.as_str());
+            }
         },
-        Task::Verify(words) => warn_of_readers(rt, words.keys.as_str()),
-        Task::Keygen(_) | Task::Inspect { .. } | Task::Status(_) => {},
+        Task::Keygen(_) | Task::Check(_) | Task::Inspect(_) | Task::Status(_) | Task::Revoke(_) =>
+            {},
     }
 }
 

@@ -1,9 +1,10 @@
 //! What a person asks of the program, in the words of the command line.
-ghost use Rattle.std.specs.Prelude.{◌≡◌, codes, map, option_map, string_bytes, IfOk};
+ghost use Rattle.std.specs.Prelude.{◌≡◌, map, option_map, string_bytes, IfOk};
 ghost use Rattle.clap.specs.Words.{all_of, first_of, found_of, rows_of};
 ghost use Rattle.mac_words.specs.Payload.{texts_of};
-ghost use Rattle.macaroond.specs.People.{HasAttenuate, HasKeygen, HasMint, HasTask, HasVerify};
-ghost use Rattle.macaroond.specs.People.{HasStatus, IsTaskName, is_set};
+ghost use Rattle.macaroond.specs.People.{HasAttenuate, HasCheck, HasInspect, HasKeygen, HasMint};
+ghost use Rattle.macaroond.specs.People.{HasRevoke, HasStatus, HasTask, HasVerify};
+ghost use Rattle.macaroond.specs.People.{IsTaskName, is_set};
 ghost use Rattle.macaroond.specs.People.{task_name, text_given, texts_given};
 
 use clap::ArgMatches;
@@ -14,11 +15,8 @@ use std::alloc::{AllocError, Global};
 pub enum Task {
     /// Make a key line with a new secret, or drop an old one.
     Keygen(KeygenWords),
-    /// Tell what a key file holds.
-    Check {
-        /// The path of the key file.
-        keys: String,
-    },
+    /// Tell what a key file holds, and a list of tokens that were taken back.
+    Check(CheckWords),
     /// Print a new token.
     Mint(MintWords),
     /// Print a token with further caveats.
@@ -26,12 +24,11 @@ pub enum Task {
     /// Tell whether a key grants a token.
     Verify(VerifyWords),
     /// Tell what a token says.
-    Inspect {
-        /// The token.
-        token: String,
-    },
+    Inspect(InspectWords),
     /// Tell how a daemon is.
     Status(StatusWords),
+    /// Make a line that takes a token back, or drop it.
+    Revoke(RevokeWords),
 }
 
 /// The words of a keygen: of the paths one at most is to be given.
@@ -53,6 +50,15 @@ pub struct KeygenWords {
     pub drop_first: Option<String>,
 }
 
+/// The words of a check: one at least is to be given.
+#[derive(Drop)]
+pub struct CheckWords {
+    /// The path of the key file.
+    pub keys: Option<String>,
+    /// The path of the list.
+    pub revoked: Option<String>,
+}
+
 /// The words of a mint.
 #[derive(Drop)]
 pub struct MintWords {
@@ -63,7 +69,7 @@ pub struct MintWords {
     /// The token's location.
     pub location: String,
     /// The token's identifier.
-    pub identifier: String,
+    pub identifier: Option<String>,
     /// The token's caveats, in order.
     pub caveats: Vec<String>,
     /// The form of the token.
@@ -94,6 +100,17 @@ pub struct VerifyWords {
     pub facts: Vec<String>,
     /// The moment of the request.
     pub at: Option<String>,
+    /// The path of a list of tokens that were taken back.
+    pub revoked: Option<String>,
+}
+
+/// The words of an inspect.
+#[derive(Drop)]
+pub struct InspectWords {
+    /// The token.
+    pub token: String,
+    /// The name of the key under which it would be taken back.
+    pub key: Option<String>,
 }
 
 /// The words of a status: one flag at most is to be given.
@@ -107,6 +124,22 @@ pub struct StatusWords {
     pub connections: bool,
 }
 
+/// The words of a revoke: of the paths one at most is to be given, and of identifier and token
+/// exactly one.
+#[derive(Drop)]
+pub struct RevokeWords {
+    /// The name of the key.
+    pub name: String,
+    /// The path of a list into which the line is put.
+    pub into: Option<String>,
+    /// The path of a list from which it is dropped.
+    pub drop: Option<String>,
+    /// The token's identifier.
+    pub identifier: Option<String>,
+    /// The token.
+    pub token: Option<String>,
+}
+
 /// The task that a subcommand with these options stands for. An argument that was left out is the
 /// empty text; `clap` takes no line that leaves out one that it asks for.
 pub fn read_task(alloc: Global, name: &str, options: &ArgMatches<'_>) -> Result<Task, AllocError>
@@ -116,12 +149,13 @@ pub fn read_task(alloc: Global, name: &str, options: &ArgMatches<'_>) -> Result<
 {
     match name {
         "keygen" => Ok(Task::Keygen(read_keygen(alloc, options)?)),
-        "check" => read_check(alloc, options),
+        "check" => Ok(Task::Check(read_check(alloc, options)?)),
         "mint" => Ok(Task::Mint(read_mint(alloc, options)?)),
         "attenuate" => Ok(Task::Attenuate(read_attenuate(alloc, options)?)),
         "verify" => Ok(Task::Verify(read_verify(alloc, options)?)),
-        "inspect" => read_inspect(alloc, options),
+        "inspect" => Ok(Task::Inspect(read_inspect(alloc, options)?)),
         "status" => Ok(Task::Status(read_status(alloc, options)?)),
+        "revoke" => Ok(Task::Revoke(read_revoke(alloc, options)?)),
         _ => unreachable!("the subcommand is one of those above"),
     }
 }
@@ -141,22 +175,24 @@ fn read_keygen(alloc: Global, options: &ArgMatches<'_>) -> Result<KeygenWords, A
     })
 }
 
-/// The task of the arguments of `check`.
-fn read_check(alloc: Global, options: &ArgMatches<'_>) -> Result<Task, AllocError>
-    ensures { IfOk result (λ task. (task_name task ≡ codes "check")
-        × HasTask task (rows_of (found_of options.now))) }
+/// The words of the arguments of `check`.
+fn read_check(alloc: Global, options: &ArgMatches<'_>) -> Result<CheckWords, AllocError>
+    ensures { IfOk result (λ words. HasCheck words (rows_of (found_of options.now))) }
 {
-    let keys = read_text_or_empty(alloc, options, "keys")?;
-    Ok(Task::Check { keys })
+    Ok(CheckWords {
+        keys: read_optional_text(alloc, options, "keys")?,
+        revoked: read_optional_text(alloc, options, "revoked")?,
+    })
 }
 
-/// The task of the arguments of `inspect`.
-fn read_inspect(alloc: Global, options: &ArgMatches<'_>) -> Result<Task, AllocError>
-    ensures { IfOk result (λ task. (task_name task ≡ codes "inspect")
-        × HasTask task (rows_of (found_of options.now))) }
+/// The words of the arguments of `inspect`.
+fn read_inspect(alloc: Global, options: &ArgMatches<'_>) -> Result<InspectWords, AllocError>
+    ensures { IfOk result (λ words. HasInspect words (rows_of (found_of options.now))) }
 {
-    let token = read_text_or_empty(alloc, options, "token")?;
-    Ok(Task::Inspect { token })
+    Ok(InspectWords {
+        token: read_text_or_empty(alloc, options, "token")?,
+        key: read_optional_text(alloc, options, "key")?,
+    })
 }
 
 /// The words of the arguments of `mint`.
@@ -167,7 +203,7 @@ fn read_mint(alloc: Global, options: &ArgMatches<'_>) -> Result<MintWords, Alloc
         keys: read_text_or_empty(alloc, options, "keys")?,
         key: read_text_or_empty(alloc, options, "key")?,
         location: read_text_or_empty(alloc, options, "location")?,
-        identifier: read_text_or_empty(alloc, options, "identifier")?,
+        identifier: read_optional_text(alloc, options, "identifier")?,
         caveats: read_texts(alloc, options, "caveat")?,
         form: read_optional_text(alloc, options, "form")?,
     })
@@ -194,6 +230,7 @@ fn read_verify(alloc: Global, options: &ArgMatches<'_>) -> Result<VerifyWords, A
         token: read_text_or_empty(alloc, options, "token")?,
         facts: read_texts(alloc, options, "fact")?,
         at: read_optional_text(alloc, options, "at")?,
+        revoked: read_optional_text(alloc, options, "revoked")?,
     })
 }
 
@@ -205,6 +242,20 @@ fn read_status(alloc: Global, options: &ArgMatches<'_>) -> Result<StatusWords, A
         socket: read_text_or_empty(alloc, options, "socket")?,
         prometheus: read_flag(options, "prometheus"),
         connections: read_flag(options, "connections"),
+    })
+}
+
+/// The words of the arguments of `revoke`.
+fn read_revoke(alloc: Global, options: &ArgMatches<'_>) -> Result<RevokeWords, AllocError>
+    ensures { IfOk result (λ words. HasRevoke words (rows_of (found_of options.now))) }
+{
+    let into = read_optional_text(alloc, options, "into")?;
+    Ok(RevokeWords {
+        name: read_text_or_empty(alloc, options, "name")?,
+        into,
+        drop: read_optional_text(alloc, options, "drop")?,
+        identifier: read_optional_text(alloc, options, "identifier")?,
+        token: read_optional_text(alloc, options, "token")?,
     })
 }
 

@@ -6,7 +6,8 @@ ghost use Rattle.macaroond.specs.declared.people.fault.PersonFault.TheVariants a
 use crate::fault::PipeFault;
 use crate::key_fault::TextlessFile;
 use crate::status::Status;
-use mac_keys::{ChangeFault, LineFault};
+use mac_board::ListRefusal;
+use mac_keys::{ChangeFault, LineFault, RevokedLineFault};
 use mac_words::{FieldFault, NameFault, TextFault};
 use std::alloc::AllocError;
 use std::fs::Files;
@@ -63,33 +64,33 @@ pub enum PersonFault<'a> {
     Beside {
         path: &'a str,
     },
-    /// What stands in the way of the new file was left by no run of keygen.
+    /// What stands in the way of the new file was left by no run of this program.
     #[error("{path}.keygen: what is there is no file that keygen left; remove it")]
     Left {
         path: &'a str,
     },
-    /// Another run of keygen has the new file.
-    #[error("{path}: another run of keygen changes the key file; try again")]
+    /// Another run has the new file.
+    #[error("{path}: another run changes the file; try again")]
     Busy {
         path: &'a str,
     },
-    /// The key file is a link.
-    #[error("{path}: the key file is a link; give the path of the file that it leads to")]
+    /// The file is a link.
+    #[error("{path}: the file is a link; give the path of the file that it leads to")]
     Link {
         path: &'a str,
     },
     /// The change may be lost where the power goes.
-    #[error("{path}: the key file was changed, but its folder can't be brought to the disk")]
+    #[error("{path}: the file was changed, but its folder can't be brought to the disk")]
     Unsynced {
         path: &'a str,
     },
-    /// Somebody wrote the key file while its change was made.
-    #[error("{path}: the key file was changed meanwhile")]
+    /// Somebody wrote the file while its change was made.
+    #[error("{path}: the file was changed meanwhile")]
     Meanwhile {
         path: &'a str,
     },
     /// A file can't be written.
-    #[error("{path}: the key file can't be written, or not for its owner and group")]
+    #[error("{path}: the file can't be written, or not for its owner and group")]
     Unwritten {
         path: &'a str,
     },
@@ -97,6 +98,28 @@ pub enum PersonFault<'a> {
     #[error("of `--into`, `--above`, `--below`, `--raise`, `--drop` and `--drop-first` one alone \
         may be given")]
     Options,
+    /// Two options name lists.
+    #[error("of `--into` and `--drop` one alone may be given")]
+    RevokeOptions,
+    /// There is no identifier and no token, or both.
+    #[error("either `--identifier` or a token has to be given, and not both")]
+    WhichToken,
+    /// There is neither a key file to be checked nor a list.
+    #[error("`--keys` or `--revoked` has to be given")]
+    WhichFile,
+    /// The list of tokens that were taken back gives none.
+    #[error("{path}: {why}")]
+    List {
+        path: &'a str,
+        why: ListRefusal,
+    },
+    /// A line of the list that was to be checked, counted from 1, and what is wrong with it.
+    #[error("{path}: line {line}: {kind}")]
+    CheckedList {
+        path: &'a str,
+        line: u64,
+        kind: RevokedLineFault,
+    },
     /// Two flags name pages.
     #[error("of `--prometheus` and `--connections` one alone may be given")]
     Pages,
@@ -150,8 +173,12 @@ impl<'a> PersonFault<'a> {
             | PersonFault::Form
             | PersonFault::Moment
             | PersonFault::Options
+            | PersonFault::RevokeOptions
+            | PersonFault::WhichToken
+            | PersonFault::WhichFile
             | PersonFault::Pages => Status::BadLine,
             PersonFault::Checked { .. }
+            | PersonFault::CheckedList { .. }
             | PersonFault::Change { .. }
             | PersonFault::Exists { .. }
             | PersonFault::Beside { .. }

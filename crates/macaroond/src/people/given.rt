@@ -2,7 +2,7 @@
 ghost use Rattle.std.specs.Prelude.{◌≡◌, ◌≢◌, [], ◌∷◌, ℕ, List, option_map, string_bytes};
 ghost use Rattle.std.specs.Prelude.{IfOk, IfSome, MatchOption};
 ghost use Rattle.mac_words.specs.TokenText.{bytes_told};
-ghost use Rattle.macaroond.specs.Doing.{IsKeyTable, StandsFor};
+ghost use Rattle.macaroond.specs.Doing.{IsDrawn, IsKeyTable, StandsFor};
 ghost use Rattle.macaroond.specs.Lines.{lines};
 ghost use Rattle.macaroond.specs.People.{GivesForm, GivesMoment};
 
@@ -137,6 +137,19 @@ pub(super) fn draw_secret<'a, R: RandomSource>(rt: &R) -> Result<[u8; 32], Perso
     let mut secret = [0u8; 32];
     match rt.fill_bytes(&mut secret) {
         Ok(()) => Ok(secret),
+        Err(_) => Err(PersonFault::Random),
+    }
+}
+
+/// 32 hexadecimal digits of random bytes of the system, for the identifier of a token.
+pub(super) fn draw_identifier<'a, R>(rt: &R) -> Result<String, PersonFault<'a>>
+where
+    R: Alloc<A = Global> + RandomSource,
+    ensures { IfOk result (λ digits. IsDrawn (string_bytes digits)) }
+{
+    let mut drawn = [0u8; 16];
+    match rt.fill_bytes(&mut drawn) {
+        Ok(()) => Ok(hex::encode(rt.alloc(), &drawn)?),
         Err(_) => Err(PersonFault::Random),
     }
 }

@@ -1,6 +1,6 @@
 //! New keys, and changes of keys.
 ghost use Rattle.std.specs.Prelude.{◌≡◌, ◌++◌, [], false, IfOk};
-ghost use Rattle.macaroond.specs.Doing.{ChecksText, DoesCheck, DoesKeygen, GivesDeed, GivesPart};
+ghost use Rattle.macaroond.specs.Doing.{DoesKeygen, GivesDeed, GivesPart};
 ghost use Rattle.macaroond.specs.Doing.{IsChanged, IsNewLine, PrintsLine, SaysChange, SaysNothing};
 ghost use Rattle.macaroond.specs.Doing.{SaysOf, change_status, putting, taking};
 ghost use Rattle.macaroond.specs.People.{person_status};
@@ -9,13 +9,11 @@ ghost use Rattle.macaroond.specs.declared.people.keygen.Change.TheVariants.{Abov
 use super::PersonFault;
 use super::asking::KeygenWords;
 use super::given::draw_secret;
-use super::key_files::{create_file, read_kept, read_text, replace_file};
-use super::readers::warn_of_weak;
+use super::key_files::{Held, create_file, read_kept, replace_file};
 use mac_keys::{
-    ChangeFault, KeyFault, KeyTable, add_above, add_below, drop_lower, drop_upper, find_weak,
-    raise_lower, wipe,
+    ChangeFault, KeyFault, add_above, add_below, drop_lower, drop_upper, raise_lower, wipe,
 };
-use mac_words::{Said, key_line, list_names};
+use mac_words::{Said, key_line};
 use std::alloc::{Alloc, AllocError, Global};
 use std::fs::{File, Files};
 use std::random::RandomSource;
@@ -43,8 +41,8 @@ pub(super) enum Change {
     DropFirst,
 }
 
-/// A line of a key file with a new secret, printed or put into a file; or a change of the lines
-/// that a file has.
+/// A line of a key file with a new secret, printed or put into a file; or a change of the lines that
+/// a file has.
 pub(super) fn do_keygen<'a, R>(rt: &R, words: &'a KeygenWords) -> Result<Said, PersonFault<'a>>
 where
     R: Alloc<A = Global> + Files<File = File> + RandomSource,
@@ -130,7 +128,7 @@ where
     R: Alloc<A = Global> + Files<File = File> + RandomSource,
     ensures { IfOk result (SaysChange change name.now) }
 {
-    let mut kept = read_kept(rt, path)?;
+    let mut kept = read_kept(rt, path, Held::Keys)?;
     let mut changed = change_text(rt, change, path, kept.text.as_slice(), name)?;
     replace_file(rt, change, name, path, &kept, changed.as_slice())?;
     wipe(changed.as_mut_slice());
@@ -252,35 +250,5 @@ fn say_nothing(alloc: Global) -> Said
     Said {
         text: Vec::new(alloc),
         is_refusal: false,
-    }
-}
-
-/// What is said of a key file.
-pub(super) fn do_check<'a, R>(rt: &R, path: &'a str) -> Result<Said, PersonFault<'a>>
-where
-    R: Alloc<A = Global> + Eprint + Files,
-    R::File: Send,
-    ensures { IfOk result DoesCheck }
-{
-    let mut text = read_text(rt, path)?;
-    let said = say_names(rt.alloc(), path, text.as_slice());
-    if said.is_ok() {
-        warn_of_weak(rt, path, find_weak(text.as_slice()));
-    }
-    wipe(text.as_mut_slice());
-    said
-}
-
-/// The names of a key file, or its first fault.
-fn say_names<'a>(alloc: Global, path: &'a str, text: &[u8]) -> Result<Said, PersonFault<'a>>
-    ensures { ChecksText text.now result }
-{
-    match KeyTable::read(alloc, text) {
-        Ok(table) => Ok(Said {
-            text: list_names(alloc, &table)?,
-            is_refusal: false,
-        }),
-        Err(KeyFault::Line { line, kind }) => Err(PersonFault::Checked { path, line, kind }),
-        Err(KeyFault::Memory) => Err(PersonFault::Memory),
     }
 }

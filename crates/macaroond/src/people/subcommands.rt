@@ -4,7 +4,8 @@ ghost use Rattle.clap.specs.Words.{app_of, rule_of};
 ghost use Rattle.macaroond.specs.Arguments.{option, required};
 ghost use Rattle.macaroond.specs.People.{attenuate_command, check_command, inspect_command};
 ghost use Rattle.macaroond.specs.People.{keygen_command, mint_command, repeated, verify_command};
-ghost use Rattle.macaroond.specs.People.{status_command, with_key, with_people, word};
+ghost use Rattle.macaroond.specs.People.{revoke_command, status_command, with_key, with_people};
+ghost use Rattle.macaroond.specs.People.{word};
 
 use crate::parts::{
     KEYS_HELP, add_arg, add_subcommand, build_flag, build_option, build_subcommand,
@@ -47,23 +48,26 @@ Exit status:
 /// What the help of `check` says below its options.
 const CHECK_HELP: &str = "\
 Prints a line for each name of the key file, in the order of their bytes: `NAME: one key`, or
-`NAME: two keys`. Warns on standard error of a file that others may use, and of a secret of fewer
-than 16 bytes.
+`NAME: two keys`; and behind them how many lines the list has that take tokens back, `revoked lines:
+COUNT`. One of both files at least is to be given. Warns on standard error of a file that others may
+use, and of a secret of fewer than 16 bytes.
 
 Example:
-  macaroond check --keys keys
+  macaroond check --keys keys --revoked revoked
 
 Exit status:
-  0  each line of the file is right, and its names were printed
+  0  each line is right, and what the files hold was printed
   1  a line has a fault; standard error names the first with its number
   2  a bad command line
-  3  the key file or standard output failed
+  3  a file or standard output failed
   4  memory ran out";
 
 /// What the help of `mint` says below its options.
 const MINT_HELP: &str = "\
-Prints a new token, one of form v2 as `hex:` and its digits. A refusal is told on standard error,
-and so is a caveat that begins as a bound of time does and is none: it holds only as a fact.
+Prints a new token, one of form v2 as `hex:` and its digits. Without --identifier the token gets 128
+random bits in hexadecimal, which standard error tells as `identifier DIGITS`. A refusal is told
+there too, and so is a caveat that begins as a bound of time does and is none: it holds only as a
+fact.
 
 Example:
   macaroond mint --keys keys --key bank --identifier alice --caveat 'time < 2030-01-01T00:00'
@@ -72,7 +76,8 @@ Exit status:
   0  the token was printed
   1  refused: the key file has no such key, or a limit is passed
   2  a bad command line
-  3  the key file or standard output failed, or a key line has a fault
+  3  the key file or standard output failed, a key line has a fault, or the system gives no random
+     bytes
   4  memory ran out";
 
 /// What the help of `attenuate` says below its options.
@@ -98,7 +103,7 @@ Prints `granted`, or `refused`, the number of the reason and the reason. A cavea
 one of the facts, a time limit `time < 2030-01-01T00:00` that isn't over, or a lower bound of time
 `time >= 2026-01-01T00:00` that has come. TOKEN is the token's text, `hex:` and its digits, or - for
 one line of standard input. MOMENT is a number of seconds since 1970, or a time as
-2026-01-31T12:00:00Z.
+2026-01-31T12:00:00Z. With --revoked a token of the list is refused.
 
 Example:
   macaroond verify --keys keys --key bank --fact 'account = 3735928559' \"$token\"
@@ -107,15 +112,16 @@ Exit status:
   0  granted
   1  refused
   2  a bad command line
-  3  the key file, standard input, the clock or standard output failed, or a key line has a fault
+  3  a file, standard input, the clock or standard output failed, or a line of a file has a fault
   4  memory ran out";
 
 /// What the help of `inspect` says below its options.
 const INSPECT_HELP: &str = "\
 Prints what the token says: its form, location, identifier, caveats and signature. No key is
 needed for it, and nothing is verified. Bytes that aren't printable ASCII, and the backslash, are
-printed as \\x and two digits. TOKEN is the token's text, `hex:` and its digits, or - for one line
-of standard input.
+printed as \\x and two digits. With --key the last line is `revoked NAME HEX`, which takes the token
+back in a list. TOKEN is the token's text, `hex:` and its digits, or - for one line of standard
+input.
 
 Example:
   macaroond inspect \"$token\"
@@ -162,9 +168,19 @@ const DROP_HELP: &str = "Drops the name's second line from this key file";
 
 const FIRST_HELP: &str = "Drops the name's first line, whose key mints, from this key file";
 
+const REVOKE_INTO_HELP: &str = "Puts the line into this list, which is made where it isn't there";
+
+const REVOKE_DROP_HELP: &str = "Drops the line from this list";
+
+const LIST_HELP: &str = "A list of tokens that were taken back";
+
+const LINE_HELP: &str = "The name of the key, for a last line that takes the token back";
+
 const KEY_HELP: &str = "The name of the key";
 
 const TOKEN_HELP: &str = "The token, or - for a line of standard input";
+
+const IDENTIFIER_HELP: &str = "What the token is about [default: 32 random digits]";
 
 const CAVEAT_HELP: &str = "A caveat; may be given often";
 
@@ -173,6 +189,31 @@ const FACT_HELP: &str = "What is known of the request; may be given often";
 const MINT_FORM_HELP: &str = "The form: v1, v2, json or v2-text [default: v2-text]";
 
 const NEXT_FORM_HELP: &str = "The form: v1, v2, json or v2-text [default: that of the token]";
+
+/// What the help of `revoke` says below its options.
+const REVOKE_HELP: &str = "\
+Prints a line of a list of tokens that were taken back, `revoked NAME HEX`: tokens of that name with
+that identifier are refused by a daemon that has the list (--revoked), and with them all that were
+narrowed from one. The identifier is that of --identifier, as `mint` takes it, or that of TOKEN: the
+token's text, `hex:` and its digits, or - for one line of standard input. Whose the token is, as it
+says itself, is told on standard error first; no key is asked for.
+  --into puts the line behind those of FILE, or makes FILE with mode 600. A line that is there
+  already isn't put there again.
+  --drop takes each such line out of FILE.
+Both look at the whole of FILE first, and change nothing where a line of it has a fault. They keep
+the owner, the group and the mode of FILE, write FILE.keygen and move it over FILE.
+
+Example:
+  macaroond revoke bank --identifier alice:5f3c --into revoked
+  macaroond revoke bank --into revoked - < token
+
+Exit status:
+  0  the line was printed, or the list has it, or has it no more
+  1  refused, and nothing was changed: TOKEN is none, FILE.new is there, FILE is a link or was
+     changed meanwhile, or another run changes it
+  2  a bad command line
+  3  a file, standard input or standard output failed, or a line of FILE has a fault
+  4  memory ran out";
 
 /// Adds the subcommands for people.
 pub(crate) fn add_people<'a>(alloc: Global, program: Command<'a>) -> Result<Command<'a>, AllocError>
@@ -184,7 +225,8 @@ pub(crate) fn add_people<'a>(alloc: Global, program: Command<'a>) -> Result<Comm
     let program = add_subcommand(program, build_attenuate(alloc)?)?;
     let program = add_subcommand(program, build_verify(alloc)?)?;
     let program = add_subcommand(program, build_inspect(alloc)?)?;
-    add_subcommand(program, build_status(alloc)?)
+    let program = add_subcommand(program, build_status(alloc)?)?;
+    add_subcommand(program, build_revoke(alloc)?)
 }
 
 /// The subcommand `keygen`, with six options and the name of the key.
@@ -209,15 +251,17 @@ fn build_keygen<'a>(alloc: Global) -> Result<Command<'a>, AllocError>
     add_arg(command, build_word(alloc, "name", "NAME", KEY_HELP))
 }
 
-/// The subcommand `check`, with the key file.
+/// The subcommand `check`, with the key file and the list.
 fn build_check<'a>(alloc: Global) -> Result<Command<'a>, AllocError>
     ensures { IfOk result (λ whole. app_of whole ≡ check_command) }
 {
-    let command = build_subcommand(alloc, "check", "Tells what a key file holds", CHECK_HELP);
-    add_arg(command, build_required(alloc, "keys", "FILE", KEYS_HELP))
+    let about = "Tells what a key file holds, and a list of tokens that were taken back";
+    let command = build_subcommand(alloc, "check", about, CHECK_HELP);
+    let command = add_arg(command, build_option(alloc, "keys", "FILE", KEYS_HELP))?;
+    add_arg(command, build_option(alloc, "revoked", "FILE", LIST_HELP))
 }
 
-/// The subcommand `mint`: of its six options three have to be given.
+/// The subcommand `mint`: of its six options two have to be given.
 fn build_mint<'a>(alloc: Global) -> Result<Command<'a>, AllocError>
     ensures { IfOk result (λ whole. app_of whole ≡ mint_command) }
 {
@@ -230,7 +274,7 @@ fn build_mint<'a>(alloc: Global) -> Result<Command<'a>, AllocError>
         "Where the token is for [default: empty]",
     );
     let command = add_arg(command, location)?;
-    let identifier = build_required(alloc, "identifier", "TEXT", "What the token is about");
+    let identifier = build_option(alloc, "identifier", "TEXT", IDENTIFIER_HELP);
     let command = add_arg(command, identifier)?;
     let command = add_arg(command, build_repeated(alloc, "caveat", CAVEAT_HELP))?;
     add_arg(command, build_option(alloc, "form", "FORM", MINT_FORM_HELP))
@@ -271,14 +315,16 @@ fn build_verify<'a>(alloc: Global) -> Result<Command<'a>, AllocError>
         "The moment of the request [default: now]",
     );
     let command = add_arg(command, at)?;
+    let command = add_arg(command, build_option(alloc, "revoked", "FILE", LIST_HELP))?;
     add_arg(command, build_word(alloc, "token", "TOKEN", TOKEN_HELP))
 }
 
-/// The subcommand `inspect`, with the token.
+/// The subcommand `inspect`, with the name of a key, and the token.
 fn build_inspect<'a>(alloc: Global) -> Result<Command<'a>, AllocError>
     ensures { IfOk result (λ whole. app_of whole ≡ inspect_command) }
 {
     let command = build_subcommand(alloc, "inspect", "Tells what a token says", INSPECT_HELP);
+    let command = add_arg(command, build_option(alloc, "key", "NAME", LINE_HELP))?;
     add_arg(command, build_word(alloc, "token", "TOKEN", TOKEN_HELP))
 }
 
@@ -293,6 +339,32 @@ fn build_status<'a>(alloc: Global) -> Result<Command<'a>, AllocError>
     )?;
     let command = add_arg(command, build_flag(alloc, "prometheus", PROMETHEUS_HELP))?;
     add_arg(command, build_flag(alloc, "connections", LISTED_HELP))
+}
+
+/// The subcommand `revoke`, with three options, the name of the key, and a token.
+fn build_revoke<'a>(alloc: Global) -> Result<Command<'a>, AllocError>
+    ensures { IfOk result (λ whole. app_of whole ≡ revoke_command) }
+{
+    let about = "Makes a line that takes a token back";
+    let command = build_subcommand(alloc, "revoke", about, REVOKE_HELP);
+    let command = add_arg(
+        command,
+        build_option(alloc, "into", "FILE", REVOKE_INTO_HELP),
+    )?;
+    let command = add_arg(
+        command,
+        build_option(alloc, "drop", "FILE", REVOKE_DROP_HELP),
+    )?;
+    let identifier = "What the token is about";
+    let command = add_arg(
+        command,
+        build_option(alloc, "identifier", "TEXT", identifier),
+    )?;
+    let command = add_arg(command, build_word(alloc, "name", "NAME", KEY_HELP))?;
+    add_arg(
+        command,
+        build_optional_word(alloc, "token", "TOKEN", TOKEN_HELP),
+    )
 }
 
 /// The subcommand with the options `--keys` and `--key`.
@@ -330,4 +402,12 @@ fn build_word<'a>(alloc: Global, name: &'a str, value: &'a str, help: &'a str) -
         .value_name(value)
         .required(true)
         .help(help)
+}
+
+/// A word that may be given, without a name.
+fn build_optional_word<'a>(alloc: Global, name: &'a str, value: &'a str, help: &'a str) -> Arg<'a>
+    ensures rule { rule_of result ≡ word name.entry.now }
+    ensures local { result.global ≡ false }
+{
+    Arg::new(alloc, name).value_name(value).help(help)
 }

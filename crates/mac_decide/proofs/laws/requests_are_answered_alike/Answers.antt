@@ -1,4 +1,4 @@
-use Rattle.mac_decide.proofs.CarriedLemmas.{answer_of-asked}
+use Rattle.mac_decide.proofs.AnswerLemmas.{answer_of-asked}
 use Rattle.mac_decide.proofs.laws.requests_are_answered_alike.Goals as goal
 
 pub returns : goal.returns

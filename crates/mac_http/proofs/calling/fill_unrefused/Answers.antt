@@ -1,9 +1,15 @@
-use Rattle.std.proofs.Common.{◌≡◌, ◌∷◌, [], bytes_eq, false, rules}
+use Rattle.std.proofs.Common.{◌≡◌, ◌∷◌, [], bytes_eq, false, rules, refl}
 use Rattle.http.specs.Request.{head_of}
 use Rattle.mac_http.proofs.calling.fill_unrefused.Goals as goal
 
-pub returns-then-ne : goal.returns-then-ne
-returns-then-ne c =
-    let other : bytes_eq (head_of c.args.request.now).method (80 ∷ 79 ∷ 83 ∷ 84 ∷ []) ≡ false =
+pub returns-then-ne-clause-told : goal.returns-then-ne-clause-told
+returns-then-ne-clause-told c =
+    let other : bytes_eq (head_of c.args.called.request.now).method (80 ∷ 79 ∷ 83 ∷ 84 ∷ []) ≡ false =
     search (rules, c.method.ensures, c.ne.ensures, c.if-ne.true) in
-    rw other c.refuse_method.ensures
+    rw other c.in_ok-refuse_method.ensures
+
+pub returns-then-ne-clause-minted : goal.returns-then-ne-clause-minted
+returns-then-ne-clause-minted c =
+    let other : bytes_eq (head_of c.args.called.request.now).method (80 ∷ 79 ∷ 83 ∷ 84 ∷ []) ≡ false =
+    search (rules, c.method.ensures, c.ne.ensures, c.if-ne.true) in
+    rw other refl

@@ -1,4 +1,3 @@
-use Rattle.std.proofs.Common.{sym}
 use Rattle.mac_keys.proofs.ChangeLemmas.{is_none, is_one, is_two}
 use Rattle.mac_keys.proofs.change.raise_lower.Goals as goal
 

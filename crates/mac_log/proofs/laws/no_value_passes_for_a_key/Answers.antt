@@ -1,5 +1,8 @@
-use Rattle.mac_log.proofs.TextLemmas.{count-fields}
+use Rattle.mac_log.proofs.TextLemmas.{count-told, count-whole}
 use Rattle.mac_log.proofs.laws.no_value_passes_for_a_key.Goals as goal
 
-pub returns : goal.returns
-returns c = count-fields
+pub returns-clause-whole : goal.returns-clause-whole
+returns-clause-whole c = count-whole
+
+pub returns-clause-cut : goal.returns-clause-cut
+returns-clause-cut c = count-told

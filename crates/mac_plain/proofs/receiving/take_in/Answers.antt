@@ -2,10 +2,10 @@ use Rattle.std.proofs.Common.{◌≡◌, ◌++◌, ℕ, List, [], length, drop, 
 use Rattle.std.proofs.lemmas.List.{append-nil, drop_at}
 use Rattle.mac_wire.specs.Steps.{frames_after}
 use Rattle.mac_wire.proofs.Lists.{take-rest}
-use Rattle.mac_plain.specs.Dear.{AreCheap, GoesWide}
+use Rattle.mac_plain.specs.Dear.{AreCheap}
 use Rattle.mac_plain.specs.Receiving.{CutsTo, Leaves}
 use Rattle.mac_plain.specs.Requests.{Adds, payload_at}
-use Rattle.mac_plain.proofs.Pieces.{falls_reading, none_added, takes_piece, waits_more, wide_leaves}
+use Rattle.mac_plain.proofs.Pieces.{falls_reading, none_added, takes_piece, waits_more}
 use Rattle.mac_plain.proofs.Steps.{none_dear}
 use Rattle.mac_wire.specs.Frame.{IsUnfinished}
 use Rattle.mac_plain.proofs.receiving.take_in.Goals as goal
@@ -20,9 +20,8 @@ returns-in-Err-join c =
       own = [];
       adds = none_added c.args.owner (length c.join.new.arena.items) c.args.requests.now.items;
       cheap = none_dear;
-      widens = λ e. absurd cc;
       goes_on = λ read sent done owed o.
-          falls_reading before (record before { version = c.opened-version.result.0 }) c.args.piece.now c.opened-version.ensures.version refl read sent done owed o.0;
+          falls_reading before (record before { version = c.opened-version.result.0 }) c.args.piece.now c.opened-version.ensures.version refl read sent done owed o;
     }
 
 pub returns-in-Err-cut_requests : goal.returns-in-Err-cut_requests
@@ -35,9 +34,8 @@ returns-in-Err-cut_requests c =
       own = e.0;
       adds = subst (λ (l : List ℕ). Adds c.args.owner (length l) c.args.requests.now.items c.cut_requests.new.requests.items e.0) c.as_slice-3.ensures.value e.1;
       cheap = subst (λ (l : List ℕ). AreCheap (map (payload_at l) e.0)) c.as_slice-3.ensures.value e.2;
-      widens = λ e. absurd cc;
       goes_on = λ read sent done owed o.
-          falls_reading before (record before { version = c.opened-version.result.0 }) c.args.piece.now c.opened-version.ensures.version refl read sent done owed o.0;
+          falls_reading before (record before { version = c.opened-version.result.0 }) c.args.piece.now c.opened-version.ensures.version refl read sent done owed o;
     }
 
 pub returns-in-Err-carry : goal.returns-in-Err-carry
@@ -50,9 +48,8 @@ returns-in-Err-carry c =
       own = own;
       adds = subst (λ (l : List ℕ). Adds c.args.owner (length l) c.args.requests.now.items c.cut_requests.new.requests.items own) c.as_slice-3.ensures.value c.in-Ok-cut_requests.ensures.0.adds;
       cheap = subst (λ (l : List ℕ). AreCheap (map (payload_at l) own)) c.as_slice-3.ensures.value c.in-Ok-cut_requests.ensures.0.cheap;
-      widens = λ e. absurd cc;
       goes_on = λ read sent done owed o.
-          falls_reading before (record before { version = c.opened-version.result.0; carried = c.carry.new.carried }) c.args.piece.now c.opened-version.ensures.version refl read sent done owed o.0;
+          falls_reading before (record before { version = c.opened-version.result.0; carried = c.carry.new.carried }) c.args.piece.now c.opened-version.ensures.version refl read sent done owed o;
     }
 
 pub returns-in-Ok-carry : goal.returns-in-Ok-carry
@@ -76,10 +73,9 @@ returns-in-Ok-carry c =
       own = cuts.own;
       adds = cuts.adds;
       cheap = cuts.cheap;
-      widens = λ e. subst GoesWide (sym carried) (wide_leaves c.in-Ok-cut_requests.course (drop at arena) leaves e);
       goes_on = λ read sent done owed o.
           takes_piece before (record before { version = c.opened-version.result.0; carried = c.carry.new.carried }) c.args.piece.now arena start at c.args.owner
-          c.args.requests.now.items c.cut_requests.new.requests.items c.in-Ok-cut_requests.course c.opened-version.ensures.version refl refl lies carried cuts leaves read sent done owed o.0;
+          c.args.requests.now.items c.cut_requests.new.requests.items c.in-Ok-cut_requests.course c.opened-version.ensures.version refl refl lies carried cuts leaves read sent done owed o;
     }
 
 pub returns-in-Ok : goal.returns-in-Ok
@@ -98,10 +94,9 @@ returns-in-Ok c =
       own = [];
       adds = none_added c.args.owner (length c.args.arena.now.items) c.args.requests.now.items;
       cheap = none_dear;
-      widens = λ e. absurd cc;
       goes_on = λ read sent done owed o.
           waits_more before (record before { version = c.opened-version.result.0; carried = behind }) c.args.piece.now c.opened-version.ensures.version refl refl
-          (grown ∙ ap (λ (l : List ℕ). before.carried.items ++ l) c.opened-version.ensures.frames) unfinished read sent done owed o.0;
+          (grown ∙ ap (λ (l : List ℕ). before.carried.items ++ l) c.opened-version.ensures.frames) unfinished read sent done owed o;
     }
 
 pub returns-in-Err : goal.returns-in-Err
@@ -113,7 +108,6 @@ returns-in-Err c =
       own = [];
       adds = none_added c.args.owner (length c.args.arena.now.items) c.args.requests.now.items;
       cheap = none_dear;
-      widens = λ e. absurd cc;
       goes_on = λ read sent done owed o.
-          falls_reading before (record before { version = c.opened-version.result.0; carried = c.extend_from_slice.new.self }) c.args.piece.now c.opened-version.ensures.version refl read sent done owed o.0;
+          falls_reading before (record before { version = c.opened-version.result.0; carried = c.extend_from_slice.new.self }) c.args.piece.now c.opened-version.ensures.version refl read sent done owed o;
     }

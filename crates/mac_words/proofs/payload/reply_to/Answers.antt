@@ -3,4 +3,4 @@ use Rattle.mac_words.proofs.payload.reply_to.Goals as goal
 
 pub returns-clause-reply : goal.returns-clause-reply
 unfolding answer_of
-returns-clause-reply c = rw (c.job_of.ensures, c.new.ensures, c.all.ensures) at c.answer.ensures.reply
+returns-clause-reply c = rw (c.in_ok-job.ensures, c.new.ensures, c.all.ensures) at c.answer.ensures.reply

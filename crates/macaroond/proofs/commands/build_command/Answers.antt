@@ -12,7 +12,7 @@ with_one program sub = with_subcommand program sub.top
 pub returns : goal.returns
 returns c =
     let start : app_of c.disable_help_subcommand-program.result ≡ program = search rules in
-    let first : app_of c.in_ok-program.program ≡ with_one program pipe_command = c.in_ok-program.ensures ∙ ap₂ with_one start c.build_pipe.ensures in
+    let first : app_of c.in_ok-program.program ≡ with_one program pipe_command = c.in_ok-program.ensures ∙ ap₂ with_one start c.in_ok-build_pipe.ensures in
     let second : app_of c.in_ok-program-2.program ≡ with_one (with_one program pipe_command) serve_command = c.in_ok-program-2.ensures ∙ ap₂ with_one first c.in_ok-build_serve.ensures in
     let third : app_of c.in_ok-program-3.program ≡ with_one (with_one (with_one program pipe_command) serve_command) listen_command = c.in_ok-program-3.ensures ∙ ap₂ with_one second c.in_ok-build_listen.ensures in
     let fourth : app_of c.in_ok-program-4.program ≡ with_one (with_one (with_one (with_one program pipe_command) serve_command) listen_command) page_command = c.in_ok-program-4.ensures ∙ ap₂ with_one third c.in_ok-build_page.ensures in

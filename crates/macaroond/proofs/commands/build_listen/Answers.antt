@@ -24,4 +24,6 @@ returns c =
     let replace = c.in_ok-listen-14.ensures ∙ ap₂ with_rule names_too c.build_flag.ensures.rule in
     let log = c.in_ok-listen-15.ensures ∙ ap₂ with_rule replace c.build_option-6.ensures.rule in
     let others = c.in_ok-listen-16.ensures ∙ ap₂ with_rule log c.build_flag-2.ensures.rule in
-    IfOk-weaker c.add_http.result _ _ (λ listen last. last ∙ ap (λ (app : App). with_rules (with_rules app gateway_rules) calls_rules) others) c.add_http.ensures
+    let revoked = c.in_ok-listen-17.ensures ∙ ap₂ with_rule others c.build_option-7.ensures.rule in
+    let emptied = c.in_ok-listen-18.ensures ∙ ap₂ with_rule revoked c.build_flag-emptied.ensures.rule in
+    IfOk-weaker c.add_http.result _ _ (λ listen last. last ∙ ap (λ (app : App). with_rules (with_rules app gateway_rules) calls_rules) emptied) c.add_http.ensures

@@ -21,6 +21,8 @@ returns c = (
     c.read_flag.ensures,
     c.in_ok-read_optional_text-4.ensures,
     c.read_flag-2.ensures,
+    c.in_ok-read_optional_text-5.ensures,
+    c.read_flag-3.ensures,
     c.in_ok-http.ensures,
   ),
 )

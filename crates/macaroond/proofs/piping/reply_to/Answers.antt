@@ -3,4 +3,4 @@ use Rattle.macaroond.proofs.piping.reply_to.Goals as goal
 
 pub returns : goal.returns
 unfolding answer_of
-returns c = rw (c.job_of.ensures, c.all.ensures) at c.answer.ensures.reply
+returns c = rw (c.in_ok-job.ensures, c.all.ensures) at c.answer.ensures.reply

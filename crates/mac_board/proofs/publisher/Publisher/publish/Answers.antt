@@ -2,7 +2,7 @@ use Rattle.std.proofs.Common.{◌≡◌, ◌+◌, ℕ, List, length, drop, fold,
 use Rattle.std.specs.Arc.{arc_value}
 use Rattle.left_right.specs.Sides.{view}
 use Rattle.mac_board.specs.declared.issue.Issue.{Issue}
-use Rattle.mac_keys.specs.Keys.{Table}
+use Rattle.mac_keys.specs.KeyTable.{Table}
 use Rattle.mac_board.proofs.Board.{puts, last-wins, one-more, history-same}
 use Rattle.mac_board.proofs.publisher.Publisher.publish.Goals as goal
 

@@ -1,7 +1,7 @@
 use Rattle.std.proofs.Common.{◌∙◌, ℕ, fold, ap}
 use Rattle.std.specs.Arc.{arc_value}
 use Rattle.left_right.specs.Sides.{view}
-use Rattle.mac_keys.specs.Keys.{Table}
+use Rattle.mac_keys.specs.KeyTable.{Table}
 use Rattle.mac_board.specs.declared.issue.Issue.{Issue}
 use Rattle.mac_board.proofs.Board.{stays}
 use Rattle.mac_board.proofs.publisher.steps.shown_again.Goals as goal

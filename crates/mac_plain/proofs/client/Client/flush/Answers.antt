@@ -12,7 +12,6 @@ returns-in-Bytes g c current =
       gone = take n me.session.unsent;
       rights_kept = refl;
       cheap = none_dear;
-      widens = λ wide. wide;
       took = λ told. still g.P.Port.tells (g.P.Port.taken me.port) (g.P.Port.taken c.write.new.self) (c.in-Bytes.ensures.taken told) told;
       wrote = λ told. c.in-Bytes.ensures.written told ∙ ap (λ (l : List ℕ). g.P.Port.written me.port ++ take n l) c.as_slice.ensures;
       goes_on = λ read sent done owed o.
@@ -23,7 +22,7 @@ returns-in-Bytes g c current =
 pub returns-then-not-may_write : goal.returns-then-not-may_write
 returns-then-not-may_write g c current =
     let me = c.args.self.now in
-    goes_still g.P.Port.tells g.P.Port.taken g.P.Port.written current me me [] refl refl (λ read sent done owed o. none_done me.course me.session read sent done owed o) (λ wide. wide)
+    goes_still g.P.Port.tells g.P.Port.taken g.P.Port.written current me me [] refl refl (λ read sent done owed o. none_done me.course me.session read sent done owed o)
 
 pub returns-in-Later : goal.returns-in-Later
 returns-in-Later g c current =
@@ -33,7 +32,6 @@ returns-in-Later g c current =
       gone = [];
       rights_kept = refl;
       cheap = none_dear;
-      widens = λ wide. wide;
       took = λ told. still g.P.Port.tells (g.P.Port.taken me.port) (g.P.Port.taken c.write.new.self) (c.in-Later.ensures.taken told) told;
       wrote = λ told. c.in-Later.ensures.written told;
       goes_on = λ read sent done owed. steps_still me.course me.course me.session me.session read sent done [] [] owed (λ o. none_done me.course me.session read sent done owed o);
@@ -47,7 +45,6 @@ returns-in-Fault g c current =
       gone = [];
       rights_kept = refl;
       cheap = none_dear;
-      widens = λ wide. wide;
       took = λ told. still g.P.Port.tells (g.P.Port.taken me.port) (g.P.Port.taken c.write.new.self) (c.in-Fault.ensures.taken told) told;
       wrote = λ told. c.in-Fault.ensures.written told;
       goes_on = λ read sent done owed. steps_still me.course me.course me.session me.session read sent done [] [] owed (λ o. none_done me.course me.session read sent done owed o);

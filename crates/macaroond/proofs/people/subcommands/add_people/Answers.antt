@@ -1,7 +1,7 @@
 use Rattle.std.proofs.Common.{◌≡◌, ◌∙◌, ap, ap₂}
 use Rattle.std.proofs.lemmas.Result.{IfOk-weaker}
 use Rattle.clap.specs.Words.{App, app_of, with_subcommand}
-use Rattle.macaroond.specs.People.{attenuate_command, check_command, inspect_command, keygen_command, mint_command, verify_command}
+use Rattle.macaroond.specs.People.{attenuate_command, check_command, inspect_command, keygen_command, mint_command, status_command, verify_command}
 use Rattle.macaroond.proofs.people.subcommands.add_people.Goals as goal
 
 -- a program with one more subcommand
@@ -17,4 +17,5 @@ returns c =
     let fourth : app_of c.in_ok-program-4.program ≡ with_one (with_one (with_one (with_one start keygen_command) check_command) mint_command) attenuate_command = c.in_ok-program-4.ensures ∙ ap₂ with_one third c.in_ok-build_attenuate.ensures in
     let fifth : app_of c.in_ok-program-5.program ≡ with_one (with_one (with_one (with_one (with_one start keygen_command) check_command) mint_command) attenuate_command) verify_command = c.in_ok-program-5.ensures ∙ ap₂ with_one fourth c.in_ok-build_verify.ensures in
     let sixth : app_of c.in_ok-program-6.program ≡ with_one (with_one (with_one (with_one (with_one (with_one start keygen_command) check_command) mint_command) attenuate_command) verify_command) inspect_command = c.in_ok-program-6.ensures ∙ ap₂ with_one fifth c.in_ok-build_inspect.ensures in
-    IfOk-weaker c.add_subcommand-7.result _ _ (λ whole last. last ∙ ap₂ with_one sixth c.in_ok-build_status.ensures) c.add_subcommand-7.ensures
+    let seventh : app_of c.in_ok-program-7.program ≡ with_one (with_one (with_one (with_one (with_one (with_one (with_one start keygen_command) check_command) mint_command) attenuate_command) verify_command) inspect_command) status_command = c.in_ok-program-7.ensures ∙ ap₂ with_one sixth c.in_ok-build_status.ensures in
+    IfOk-weaker c.add_subcommand-8.result _ _ (λ whole last. last ∙ ap₂ with_one seventh c.in_ok-build_revoke.ensures) c.add_subcommand-8.ensures

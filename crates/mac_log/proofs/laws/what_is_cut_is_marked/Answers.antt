@@ -1,0 +1,8 @@
+use Rattle.mac_log.proofs.CutLemmas.{told-marked, told-whole}
+use Rattle.mac_log.proofs.laws.what_is_cut_is_marked.Goals as goal
+
+pub returns-clause-cut : goal.returns-clause-cut
+returns-clause-cut c = told-marked
+
+pub returns-clause-whole : goal.returns-clause-whole
+returns-clause-whole c = told-whole

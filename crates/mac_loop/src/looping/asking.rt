@@ -1,0 +1,77 @@
+//! What a loop must not answer: clients ask workers, and take the answers in their slots.
+
+ghost use Rattle.std.specs.Prelude.{◌≡◌};
+
+use crate::asks::{Answered, Asker, Asks};
+use crate::inbox::Loops;
+use crate::looping::Loop;
+use crate::members::Member;
+use crate::watch::Watch;
+use mac_board::Outlook;
+use std::sync::Wait;
+use std::time::Clock;
+
+impl Loop {
+    /// Has a worker answer what a client asks for that a loop must not answer, under the table and at
+    /// the moment of this turn. Whether it waits for that from now on: without memory it has fallen.
+    pub(super) fn ask<R: Wait, K: Outlook>(
+        &mut self,
+        rt: &R,
+        slot: usize,
+        member: &mut Member,
+        outlook: &K,
+        asks: &mut Asks,
+    ) -> bool
+        ensures { asks.new ≡ asks.old }
+    {
+        let Some(job) = member.client.ask(self.alloc, outlook.current()) else {
+            return false;
+        };
+        let number = member.note.badge.number;
+        let is_asked = asks.ask(rt, Asker { slot, number }, job);
+        if !is_asked {
+            member.client.lose_answer();
+        }
+        is_asked
+    }
+
+    /// Gives clients the answers that have come.
+    pub(super) fn take_answers<R: Wait, W: Watch>(
+        &mut self,
+        rt: &R,
+        loops: &Loops,
+        asks: &mut Asks,
+        watch: &W,
+    )
+        ensures { asks.new ≡ asks.old }
+    {
+        asks.put_more(rt);
+        for _ in rt.forever() {
+            let Some(answered) = asks.next(rt) else {
+                return;
+            };
+            self.hand_back(answered, loops, watch);
+        }
+    }
+
+    /// Gives the client that asked what came of it, if it is still there.
+    fn hand_back<W: Watch>(&mut self, answered: Answered, loops: &Loops, watch: &W) {
+        let Answered { asker, answer } = answered;
+        let Some(member) = self.members.slots.get_mut(asker.slot) else {
+            return;
+        };
+        if member.note.badge.number != asker.number {
+            return;
+        }
+        let unsent = member.client.unsent();
+        match answer {
+            Some(answer) => self.round.deliver(&mut member.client, answer),
+            None => member.client.lose_answer(),
+        }
+        if !member.client.is_waiting() {
+            watch.narrow(member.life(), member.client.unsent() > unsent);
+        }
+        loops.count_unsent(unsent, member.client.unsent());
+        self.members.slots.list(asker.slot);
+    }
+}

@@ -1,0 +1,111 @@
+#!/usr/bin/env python3
+"""What one client may cost `macaroond listen`, whatever it does.
+
+    bounded.py
+
+One that never reads its replies sends requests that are refused, as many as the daemon takes, with
+`--log requests` and without: the daemon holds no more than HELD_MAX MiB for it, and has a line for
+each request once its replies are read. Asks for bin/macaroond, or the program that MACAROOND names.
+"""
+import contextlib
+import pathlib
+import subprocess
+import sys
+import tempfile
+import time
+
+sys.path.insert(0, str(pathlib.Path(__file__).resolve().parents[1]))
+from common import daemon, programs
+from common.daemon import awaited, connected, frame, received
+from common.processes import mebibytes
+
+# How much a client sends that reads no reply, and how many MiB the daemon may hold for it.
+SENT_MAX, HELD_MAX = 64 << 20, 48
+# A verify without a token under a name of 255 bytes, which is refused.
+REFUSED = frame(b"\x03\xff" + b"n" * 255)
+# How many seconds the daemon takes nothing in before that counts as all.
+SILENCE = 10
+# How many requests are sent at once whose lines are counted, and how long that may take.
+EACH, PATIENCE = 20_000, 60
+
+
+def pressed(path, limit):
+    """How many bytes the daemon takes, up to the limit, of a client that reads no reply."""
+    piece, sent = REFUSED * 2_000, 0
+    with connected(path, patience=SILENCE) as stream:
+        rest = memoryview(piece)
+        with contextlib.suppress(TimeoutError):
+            while sent < limit:
+                count = stream.send(rest)
+                sent, rest = sent + count, rest[count:] or memoryview(piece)
+        yield sent
+
+
+def unread(words):
+    """What is held for a client that never reads."""
+    with daemon.listening(*words) as (path, run):
+        with connected(path) as stream:
+            stream.sendall(frame(b""))
+            received(stream, 5)
+        before = mebibytes(run.pid)
+        for sent in pressed(path, SENT_MAX):
+            held = mebibytes(run.pid, "VmHWM") - before
+            print(f"bounded: {held:.0f} MiB held for {sent >> 20} MiB of requests, replies not read {' '.join(words)}")
+            if held > HELD_MAX:
+                yield f"{held:.0f} MiB were held for one client that never reads {' '.join(words)}"
+
+
+def told_once_read():
+    """Each request has its line, or is told to be left out, though many came before a reply was read."""
+    with tempfile.TemporaryDirectory() as folder:
+        log = pathlib.Path(folder) / "log"
+        with open(log, "w") as errors, daemon.listening("--log", "requests", stderr=errors) as (path, _):
+            with connected(path, patience=PATIENCE) as stream:
+                writer = subprocess.Popen([sys.executable, "-c", WRITER, str(stream.fileno()), str(EACH)],
+                                          pass_fds=[stream.fileno()])
+                time.sleep(1)
+                got = received(stream, 5 * EACH)
+                writer.wait()
+            told = awaited(lambda: lines_of(log) >= EACH and lines_of(log), PATIENCE)
+    if len(got) != 5 * EACH:
+        yield f"{len(got)} bytes of replies came, and {5 * EACH} were due"
+    if told != EACH:
+        yield f"{told} requests have a line or were left out, and {EACH} were sent"
+
+
+# Sends empty requests on a stream, as fast as they are taken.
+WRITER = """
+import socket, sys
+with socket.socket(fileno=int(sys.argv[1])) as stream:
+    stream.settimeout(60)
+    stream.sendall(bytes(4) * int(sys.argv[2]))
+    stream.detach()
+"""
+
+
+def lines_of(log):
+    """How many requests the log tells, and tells to be left out, by its whole lines."""
+    count, text = 0, log.read_text()
+    for line in text[: text.rfind("\n") + 1].splitlines():
+        words = line.split()
+        if words[2] == "request":
+            count += 1
+        elif words[2] == "left_out" and "kind=request" in words:
+            count += int(words[-1].removeprefix("count="))
+    return count
+
+
+def faults():
+    """What costs more than it may, beside what it prints."""
+    found = [*unread(()), *unread(("--log", "requests")), *told_once_read()]
+    return [f"bounded: {fault}" for fault in found]
+
+
+def main():
+    programs.stop_unless_built("macaroond")
+    if found := faults():
+        raise SystemExit("\n".join(found))
+
+
+if __name__ == "__main__":
+    main()
