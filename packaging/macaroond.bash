@@ -38,7 +38,7 @@ _macaroond() {
                     check) words=(--keys --revoked --help) ;;
                     mint) words=(--keys --key --location --identifier --caveat --form --help) ;;
                     attenuate) words=(--caveat --form --help) ;;
-                    verify) words=(--keys --key --fact --at --revoked --help) ;;
+                    verify) words=(--keys --key --fact --at --revoked --explain --help) ;;
                     inspect) words=(--key --help) ;;
                     status) words=(--socket --prometheus --connections --help) ;;
                     revoke) words=(--into --drop --identifier --help) ;;

@@ -120,6 +120,19 @@ def made(text):
     return told('{"token":"%s"}' % text)
 
 
+def doubted(caveats, *doubts):
+    """The response that brings a token of these caveats, and at which places of them what is amiss."""
+    told_of = ",".join('{"caveat":%d,"reason":"a caveat %s"}' % doubt for doubt in doubts)
+    return told('{"token":"%s","warnings":[%s]}' % (v2(b"alice", [it.encode() for it in caveats]), told_of))
+
+
+NO_BOUND = "is no bound of time, and holds only as a fact"
+PASSED = "is a time limit that has passed, and holds only as a fact"
+SLASH = "ends in a slash, and no path is under it"
+SPACES = "has not one space on each side of its equals sign"
+TWICE = "stands there twice"
+
+
 def bad(reason):
     return response(400, [JSON], '{"reason":"%s"}' % reason)
 
@@ -409,6 +422,16 @@ ROWS += [
     minted('{"identifier":""}', made(v2(b""))), minted('{"identifier64":""}', made(v2(b""))),
     ("mint drawless", [(post("/mint/bank", "{}"), response(503)), (post("/mint/none", "{}"), response(503))]),
     ("mint names=shop", [(post("/mint/bank", "{}"), UNKNOWN), (post("/mint/shop", "{}"), drawn(b"shop"))]),
+    # ---- caveats that can hardly hold
+    *(minted('{"identifier":"alice","caveats":["%s"]}' % caveat, doubted([caveat], (0, why))) for caveat, why in (
+        ("time < 2030-01-01", NO_BOUND), ("TIME < 2030-01-01T00:00", NO_BOUND), ("time<2030-01-01T00:00", NO_BOUND),
+        ("time < 2023-11-14T22:13:20", PASSED), ("path under /guarded/", SLASH), ("method=GET", SPACES))),
+    minted('{"identifier":"alice","caveats":["a = 1","method =GET","a = 1","time < 2023-11-14T22:13:21","a = 1"]}', doubted(
+        ["a = 1", "method =GET", "a = 1", "time < 2023-11-14T22:13:21", "a = 1"], (1, SPACES), (2, TWICE), (4, TWICE))),
+    minted('{"identifier":"alice","caveats":["path under /","method is safe","time >= 2030-01-01T00:00"]}',
+           made(v2(b"alice", [b"path under /", b"method is safe", b"time >= 2030-01-01T00:00"]))),
+    narrowed('{"token":"%s","caveats":["a = 1","a = 1"]}' % plain, doubted(["a = 1", "a = 1"], (1, TWICE))),
+    narrowed('{"token":"%s","caveats":["a = 1"]}' % v2(b"alice", TWO[:1]), made(v2(b"alice", [b"a = 1", b"a = 1"]))),
     # ---- what is no mint
     minted("alice", NO_OBJECT), minted("[]", NO_OBJECT), minted('{"identifier":"alice"', NO_OBJECT),
     minted('{"identifier":7}', NO_IDENTIFIER), minted('{"identifier64":7}', NO_IDENTIFIER),

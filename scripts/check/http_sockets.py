@@ -304,16 +304,20 @@ def slow_peers():
 
 
 def full_house():
-    """One connection too many is closed, and there is a place again once another has gone."""
+    """To one connection too many the one gives way that was sent nothing for longest."""
     with listening("--http-connections", "3") as daemon:
         with contextlib.ExitStack() as stack:
-            guests = [stack.enter_context(connect()) for connect in (daemon.unix, daemon.tcp, daemon.unix)]
-            yield "three of three", [asked(guest, asking("/healthz")) for guest in guests], [200] * 3
-            for connect in (daemon.unix, daemon.tcp):
-                with connect() as late:
-                    yield "a fourth", late.recv(1), b""
-            yield "the three go on", [asked(guest, asking("/healthz")) for guest in guests], [200] * 3
-            guests[0].close()
+            guests = []
+            for connect in (daemon.unix, daemon.tcp, daemon.unix):
+                guests.append(stack.enter_context(connect()))
+                yield "one of three", asked(guests[-1], asking("/healthz")), 200
+            for number, connect in enumerate((daemon.unix, daemon.tcp)):
+                guests.append(stack.enter_context(connect()))
+                yield "one more", asked(guests[-1], asking("/healthz")), 200
+                yield "the one that gave way", guests[number].recv(1), b""
+            yield "the others go on", [asked(guest, asking("/healthz")) for guest in guests[2:]], [200] * 3
+            for guest in guests:
+                guest.close()
             yield "a place again", awaited(lambda: status_at(daemon) == 200), True
 
 

@@ -5,13 +5,19 @@
 
 One that never reads its replies sends requests that are refused, as many as the daemon takes, with
 `--log requests` and without: the daemon holds no more than HELD_MAX MiB for it, and has a line for
-each request once its replies are read. Asks for bin/macaroond, or the program that MACAROOND names.
+each request once its replies are read. One over HTTP sends a head a byte at a time: none of its bytes
+costs more than BYTE_MAX microseconds of the processor, at the begin of the head and at its end. Asks
+for bin/macaroond, or the program that MACAROOND names.
 """
 import contextlib
+import fcntl
 import pathlib
+import socket
+import struct
 import subprocess
 import sys
 import tempfile
+import termios
 import time
 
 sys.path.insert(0, str(pathlib.Path(__file__).resolve().parents[1]))
@@ -23,6 +29,9 @@ from common.processes import mebibytes
 SENT_MAX, HELD_MAX = 64 << 20, 48
 # A verify without a token under a name of 255 bytes, which is refused.
 REFUSED = frame(b"\x03\xff" + b"n" * 255)
+# How many bytes a head has whose last ones come alone, how many do, and how many microseconds of the processor
+# each of them may cost, on a machine that does other work too.
+HEAD, ALONE, BYTE_MAX = 48_000, 1_200, 6.0
 # How many seconds the daemon takes nothing in before that counts as all.
 SILENCE = 10
 # How many requests are sent at once whose lines are counted, and how long that may take.
@@ -95,9 +104,54 @@ def lines_of(log):
     return count
 
 
+def processor_micros(pid):
+    """The processor time of all threads of a process."""
+    tasks = pathlib.Path(f"/proc/{pid}/task").iterdir()
+    return sum(int((task / "schedstat").read_text().split()[0]) for task in tasks) / 1000
+
+
+def taken(stream):
+    """Waits until all that was sent is read."""
+    awaited(lambda: struct.unpack("i", fcntl.ioctl(stream, termios.TIOCOUTQ, bytes(4)))[0] == 0, 5, pause=0)
+
+
+def drips(pid, stream):
+    """Microseconds of the processor for each byte that comes alone."""
+    before = processor_micros(pid)
+    for _ in range(ALONE):
+        stream.send(b"a")
+        taken(stream)
+    time.sleep(0.05)
+    return (processor_micros(pid) - before) / ALONE
+
+
+def dripped():
+    """A head whose bytes come alone, and is answered at its end."""
+    with tempfile.TemporaryDirectory() as folder:
+        http = f"{folder}/http"
+        with daemon.listening("--http", f"unix:{http}", "--http-patience", "60") as (_, run):
+            awaited(pathlib.Path(http).exists)
+            with socket.socket(socket.AF_UNIX) as stream:
+                stream.settimeout(PATIENCE)
+                stream.connect(http)
+                stream.sendall(b"GET /healthz HTTP/1.1\r\nHost: a\r\nX: ")
+                taken(stream)
+                begin = drips(run.pid, stream)
+                stream.sendall(b"a" * (HEAD - 2 * ALONE))
+                taken(stream)
+                end = drips(run.pid, stream)
+                stream.sendall(b"\r\n\r\n")
+                status = stream.recv(1_000).split(b" ")[1]
+    print(f"bounded: a byte that comes alone costs {begin:.1f} us at the begin of a head, {end:.1f} at the end of 48 KB")
+    if max(begin, end) > BYTE_MAX:
+        yield f"a byte of a head that comes alone costs {max(begin, end):.1f} us of the processor"
+    if status != b"200":
+        yield f"a head that came so was answered {status.decode()}"
+
+
 def faults():
     """What costs more than it may, beside what it prints."""
-    found = [*unread(()), *unread(("--log", "requests")), *told_once_read()]
+    found = [*unread(()), *unread(("--log", "requests")), *told_once_read(), *dripped()]
     return [f"bounded: {fault}" for fault in found]
 
 

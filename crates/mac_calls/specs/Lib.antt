@@ -11,4 +11,5 @@ pub mod Made
 pub mod Json
 pub mod Judged
 pub mod Names
+pub mod Warned
 pub mod Outcome

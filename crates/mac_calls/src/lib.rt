@@ -21,6 +21,7 @@ mod names;
 mod object;
 mod received;
 mod verifier;
+mod warned;
 
 pub use answering::{Brought, Draws, Outcome, answer};
 pub use call::Call;

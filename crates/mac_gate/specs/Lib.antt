@@ -1,3 +1,4 @@
 pub mod Address
 pub mod Noting
 pub mod Patience
+pub mod Pace

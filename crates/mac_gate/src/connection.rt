@@ -5,10 +5,12 @@ ghost use Rattle.mac_gate.specs.Patience.{IsLeft};
 ghost use Rattle.mac_http.specs.Turn.{IsTurn};
 
 use crate::devices::{Heard, Spoken};
+use crate::gathering::Gathered;
 use http_server::{Connection, Service};
 use mac_http::{Way, take_turn};
 use mac_sockets::{Readiness, Stream, Wakes};
 use mio::{Registry, Token};
+use std::alloc::Global;
 use std::io;
 use std::io::ErrorKind;
 use std::net::Shutdown;
@@ -27,6 +29,8 @@ const DROPPED_MICROS: u64 = 100_000;
 pub struct HttpConnection {
     stream: Stream,
     connection: Connection,
+    // What came of a request in small pieces, and wasn't looked at yet.
+    gathered: Gathered,
     // When something was written last, or it began, in microseconds.
     since: u64,
     // Whether nothing has come since then.
@@ -46,10 +50,11 @@ pub struct HttpConnection {
 
 impl HttpConnection {
     /// A connection that begins now.
-    pub fn new(stream: Stream, connection: Connection, now: u64) -> HttpConnection {
+    pub fn new(alloc: Global, stream: Stream, connection: Connection, now: u64) -> HttpConnection {
         HttpConnection {
             stream,
             connection,
+            gathered: Gathered::new(alloc),
             since: now,
             is_idle: true,
             has_come: false,
@@ -123,6 +128,11 @@ impl HttpConnection {
         left_of(limit, now.saturating_sub(self.since))
     }
 
+    /// In how many microseconds what came in small pieces is looked at, where something is put off.
+    pub fn due_in(&self) -> Option<u64> {
+        self.gathered.due_in()
+    }
+
     /// Does what can be done without waiting, by this service; what is dropped is read into the
     /// piece. Whether the connection goes on.
     pub fn advance<S: Service>(&mut self, service: &mut S, now: u64, piece: &mut [u8]) -> bool {
@@ -134,7 +144,7 @@ impl HttpConnection {
 
     /// Takes a turn. A fault ends the connection.
     fn answer<S: Service>(&mut self, service: &mut S, now: u64) -> bool {
-        let mut heard = Heard::new(&self.stream, self.has_more);
+        let mut heard = Heard::new(&self.stream, &mut self.gathered, self.has_more, now);
         let mut spoken = Spoken::new(&self.stream, self.has_room);
         let turned = answer_turn(&mut self.connection, service, &mut heard, &mut spoken);
         let (has_come, has_gone) = (heard.has_come, spoken.has_gone);
@@ -149,6 +159,7 @@ impl HttpConnection {
         if has_gone {
             self.is_idle = true;
             self.since = now;
+            self.gathered.begin();
         }
         if !goes_on(&turned) {
             return false;

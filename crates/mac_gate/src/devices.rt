@@ -1,5 +1,6 @@
 //! What is read of a stream in a turn, and what is written to it.
 
+use crate::gathering::Gathered;
 use mac_sockets::Stream;
 use std::io;
 use std::io::{Read, Write};
@@ -8,6 +9,8 @@ use std::io::{Read, Write};
 #[derive(Drop)]
 pub struct Heard<'a> {
     stream: &'a Stream,
+    gathered: &'a mut Gathered,
+    now: u64,
     /// Whether it was read.
     pub was_read: bool,
     /// Whether bytes came.
@@ -17,10 +20,18 @@ pub struct Heard<'a> {
 }
 
 impl<'a> Heard<'a> {
-    /// A turn's reader, where there may be something to be read, or not.
-    pub fn new(stream: &'a Stream, has_more: bool) -> Heard<'a> {
+    /// A turn's reader, at this moment in microseconds, where there may be something to be read, or
+    /// not. Small pieces are gathered.
+    pub fn new(
+        stream: &'a Stream,
+        gathered: &'a mut Gathered,
+        has_more: bool,
+        now: u64,
+    ) -> Heard<'a> {
         Heard {
             stream,
+            gathered,
+            now,
             was_read: false,
             has_come: false,
             has_more,
@@ -32,14 +43,20 @@ impl<'a> Read for Heard<'a> {
     fn read(&mut self, buf: &mut [u8]) -> io::Result<usize> {
         let outcome = self.stream.read_past_signals(buf);
         self.was_read = true;
-        match &outcome {
+        match outcome {
             Ok(count) => {
-                self.has_come = *count > 0;
-                self.has_more = *count == buf.len();
+                self.has_come = count > 0;
+                self.has_more = count == buf.len();
+                let told = self.gathered.hear(buf, count, self.now)?;
+                // The end is read once more behind what was gathered.
+                self.has_more = self.has_more || told > count;
+                Ok(told)
             }
-            Err(_) => self.has_more = false,
+            Err(fault) => {
+                self.has_more = false;
+                self.gathered.resume(buf, fault, self.now)
+            }
         }
-        outcome
     }
 }
 

@@ -99,6 +99,20 @@ impl Waiting {
 
     /// Lets the connection go to which nothing was sent for longest. Whether there is one.
     pub fn drop_stalest(&mut self) -> bool {
+        match self.stalest() {
+            Some((slot, _)) => self.connections.slots.release(slot).is_some(),
+            None => false,
+        }
+    }
+
+    /// When something was sent to that one, in microseconds.
+    pub fn stalest_since(&self) -> Option<u64> {
+        let (_, since) = self.stalest()?;
+        Some(since)
+    }
+
+    /// The slot of the connection to which nothing was sent for longest, and when something was.
+    fn stalest(&self) -> Option<(usize, u64)> {
         let mut stalest: Option<(usize, u64)> = None;
         for slot in 0..self.bound() {
             if let Some(one) = self.connections.slots.get(slot) {
@@ -108,10 +122,7 @@ impl Waiting {
                 }
             }
         }
-        match stalest {
-            Some((slot, _)) => self.connections.slots.release(slot).is_some(),
-            None => false,
-        }
+        stalest
     }
 
     /// Takes nothing more from those that are idle than what has come.
@@ -169,8 +180,12 @@ impl Waiting {
             return;
         };
         let (left, is_owed) = (one.left(self.patience, self.now()), one.is_owed());
+        let due_in = one.due_in();
         if let Some(left) = left {
             self.expect(left);
+        }
+        if let Some(micros) = due_in {
+            self.expect(micros);
         }
         if is_owed {
             self.expect(OWED);

@@ -142,7 +142,7 @@ fn answer_call<S: Monitor>(
     response: &mut Response,
 )
     requires { IsBlank response.old }
-    ensures { RespondsToCall footing.entry.keys.now footing.entry.rules
+    ensures { RespondsToCall footing.entry.keys.now footing.entry.rules footing.entry.moment
         (asked.entry.call, asked.entry.name.now) request.now response.new }
 {
     let Some(drawn) = drawn_for(monitor, asked.call) else {

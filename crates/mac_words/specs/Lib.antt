@@ -2,11 +2,13 @@ pub mod Payload
 pub mod TokenText
 pub mod Spelling
 pub mod Moment
+pub mod Fingerprint
 pub mod NameList
-pub mod NearBound
+pub mod Warned
 pub mod Escaped
 pub mod ReplyText
 pub mod Inspected
+pub mod Explained
 pub mod KeyLine
 pub mod Revoked
 pub mod Said

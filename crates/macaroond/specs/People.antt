@@ -80,10 +80,11 @@ attenuate_command = with_rule (with_rule (with_rule (new_app (codes "attenuate")
     (required (repeated (option (codes "caveat"))))) (option (codes "form")))
     (required (word (codes "token")))
 
--- the subcommand `verify`, with five options and a word
+-- the subcommand `verify`, with five options, a flag and a word
 abbrev pub verify_command : App
-verify_command = with_rule (with_rule (with_rule (with_rule (with_key (new_app (codes "verify")))
-    (repeated (option (codes "fact")))) (option (codes "at"))) (option (codes "revoked")))
+verify_command = with_rule (with_rule (with_rule (with_rule (with_rule
+    (with_key (new_app (codes "verify"))) (repeated (option (codes "fact")))) (option (codes "at")))
+    (option (codes "revoked"))) (flag (codes "explain")))
     (required (word (codes "token")))
 
 -- the subcommand `inspect`, with one option and a word
@@ -167,6 +168,7 @@ HasVerify words rows = IsGivenText words.keys (codes "keys") rows
     × AreGivenTexts words.facts.items (codes "fact") rows
     × IsOptionalText words.at (codes "at") rows
     × IsOptionalText words.revoked (codes "revoked") rows
+    × (words.explain ≡ is_set (codes "explain") rows)
 
 abbrev pub HasInspect : InspectWords → List Row → Type 0
 HasInspect words rows = IsGivenText words.token (codes "token") rows

@@ -19,7 +19,7 @@ use crate::status::Status;
 use mac_keys::KeyTable;
 use mac_wire::{TokenForm, WriterSink, send_all};
 use mac_words::{
-    Said, say_attenuate, say_inspect, say_inspect_under, say_mint, say_verify, warnings,
+    Said, explain, say_attenuate, say_inspect, say_inspect_under, say_mint, say_verify, warnings,
 };
 use std::alloc::{Alloc, Global};
 use std::fs::{File, Files};
@@ -123,14 +123,28 @@ where
 /// token.
 fn do_verify<'a, R>(rt: &R, words: &'a VerifyWords) -> Result<Said, PersonFault<'a>>
 where
-    R: Alloc<A = Global> + Input + Files<File = File> + Clock,
+    R: Alloc<A = Global> + Input + Eprint + Files<File = File> + Clock,
     R::Reader: Send,
     ensures { IfOk result (DoesVerify words.now) }
 {
     let moment = read_moment(rt, &words.at)?;
     let table = load_table(rt, words.keys.as_str(), &words.revoked)?;
     let token = read_token(rt, words.token.as_str())?;
+    tell_lacks(rt, words, moment, &token);
     say_verify_under(rt.alloc(), &table, moment, token.as_slice(), words)
+}
+
+/// Tells on standard error which caveats of a token aren't satisfied, and why, where that is asked.
+fn tell_lacks<R>(rt: &R, words: &VerifyWords, moment: u64, token: &[u8])
+where
+    R: Alloc<A = Global> + Eprint,
+{
+    if !words.explain {
+        return;
+    }
+    if let Ok(text) = explain(rt.alloc(), token, moment, words.facts.as_slice()) {
+        tell_text(rt, text.as_slice());
+    }
 }
 
 /// What is said of a token, with the line that takes it back where a name is given.
@@ -200,9 +214,9 @@ fn say_verify_under<'a>(
     )?)
 }
 
-/// Warns on standard error of what is right but seldom meant: caveats of a new token that will not
-/// hold as bounds of time, and a key file or a list that others than its owner may use.
-fn warn<R: Alloc<A = Global> + Eprint + Files>(rt: &R, task: &Task, said: &Said) {
+/// Warns on standard error of what is right but seldom meant: caveats of a new token that can hardly
+/// hold, and a key file or a list that others than its owner may use.
+fn warn<R: Alloc<A = Global> + Eprint + Files + Clock>(rt: &R, task: &Task, said: &Said) {
     if said.is_refusal {
         return;
     }
@@ -223,9 +237,11 @@ fn warn<R: Alloc<A = Global> + Eprint + Files>(rt: &R, task: &Task, said: &Said)
     }
 }
 
-/// Warns on standard error of the caveats that will not hold as bounds of time.
-fn warn_of_caveats<R: Alloc<A = Global> + Eprint>(rt: &R, caveats: &[String]) {
-    if let Ok(text) = warnings(rt.alloc(), caveats) {
+/// Warns on standard error of the caveats that can hardly hold. Where the clock tells no moment, no
+/// time limit since 1970 has passed.
+fn warn_of_caveats<R: Alloc<A = Global> + Eprint + Clock>(rt: &R, caveats: &[String]) {
+    let moment = read_moment(rt, &None).unwrap_or(0);
+    if let Ok(text) = warnings(rt.alloc(), caveats, moment) {
         tell_text(rt, text.as_slice());
     }
 }

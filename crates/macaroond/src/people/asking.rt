@@ -102,6 +102,8 @@ pub struct VerifyWords {
     pub at: Option<String>,
     /// The path of a list of tokens that were taken back.
     pub revoked: Option<String>,
+    /// Whether it is told which caveats aren't satisfied, and why.
+    pub explain: bool,
 }
 
 /// The words of an inspect.
@@ -231,6 +233,7 @@ fn read_verify(alloc: Global, options: &ArgMatches<'_>) -> Result<VerifyWords, A
         facts: read_texts(alloc, options, "fact")?,
         at: read_optional_text(alloc, options, "at")?,
         revoked: read_optional_text(alloc, options, "revoked")?,
+        explain: read_flag(options, "explain"),
     })
 }
 

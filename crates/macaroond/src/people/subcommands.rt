@@ -48,9 +48,10 @@ Exit status:
 /// What the help of `check` says below its options.
 const CHECK_HELP: &str = "\
 Prints a line for each name of the key file, in the order of their bytes: `NAME: one key`, or
-`NAME: two keys`; and behind them how many lines the list has that take tokens back, `revoked lines:
-COUNT`. One of both files at least is to be given. Warns on standard error of a file that others may
-use, and of a secret of fewer than 16 bytes.
+`NAME: two keys`, and eight digits of each key, by which two machines are compared; and behind them
+how many lines the list has that take tokens back, `revoked lines: COUNT`. One of both files at
+least is to be given. Warns on standard error of a file that others may use, and of a secret of
+fewer than 16 bytes.
 
 Example:
   macaroond check --keys keys --revoked revoked
@@ -66,8 +67,9 @@ Exit status:
 const MINT_HELP: &str = "\
 Prints a new token, one of form v2 as `hex:` and its digits. Without --identifier the token gets 128
 random bits in hexadecimal, which standard error tells as `identifier DIGITS`. A refusal is told
-there too, and so is a caveat that begins as a bound of time does and is none: it holds only as a
-fact.
+there too, and so is a caveat that can hardly hold: one that is nearly a bound of time, a time limit
+that has passed, `path under /a/` with a slash at its end, `method=GET` without its spaces, or one
+that stands there twice.
 
 Example:
   macaroond mint --keys keys --key bank --identifier alice --caveat 'time < 2030-01-01T00:00'
@@ -84,8 +86,7 @@ Exit status:
 const ATTENUATE_HELP: &str = "\
 Prints the token with the caveats behind its own: one that is granted in fewer cases. No key is
 needed for it. TOKEN is the token's text, `hex:` and its digits, or - for one line of standard
-input. A refusal is told on standard error, and so is a caveat that begins as a bound of time does
-and is none: it holds only as a fact.
+input. A refusal is told on standard error, and so is a caveat that can hardly hold, as `mint` does.
 
 Example:
   macaroond attenuate --caveat 'account = 3735928559' \"$token\"
@@ -103,7 +104,9 @@ Prints `granted`, or `refused`, the number of the reason and the reason. A cavea
 one of the facts, a time limit `time < 2030-01-01T00:00` that isn't over, or a lower bound of time
 `time >= 2026-01-01T00:00` that has come. TOKEN is the token's text, `hex:` and its digits, or - for
 one line of standard input. MOMENT is a number of seconds since 1970, or a time as
-2026-01-31T12:00:00Z. With --revoked a token of the list is refused.
+2026-01-31T12:00:00Z. With --revoked a token of the list is refused. With --explain standard error
+tells each caveat that doesn't hold, and below it why: when its time ended or begins, or from which
+byte on the nearest fact is another.
 
 Example:
   macaroond verify --keys keys --key bank --fact 'account = 3735928559' \"$token\"
@@ -183,6 +186,8 @@ const TOKEN_HELP: &str = "The token, or - for a line of standard input";
 const IDENTIFIER_HELP: &str = "What the token is about [default: 32 random digits]";
 
 const CAVEAT_HELP: &str = "A caveat; may be given often";
+
+const EXPLAIN_HELP: &str = "Tells which caveats are not satisfied, and why";
 
 const FACT_HELP: &str = "What is known of the request; may be given often";
 
@@ -316,6 +321,7 @@ fn build_verify<'a>(alloc: Global) -> Result<Command<'a>, AllocError>
     );
     let command = add_arg(command, at)?;
     let command = add_arg(command, build_option(alloc, "revoked", "FILE", LIST_HELP))?;
+    let command = add_arg(command, build_flag(alloc, "explain", EXPLAIN_HELP))?;
     add_arg(command, build_word(alloc, "token", "TOKEN", TOKEN_HELP))
 }
 
