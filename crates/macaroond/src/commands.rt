@@ -77,8 +77,8 @@ const DRAIN_HELP: &str =
 const REMEMBER_HELP: &str = "How many bytes tokens found good are remembered in, from 0 (none) \
     to 1073741824 [default: 16777216]";
 
-const MEMORY_HELP: &str = "How many bytes of memory connections and these tokens may have \
-    together, from 67108864 [default: half of what there may be]";
+const MEMORY_HELP: &str = "How many bytes connections have together with these tokens, \
+    from 67108864 [default: half of all]";
 
 const NAMES_HELP: &str =
     "The key names that may be used at the socket, with commas between them [default: all]";

@@ -2,6 +2,7 @@
 
 ghost use Rattle.std.specs.Prelude.{◌≡◌, ◌≤◌};
 ghost use Rattle.macaroond.specs.Shape.{half_of_memory};
+ghost use Rattle.macaroond.specs.declared.commands.TheConstants.{MEMORY_MAX, MEMORY_MIN};
 
 use crate::commands::{MEMORY_MAX, MEMORY_MIN};
 use crate::input::read_input;

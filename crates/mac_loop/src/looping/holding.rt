@@ -67,8 +67,12 @@ impl Loop {
             if self.has_room(rt, growth) {
                 return;
             }
-            let heaviest = self.heaviest();
-            let Some((slot, held)) = heaviest.filter(|_| self.holds_much(rt, loops)) else {
+            let heaviest = if self.holds_much(rt, loops) {
+                self.heaviest()
+            } else {
+                None
+            };
+            let Some((slot, held)) = heaviest else {
                 loops.wake_all();
                 thread::sleep(rt, Duration::from_millis(PAUSE_MILLIS));
                 return;
@@ -93,10 +97,10 @@ impl Loop {
                 continue;
             };
             let (held, since) = (member.note.held, member.note.since);
-            let is_heavier = |(_, most, earliest): (usize, u64, u64)| {
+            let is_heaviest = heaviest.is_none_or(|(_, most, earliest)| {
                 held > most || (held == most && since < earliest)
-            };
-            if held > 0 && heaviest.is_none_or(is_heavier) {
+            });
+            if held > 0 && is_heaviest {
                 heaviest = Some((slot, held, since));
             }
         }
