@@ -73,8 +73,7 @@ impl Loop {
                 None
             };
             let Some((slot, held)) = heaviest else {
-                loops.wake_all();
-                thread::sleep(rt, Duration::from_millis(PAUSE_MILLIS));
+                self.await_others(rt, loops);
                 return;
             };
             growth = growth.saturating_sub(held);
@@ -82,10 +81,21 @@ impl Loop {
         }
     }
 
+    /// Where a client waits to be read, has the other loops look, whose clients may hold more.
+    fn await_others<R: Wait + Clock>(&self, rt: &R, loops: &Loops) {
+        if self.members.slots.has_ready() {
+            loops.wake_all();
+            thread::sleep(rt, Duration::from_millis(PAUSE_MILLIS));
+        }
+    }
+
     /// Whether its clients hold at least half of what those of each loop do in the mean.
     fn holds_much<R: Wait>(&self, rt: &R, loops: &Loops) -> bool {
         let all = self.account.taken_by_all(rt);
-        self.held.saturating_mul(2).saturating_mul(loops.len() as u64) >= all
+        self.held
+            .saturating_mul(2)
+            .saturating_mul(loops.len() as u64)
+            >= all
     }
 
     /// The slot of the client that holds most, and how much. Of several, the one that made no
