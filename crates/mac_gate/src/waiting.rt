@@ -191,7 +191,7 @@ impl Waiting {
         let goes_on = one.advance(service, now, piece)
             && one.update(self.connections.registry(), Token(slot)).is_ok();
         if !goes_on {
-            let _ = self.connections.slots.release(slot);
+            let _ = self.release(slot);
             return true;
         }
         let _ = self.connections.slots.put(slot, one);
