@@ -5,9 +5,9 @@
 
 One that never reads its replies sends requests that are refused, as many as the daemon takes, with
 `--log requests` and without: the daemon holds no more than HELD_MAX MiB for it, and has a line for
-each request once its replies are read. One over HTTP sends a head a byte at a time: none of its bytes
-costs more than BYTE_MAX microseconds of the processor, at the begin of the head and at its end. Asks
-for bin/macaroond, or the program that MACAROOND names.
+each request once its replies are read. One over HTTP sends a head a byte at a time, as long as it may
+be: each byte costs BYTE_MAX microseconds of the processor at most, in each part of the head. Asks for
+bin/macaroond, or the program that MACAROOND names.
 """
 import contextlib
 import fcntl
@@ -29,9 +29,9 @@ from common.processes import mebibytes
 SENT_MAX, HELD_MAX = 64 << 20, 48
 # A verify without a token under a name of 255 bytes, which is refused.
 REFUSED = frame(b"\x03\xff" + b"n" * 255)
-# How many bytes a head has whose last ones come alone, how many do, and how many microseconds of the processor
-# each of them may cost, on a machine that does other work too.
-HEAD, ALONE, BYTE_MAX = 48_000, 1_200, 6.0
+# How many bytes a head has that come alone, in how many parts they are timed, and how many microseconds of the
+# processor each of them may cost in any part.
+HEAD, PARTS, BYTE_MAX = 49_152, 8, 3.0
 # How many seconds the daemon takes nothing in before that counts as all.
 SILENCE = 10
 # How many requests are sent at once whose lines are counted, and how long that may take.
@@ -115,14 +115,14 @@ def taken(stream):
     awaited(lambda: struct.unpack("i", fcntl.ioctl(stream, termios.TIOCOUTQ, bytes(4)))[0] == 0, 5, pause=0)
 
 
-def drips(pid, stream):
-    """Microseconds of the processor for each byte that comes alone."""
+def drips(pid, stream, part):
+    """Microseconds of the processor for each of these bytes, which come alone."""
     before = processor_micros(pid)
-    for _ in range(ALONE):
-        stream.send(b"a")
+    for byte in part:
+        stream.send(bytes([byte]))
         taken(stream)
     time.sleep(0.05)
-    return (processor_micros(pid) - before) / ALONE
+    return (processor_micros(pid) - before) / len(part)
 
 
 def dripped():
@@ -134,17 +134,13 @@ def dripped():
             with socket.socket(socket.AF_UNIX) as stream:
                 stream.settimeout(PATIENCE)
                 stream.connect(http)
-                stream.sendall(b"GET /healthz HTTP/1.1\r\nHost: a\r\nX: ")
-                taken(stream)
-                begin = drips(run.pid, stream)
-                stream.sendall(b"a" * (HEAD - 2 * ALONE))
-                taken(stream)
-                end = drips(run.pid, stream)
-                stream.sendall(b"\r\n\r\n")
+                head = b"GET /healthz HTTP/1.1\r\nHost: a\r\nX: ".ljust(HEAD - 4, b"a") + b"\r\n\r\n"
+                parts = [head[part * HEAD // PARTS : (part + 1) * HEAD // PARTS] for part in range(PARTS)]
+                costs = [drips(run.pid, stream, part) for part in parts]
                 status = stream.recv(1_000).split(b" ")[1]
-    print(f"bounded: a byte that comes alone costs {begin:.1f} us at the begin of a head, {end:.1f} at the end of 48 KB")
-    if max(begin, end) > BYTE_MAX:
-        yield f"a byte of a head that comes alone costs {max(begin, end):.1f} us of the processor"
+    print("bounded: a byte of a head that comes alone costs", *(f"{cost:.1f}" for cost in costs), "us, part by part")
+    if max(costs) > BYTE_MAX:
+        yield f"a byte of a head that comes alone costs {max(costs):.1f} us of the processor"
     if status != b"200":
         yield f"a head that came so was answered {status.decode()}"
 

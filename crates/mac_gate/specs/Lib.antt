@@ -2,3 +2,5 @@ pub mod Address
 pub mod Noting
 pub mod Patience
 pub mod Pace
+pub mod Turns
+pub mod Weight
