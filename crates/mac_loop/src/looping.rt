@@ -291,10 +291,12 @@ impl Loop {
         loops.end_turn();
         let mut traffic = Traffic::NONE;
         for _ in rt.forever() {
-            let (Some(client), Some(Lent { slot, note })) = (self.batch.pop(), self.turn.pop())
+            let (Some(mut client), Some(Lent { slot, note })) = (self.batch.pop(), self.turn.pop())
             else {
                 break;
             };
+            // What isn't told here a worker answers.
+            let _ = self.round.recall(&mut client, outlook.current());
             loops.count_unsent(0, client.unsent());
             let mut member = Member { client, note };
             traffic = traffic.plus(member.count_traffic());
