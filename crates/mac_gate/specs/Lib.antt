@@ -1,4 +1,5 @@
 pub mod Address
 pub mod Noting
+pub mod KeyLines
 pub mod Patience
 pub mod Pace
