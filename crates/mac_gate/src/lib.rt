@@ -16,6 +16,7 @@ mod devices;
 mod door;
 mod draws;
 mod gathering;
+mod key_lines;
 mod limit;
 mod looping;
 mod noting;

@@ -5,7 +5,7 @@ use Rattle.std.specs.List.{flat_map}
 use Rattle.mac_keys.specs.Names.{names_of}
 use Rattle.mac_keys.specs.KeyTable.{Table}
 use Rattle.mac_keys.specs.declared.keys.Keys.{Keys}
-use Rattle.mac_words.specs.Fingerprint.{fingerprint}
+use Rattle.mac_calls.specs.Fingerprint.{fingerprint}
 
 -- that there is one key, or that there are two, and their fingerprints
 abbrev pub key_words : List ℕ → Option (List ℕ) → List ℕ

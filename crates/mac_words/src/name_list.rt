@@ -2,7 +2,7 @@
 ghost use Rattle.std.specs.Prelude.{◌≡◌, ◌++◌, IfOk, OnOk, option_copied};
 ghost use Rattle.mac_words.specs.NameList.{key_words, keys_words, name_line, names_text};
 
-use crate::fingerprint::append_fingerprint;
+use mac_calls::append_fingerprint;
 use mac_keys::{KeyTable, Keys};
 use std::alloc::{AllocError, Global};
 
@@ -35,11 +35,7 @@ fn append_name(
 }
 
 /// Appends how many keys there are, if there are any, and their fingerprints.
-fn append_keys(
-    alloc: Global,
-    keys: Option<&Keys>,
-    out: &mut Vec<u8>,
-) -> Result<(), AllocError>
+fn append_keys(alloc: Global, keys: Option<&Keys>, out: &mut Vec<u8>) -> Result<(), AllocError>
     ensures { OnOk result (out.new.items ≡ out.old.items ++ keys_words (option_copied keys)) }
 {
     match keys {

@@ -6,9 +6,7 @@ use crate::doors::{OpenDoors, open_doors};
 use crate::http::HttpPlan;
 use crate::key_store::{FirstKeys, KeyPlace, look_at};
 use crate::list_store::{FirstList, ListPlace, look_at_list};
-use crate::operating::{
-    OperatorsServer, open_status, operators_terms, start_operators, warn_of_no_status,
-};
+use crate::operating::{OPERATORS_LOOPS, open_status, operators_terms, warn_of_no_status};
 use mac_board::Editor;
 use mac_daemon::{
     Daemon, DaemonFault, DaemonTerms, FOLLOWERS_MAX, Gift, SideSocket, Surroundings, give, listen,
@@ -30,8 +28,8 @@ use std::thread::Threads;
 use std::time::{Clock, Duration};
 
 /// How many followers of the key tables there are at most: the daemon's own, and one for each loop
-/// of gateways and of callers.
-const FOLLOWERS: usize = FOLLOWERS_MAX + 2 * LOOPS_MAX as usize;
+/// of gateways, of callers and of operators.
+const FOLLOWERS: usize = FOLLOWERS_MAX + 2 * LOOPS_MAX as usize + OPERATORS_LOOPS;
 
 /// How many milliseconds pass between two looks at the key file.
 const PAUSE_MILLIS: u64 = 500;
@@ -170,11 +168,11 @@ where
 
 /// A daemon with its servers over HTTP.
 #[derive(Drop)]
-struct Started<R: Wait + Drop> {
+struct Started {
     daemon: Daemon,
     gateways: Option<HttpServer>,
     callers: Option<HttpServer>,
-    operators: Option<OperatorsServer<R>>,
+    operators: Option<HttpServer>,
 }
 
 /// Makes the sockets of a daemon and starts the threads that serve them. Nobody can reach a Unix
@@ -186,7 +184,7 @@ fn start_all<'a, R>(
     editor: &Editor<R>,
     handed: Option<UnixListener>,
     holdings: &mut Holdings,
-) -> Result<Started<R>, ListenFault<'a>>
+) -> Result<Started, ListenFault<'a>>
 where
     R: Env + Alloc<A = Global> + Eprint + Files<File = File> + Clock + RandomSource,
     R: Net<Listener = TcpListener, Stream = TcpStream>,
@@ -215,7 +213,7 @@ where
     let loops = terms.shape.loops;
     let gateways = start_faces(rt, gateways, editor, &daemon, loops)?;
     let callers = start_faces(rt, callers, editor, &daemon, loops)?;
-    let operators = start_operators(rt, operators, &daemon)?;
+    let operators = start_faces(rt, operators, editor, &daemon, OPERATORS_LOOPS)?;
     Ok(Started {
         daemon,
         gateways,
@@ -262,7 +260,7 @@ where
 }
 
 /// Sees a daemon off with its servers over HTTP.
-fn end_all<R: Wait + Clock + Drop>(rt: &R, started: Started<R>) {
+fn end_all<R: Wait + Clock>(rt: &R, started: Started) {
     let Started {
         daemon,
         gateways,
