@@ -1,6 +1,7 @@
 //! The threads of a daemon: its loops, its workers, and who accepts.
-ghost use Rattle.std.specs.Prelude.{◌≡◌, IfOk};
+ghost use Rattle.std.specs.Prelude.{◌≡◌, ◌+◌, IfOk};
 ghost use Rattle.mac_daemon.specs.Day.{MeetsCount};
+ghost use Rattle.mac_daemon.specs.Memory.{tokens_memory};
 ghost use Rattle.mac_loop.specs.Asks.{home_of};
 
 use crate::accepting::{Limits, accept_to_end};
@@ -10,7 +11,7 @@ use crate::quay::Quay;
 use mac_board::{Follower, Followers, TimedTables};
 use mac_decide::{Macaroons, SeenTokens};
 use mac_host::Ending;
-use mac_loop::{Loop, Loops, make_loops};
+use mac_loop::{Loop, LoopTerms, Loops, make_loops};
 use mac_pool::{Desk, Pool};
 use mac_sockets::{Entrance, STACK, has_roomy_stacks};
 use mac_system::SystemMoments;
@@ -40,6 +41,39 @@ pub struct Shape {
     pub idle: Option<u64>,
     /// How many bytes tokens are remembered in that were found to be minted: none where it is 0.
     pub remembered: u64,
+    /// How many bytes of memory these and the connections may have together.
+    pub memory: u64,
+}
+
+impl Shape {
+    /// How many bytes tokens are remembered in: those that were asked for, and half of the memory
+    /// at most.
+    pub fn tokens_memory(self) -> u64
+        ensures { result ≡ tokens_memory self }
+    {
+        self.remembered.min(self.memory / 2)
+    }
+
+    /// How many bytes of memory the connections may have together: what those tokens leave.
+    pub fn connections_memory(self) -> u64
+        ensures { result + tokens_memory self ≡ self.memory }
+    {
+        self.memory - self.tokens_memory()
+    }
+
+    /// What its loops are held to.
+    fn loop_terms(self, may_share: bool) -> LoopTerms
+        ensures memory { result.memory + tokens_memory self ≡ self.memory }
+        ensures count { result.count ≡ self.loops }
+        ensures idle { result.idle ≡ self.idle }
+    {
+        LoopTerms {
+            count: self.loops,
+            idle: self.idle,
+            may_share,
+            memory: self.connections_memory(),
+        }
+    }
 }
 
 /// What a daemon did.
@@ -66,8 +100,8 @@ impl Idlers {
         shape: Shape,
         seen: &SeenTokens,
     ) -> Result<Idlers, DaemonFault> {
-        let may_share = has_roomy_stacks();
-        let (loops, made) = make_loops(rt, alloc, shape.loops, shape.idle, seen, may_share)?;
+        let terms = shape.loop_terms(has_roomy_stacks());
+        let (loops, made) = make_loops(rt, alloc, terms, seen)?;
         Ok(Idlers { loops, made })
     }
 }
@@ -75,11 +109,12 @@ impl Idlers {
 /// The memory of tokens of a daemon of this shape, if the system gives random bytes and memory for
 /// it.
 fn make_memory<R: RandomSource>(rt: &R, alloc: Global, shape: Shape) -> Option<SeenTokens> {
-    if shape.remembered == 0 {
+    let remembered = shape.tokens_memory();
+    if remembered == 0 {
         return Some(SeenTokens::none());
     }
     let hashes = RandomState::new(rt).ok()?;
-    SeenTokens::new(alloc, hashes, shape.remembered as usize).ok()
+    SeenTokens::new(alloc, hashes, remembered as usize).ok()
 }
 
 /// The memory of tokens of a daemon. Where there is none for it that is told, and it computes each

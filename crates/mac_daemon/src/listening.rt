@@ -303,6 +303,7 @@ fn beginning_of(terms: DaemonTerms<'_>) -> Beginning<'_> {
         side: terms.side,
         names: terms.names,
         workers: terms.shape.workers,
+        memory: terms.shape.memory,
     }
 }
 

@@ -98,6 +98,9 @@ impl Quay {
         self.roster.leave(rt, life);
         self.numbers
             .count_ended(notice.is_some_and(Notice::is_fault));
+        if notice.is_some_and(Notice::is_heavy) {
+            self.numbers.count_heavy();
+        }
         if let Some(notice) = notice {
             self.faults.fetch_add(1, SeqCst);
             self.notices.tell_parting(rt, life, notice.kind(), &notice);

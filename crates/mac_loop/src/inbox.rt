@@ -12,6 +12,9 @@ use std::sync::atomic::{AtomicBool, AtomicU64, AtomicUsize};
 /// How many bytes may be unsent on all clients before each may have less.
 const UNSENT_ALL: u64 = 67_108_864;
 
+/// They are no more than one part of so many of the memory that clients have.
+const UNSENT_PART: u64 = 4;
+
 /// How much may be unsent on a client then.
 const UNSENT_LITTLE: usize = 65_536;
 
@@ -31,18 +34,22 @@ pub struct Loops {
     // How many loops are in a turn.
     busy: AtomicUsize,
     unsent: AtomicU64,
+    // How many bytes may be unsent on all clients before each may have less.
+    unsent_all: u64,
     is_draining: AtomicBool,
     is_closed: AtomicBool,
 }
 
 impl Loops {
-    /// No loops yet, whose turns may be answered by several threads, or not.
-    pub fn new(alloc: Global, may_share: bool) -> Loops {
+    /// No loops yet, whose turns may be answered by several threads, or not, and whose clients have
+    /// so many bytes of memory together.
+    pub fn new(alloc: Global, may_share: bool, memory: u64) -> Loops {
         Loops {
             sides: Vec::new(alloc),
             may_share,
             busy: AtomicUsize::new(0),
             unsent: AtomicU64::new(0),
+            unsent_all: UNSENT_ALL.min(memory / UNSENT_PART),
             is_draining: AtomicBool::new(false),
             is_closed: AtomicBool::new(false),
         }
@@ -111,7 +118,7 @@ impl Loops {
 
     /// How many bytes may be unsent on a client that is read: less, once much is unsent on all.
     pub fn unsent_max(&self) -> usize {
-        if self.unsent.load(SeqCst) < UNSENT_ALL {
+        if self.unsent.load(SeqCst) < self.unsent_all {
             UNSENT_MAX
         } else {
             UNSENT_LITTLE
@@ -145,7 +152,8 @@ impl Loops {
         self.wake_all();
     }
 
-    fn wake_all(&self) {
+    /// Has each loop look.
+    pub fn wake_all(&self) {
         for side in self.sides.iter() {
             side.inbox.wake();
         }

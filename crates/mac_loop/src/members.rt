@@ -39,6 +39,8 @@ pub struct Note {
     pub traffic: Traffic,
     /// How many reads have dropped what came behind a frame that was too long.
     pub dropped: usize,
+    /// How many bytes of memory it held when that was last counted.
+    pub held: u64,
 }
 
 /// How many such reads there are at most.
@@ -86,6 +88,7 @@ impl Member {
             badge,
             traffic: client.port().traffic(),
             dropped: 0,
+            held: 0,
         };
         Member { client, note }
     }
@@ -104,6 +107,18 @@ impl Member {
         let counted = traffic.since(self.note.traffic);
         self.note.traffic = traffic;
         counted
+    }
+
+    /// Counts how many bytes of memory it holds: so many before, and so many now. Where its requests
+    /// are noted, what has begun to come is there a second time.
+    pub fn count_held(&mut self) -> (u64, u64)
+        ensures { self.new.client ≡ self.old.client }
+    {
+        let before = self.note.held;
+        let held = self.client.held();
+        let noted = self.client.port().held(held);
+        self.note.held = held.saturating_add(noted) as u64;
+        (before, self.note.held)
     }
 
     /// Notes how it stands now. When it was last seen to make progress, in microseconds.

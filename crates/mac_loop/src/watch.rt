@@ -30,6 +30,9 @@ pub enum PlainFault {
     /// It made no progress for as long as it may.
     #[error("it made no progress")]
     Idle,
+    /// It held more than others of the memory that all have together, and there was no more.
+    #[error("it held most of the memory that connections have together, which is used up")]
+    Heavy,
 }
 
 impl PlainFault {

@@ -33,6 +33,12 @@ pub const DRAIN_MAX: u64 = 3600;
 /// The most bytes that `--remember` takes: a gibibyte.
 pub const REMEMBER_MAX: u64 = 1_073_741_824;
 
+/// The fewest bytes that `--memory` takes: 64 MiB.
+pub const MEMORY_MIN: u64 = 67_108_864;
+
+/// The most bytes that it takes: a tebibyte.
+pub const MEMORY_MAX: u64 = 1_099_511_627_776;
+
 /// The most connections that `--http-connections` takes.
 pub const HTTP_CONNECTIONS_MAX: u64 = 1024;
 
@@ -70,6 +76,9 @@ const DRAIN_HELP: &str =
 
 const REMEMBER_HELP: &str = "How many bytes tokens found good are remembered in, from 0 (none) \
     to 1073741824 [default: 16777216]";
+
+const MEMORY_HELP: &str = "How many bytes connections have together with these tokens, \
+    from 67108864 [default: half of all]";
 
 const NAMES_HELP: &str =
     "The key names that may be used at the socket, with commas between them [default: all]";
@@ -208,7 +217,8 @@ fn build_listen<'a>(alloc: Global) -> Result<Command<'a>, AllocError>
     let workers = build_count(alloc, "workers", WORKERS_MAX as u64, LISTEN_WORKERS_HELP);
     let connections = build_count(alloc, "connections", CONNECTIONS_MAX, CONNECTIONS_HELP);
     let drain = build_count(alloc, "drain", DRAIN_MAX, DRAIN_HELP);
-    let remember = build_bytes(alloc, "remember", REMEMBER_MAX, REMEMBER_HELP);
+    let remember = build_bytes(alloc, "remember", 0, REMEMBER_MAX, REMEMBER_HELP);
+    let memory = build_bytes(alloc, "memory", MEMORY_MIN, MEMORY_MAX, MEMORY_HELP);
     let listen = build_subcommand(alloc, "listen", about, LISTEN_HELP);
     let listen = add_arg(listen, build_path(alloc, "socket", SOCKET_HELP))?;
     let listen = add_arg(listen, build_path(alloc, "keys", KEYS_HELP))?;
@@ -219,6 +229,7 @@ fn build_listen<'a>(alloc: Global) -> Result<Command<'a>, AllocError>
     let listen = add_arg(listen, connections)?;
     let listen = add_arg(listen, drain)?;
     let listen = add_arg(listen, remember)?;
+    let listen = add_arg(listen, memory)?;
     let listen = add_arg(listen, build_option(alloc, "names", "NAMES", NAMES_HELP))?;
     let listen = add_arg(
         listen,
@@ -327,10 +338,16 @@ fn build_count<'a>(alloc: Global, name: &'a str, most: u64, help: &'a str) -> Ar
     build_option(alloc, name, "COUNT", help).value_parser(ValueParser::unsigned(1, most))
 }
 
-/// An option that takes a number of bytes from 0 to `most`.
-fn build_bytes<'a>(alloc: Global, name: &'a str, most: u64, help: &'a str) -> Arg<'a>
-    ensures rule { rule_of result ≡ number_from 0 most (option name.entry.now) }
+/// An option that takes a number of bytes from `least` to `most`.
+fn build_bytes<'a>(
+    alloc: Global,
+    name: &'a str,
+    least: u64,
+    most: u64,
+    help: &'a str,
+) -> Arg<'a>
+    ensures rule { rule_of result ≡ number_from least most (option name.entry.now) }
     ensures local { result.global ≡ false }
 {
-    build_option(alloc, name, "BYTES", help).value_parser(ValueParser::unsigned(0, most))
+    build_option(alloc, name, "BYTES", help).value_parser(ValueParser::unsigned(least, most))
 }

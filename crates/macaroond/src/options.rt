@@ -95,6 +95,7 @@ fn read_listen(alloc: Global, options: &ArgMatches<'_>) -> Result<Choice, Option
         connections: read_optional_number(options, "connections"),
         drain: read_optional_number(options, "drain"),
         remember: read_optional_number(options, "remember"),
+        memory: read_optional_number(options, "memory"),
         names: read_optional_text(alloc, options, "names")?,
         verify_socket: read_optional_text(alloc, options, "verify-socket")?,
         verify_mode,

@@ -44,7 +44,7 @@ impl Loop {
     }
 
     /// Ends the client of a slot.
-    fn end<R: Wait + Clock, W: Watch>(
+    pub(super) fn end<R: Wait + Clock, W: Watch>(
         &mut self,
         rt: &R,
         loops: &Loops,
@@ -54,6 +54,7 @@ impl Loop {
     ) {
         if let Some(member) = self.members.slots.release(slot) {
             loops.count_unsent(member.client.unsent(), 0);
+            self.count_left(&member);
             end_member(rt, watch, &member, fault);
         }
     }

@@ -14,6 +14,7 @@ returns c = (
     c.read_optional_number-4.ensures 1 1000000 c.requires.connections,
     c.read_optional_number-5.ensures 1 3600 c.requires.drain,
     c.read_optional_number-6.ensures 0 1073741824 c.requires.remember,
+    c.read_optional_number-7.ensures 67108864 1099511627776 c.requires.memory,
     c.in_ok-read_optional_text.ensures,
     c.in_ok-read_optional_text-2.ensures,
     sym c.read_mode-2.ensures ∙ c.in-Some-Some.is-1,
