@@ -11,8 +11,8 @@ use crate::fleet::{Day, FleetParts, Idlers, Shape, make_seen, run_fleet};
 use crate::quay::Quay;
 use crate::stop::Stop;
 use crate::surroundings::{Surroundings, heed_signals};
-use mac_board::{Followers, ListNews, News};
-use mac_host::{Beginning, Call, Ending, Host, Logged, Notices, Numbers, Roster};
+use mac_board::Followers;
+use mac_host::{Beginning, Ending, Host, Logged, Notices, Numbers, Roster};
 use mac_sockets::{Doors, Entrance, Holdings, STACK};
 use mac_system::{NotifySocket, State};
 use std::alloc::{AllocError, Global};
@@ -163,15 +163,9 @@ impl Daemon {
         self.stop.tell_replaced(rt, self.host.notices(), path);
     }
 
-    /// Waits until the daemon is told something, for so long at most.
-    pub fn await_call<R: Wait + Clock>(&self, rt: &R, patience: Duration) -> Call {
-        self.host.ending().await_call(rt, patience)
-    }
-
-    /// Tells what came of a look at its key file, if there is anything to be told.
-    pub fn tell_keys<R: Wait + Clock>(&self, rt: &R, file: &str, news: News) {
-        self.host.numbers().note_keys(rt, &news);
-        self.host.notices().tell_keys(rt, file, news);
+    /// Waits until the daemon is told to end, for so long at most. Whether it was.
+    pub fn await_ending<R: Wait + Clock>(&self, rt: &R, patience: Duration) -> bool {
+        self.host.ending().await_ending(rt, patience)
     }
 
     /// Notes how many lines its first list of tokens has that were taken back.
@@ -179,14 +173,8 @@ impl Daemon {
         self.host.numbers().set_revoked(lines);
     }
 
-    /// Tells what came of a look at its list of tokens that were taken back, if there is anything to
-    /// be told.
-    pub fn tell_revoked<R: Wait + Clock>(&self, rt: &R, file: &str, news: ListNews) {
-        self.host.numbers().note_revoked(&news);
-        self.host.notices().tell_revoked(rt, file, news);
-    }
-
-    /// What a further server has of it, whose connections are seen off with it.
+    /// What a further server has of it, whose connections are seen off with it, and who follows its
+    /// files.
     pub fn host(&self) -> Result<Host, AllocError> {
         self.host.share()
     }
