@@ -7,6 +7,7 @@ ghost use Rattle.mac_plain.specs.Client.{may_move};
 mod asking;
 mod sharing;
 mod sweeping;
+mod yielding;
 
 use crate::asks::Asks;
 use crate::handover::Handover;
@@ -193,7 +194,9 @@ impl Loop {
             let Some(client) = loops.take(rt, self.number) else {
                 return;
             };
-            self.receive(rt, client, loops, outlook, watch);
+            if let Some(client) = self.admit(rt, client, loops, watch) {
+                self.receive(rt, client, loops, outlook, watch);
+            }
         }
     }
 
@@ -246,6 +249,7 @@ impl Loop {
             place: _,
             since,
             badge,
+            displaces: _,
         } = client;
         let Ok(slot) = self.members.slots.reserve() else {
             return false;
@@ -257,6 +261,7 @@ impl Loop {
         }
         let client = Client::new(port, session, rights);
         loops.count_unsent(0, client.unsent());
+        loops.note_rest(self.number, badge.socket, since);
         let _ = self
             .members
             .slots
@@ -406,6 +411,7 @@ impl Loop {
             place: outlook.place(),
             since,
             badge: note.badge,
+            displaces: None,
         }
     }
 
