@@ -8,6 +8,7 @@ mod asking;
 mod holding;
 mod sharing;
 mod sweeping;
+mod yielding;
 
 use crate::asks::Asks;
 use crate::handover::Handover;
@@ -216,7 +217,9 @@ impl Loop {
             let Some(client) = loops.take(rt, self.number) else {
                 return;
             };
-            self.receive(rt, client, loops, outlook, watch);
+            if let Some(client) = self.admit(rt, client, loops, watch) {
+                self.receive(rt, client, loops, outlook, watch);
+            }
         }
     }
 
@@ -269,6 +272,7 @@ impl Loop {
             place: _,
             since,
             badge,
+            displaces: _,
         } = client;
         let Ok(slot) = self.members.slots.reserve() else {
             return false;
@@ -280,6 +284,7 @@ impl Loop {
         }
         let client = Client::new(port, session, rights);
         loops.count_unsent(0, client.unsent());
+        loops.note_rest(self.number, badge.socket, since);
         let mut member = Member::new(client, since, badge, self.looks);
         self.count_held(&mut member);
         let _ = self.members.slots.put(slot, member);
@@ -452,6 +457,7 @@ impl Loop {
             place: outlook.place(),
             since,
             badge: note.badge,
+            displaces: None,
         }
     }
 

@@ -44,6 +44,7 @@ mod rights;
 mod serving;
 mod status;
 mod telling;
+mod watching;
 
 pub use choices::{
     Choice, Chosen, HttpOptions, ListenOptions, Mode, PageOptions, PipeOptions, ServeOptions,
@@ -59,7 +60,7 @@ pub use fault::PipeFault;
 use http::plan_http;
 pub use input::INPUT_MAX;
 use key_store::{KeyPlace, read_first};
-use key_watch::{Followed, Found, Sockets, listen_and_watch};
+use key_watch::{Found, Sockets, listen_and_watch};
 use list_store::{ListPlace, find_first_list, find_list};
 use logging::read_log;
 use mac_daemon::{DaemonTerms, Shape};
@@ -90,6 +91,7 @@ use telling::{
     show, tell_ending, tell_fault, tell_http, tell_key_file, tell_listen, tell_log, tell_nowhere,
     warn_of_minting,
 };
+use watching::Followed;
 
 /// How many connections there are at a time, where nothing else is asked for.
 const CONNECTIONS: u64 = 10_000;
