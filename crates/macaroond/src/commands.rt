@@ -339,13 +339,7 @@ fn build_count<'a>(alloc: Global, name: &'a str, most: u64, help: &'a str) -> Ar
 }
 
 /// An option that takes a number of bytes from `least` to `most`.
-fn build_bytes<'a>(
-    alloc: Global,
-    name: &'a str,
-    least: u64,
-    most: u64,
-    help: &'a str,
-) -> Arg<'a>
+fn build_bytes<'a>(alloc: Global, name: &'a str, least: u64, most: u64, help: &'a str) -> Arg<'a>
     ensures rule { rule_of result ≡ number_from least most (option name.entry.now) }
     ensures local { result.global ≡ false }
 {

@@ -23,6 +23,7 @@ const GROUP_FRONT: &[u8] = b"0::";
 
 /// Where the system tells what memory the machine has, and how that line begins.
 const MACHINE: &str = "/proc/meminfo";
+
 const MACHINE_FRONT: &[u8] = b"MemTotal:";
 
 /// The bytes of memory that connections and remembered tokens have, where none are asked for: half

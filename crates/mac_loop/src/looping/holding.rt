@@ -85,7 +85,10 @@ impl Loop {
     /// Whether its clients hold at least half of what those of each loop do in the mean.
     fn holds_much<R: Wait>(&self, rt: &R, loops: &Loops) -> bool {
         let all = self.account.taken_by_all(rt);
-        self.held.saturating_mul(2).saturating_mul(loops.len() as u64) >= all
+        self.held
+            .saturating_mul(2)
+            .saturating_mul(loops.len() as u64)
+            >= all
     }
 
     /// The slot of the client that holds most, and how much. Of several, the one that made no
