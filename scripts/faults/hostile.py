@@ -256,6 +256,7 @@ def late_beside(where, most, *asked):
 
 def beside_dear(path, http):
     """The same at both: in frames, and over HTTP."""
+    awaited(pathlib.Path(http).exists)
     with client.Client(path) as asked, connected(http) as stream:
         token = asked.ask(request.mint("v2-binary", "bank", "", "a", "a = 1", "b = 2", "c = 3"))[1:]
         small = request.verify("bank", "hex:" + token.hex(), 0, "a = 1", "b = 2", "c = 3")
