@@ -256,13 +256,14 @@ def late_beside(where, most, *asked):
 
 def beside_dear(path, http):
     """The same at both: in frames, and over HTTP."""
-    awaited(pathlib.Path(http).exists)
-    with client.Client(path) as asked, connected(http) as stream:
+    with client.Client(path) as asked:
         token = asked.ask(request.mint("v2-binary", "bank", "", "a", "a = 1", "b = 2", "c = 3"))[1:]
         small = request.verify("bank", "hex:" + token.hex(), 0, "a = 1", "b = 2", "c = 3")
         yield from late_beside("in frames", DEAR_WAIT_MAX, lambda: asked.ask(small) == b"\x00", path, dearest_request())
         plain = asked.ask(request.mint("v2-binary", "bank", "", "a"))[1:]
-        text = over_http(base64.urlsafe_b64encode(plain).rstrip(b"=").decode())
+    text = over_http(base64.urlsafe_b64encode(plain).rstrip(b"=").decode())
+    awaited(pathlib.Path(http).exists)
+    with connected(http) as stream:
 
         def grants():
             stream.sendall(text)
