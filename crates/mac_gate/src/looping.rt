@@ -157,7 +157,8 @@ impl HttpLoop {
         service: &mut S,
         slot: usize,
     ) {
-        let (is_ending, piece) = (server.is_ending(), self.piece.as_mut_slice());
+        let is_ending = server.is_ending();
+        let piece = self.piece.as_mut_slice();
         if self.connections.advance(slot, service, is_ending, piece) {
             server.leave(rt, self.number);
         }
