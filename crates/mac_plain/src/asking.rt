@@ -101,7 +101,6 @@ impl<P: Port> Client<P> {
         ensures wide { IfSome result (λ _. self.now.course ≡ course.Wide) }
         ensures reply { IfSome result (λ reply.
             reply ≡ reply_to_job (asked_job (lent_current current.entry) self.now)) }
-        ensures sendable { IfSome result IsReply }
     {
         if !matches!(self.course, Course::Wide) {
             return None;
