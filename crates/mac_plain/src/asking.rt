@@ -105,12 +105,15 @@ impl<P: Port> Client<P> {
         if !matches!(self.course, Course::Wide) {
             return None;
         }
+        let Some(payload) = front_payload(self.session.carried.as_slice()) else {
+            return None;
+        };
         let terms = Terms {
             table: current.table,
             rights: &self.rights,
             moment: current.moment,
         };
-        let job = job_view_of(terms, front_payload(self.session.carried.as_slice())?);
+        let job = job_view_of(terms, payload);
         let Ok(Some(reply)) = recall(&bench.seen, alloc, &job) else {
             return None;
         };
