@@ -171,8 +171,8 @@ impl Promise<Desk<Macaroons>> for SameDesk {
 
 type LoopThread = PromisedHandle<Desk<Macaroons>, SameDesk>;
 
-/// Starts the workers and the loops, serves the connections that come in, so many where a count is given,
-/// and ends the threads once all connections have ended.
+/// Starts the workers and the loops, serves the connections that come in, so many where a count is
+/// given, and ends the threads once all connections have ended.
 pub fn run_fleet<R>(
     rt: &R,
     alloc: Global,

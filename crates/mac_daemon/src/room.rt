@@ -1,6 +1,6 @@
 //! How many connections there are at the sockets of a daemon, and who gives way to a further one.
 
-ghost use Rattle.std.specs.Prelude.{◌≡◌, ◌+◌, if◌then◌else◌};
+ghost use Rattle.std.specs.Prelude.{◌≡◌, ◌+◌, ◌-◌, ◌^◌, if◌then◌else◌, min};
 ghost use Rattle.mac_daemon.specs.Room.{entry_at, has_room, IsWithin, no_connections, with_entry};
 ghost use Rattle.mac_daemon.specs.Room.{with_one, without_one};
 
@@ -49,7 +49,7 @@ impl Room {
 
     /// How many there are.
     pub fn live(&self) -> u64
-        ensures { IsWithin self.now → result ≡ self.now.main + self.now.side }
+        ensures { result ≡ min (self.now.main + self.now.side) (2 ^ 64 - 1) }
     {
         self.main.saturating_add(self.side)
     }

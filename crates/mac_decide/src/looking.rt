@@ -107,14 +107,16 @@ pub(crate) fn asking_of<'a>(payload: &'a [u8], job: &JobView<'a>) -> Option<Aski
         })) }
     ensures nothing { IfNone result (request_of payload.now ≡ None) }
 {
-    let request = parse_request(payload)?;
-    Some(Asking {
-        request,
-        keys: job.keys,
-        revoked: job.revoked,
-        may_mint: job.may_mint,
-        moment: job.moment,
-    })
+    match parse_request(payload) {
+        Some(request) => Some(Asking {
+            request,
+            keys: job.keys,
+            revoked: job.revoked,
+            may_mint: job.may_mint,
+            moment: job.moment,
+        }),
+        None => None,
+    }
 }
 
 /// What is known of the reply to a request: a verify of a token that the memory has is told.

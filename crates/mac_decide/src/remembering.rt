@@ -1,11 +1,13 @@
 //! What is remembered of a verify, for those of the same token.
 
 ghost use Rattle.std.specs.Prelude.{◌≡◌, IfOk, IfSome};
-ghost use Rattle.mac_wire.specs.Reply.{IsReply};
+ghost use Rattle.mac_wire.specs.Reading.{request_of};
+ghost use Rattle.mac_decide.specs.Answer as answers;
 ghost use Rattle.mac_decide.specs.Answer.{tells_minted};
 ghost use Rattle.mac_decide.specs.Asking.{asking_reply};
 ghost use Rattle.mac_decide.specs.Prepared.{reply_to_job};
-ghost use Rattle.mac_decide.specs.Viewed.{viewed};
+ghost use Rattle.mac_decide.specs.Revocation.{asked_revoked};
+ghost use Rattle.mac_decide.specs.Viewed.{viewed, viewed_basis};
 
 use crate::asking::Asking;
 use crate::job_view::{ArrivalView, JobView};
@@ -21,9 +23,8 @@ pub fn recall(
     alloc: Global,
     job: &JobView<'_>,
 ) -> Result<Option<Reply>, NoMemory>
-    ensures reply { IfOk result (λ told. IfSome told (λ reply.
+    ensures { IfOk result (λ told. IfSome told (λ reply.
         reply ≡ reply_to_job (viewed job.now))) }
-    ensures sendable { IfOk result (λ told. IfSome told IsReply) }
 {
     match look_at_job(seen, alloc, job)? {
         Sight::Told(reply) => Ok(Some(reply)),
@@ -37,11 +38,28 @@ pub fn recall(
 pub fn remember_answer(seen: &SeenTokens, alloc: Global, job: &JobView<'_>, reply: &Reply)
     requires { reply.now ≡ reply_to_job (viewed job.now) }
 {
-    let ArrivalView::Payload(payload) = job.arrival else {
-        return;
-    };
-    if let Some(asking) = asking_of(payload, job) {
-        remember(seen, alloc, &asking, reply);
+    match job.arrival {
+        ArrivalView::Payload(payload) => remember_payload(seen, alloc, payload, job, reply),
+        ArrivalView::Oversize => {}
+    }
+}
+
+/// The same of what a payload asks on the basis of its job.
+fn remember_payload(
+    seen: &SeenTokens,
+    alloc: Global,
+    payload: &[u8],
+    job: &JobView<'_>,
+    reply: &Reply,
+)
+    requires { reply.now
+        ≡ answers.asked_reply (request_of payload.now) (record (viewed_basis job.now) {
+          is_revoked = asked_revoked job.now.revoked (request_of payload.now);
+        }) }
+{
+    match asking_of(payload, job) {
+        Some(asking) => remember(seen, alloc, &asking, reply),
+        None => {}
     }
 }
 

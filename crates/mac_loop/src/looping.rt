@@ -463,6 +463,7 @@ impl Loop {
 
     /// Notes what a client waits for after its turn.
     fn note_turn(&mut self, slot: usize, member: &mut Member) {
+        let _ = member.note_progress(self.now);
         let client = &mut member.client;
         let awaits = client.unsent() > 0;
         // A read that ends within a request may have left some of it.

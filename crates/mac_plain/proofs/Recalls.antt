@@ -8,7 +8,7 @@ use Rattle.mac_wire.specs.Frame.{told_length}
 use Rattle.mac_decide.specs.Prepared.{reply_to_job}
 use Rattle.mac_decide.specs.declared.job.Job.{Job}
 use Rattle.mac_plain.specs.Asking.{PassesWith, Takes}
-use Rattle.mac_plain.specs.Client.{Answers, StandsSo}
+use Rattle.mac_plain.specs.Client.{Answers, Awaits, StandsSo}
 use Rattle.mac_board.specs.Noticed.{Current}
 use Rattle.mac_plain.specs.Dear.{front_of}
 use Rattle.mac_plain.specs.Goes.{Goes, after_reply}
@@ -21,8 +21,8 @@ use Rattle.mac_plain.proofs.Steps.{answers_fall, answers_still, begins_so, ends_
 
 -- the reply to a job was passed: the client takes it
 pub takes_reply : {P : Type 0} (before after : Client P) (reply : Reply) (job : Job) → reply ≡ reply_to_job job → PassesWith reply before after → Takes job before after
-takes_reply before after reply job is (inl r) = inl (record {
-  unsent = ap (λ x. x.session.unsent) r.after_is ∙ ap (λ q. (after_reply before.session q).unsent) is;
+takes_reply {P} before after reply job is (inl r) = inl (record {
+  unsent = ap (λ (x : Client P). x.session.unsent) r.after_is ∙ ap (λ (q : Reply). (after_reply before.session q).unsent) is;
   passed = r.passed;
 })
 takes_reply before after reply job is (inr fell) = inr fell
@@ -30,15 +30,15 @@ takes_reply before after reply job is (inr fell) = inr fell
 -- a client that waits for the answer to a job has it
 pub lets_go : {P : Type 0} (tells : Bool) (taken written : P → List ℕ) (before after : Client P) (reply : Reply) (job : Job) → before.course ≡ course.Awaiting job.basis
     → job.arrival ≡ front_of before.session.carried.items → reply ≡ reply_to_job job → PassesWith reply before after → Answers tells taken written before after []
-lets_go tells taken written before after reply job awaits its is (inl r) =
-    answers_still tells taken written before after [] (ap (λ x. x.port) r.after_is)
+lets_go {P} tells taken written before after reply job awaits its is (inl r) =
+    answers_still tells taken written before after [] (ap (λ (x : Client P). x.port) r.after_is)
     (λ read sent done h.
-    let a = subst (λ (k : Course). StandsSo k before.session read sent done) awaits h in
+    let a : Awaits job.basis before.session read sent done = subst (λ (k : Course). StandsSo k before.session read sent done) awaits h in
     subst (λ (l : List Job). StandsSo after.course after.session read sent l) (sym (append-nil done))
     (passes job.basis before.session after.session after.course reply job read sent done (nat_lt FRAME_MAX (told_length before.session.carried.items)) refl (r.passed a.wide)
-    (ap (λ x. x.session) r.after_is) is (same_job job.basis before.session job refl its) a))
-lets_go {P} tells taken written before after reply job awaits its is (inr (why, fell)) =
-    subst (λ (x : Client P). Answers tells taken written before x []) (sym fell) (answers_fall tells taken written before why)
+    (ap (λ (x : Client P). x.session) r.after_is) is (same_job job.basis before.session job refl its) a))
+lets_go {P} tells taken written before after reply job awaits its is (inr fell) =
+    subst (λ (x : Client P). Answers tells taken written before x []) (sym fell.1) (answers_fall tells taken written before fell.0)
 
 -- who waits for the answer is passed as who went on wide
 from_mid : {P : Type 0} (before after : Client P) (goes : Course) (reply : Reply) → PassesWith reply before after → PassesWith reply (record before { course = goes }) after

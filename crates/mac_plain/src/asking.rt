@@ -101,17 +101,19 @@ impl<P: Port> Client<P> {
         ensures wide { IfSome result (λ _. self.now.course ≡ course.Wide) }
         ensures reply { IfSome result (λ reply.
             reply ≡ reply_to_job (asked_job (lent_current current.entry) self.now)) }
-        ensures sendable { IfSome result IsReply }
     {
         if !matches!(self.course, Course::Wide) {
             return None;
         }
+        let Some(payload) = front_payload(self.session.carried.as_slice()) else {
+            return None;
+        };
         let terms = Terms {
             table: current.table,
             rights: &self.rights,
             moment: current.moment,
         };
-        let job = job_view_of(terms, front_payload(self.session.carried.as_slice())?);
+        let job = job_view_of(terms, payload);
         let Ok(Some(reply)) = recall(&bench.seen, alloc, &job) else {
             return None;
         };

@@ -112,6 +112,7 @@ impl<P: Port> Client<P> {
         ensures unsent { length self.now.session.unsent ≤ result }
     {
         let came = self.session.carried.capacity();
+        let came = came.max(self.session.carried.len());
         let copied = if self.is_waiting() { came } else { 0 };
         let gone = self.session.unsent.capacity();
         came.saturating_add(copied).saturating_add(gone)

@@ -1,6 +1,6 @@
 //! How many bytes may be taken by several threads together, and how many are.
 
-ghost use Rattle.std.specs.Prelude.{◌≡◌, ◌≤◌, ◌+◌, ◌-◌, nat_le, if◌then◌else◌, IsTrue, IsFalse};
+ghost use Rattle.std.specs.Prelude.{◌≡◌, ◌≤◌, ◌+◌, ◌-◌, nat_le, if◌then◌else◌, IsTrue};
 ghost use Rattle.mac_sockets.specs.Budget.{no_bytes_of, with_taken};
 
 use std::alloc::{AllocError, Global};
@@ -53,23 +53,6 @@ impl Budget {
         self.taken = self.taken.saturating_sub(count);
     }
 
-    /// Has so many taken by one who had some of them taken before, where as many are left. Whether
-    /// that was so: fewer than before always are.
-    pub fn exchange(&mut self, had: u64, count: u64) -> bool
-        ensures taken { had ≤ self.old.taken → IsTrue result
-            → self.new.taken + had ≡ self.old.taken + count }
-        ensures refused { IsFalse result → self.new ≡ self.old }
-        ensures less { count ≤ had → IsTrue result }
-        ensures room { self.old.taken + count ≤ self.old.most + had → IsTrue result }
-        ensures most { self.new.most ≡ self.old.most }
-    {
-        if count <= had {
-            self.give(had - count);
-            return true;
-        }
-        self.take(count - had)
-    }
-
     /// How many are taken.
     pub fn taken(&self) -> u64
         ensures taken { result ≡ self.now.taken }
@@ -107,11 +90,13 @@ impl Account {
     {
         let mut budget = self.budget.lock(rt);
         let budget = &mut *budget;
-        let is_had = budget.exchange(self.taken, count);
-        if is_had {
-            self.taken = count;
+        if count <= self.taken {
+            budget.give(self.taken - count);
+        } else if !budget.take(count - self.taken) {
+            return false;
         }
-        is_had
+        self.taken = count;
+        true
     }
 
     /// How many bytes all have together.

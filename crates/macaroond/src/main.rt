@@ -289,6 +289,7 @@ fn name_terms<'a, R: Threads>(
     ensures idle { result.shape.idle ≡ options.now.idle }
     ensures drain { result.drain ≡ drain_of options.now.drain }
     ensures connections { result.shape.connections ≡ connections_of options.now.connections }
+    ensures side_connections { result.shape.side_connections ≡ options.now.verify_connections }
     ensures remembered { result.shape.remembered ≡ remember_of options.now.remember }
     ensures memory { result.shape.memory ≡ memory_of memory options.now.memory }
     ensures loops { HasCount LOOPS_MAX options.now.loops result.shape.loops }
@@ -306,6 +307,7 @@ fn name_terms<'a, R: Threads>(
             loops: count_loops(rt, options.loops),
             workers: count_workers(rt, options.workers),
             connections: options.connections.unwrap_or(CONNECTIONS),
+            side_connections: options.verify_connections,
             idle: options.idle,
             remembered: options.remember.unwrap_or(REMEMBER),
             memory: options.memory.unwrap_or(memory),

@@ -1,4 +1,4 @@
-use Rattle.std.proofs.Common.{◌≡◌, ◌∙◌, ℕ, ◌<◌, ◌⊎◌, IfSome, Option, None, Some, ap, arith, inl, inr, rules, subst, sym}
+use Rattle.std.proofs.Common.{◌≡◌, ◌∙◌, ℕ, ◌⊎◌, IfSome, Option, None, Some, ap, arith, inl, inr, subst, sym}
 use Rattle.std.proofs.lemmas.Bool.{cases_lt}
 use Rattle.mac_host.specs.declared.badge.Socket.{Socket}
 use Rattle.mac_slots.specs.Slots.{Slots}
@@ -23,11 +23,11 @@ one_of socket slots slot since found (Some one) told was (inr (here, rests)) = a
 
 pub loop-slot-preserved : goal.loop-slot-preserved
 loop-slot-preserved c = record {
-  one = one_of _ _ _ _ _ _ c.since_of.ensures c.loop-slot.invariant.one c.staler.ensures.one;
+  one = one_of c.args.socket c.args.slots.now c.loop-slot.slot _ _ _ c.since_of.ensures c.loop-slot.invariant.one c.staler-found.ensures.one;
   longest = λ slot since below is. elim (cases_lt slot c.loop-slot.slot) [
-    | inl before ↦ c.staler.ensures.found since (c.loop-slot.invariant.longest slot since before is)
+    | inl before ↦ c.staler-found.ensures.found since (c.loop-slot.invariant.longest slot since before is)
     | inr last ↦
         let here : slot ≡ c.loop-slot.slot = omega (arith, below, last) in
-        brought _ _ since c.staler.ensures.since (c.since_of.ensures ∙ ap (λ (s : ℕ). rested_at c.args.socket c.args.slots.now s) (sym here) ∙ is)
+        brought _ _ since c.staler-found.ensures.since (c.since_of.ensures ∙ ap (λ (s : ℕ). rested_at c.args.socket c.args.slots.now s) (sym here) ∙ is)
   ];
 }

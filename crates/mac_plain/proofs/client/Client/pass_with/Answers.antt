@@ -10,7 +10,7 @@ returns-in-Ok g c =
     let P = g.row.P.Denot in
     let carried = c.pass_front-self.new.carried in
     let goes = c.pass_front-self.result in
-    let put = c.put.ensures.put in
+    let put = c.in-Ok.ensures.put in
     inl (record {
       after_is = ap (λ (x : Client P). record x { session = record x.session { carried = carried }; course = goes }) put;
       passed = subst (λ (l : List ℕ). GoesWide l → IsPassed l carried.items goes) (ap (λ (x : Client P). x.session.carried.items) put) c.pass_front-self.ensures;
