@@ -138,10 +138,11 @@ def connections(daemon):
         for stream in (one, other):
             reply_to(stream, b"")
         with connected(daemon.path) as third:
-            yield "one too many is closed", third.recv(1), b""
-        told = numbers(daemon)
-        yield "connections at the limit", (told["connections"], told["connections_closed_at_limit_total"]), (2, 1)
-        one.sendall(bytes(3))
+            yield "one gives way to a third", one.recv(1), b""
+            reply_to(third, b"")
+            told = numbers(daemon)
+            yield "connections at the limit", (told["connections"], told["connections_closed_at_limit_total"]), (2, 1)
+        other.sendall(bytes(3))
     yield "connections_faulty_total", await_number(daemon, "connections_faulty_total", 1), 1
     with daemon.unix(), daemon.tcp():
         yield "connections_http", await_number(daemon, "connections_http", 3), 3

@@ -24,7 +24,9 @@ mod pace;
 mod server;
 mod shared;
 mod terms;
+mod turns;
 mod waiting;
+mod weight;
 
 pub use address::{Address, AddressFault, ListFault, Reach, read_address, read_addresses};
 pub use content::Content;
