@@ -14,7 +14,7 @@ pub(crate) fn append_told_keys(
     keys: Option<&KeyTable>,
     out: &mut Vec<u8>,
 ) -> Result<(), AllocError>
-    ensures { OnOk result (out.new.items ≡ out.old.items ++ told_lines (option_copied keys)) }
+    ensures { OnOk result (out.new.items ≡ out.old.items ++ told_lines (option_copied keys.entry)) }
 {
     match keys {
         Some(table) => append_key_lines(alloc, table, out),
@@ -42,7 +42,7 @@ fn append_line(
     out: &mut Vec<u8>,
 ) -> Result<(), AllocError>
     ensures { OnOk result (out.new.items
-        ≡ out.old.items ++ key_line name.now (option_copied keys)) }
+        ≡ out.old.items ++ key_line name.now (option_copied keys.entry)) }
 {
     out.extend_from_slice(b"key ")?;
     out.extend_from_slice(name)?;
@@ -52,7 +52,7 @@ fn append_line(
 
 /// Appends the fingerprints of the keys of a name, if it has any.
 fn append_keys(alloc: Global, keys: Option<&Keys>, out: &mut Vec<u8>) -> Result<(), AllocError>
-    ensures { OnOk result (out.new.items ≡ out.old.items ++ keys_text (option_copied keys)) }
+    ensures { OnOk result (out.new.items ≡ out.old.items ++ keys_text (option_copied keys.entry)) }
 {
     match keys {
         Some(keys) => {

@@ -127,8 +127,8 @@ pub record AreTerms (options : HttpOptions) (terms : HttpTerms) : Type 0 where
   pub pages : terms.pages ≡ pages_beside options.admin
 
 -- Of the gateways' addresses those of this machine stand before the others; no call is answered
--- there, and nothing may be minted. Calls have addresses of this machine alone. To operators nothing
--- is allowed: no token is granted.
+-- there, and nothing may be minted. Calls have addresses of this machine alone. To operators
+-- nothing is allowed: no token is granted.
 pub record IsPlan (options : HttpOptions) (plan : HttpPlan) : Type 0 where
   pub not_moved : options.allow ≡ None
   pub here : List Address
