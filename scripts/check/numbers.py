@@ -101,6 +101,20 @@ def wide(daemon):
     yield "bytes out", after["bytes_out_total"] - before["bytes_out_total"], 3 * len(frame(b"\x14"))
 
 
+def remembered(daemon):
+    """A dear verify waits for a worker until its token is remembered, and then for none; with other facts too."""
+    token, before = json_text(b"carol", [b"a = 1"]), numbers(daemon)
+    granted, lacks = (request.verify("bank", token, 0, *facts, *LONG) for facts in (["a = 1"], []))
+    with connected(daemon.path) as stream:
+        replies = [reply_to(stream, granted) for _ in range(5)]
+        told = await_number(daemon, "requests_wide_total", before["requests_wide_total"] + 2)
+        replies += [reply_to(stream, payload) for payload in (lacks, granted, lacks)]
+    yield "replies of a dear token", replies, [b"\0"] * 5 + [b"\x18\0\0", b"\0", b"\x18\0\0"]
+    yield "what a worker told of it", told - before["requests_wide_total"], 2
+    after = numbers(daemon)["requests_wide_total"]
+    yield "what a worker told of it then", after - before["requests_wide_total"], 2
+
+
 def taken_back():
     """A token that was taken back is counted apart from one of another secret: in loops, by a worker, and over HTTP."""
     gone, forged, stays = v2(b"alice"), v2(b"alice", secret=OLD), v2(b"bob")
@@ -198,7 +212,7 @@ def another():
 def faults():
     seen = [*another(), *taken_back()]
     with listening() as daemon:
-        for part in (requests_and_bytes, wide, keys, page):
+        for part in (requests_and_bytes, wide, remembered, keys, page):
             seen += part(daemon)
     with listening("--connections", "2") as daemon:
         seen += connections(daemon)
