@@ -78,17 +78,17 @@ def connections(folder):
             one.sendall(frame(b""))
             received(one, len(NO_REQUEST))
             with connected(path) as third:
-                yield "one too many", third.recv(1), b""
-            due = ("warning", "connections", "2")
-            yield "limit_reached", told(log.first("limit_reached"), "limit", "connections"), due
-            one.sendall(bytes(3))
-            one.close()
-            fault = log.first("connection_fault")
-            due = ("warning", "1", "1", "the stream ended inside a frame")
-            yield "connection_fault", told(fault, "connection", "requests", "fault"), due
-            yield "an idle one is closed", other.recv(1), b""
+                yield "one gives way to a third", other.recv(1), b""
+                due = ("warning", "connections", "2")
+                yield "limit_reached", told(log.first("limit_reached"), "limit", "connections"), due
+                one.sendall(bytes(3))
+                one.close()
+                fault = log.first("connection_fault")
+                due = ("warning", "1", "1", "the stream ended inside a frame")
+                yield "connection_fault", told(fault, "connection", "requests", "fault"), due
+                yield "an idle one is closed", third.recv(1), b""
         idle = log.first("connection_idle")
-        yield "connection_idle", told(idle, "connection", "requests", "fault"), ("info", "2", "0", None)
+        yield "connection_idle", told(idle, "connection", "requests", "fault"), ("info", "3", "0", None)
         yield "connection_idle: after its second", 900 <= int(idle.fields["millis"]) < 60_000, True
         run.terminate()
         yield "drain", told(log.first("drain"), "connections"), ("info", "0")

@@ -84,6 +84,7 @@ ENDINGS = {
     "listen_remember": (Case("", listen_with("--remember", "1073741825")), bad("")),
     "listen_memory": (Case("", listen_with("--memory", "67108863")), bad("")),
     "listen_connections": (Case("", listen_with("--connections", "1000001")), bad("")),
+    "listen_verify_connections": (Case("", listen_with("--verify-connections", "0")), bad("")),
     "listen_accept": (Case("", listen_with("--accept", "1")), bad("")),
     "no_key_file": (Case("", serve_with()), Ending(3, "", NO_KEY_FILE)),
     "no_listen_key_file": (Case("", listen_with("--mode=660")), Ending(3, "", NO_KEY_FILE)),

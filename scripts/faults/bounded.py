@@ -5,8 +5,9 @@
 
 One that never reads its replies sends requests that are refused, as many as the daemon takes, with
 `--log requests` and without: the daemon holds no more than HELD_MAX MiB for it, and has a line for
-each request once its replies are read. One over HTTP sends a head a byte at a time: none of its bytes
-costs more than BYTE_MAX microseconds of the processor, at the begin of the head and at its end.
+each request once its replies are read. One over HTTP sends a head a byte at a time, as long as it may
+be: each byte costs BYTE_MAX microseconds of the processor at most, in each part of the head; or half as
+much again as a byte of a frame that comes so, where the machine takes longer to wake a thread at all.
 
 A crowd of CROWD clients sends frames that aren't whole, or never reads: with `--memory MEMORY` the daemon
 holds no more than that and BESIDE_MAX MiB, ends some of them, counts those, and answers one that behaves.
@@ -20,7 +21,6 @@ import contextlib
 import fcntl
 import pathlib
 import resource
-import socket
 import struct
 import subprocess
 import sys
@@ -39,9 +39,9 @@ import request
 SENT_MAX, HELD_MAX = 64 << 20, 48
 # A verify without a token under a name of 255 bytes, which is refused.
 REFUSED = frame(b"\x03\xff" + b"n" * 255)
-# How many bytes a head has whose last ones come alone, how many do, and how many microseconds of the processor
-# each of them may cost, on a machine that does other work too.
-HEAD, ALONE, BYTE_MAX = 48_000, 1_200, 6.0
+# How many bytes a head has that come alone, in how many parts they are timed, how many microseconds of the
+# processor each of them may cost in any part, and how many of a frame they are compared with.
+HEAD, PARTS, BYTE_MAX, FRAME_BYTES = 49_152, 8, 3.0, 4_000
 # What all clients may have together, how many MiB the daemon may hold beside that, and how many clients of a
 # crowd come that hold some 80 or 170 KiB each.
 MEMORY, BESIDE_MAX, CROWD = 64 << 20, 40, 1_200
@@ -180,36 +180,34 @@ def taken(stream):
     awaited(lambda: struct.unpack("i", fcntl.ioctl(stream, termios.TIOCOUTQ, bytes(4)))[0] == 0, 5, pause=0)
 
 
-def drips(pid, stream):
-    """Microseconds of the processor for each byte that comes alone."""
+def drips(pid, stream, part):
+    """Microseconds of the processor for each of these bytes, which come alone."""
     before = processor_micros(pid)
-    for _ in range(ALONE):
-        stream.send(b"a")
+    for byte in part:
+        stream.send(bytes([byte]))
         taken(stream)
     time.sleep(0.05)
-    return (processor_micros(pid) - before) / ALONE
+    return (processor_micros(pid) - before) / len(part)
 
 
 def dripped():
     """A head whose bytes come alone, and is answered at its end."""
     with tempfile.TemporaryDirectory() as folder:
         http = f"{folder}/http"
-        with daemon.listening("--http", f"unix:{http}", "--http-patience", "60") as (_, run):
+        with daemon.listening("--http", f"unix:{http}", "--http-patience", "60") as (path, run):
+            with connected(path, patience=PATIENCE) as stream:
+                stream.sendall(TORN[:4])
+                of_frame = drips(run.pid, stream, TORN[4 : 4 + FRAME_BYTES])
             awaited(pathlib.Path(http).exists)
-            with socket.socket(socket.AF_UNIX) as stream:
-                stream.settimeout(PATIENCE)
-                stream.connect(http)
-                stream.sendall(b"GET /healthz HTTP/1.1\r\nHost: a\r\nX: ")
-                taken(stream)
-                begin = drips(run.pid, stream)
-                stream.sendall(b"a" * (HEAD - 2 * ALONE))
-                taken(stream)
-                end = drips(run.pid, stream)
-                stream.sendall(b"\r\n\r\n")
+            with connected(http, patience=PATIENCE) as stream:
+                head = b"GET /healthz HTTP/1.1\r\nHost: a\r\nX: ".ljust(HEAD - 4, b"a") + b"\r\n\r\n"
+                parts = [head[part * HEAD // PARTS : (part + 1) * HEAD // PARTS] for part in range(PARTS)]
+                costs = [drips(run.pid, stream, part) for part in parts]
                 status = stream.recv(1_000).split(b" ")[1]
-    print(f"bounded: a byte that comes alone costs {begin:.1f} us at the begin of a head, {end:.1f} at the end of 48 KB")
-    if max(begin, end) > BYTE_MAX:
-        yield f"a byte of a head that comes alone costs {max(begin, end):.1f} us of the processor"
+    told = " ".join(f"{cost:.1f}" for cost in costs)
+    print(f"bounded: a byte of a head that comes alone costs {told} us, part by part; one of a frame {of_frame:.1f}")
+    if max(costs) > max(BYTE_MAX, 1.5 * of_frame):
+        yield f"a byte of a head that comes alone costs {max(costs):.1f} us of the processor"
     if status != b"200":
         yield f"a head that came so was answered {status.decode()}"
 

@@ -4,7 +4,7 @@ ghost use Rattle.mac_daemon.specs.Day.{MeetsCount};
 ghost use Rattle.mac_daemon.specs.Memory.{tokens_memory};
 ghost use Rattle.mac_loop.specs.Asks.{home_of};
 
-use crate::accepting::{Limits, accept_to_end};
+use crate::accepting::accept_to_end;
 use crate::door::Gift;
 use crate::fault::DaemonFault;
 use crate::quay::Quay;
@@ -37,6 +37,8 @@ pub struct Shape {
     pub workers: usize,
     /// How many connections there are at a time.
     pub connections: u64,
+    /// How many of them at the second socket: without a number, as many.
+    pub side_connections: Option<u64>,
     /// The seconds after which a connection that makes no progress is ended.
     pub idle: Option<u64>,
     /// How many bytes tokens are remembered in that were found to be minted: none where it is 0.
@@ -140,8 +142,8 @@ pub struct FleetParts {
     pub idlers: Idlers,
     /// Where connections come in.
     pub entrance: Entrance<Gift>,
-    /// What they are held to.
-    pub limits: Limits,
+    /// How many of them are accepted: without a number, one after another until that is shut.
+    pub count: Option<u64>,
     /// What the threads tell one another.
     pub quay: Arc<Quay, Global>,
 }
@@ -153,7 +155,7 @@ struct Fleet<'a> {
     quay: &'a Arc<Quay, Global>,
     followers: &'a Followers,
     ending: &'a Ending,
-    limits: Limits,
+    count: Option<u64>,
 }
 
 /// A loop's desk comes back from its thread.
@@ -169,8 +171,8 @@ impl Promise<Desk<Macaroons>> for SameDesk {
 
 type LoopThread = PromisedHandle<Desk<Macaroons>, SameDesk>;
 
-/// Starts the workers and the loops, serves the connections that come in, as many as the limits say,
-/// and ends the threads once all connections have ended.
+/// Starts the workers and the loops, serves the connections that come in, so many where a count is
+/// given, and ends the threads once all connections have ended.
 pub fn run_fleet<R>(
     rt: &R,
     alloc: Global,
@@ -180,13 +182,13 @@ pub fn run_fleet<R>(
 ) -> Result<Day, DaemonFault>
 where
     R: Threads + Wait + Clock + Sync + Copy + Send + 'static,
-    ensures { IfOk result (λ day. MeetsCount parts.limits.count day.served) }
+    ensures { IfOk result (λ day. MeetsCount parts.count day.served) }
 {
     let FleetParts {
         workers,
         idlers,
         mut entrance,
-        limits,
+        count,
         quay,
     } = parts;
     let Idlers { loops, made } = idlers;
@@ -196,7 +198,7 @@ where
         quay: &quay,
         followers,
         ending,
-        limits,
+        count,
     };
     let served = run_loops(rt, alloc, &mut pool, made, &mut entrance, fleet);
     let _books = pool.stop(rt);
@@ -218,12 +220,12 @@ fn run_loops<R>(
 ) -> Result<u64, DaemonFault>
 where
     R: Threads + Wait + Clock + Sync + Copy + Send + 'static,
-    ensures served { IfOk result (λ served. MeetsCount fleet.entry.limits.count served) }
+    ensures served { IfOk result (λ served. MeetsCount fleet.entry.count served) }
     ensures queue { pool.new.queue ≡ pool.old.queue }
 {
     let Some(one) = made.pop() else {
         fleet.ending.begin(rt);
-        let served = accept_to_end(rt, alloc, entrance, fleet.loops, fleet.quay, fleet.limits);
+        let served = accept_to_end(rt, alloc, entrance, fleet.loops, fleet.quay, fleet.count);
         fleet.loops.close();
         return served;
     };

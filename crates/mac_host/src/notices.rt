@@ -151,9 +151,9 @@ impl Notices {
         self.post(rt, kind, fields);
     }
 
-    /// Tells that a connection was closed, since there are as many as there may be.
-    pub fn tell_full<R: Wait + Clock>(&self, rt: &R, most: u64) {
-        let fields = limit_fields(self.alloc, "connections", most);
+    /// Tells that a connection was closed, since there are as many as this limit allows.
+    pub fn tell_full<R: Wait + Clock>(&self, rt: &R, limit: &str, most: u64) {
+        let fields = limit_fields(self.alloc, limit, most);
         self.post(rt, Kind::LimitReached, fields);
     }
 

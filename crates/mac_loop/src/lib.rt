@@ -14,6 +14,7 @@ mod looping;
 mod members;
 mod meter;
 mod port;
+mod resting;
 mod transcript;
 mod watch;
 

@@ -8,6 +8,7 @@ mod asking;
 mod holding;
 mod sharing;
 mod sweeping;
+mod yielding;
 
 use crate::asks::Asks;
 use crate::handover::Handover;
@@ -216,7 +217,9 @@ impl Loop {
             let Some(client) = loops.take(rt, self.number) else {
                 return;
             };
-            self.receive(rt, client, loops, outlook, watch);
+            if let Some(client) = self.admit(rt, client, loops, watch) {
+                self.receive(rt, client, loops, outlook, watch);
+            }
         }
     }
 
@@ -269,6 +272,7 @@ impl Loop {
             place: _,
             since,
             badge,
+            displaces: _,
         } = client;
         let Ok(slot) = self.members.slots.reserve() else {
             return false;
@@ -280,6 +284,7 @@ impl Loop {
         }
         let client = Client::new(port, session, rights);
         loops.count_unsent(0, client.unsent());
+        loops.note_rest(self.number, badge.socket, since);
         let mut member = Member::new(client, since, badge, self.looks);
         self.count_held(&mut member);
         let _ = self.members.slots.put(slot, member);
@@ -329,10 +334,12 @@ impl Loop {
     {
         let mut traffic = Traffic::NONE;
         for _ in rt.forever() {
-            let (Some(client), Some(Lent { slot, note })) = (self.batch.pop(), self.turn.pop())
+            let (Some(mut client), Some(Lent { slot, note })) = (self.batch.pop(), self.turn.pop())
             else {
                 break;
             };
+            // What isn't told here a worker answers.
+            let _ = self.round.recall(&mut client, outlook.current());
             loops.count_unsent(0, client.unsent());
             let mut member = Member { client, note };
             traffic = traffic.plus(member.count_traffic());
@@ -450,11 +457,13 @@ impl Loop {
             place: outlook.place(),
             since,
             badge: note.badge,
+            displaces: None,
         }
     }
 
     /// Notes what a client waits for after its turn.
     fn note_turn(&mut self, slot: usize, member: &mut Member) {
+        let _ = member.note_progress(self.now);
         let client = &mut member.client;
         let awaits = client.unsent() > 0;
         // A read that ends within a request may have left some of it.

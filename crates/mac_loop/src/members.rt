@@ -1,10 +1,11 @@
 //! A client of a loop, and what the loop knows of it.
 
 ghost use Rattle.std.specs.Prelude.{◌≡◌};
+ghost use Rattle.mac_loop.specs.Resting.{since_at};
 
 use crate::port::SocketPort;
 use crate::watch::Watch;
-use mac_host::{Badge, Life, Traffic};
+use mac_host::{Badge, Life, Socket, Traffic};
 use mac_plain::{Came, Client, Course};
 use mac_sockets::{Readiness, Wakes};
 use std::sync::Wait;
@@ -131,6 +132,25 @@ impl Member {
             self.note.since = now;
         }
         self.note.since
+    }
+
+    /// Since when it has rested, where it came in at this socket.
+    pub fn rested_since(&self, socket: Socket) -> Option<u64>
+        ensures { result ≡ since_at socket self.now }
+    {
+        match (socket, self.note.badge.socket) {
+            (Socket::Main, Socket::Main) | (Socket::Side, Socket::Side) => Some(self.note.since),
+            (Socket::Main, Socket::Side) | (Socket::Side, Socket::Main) => None,
+        }
+    }
+
+    /// Notes whether it rests: one doesn't that made progress, or waits for a worker's answer. Since
+    /// when it has rested, in microseconds.
+    pub fn note_rest(&mut self, now: u64) -> u64 {
+        if self.client.is_waiting() {
+            self.note.since = now;
+        }
+        self.note_progress(now)
     }
 
     /// Whether it may be owed something: replies, or to be read on in a request that has begun, or

@@ -81,6 +81,10 @@ pub trait Watch: Send + Sync {
     /// A client asks for what a loop must not answer, and waits for a worker.
     fn widen(&self, life: Life);
 
+    /// A client comes in the place of one that has gone, or of nobody. What it is known by, where
+    /// there is room for it.
+    fn displace<R: Wait + Clock>(&self, rt: &R, gone: Option<Life>, comes: Badge) -> Option<Badge>;
+
     /// A client waits for a worker no more. Whether it has the answer.
     fn narrow(&self, life: Life, is_answered: bool);
 }

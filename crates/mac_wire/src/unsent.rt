@@ -58,7 +58,7 @@ impl Unsent {
     pub fn capacity(&self) -> usize
         ensures { length self.now ≤ result }
     {
-        self.len().max(self.bytes.capacity())
+        self.bytes.capacity()
     }
 
     /// Whether none waits.

@@ -100,6 +100,7 @@ listen_command = with_rules (with_rules (with_rules (new_app (codes "listen"))
     ∷ option (codes "verify-socket")
     ∷ option (codes "verify-mode")
     ∷ option (codes "verify-names")
+    ∷ number 1000000 (option (codes "verify-connections"))
     ∷ flag (codes "replace")
     ∷ option (codes "log")
     ∷ flag (codes "keys-of-others")
@@ -228,6 +229,7 @@ HasListen options rows = IsText options.socket (first_of (codes "socket") rows)
     × IsOptionalText options.verify_socket (codes "verify-socket") rows
     × (mode_given (first_of (codes "verify-mode") rows) ≡ Some options.verify_mode)
     × IsOptionalText options.verify_names (codes "verify-names") rows
+    × IsNumberOrNone 1000000 options.verify_connections (first_of (codes "verify-connections") rows)
     × (options.replace ≡ is_set (codes "replace") rows)
     × IsOptionalText options.log (codes "log") rows
     × (options.keys_of_others ≡ is_set (codes "keys-of-others") rows)

@@ -83,6 +83,8 @@ pub struct ListenOptions {
     pub verify_mode: Mode,
     /// The names that its connections may use, with commas between them; else all.
     pub verify_names: Option<String>,
+    /// How many connections it has at a time, from 1 to 1,000,000; else as many as there may be.
+    pub verify_connections: Option<u64>,
     /// Whether it takes its sockets over from a daemon that listens there.
     pub replace: bool,
     /// What is logged beside the usual: the words `requests` and `mints`, with a comma between them.

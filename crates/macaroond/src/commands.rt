@@ -24,7 +24,7 @@ pub const IDLE_MAX: u64 = 86400;
 /// The most threads that `--loops` takes.
 pub const LOOPS_MAX: u64 = 64;
 
-/// The most connections that `--connections` takes.
+/// The most connections that `--connections` and `--verify-connections` take.
 pub const CONNECTIONS_MAX: u64 = 1_000_000;
 
 /// The most seconds that `--drain` takes: an hour.
@@ -91,6 +91,9 @@ const VERIFY_MODE_HELP: &str =
 
 const VERIFY_NAMES_HELP: &str =
     "The key names that may be used at the second socket [default: all]";
+
+const VERIFY_CONNECTIONS_HELP: &str =
+    "How many connections the second socket has at a time, from 1 to 1000000 [default: see below]";
 
 const REPLACE_HELP: &str =
     "Takes the sockets over from a daemon that listens there; that one ends without loss";
@@ -216,6 +219,12 @@ fn build_listen<'a>(alloc: Global) -> Result<Command<'a>, AllocError>
     let about = "Answers requests over a Unix socket until it is told to end";
     let workers = build_count(alloc, "workers", WORKERS_MAX as u64, LISTEN_WORKERS_HELP);
     let connections = build_count(alloc, "connections", CONNECTIONS_MAX, CONNECTIONS_HELP);
+    let verify_connections = build_count(
+        alloc,
+        "verify-connections",
+        CONNECTIONS_MAX,
+        VERIFY_CONNECTIONS_HELP,
+    );
     let drain = build_count(alloc, "drain", DRAIN_MAX, DRAIN_HELP);
     let remember = build_bytes(alloc, "remember", 0, REMEMBER_MAX, REMEMBER_HELP);
     let memory = build_bytes(alloc, "memory", MEMORY_MIN, MEMORY_MAX, MEMORY_HELP);
@@ -243,6 +252,7 @@ fn build_listen<'a>(alloc: Global) -> Result<Command<'a>, AllocError>
         listen,
         build_option(alloc, "verify-names", "NAMES", VERIFY_NAMES_HELP),
     )?;
+    let listen = add_arg(listen, verify_connections)?;
     let listen = add_arg(listen, build_flag(alloc, "replace", REPLACE_HELP))?;
     let listen = add_arg(listen, build_option(alloc, "log", "WORDS", LOG_HELP))?;
     let listen = add_arg(listen, build_flag(alloc, "keys-of-others", OTHERS_HELP))?;

@@ -44,6 +44,7 @@ mod rights;
 mod serving;
 mod status;
 mod telling;
+mod watching;
 
 pub use choices::{
     Choice, Chosen, HttpOptions, ListenOptions, Mode, PageOptions, PipeOptions, ServeOptions,
@@ -59,7 +60,7 @@ pub use fault::PipeFault;
 use http::plan_http;
 pub use input::INPUT_MAX;
 use key_store::{KeyPlace, read_first};
-use key_watch::{Followed, Found, Sockets, listen_and_watch};
+use key_watch::{Found, Sockets, listen_and_watch};
 use list_store::{ListPlace, find_first_list, find_list};
 use logging::read_log;
 use mac_daemon::{DaemonTerms, Shape};
@@ -90,6 +91,7 @@ use telling::{
     show, tell_ending, tell_fault, tell_http, tell_key_file, tell_listen, tell_log, tell_nowhere,
     warn_of_minting,
 };
+use watching::Followed;
 
 /// How many connections there are at a time, where nothing else is asked for.
 const CONNECTIONS: u64 = 10_000;
@@ -287,6 +289,7 @@ fn name_terms<'a, R: Threads>(
     ensures idle { result.shape.idle ≡ options.now.idle }
     ensures drain { result.drain ≡ drain_of options.now.drain }
     ensures connections { result.shape.connections ≡ connections_of options.now.connections }
+    ensures side_connections { result.shape.side_connections ≡ options.now.verify_connections }
     ensures remembered { result.shape.remembered ≡ remember_of options.now.remember }
     ensures memory { result.shape.memory ≡ memory_of memory options.now.memory }
     ensures loops { HasCount LOOPS_MAX options.now.loops result.shape.loops }
@@ -304,6 +307,7 @@ fn name_terms<'a, R: Threads>(
             loops: count_loops(rt, options.loops),
             workers: count_workers(rt, options.workers),
             connections: options.connections.unwrap_or(CONNECTIONS),
+            side_connections: options.verify_connections,
             idle: options.idle,
             remembered: options.remember.unwrap_or(REMEMBER),
             memory: options.memory.unwrap_or(memory),

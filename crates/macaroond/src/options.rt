@@ -100,6 +100,7 @@ fn read_listen(alloc: Global, options: &ArgMatches<'_>) -> Result<Choice, Option
         verify_socket: read_optional_text(alloc, options, "verify-socket")?,
         verify_mode,
         verify_names: read_optional_text(alloc, options, "verify-names")?,
+        verify_connections: read_optional_number(options, "verify-connections"),
         replace: read_flag(options, "replace"),
         log: read_optional_text(alloc, options, "log")?,
         keys_of_others: read_flag(options, "keys-of-others"),

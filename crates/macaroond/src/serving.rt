@@ -118,6 +118,7 @@ fn counted_terms<'a, R: Threads>(rt: &R, options: &'a ServeOptions, names: usize
             loops: count_loops(rt, None),
             workers: count_workers(rt, Some(options.workers)),
             connections: ACCEPT_MAX,
+            side_connections: None,
             idle: None,
             remembered: REMEMBER,
             memory: MEMORY_MAX,

@@ -41,6 +41,7 @@ impl Loop {
                 self.members.wake(slot, Readiness::UNTOLD);
             }
         }
+        self.tell_stalest(loops);
     }
 
     /// Ends the client of a slot.
@@ -99,10 +100,7 @@ impl Loop {
         let Some(member) = self.members.slots.get_mut(slot) else {
             return false;
         };
-        if member.client.is_waiting() {
-            member.note.since = self.now;
-        }
-        let waited = self.now.saturating_sub(member.note_progress(self.now));
+        let waited = self.now.saturating_sub(member.note_rest(self.now));
         let progress = member.note.progress;
         let is_due = is_listed && !progress.has_begun;
         !is_due

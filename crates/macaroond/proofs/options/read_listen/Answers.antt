@@ -19,6 +19,7 @@ returns c = (
     c.in_ok-read_optional_text-2.ensures,
     sym c.read_mode-2.ensures ∙ c.in-Some-Some.is-1,
     c.in_ok-read_optional_text-3.ensures,
+    c.read_optional_number-8.ensures 1 1000000 c.requires.verify_connections,
     c.read_flag.ensures,
     c.in_ok-read_optional_text-4.ensures,
     c.read_flag-2.ensures,

@@ -3,7 +3,7 @@ use Rattle.std.specs.Arc.{arc_value}
 use Rattle.std.specs.Option.{option_map_or}
 use Rattle.mac_keys.specs.Revoked.{nothing}
 use Rattle.mac_keys.proofs.RevokedLemmas.{listed-nothing}
-use Rattle.mac_keys.proofs.revoked.RevokedList.has.Goals as goal
+use Rattle.mac_keys.proofs.revoked.RevokedList.has_hashed.Goals as goal
 
 pub returns-in-None : goal.returns-in-None
 returns-in-None c =
