@@ -12,7 +12,7 @@ import time
 from check.daemon_rows import MINT, NO_REQUEST, TOKEN
 from check.ending import Asking, ended, fill, started
 from common import KEYS, daemon
-from common.daemon import PROGRAM, awaited, come_to, connected, frame, received, refused
+from common.daemon import awaited, come_to, connected, frame, received, refused
 from common.rows import in_folders, judged
 
 # How many requests are answered over all replacements at least, by how many clients, and how many replacements.
@@ -210,8 +210,7 @@ def all_sockets(folder):
             stream.sendall(frame(b""))
             yield f"a reply at {pathlib.Path(one).name}", received(stream, len(NO_REQUEST)), NO_REQUEST
     yield "over HTTP", health(web), 200
-    asking = subprocess.run([PROGRAM, "status", "--socket", path], capture_output=True, text=True)
-    yield "its status", asking.returncode, 0
+    yield "its status", daemon.status(path).returncode, 0
     second.send_signal(signal.SIGTERM)
     yield "the second one", ended(second)[0], 0
 
