@@ -224,14 +224,16 @@ def busy_clients():
 
 
 def past_the_limit():
-    """More connections than there may be: the last is closed, and one that ends makes room."""
+    """More connections than there may be: one gives way to the last, and one that ends makes room."""
     with listening(subprocess.DEVNULL, "--connections", "2") as (path, _):
         with connected(path) as one, connected(path) as other:
             for stream in (one, other):
                 stream.sendall(frame(b""))
                 yield "a client within the limit", received(stream, len(NO_REQUEST)), NO_REQUEST
             with connected(path) as third:
-                yield "a client past it", end_of(third), "an end"
+                yield "one gives way", end_of(one), "an end"
+                third.sendall(frame(b""))
+                yield "a client past it", received(third, len(NO_REQUEST)), NO_REQUEST
         yield "a client once they have gone", come_to(lambda: answered(path), NO_REQUEST, LONGEST_WAIT), NO_REQUEST
 
 

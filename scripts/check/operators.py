@@ -1,5 +1,5 @@
-"""What operators ask a daemon: `macaroond status` in its three forms, the status socket beside the daemon's own, and
-the addresses of `--http-admin`."""
+"""What operators ask a daemon: `macaroond status` in its three forms, the status socket beside the daemon's own, the
+addresses of `--http-admin`, and the fingerprints of keys."""
 import os
 import re
 import socket
@@ -7,10 +7,11 @@ import stat
 import tempfile
 
 from check.http_rows import README
-from check.http_sockets import asking, bearing, listening, response
+from check.http_sockets import SECRET, asking, bearing, key_file, listening, response
+from check.key_lines import fingerprint
 from check.numbers import WIDE
 from common import daemon, logged
-from common.daemon import PATIENCE, awaited, connected, free_port, reply_to
+from common.daemon import PATIENCE, awaited, come_to, connected, free_port, reply_to
 from common.processes import become_nobody
 from common.rows import judged
 
@@ -31,7 +32,14 @@ def status(path, *words, **how):
 def numbers(path):
     """The numbers that `status` prints, by name, behind the line of the version."""
     _, text, _ = status(path)
-    return dict(line.rsplit(" ", 1) for line in text.splitlines()[1:])
+    return dict(line.rsplit(" ", 1) for line in text.splitlines()[1:] if not line.startswith("key "))
+
+
+def keys_in(text):
+    """What a page tells of keys, behind its numbers."""
+    lines = text.splitlines()
+    told = [line for line in lines if line.startswith("key ")]
+    return told if told == lines[len(lines) - len(told):] else ["not at the end"]
 
 
 def version_in(path):
@@ -99,7 +107,7 @@ def connections(served):
 
 
 def places(served):
-    """The status socket is its owner's alone, has no key, and is no place for frames."""
+    """The status socket is its owner's alone, lets no key be used, and is no place for frames."""
     path = f"{served.path}.status"
     yield "its mode", oct(stat.S_IMODE(os.stat(path).st_mode)), "0o600"
     with daemon.connected(path) as stream:
@@ -129,6 +137,33 @@ def admin():
     yield "an address of others", (run.returncode, "0.0.0.0:8080" in run.stderr), (2, True)
 
 
+def keys():
+    """The fingerprints of the keys by which a daemon answers at each moment: at Unix sockets, and at no port."""
+    port = free_port()
+    first, other = fingerprint(SECRET.encode().hex()), fingerprint(b"another".hex())
+    with tempfile.TemporaryDirectory() as folder:
+        with listening("--http-admin", f"unix:{folder}/admin,127.0.0.1:{port}", "--http-mode", "600") as served:
+            told = lambda: keys_in(status(served.path)[1])
+            yield "one key", told(), [f"key bank {first}"]
+            both = [f"key bank {other} {first}", f"key shop {first}"]
+            served.put_keys(f"{request.key('shop', SECRET)}\n{request.key('bank', 'another')}\n{key_file(['bank'])}")
+            yield "two keys of a name, and another name", come_to(told, both), both
+            with connected(f"{folder}/admin") as stream:
+                stream.sendall(asking("/status"))
+                yield "at a Unix socket", keys_in(response(stream)[2].decode()), both
+            for page in ("/status", "/metrics"):
+                with socket.create_connection(("127.0.0.1", port), PATIENCE) as stream:
+                    stream.sendall(asking(page))
+                    told_there = response(stream)[2].decode()
+                yield f"at a port: {page}", (first in told_there, other in told_there), (False, False)
+            with connected(f"{folder}/admin") as stream:
+                stream.sendall(bearing(README))
+                yield "none may be used there", response(stream)[0], 401
+            with served.unix() as gateway:
+                gateway.sendall(bearing(README))
+                yield "a gateway may", response(gateway)[0], 200
+
+
 def asked_at(port, page):
     with socket.create_connection(("127.0.0.1", port), PATIENCE) as stream:
         stream.sendall(asking(page))
@@ -153,4 +188,4 @@ def without():
 def faults():
     with listening() as served:
         seen = [row for part in (forms, connections, places) for row in part(served)]
-    return judged([*seen, *admin(), *without()])
+    return judged([*seen, *admin(), *keys(), *without()])

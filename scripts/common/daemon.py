@@ -84,6 +84,11 @@ def status(path, *words, **how):
     return subprocess.run(command, capture_output=True, text=True, timeout=PATIENCE, **how)
 
 
+def numbers(path):
+    """The numbers that `macaroond status` prints, by name, behind the line of the version."""
+    return dict(line.rsplit(" ", 1) for line in status(path).stdout.splitlines()[1:])
+
+
 def refused(path, *words, keys=KEYS, **how):
     """How a daemon ends that can't begin, and what it prints."""
     pipes = {"capture_output": True, "text": True, "timeout": PATIENCE}

@@ -13,12 +13,14 @@ and within SETTLING seconds it is as large as after the first, but for GROWTH_MA
 and of the C library's arenas keeps some of what it once held.
 
 Then 8 and 60 clients send the dearest requests without end, tokens in JSON of 32 KiB, and another's
-small verify is timed beside them: its median, its 99th percentile and its longest wait are told.
+small verify is timed beside them: its median, its 99th percentile and its longest wait are told. The
+same is done over HTTP.
 
 Then 63 clients that never read send requests whose replies are the largest beside them, as many as
 the daemon takes, and the daemon, now with all arenas, stays below PEAK_MAX. Asks for bin/macaroond,
 or the program that MACAROOND names.
 """
+import base64
 import contextlib
 import functools
 import multiprocessing
@@ -29,6 +31,7 @@ import select
 import socket
 import subprocess
 import sys
+import tempfile
 import time
 
 sys.path.insert(0, str(pathlib.Path(__file__).resolve().parents[1]))
@@ -48,8 +51,9 @@ SIZE_MAX, GROWTH_MAX, SETTLING = 40, 12, 10
 # How many clients never read, and the most MiB of the daemon that answers them.
 SILENT, PEAK_MAX = 63, 450
 # How many clients send dear requests at a time, for how many seconds another is timed beside them, and
-# how many seconds of its waits the 99th percentile may be, on a machine that does other work too.
-CROWDS, DEAR_SECONDS, DEAR_WAIT_MAX = (8, 60), 3, 0.5
+# how many seconds of its waits the 99th percentile may be, on a machine that does other work too; and
+# over HTTP, where a loop answers what is dear, on one that does no other.
+CROWDS, DEAR_SECONDS, DEAR_WAIT_MAX, HTTP_WAIT_MAX = (8, 60), 3, 0.5, 0.01
 # A caveat that JSON writes with six letters for a byte, and how many of them fill a token.
 CONTROL, CONTROLS = "hex:" + "01" * 1000, 5
 
@@ -197,10 +201,21 @@ def dearest_request():
     return frame(payload)
 
 
-def sends_dear(path, count, until):
-    """So many connections on which dear requests go out without end, and replies are read."""
-    frames = dearest_request() * 8
-    rest = {connected(path): memoryview(frames) for _ in range(count)}
+def over_http(token):
+    """A verify of this token over HTTP."""
+    return f"GET /verify/bank HTTP/1.1\r\nHost: a\r\nAuthorization: Bearer {token}\r\n\r\n".encode()
+
+
+def dearest_token():
+    """A token of nearly 32 KiB in JSON that is dear to read, from one who has none."""
+    caveats = ",".join(['{"i":""}'] * 3_500)
+    return '{"v":2,"i":"a","c":[' + caveats + '],"s64":"' + "A" * 43 + '"}'
+
+
+def sends_dear(path, text, count, until):
+    """So many connections on which this goes out without end, and what is answered is read."""
+    texts = text * 8
+    rest = {connected(path): memoryview(texts) for _ in range(count)}
     for one in rest:
         one.setblocking(False)
     while time.monotonic() < until:
@@ -208,38 +223,53 @@ def sends_dear(path, count, until):
         for one in readable:
             one.recv(65_536)
         for one in writable:
-            rest[one] = rest[one][one.send(rest[one]) :] or memoryview(frames)
+            rest[one] = rest[one][one.send(rest[one]) :] or memoryview(texts)
 
 
-def waits_beside(path, count):
-    """The seconds that small verifies waited beside so many clients with dear requests, sorted."""
+def waits_beside(grants, path, text, count):
+    """The seconds that small verifies waited beside so many clients with this dear request, sorted."""
     until = time.monotonic() + DEAR_SECONDS
-    crowd = multiprocessing.Process(target=sends_dear, args=(path, count, until), daemon=True)
+    crowd = multiprocessing.Process(target=sends_dear, args=(path, text, count, until), daemon=True)
     waits = []
-    with client.Client(path) as asked:
-        token = asked.ask(request.mint("v2-binary", "bank", "", "a", "a = 1", "b = 2", "c = 3"))[1:]
-        small = request.verify("bank", "hex:" + token.hex(), 0, "a = 1", "b = 2", "c = 3")
-        crowd.start()
-        time.sleep(0.3)
-        while time.monotonic() < until:
-            begin = time.monotonic()
-            if asked.ask(small) != b"\x00":
-                raise SystemExit("hostile: a small verify was not granted")
-            waits.append(time.monotonic() - begin)
-            time.sleep(0.001)
+    crowd.start()
+    time.sleep(0.3)
+    while time.monotonic() < until:
+        begin = time.monotonic()
+        if not grants():
+            raise SystemExit("hostile: a small verify was not granted")
+        waits.append(time.monotonic() - begin)
+        time.sleep(0.001)
     crowd.join(timeout=30)
     return sorted(waits)
 
 
-def beside_dear(path):
-    """What is wrong with the waits of a client beside others with dear requests, if anything."""
+def late_beside(where, most, *asked):
+    """What is wrong with the waits of a client beside others with dear requests there, if anything."""
     for count in CROWDS:
-        waits = waits_beside(path, count)
+        waits = waits_beside(*asked, count)
         median, late = waits[len(waits) // 2], waits[len(waits) * 99 // 100]
         told = f"p50 {median * 1000:.2f} ms, p99 {late * 1000:.1f} ms, the longest {waits[-1] * 1000:.0f} ms"
-        print(f"hostile: a small verify beside {count} clients with dear requests, {len(waits)} times: {told}")
-        if late > DEAR_WAIT_MAX:
-            yield f"beside {count} clients with dear requests a small verify waited {late:.2f} s (p99)"
+        print(f"hostile: a small verify {where} beside {count} clients with dear requests, {len(waits)} times: {told}")
+        if late > most:
+            yield f"{where} beside {count} clients with dear requests a small verify waited {late:.3f} s (p99)"
+
+
+def beside_dear(path, http):
+    """The same at both: in frames, and over HTTP."""
+    with client.Client(path) as asked:
+        token = asked.ask(request.mint("v2-binary", "bank", "", "a", "a = 1", "b = 2", "c = 3"))[1:]
+        small = request.verify("bank", "hex:" + token.hex(), 0, "a = 1", "b = 2", "c = 3")
+        yield from late_beside("in frames", DEAR_WAIT_MAX, lambda: asked.ask(small) == b"\x00", path, dearest_request())
+        plain = asked.ask(request.mint("v2-binary", "bank", "", "a"))[1:]
+    text = over_http(base64.urlsafe_b64encode(plain).rstrip(b"=").decode())
+    awaited(pathlib.Path(http).exists)
+    with connected(http) as stream:
+
+        def grants():
+            stream.sendall(text)
+            return stream.recv(65_536).startswith(b"HTTP/1.1 200 ")
+
+        yield from late_beside("over HTTP", HTTP_WAIT_MAX, grants, http, over_http(dearest_token()))
 
 
 def largest_reply(path):
@@ -284,8 +314,8 @@ def faults(seconds):
     """What is wrong with the daemon after so many seconds of hostile use, beside what it prints."""
     with listening("--idle", "2") as (path, run):
         found = [*soak(path, run.pid, seconds)]
-    with listening() as (path, _):
-        found += beside_dear(path)
+    with tempfile.TemporaryDirectory() as folder, listening("--http", f"unix:{folder}/http") as (path, _):
+        found += beside_dear(path, f"{folder}/http")
     with listening() as (path, run):
         found += fill(path, run.pid)
     return [f"hostile: {fault}" for fault in found]

@@ -34,8 +34,8 @@ abbrev pub drawn_json : List ℕ → List ℕ → List ℕ → List ℕ
 drawn_json identifier text warnings = codes "{\"identifier\":\""
     ++ (identifier ++ (codes "\",\"token\":\"" ++ token_end text warnings))
 
--- a token that was minted, with what is told of its caveats: its identifier is told where the object
--- says none
+-- a token that was minted, with what is told of its caveats: its identifier is told where the
+-- object says none
 abbrev pub minted_json : Data → List ℕ × (List ℕ × List ℕ) → List ℕ
 minted_json d made = if has_identifier d then token_json made.1.0 made.1.1
     else drawn_json made.0 made.1.0 made.1.1

@@ -1,1 +1,3 @@
 pub mod Day
+pub mod Memory
+pub mod Room

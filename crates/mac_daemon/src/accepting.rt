@@ -7,7 +7,8 @@ use crate::door::Gift;
 use crate::fault::DaemonFault;
 use crate::notice::Notice;
 use crate::quay::Quay;
-use mac_host::{Badge, Life};
+use crate::room::Entry;
+use mac_host::{Badge, Life, Socket};
 use mac_loop::{Handover, Loops, SocketPort};
 use mac_sockets::{Arrived, Entrance, Stream};
 use mac_wire::Session;
@@ -23,16 +24,7 @@ const PAUSE_MILLIS: u64 = 100;
 /// The loop that a connection begins in. From there it goes to others where that is busy.
 const FIRST_LOOP: usize = 0;
 
-/// What the connections of a socket are held to.
-#[derive(Clone, Copy)]
-pub struct Limits {
-    /// How many are accepted: without a number, one after another until the entrance is shut.
-    pub count: Option<u64>,
-    /// How many there are at a time.
-    pub connections: u64,
-}
-
-/// A connection that there is room for.
+/// A connection that came in.
 #[derive(Drop)]
 struct Newcomer {
     stream: Stream,
@@ -45,25 +37,25 @@ struct Newcomer {
 #[derive(Drop)]
 pub struct AsAsked(pub Option<u64>);
 
-/// Accepts as many connections as the limits say, and waits until all have ended. The number of
-/// those that were accepted is told. Without a count, connections are read no further than what has
-/// come once the entrance is shut.
+/// Accepts so many connections, where a count is given, and waits until all have ended. The number
+/// of those that were accepted is told. Without a count, connections are read no further than what
+/// has come once the entrance is shut.
 pub fn accept_to_end<R>(
     rt: &R,
     alloc: Global,
     entrance: &mut Entrance<Gift>,
     loops: &Loops,
     quay: &Quay,
-    limits: Limits,
+    count: Option<u64>,
 ) -> Result<u64, DaemonFault>
 where
     R: Wait + Clock,
-    ensures { IfOk result (λ served. MeetsCount limits.count served
+    ensures { IfOk result (λ served. MeetsCount count served
         × (served ≡ taken_of entrance.new)) }
 {
-    let served = accept_each(rt, alloc, entrance, loops, quay, limits);
+    let served = accept_each(rt, alloc, entrance, loops, quay, count);
     entrance.close();
-    if limits.count.is_none() {
+    if count.is_none() {
         quay.say_left(rt);
         loops.drain();
     }
@@ -71,44 +63,43 @@ where
     served
 }
 
-/// Accepts as many connections as the limits say, and hands each to a loop. Some may not have ended
-/// yet where it returns the number of those that were accepted. With a count, a socket that accepts
-/// nothing is an error; without one, it is asked again after a pause, until the entrance is shut
-/// and nobody waits there.
+/// Accepts so many connections, where a count is given, and hands each to a loop. Some may not have
+/// ended yet where it returns the number of those that were accepted. With a count, a socket that
+/// accepts nothing is an error; without one, it is asked again after a pause, until the entrance is
+/// shut and nobody waits there.
 fn accept_each<R>(
     rt: &R,
     alloc: Global,
     entrance: &mut Entrance<Gift>,
     loops: &Loops,
     quay: &Quay,
-    limits: Limits,
+    count: Option<u64>,
 ) -> Result<u64, DaemonFault>
 where
     R: Wait + Clock,
-    ensures { IfOk result (λ served. MeetsCount limits.count served
+    ensures { IfOk result (λ served. MeetsCount count served
         × (served ≡ taken_of entrance.new)) }
 {
     for _ in rt.forever() {
         let served = entrance.taken();
-        match limits.count {
+        match count {
             Some(count) if count == served => return Ok(served),
             _ => {}
         }
         match entrance.accept(rt) {
             Some(Ok(arrived)) => {
                 let Arrived { stream, door } = arrived;
-                if quay.admit(rt, limits.connections) {
-                    let newcomer = Newcomer {
-                        stream,
-                        rights: Arc::try_clone(entrance.gift(door)).ok(),
-                        badge: quay.badge(rt, entrance.taken(), door),
-                    };
-                    begin(rt, alloc, newcomer, loops, quay);
-                }
+                let socket = Socket::of_door(door);
+                let newcomer = Newcomer {
+                    stream,
+                    rights: Arc::try_clone(entrance.gift(door)).ok(),
+                    badge: quay.badge(rt, entrance.taken(), socket),
+                };
+                enter(rt, alloc, newcomer, loops, quay);
             }
-            Some(Err(fault)) if limits.count.is_some() => return Err(DaemonFault::System(fault)),
+            Some(Err(fault)) if count.is_some() => return Err(DaemonFault::System(fault)),
             Some(Err(fault)) => pause(rt, alloc, fault, quay),
-            None if limits.count.is_none() => return Ok(served),
+            None if count.is_none() => return Ok(served),
             None => return Err(DaemonFault::System(ErrorKind::ConnectionAborted.into())),
         }
     }
@@ -123,31 +114,61 @@ fn pause<R: Wait + Clock>(rt: &R, alloc: Global, fault: io::Error, quay: &Quay) 
     thread::sleep(rt, Duration::from_millis(PAUSE_MILLIS));
 }
 
-/// Hands a connection to a loop. One for which there is no memory is closed, and that is told.
+/// Hands a connection to a loop, in the place of another one where there are as many as there may
+/// be.
+fn enter<R: Wait + Clock>(rt: &R, alloc: Global, newcomer: Newcomer, loops: &Loops, quay: &Quay) {
+    let badge = newcomer.badge;
+    let gives_way = match quay.enter(rt, badge.socket) {
+        Entry::Free => {
+            let badge = quay.listed(rt, badge);
+            begin(rt, alloc, Newcomer { badge, ..newcomer }, loops, quay);
+            return;
+        }
+        Entry::SideFull => Socket::Side,
+        Entry::Full(socket) => socket,
+    };
+    if let Ok(client) = meet(alloc, newcomer, quay) {
+        let _ = loops.hand_displacing(rt, gives_way, client);
+    }
+}
+
+/// Hands a connection that is counted to a loop. One for which there is no memory is closed, and
+/// that is told.
 fn begin<R: Wait + Clock>(rt: &R, alloc: Global, newcomer: Newcomer, loops: &Loops, quay: &Quay) {
+    let life = Life {
+        badge: newcomer.badge,
+        answered: 0,
+    };
+    let met = meet(alloc, newcomer, quay);
+    let handed = met.and_then(|client| match loops.hand(rt, FIRST_LOOP, client) {
+        Ok(()) => Ok(()),
+        Err(_) => Err(Notice::NoMemory),
+    });
+    if let Err(notice) = handed {
+        quay.end(rt, life, Some(notice));
+    }
+}
+
+/// A connection as loops have it.
+fn meet(alloc: Global, newcomer: Newcomer, quay: &Quay) -> Result<Handover, Notice> {
     let Newcomer {
         stream,
         rights,
         badge,
     } = newcomer;
-    let life = Life { badge, answered: 0 };
     let Ok(port) = SocketPort::new(stream, quay.transcript(alloc)) else {
-        quay.end(rt, life, Some(Notice::System));
-        return;
+        return Err(Notice::System);
     };
     let Some(rights) = rights else {
-        quay.end(rt, life, Some(Notice::NoMemory));
-        return;
+        return Err(Notice::NoMemory);
     };
-    let client = Handover {
+    Ok(Handover {
         port,
         session: Session::new(alloc),
         rights,
         place: 0,
         since: badge.accepted,
         badge,
-    };
-    if loops.hand(rt, FIRST_LOOP, client).is_err() {
-        quay.end(rt, life, Some(Notice::NoMemory));
-    }
+        displaces: None,
+    })
 }

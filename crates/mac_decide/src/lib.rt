@@ -41,6 +41,7 @@ pub use job_view::{ArrivalView, JobView, job_view_of};
 pub use lacks::{Lack, find_lack, nearest_fact, shared};
 pub use macaroons::Macaroons;
 pub use one_by_one::{answer_one, answer_request};
+pub use remembering::{recall, remember_answer};
 pub use reply::{answer, refusal_of};
 pub use revocation::Revocation;
 pub use rights::{Names, Rights, Terms};

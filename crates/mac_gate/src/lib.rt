@@ -16,6 +16,7 @@ mod devices;
 mod door;
 mod draws;
 mod gathering;
+mod key_lines;
 mod limit;
 mod looping;
 mod noting;
@@ -23,7 +24,9 @@ mod pace;
 mod server;
 mod shared;
 mod terms;
+mod turns;
 mod waiting;
+mod weight;
 
 pub use address::{Address, AddressFault, ListFault, Reach, read_address, read_addresses};
 pub use content::Content;

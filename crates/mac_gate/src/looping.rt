@@ -131,21 +131,36 @@ impl HttpLoop {
         self.connections.begin(one)
     }
 
-    /// Has those that are ready do what they can, once each.
+    /// Has those that are ready do what they can, once each; but of those with a dear request only the
+    /// next one, behind the others.
     fn advance_ready<R: Wait, S: Answers>(&mut self, rt: &R, server: &Shared, service: &mut S) {
-        let is_ending = server.is_ending();
-        if is_ending {
+        if server.is_ending() {
             self.connections.end_idle();
         }
         for _ in 0..self.connections.count_ready() {
-            let Some((slot, way)) = self.connections.next_ready() else {
-                continue;
-            };
-            service.come_by(way);
-            let piece = self.piece.as_mut_slice();
-            if self.connections.advance(slot, service, is_ending, piece) {
-                server.leave(rt, self.number);
+            if let Some((slot, way)) = self.connections.next_ready() {
+                service.come_by(way);
+                self.advance(rt, server, service, slot);
             }
+        }
+        if let Some((slot, way)) = self.connections.next_dear() {
+            service.come_by(way);
+            self.advance(rt, server, service, slot);
+        }
+    }
+
+    /// Has the connection of a slot do what it can.
+    fn advance<R: Wait, S: Answers>(
+        &mut self,
+        rt: &R,
+        server: &Shared,
+        service: &mut S,
+        slot: usize,
+    ) {
+        let is_ending = server.is_ending();
+        let piece = self.piece.as_mut_slice();
+        if self.connections.advance(slot, service, is_ending, piece) {
+            server.leave(rt, self.number);
         }
     }
 

@@ -31,8 +31,8 @@ abbrev pub may_use : Option (List (List ℕ)) → Call → List ℕ → Bool
 may_use names Mint name = is_allowed names name
 may_use names call name = true
 
--- the moment at which new caveats are looked at: where no clock tells one, no time limit since 1970 has
--- passed
+-- the moment at which new caveats are looked at: where no clock tells one, no time limit since 1970
+-- has passed
 abbrev pub told_moment : Option ℕ → ℕ
 told_moment moment = unwrap_or moment 0
 
@@ -86,7 +86,8 @@ abbrev pub RespondsWith : List ℕ → Table → Rules → Option ℕ → Call �
 RespondsWith drawn table rules moment asked request response =
     TellsUnlessRefused (refusal_of rules.way (head_of request))
     (bytes_eq (head_of request).method (codes "POST"))
-    (allowed_outcome rules table moment asked drawn (body_of request)) response ⊎ IsOverloaded response
+    (allowed_outcome rules table moment asked drawn (body_of request)) response
+    ⊎ IsOverloaded response
 
 -- the same with some 16 random bytes
 abbrev pub RespondsToCall : Table → Rules → Option ℕ → Call × List ℕ → Request (List ℕ) → Response

@@ -89,11 +89,12 @@ pub(crate) fn respond_to_call(
 ) -> Option<Identifier>
     requires { IsBlank response.old }
     ensures told { RespondsWith called.entry.drawn.now footing.entry.keys.now footing.entry.rules
-        footing.entry.moment (called.entry.asked.call, called.entry.asked.name.now) called.entry.request.now
-        response.new }
+        footing.entry.moment (called.entry.asked.call, called.entry.asked.name.now)
+        called.entry.request.now response.new }
     ensures minted { IsMintedFor called.entry.drawn.now footing.entry.keys.now
-        footing.entry.rules footing.entry.moment (called.entry.asked.call, called.entry.asked.name.now)
-        called.entry.request.now response.new result }
+        footing.entry.rules footing.entry.moment
+        (called.entry.asked.call, called.entry.asked.name.now) called.entry.request.now
+        response.new result }
 {
     match fill(alloc, footing, called, response) {
         Ok(minted) => minted,
@@ -168,8 +169,9 @@ fn answer_allowed(
     footing: Footing<'_>,
     called: Called<'_>,
 ) -> Result<Outcome, AllocError>
-    ensures { IfOk result (λ o. o ≡ allowed_outcome footing.entry.rules footing.entry.keys.now footing.entry.moment
-        (called.entry.asked.call, called.entry.asked.name.now) called.entry.drawn.now
+    ensures { IfOk result (λ o. o ≡ allowed_outcome footing.entry.rules footing.entry.keys.now
+        footing.entry.moment (called.entry.asked.call, called.entry.asked.name.now)
+        called.entry.drawn.now
         (body_of called.entry.request.now)) }
 {
     let asked = called.asked;

@@ -100,7 +100,7 @@ fn answer<S: Monitor>(
         request.now response.new }
 {
     match page_in(request.uri().path().as_bytes()) {
-        Some(page) => tell_page(alloc, monitor, footing.rules.pages, page, response),
+        Some(page) => tell_page(alloc, footing, monitor, page, response),
         None => answer_plain(alloc, footing, monitor, request, response),
     }
 }

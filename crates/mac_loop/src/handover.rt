@@ -2,7 +2,7 @@
 
 use crate::port::SocketPort;
 use mac_decide::Rights;
-use mac_host::{Badge, Life};
+use mac_host::{Badge, Life, Socket};
 use mac_wire::Session;
 use std::alloc::Global;
 use std::sync::Arc;
@@ -23,6 +23,8 @@ pub struct Handover {
     pub since: u64,
     /// What it is known by.
     pub badge: Badge,
+    /// The socket of which a client is to give way to it, where one is. It isn't counted before.
+    pub displaces: Option<Socket>,
 }
 
 impl Handover {

@@ -2,6 +2,7 @@
 
 use crate::handover::Handover;
 use crate::meter::{Meter, Shares};
+use mac_host::Socket;
 use mac_plain::UNSENT_MAX;
 use mac_sockets::Inbox;
 use std::alloc::{AllocError, Global};
@@ -12,14 +13,45 @@ use std::sync::atomic::{AtomicBool, AtomicU64, AtomicUsize};
 /// How many bytes may be unsent on all clients before each may have less.
 const UNSENT_ALL: u64 = 67_108_864;
 
+/// They are no more than one part of so many of the memory that clients have.
+const UNSENT_PART: u64 = 4;
+
 /// How much may be unsent on a client then.
 const UNSENT_LITTLE: usize = 65_536;
+
+/// How many clients at most come into loops at a time in place of others.
+const DISPLACING_MAX: usize = 16;
+
+/// Since when the client of a loop has rested that rests longest of those that came in at a socket,
+/// as far as the loop looked; the greatest number where there is none.
+#[derive(Drop)]
+struct Stalest {
+    main: AtomicU64,
+    side: AtomicU64,
+}
 
 /// A loop, as others see it.
 #[derive(Drop)]
 struct LoopSide {
     inbox: Inbox<Handover>,
     meter: Meter,
+    stalest: Stalest,
+}
+
+impl Stalest {
+    fn new() -> Stalest {
+        Stalest {
+            main: AtomicU64::new(u64::MAX),
+            side: AtomicU64::new(u64::MAX),
+        }
+    }
+
+    fn at(&self, socket: Socket) -> &AtomicU64 {
+        match socket {
+            Socket::Main => &self.main,
+            Socket::Side => &self.side,
+        }
+    }
 }
 
 /// The loops of a daemon, as others see them.
@@ -30,19 +62,26 @@ pub struct Loops {
     may_share: bool,
     // How many loops are in a turn.
     busy: AtomicUsize,
+    // How many clients are on their way that others are to give way to.
+    displacing: AtomicUsize,
     unsent: AtomicU64,
+    // How many bytes may be unsent on all clients before each may have less.
+    unsent_all: u64,
     is_draining: AtomicBool,
     is_closed: AtomicBool,
 }
 
 impl Loops {
-    /// No loops yet, whose turns may be answered by several threads, or not.
-    pub fn new(alloc: Global, may_share: bool) -> Loops {
+    /// No loops yet, whose turns may be answered by several threads, or not, and whose clients have
+    /// so many bytes of memory together.
+    pub fn new(alloc: Global, may_share: bool, memory: u64) -> Loops {
         Loops {
             sides: Vec::new(alloc),
             may_share,
             busy: AtomicUsize::new(0),
+            displacing: AtomicUsize::new(0),
             unsent: AtomicU64::new(0),
+            unsent_all: UNSENT_ALL.min(memory / UNSENT_PART),
             is_draining: AtomicBool::new(false),
             is_closed: AtomicBool::new(false),
         }
@@ -53,6 +92,7 @@ impl Loops {
         self.sides.push(LoopSide {
             inbox,
             meter: Meter::new(),
+            stalest: Stalest::new(),
         })?;
         Ok(())
     }
@@ -70,12 +110,71 @@ impl Loops {
         }
     }
 
+    /// Hands a client to the loop of which one of a socket is to give way to it. It comes back
+    /// without memory, and where as many are on their way so as may be.
+    pub fn hand_displacing<R: Wait>(
+        &self,
+        rt: &R,
+        socket: Socket,
+        client: Handover,
+    ) -> Result<(), Handover> {
+        if self.displacing.fetch_add(1, SeqCst) >= DISPLACING_MAX {
+            self.displacing.fetch_sub(1, SeqCst);
+            return Err(client);
+        }
+        let client = Handover {
+            displaces: Some(socket),
+            ..client
+        };
+        let handed = self.hand(rt, self.stalest(socket), client);
+        if handed.is_err() {
+            self.displacing.fetch_sub(1, SeqCst);
+        }
+        handed
+    }
+
     /// The next client that was handed to a loop.
     pub fn take<R: Wait>(&self, rt: &R, number: usize) -> Option<Handover> {
-        match self.sides.get(number) {
-            Some(side) => side.inbox.pop(rt),
-            None => None,
+        let client = match self.sides.get(number) {
+            Some(side) => side.inbox.pop(rt)?,
+            None => return None,
+        };
+        if client.displaces.is_some() {
+            self.displacing.fetch_sub(1, SeqCst);
         }
+        Some(client)
+    }
+
+    /// A loop notes since when the client has rested that rests longest of those of a socket, where
+    /// it has any.
+    pub fn note_stalest(&self, number: usize, socket: Socket, since: Option<u64>) {
+        if let Some(side) = self.sides.get(number) {
+            side.stalest
+                .at(socket)
+                .store(since.unwrap_or(u64::MAX), SeqCst);
+        }
+    }
+
+    /// A loop notes since when one more of a socket has rested.
+    pub fn note_rest(&self, number: usize, socket: Socket, since: u64) {
+        if let Some(side) = self.sides.get(number) {
+            let stalest = side.stalest.at(socket);
+            if since < stalest.load(SeqCst) {
+                stalest.store(since, SeqCst);
+            }
+        }
+    }
+
+    /// The loop whose clients include the one that has rested longest of those of a socket.
+    fn stalest(&self, socket: Socket) -> usize {
+        let (mut found, mut earliest) = (0, u64::MAX);
+        for (number, side) in self.sides.iter().enumerate() {
+            let since = side.stalest.at(socket).load(SeqCst);
+            if since < earliest {
+                (found, earliest) = (number, since);
+            }
+        }
+        found
     }
 
     /// A loop begins a turn. How many threads it may answer with: those of loops that rest are
@@ -111,7 +210,7 @@ impl Loops {
 
     /// How many bytes may be unsent on a client that is read: less, once much is unsent on all.
     pub fn unsent_max(&self) -> usize {
-        if self.unsent.load(SeqCst) < UNSENT_ALL {
+        if self.unsent.load(SeqCst) < self.unsent_all {
             UNSENT_MAX
         } else {
             UNSENT_LITTLE
@@ -145,7 +244,8 @@ impl Loops {
         self.wake_all();
     }
 
-    fn wake_all(&self) {
+    /// Has each loop look.
+    pub fn wake_all(&self) {
         for side in self.sides.iter() {
             side.inbox.wake();
         }

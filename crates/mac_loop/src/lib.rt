@@ -14,12 +14,13 @@ mod looping;
 mod members;
 mod meter;
 mod port;
+mod resting;
 mod transcript;
 mod watch;
 
 pub use handover::Handover;
 pub use inbox::Loops;
-pub use looping::{Loop, make_loops};
+pub use looping::{Loop, LoopTerms, make_loops};
 pub use port::SocketPort;
 pub use transcript::Transcript;
 pub use watch::{PlainFault, Turn, Watch};

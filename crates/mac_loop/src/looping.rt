@@ -5,8 +5,10 @@ ghost use Rattle.mac_loop.specs.Asks.{home_of};
 ghost use Rattle.mac_plain.specs.Client.{may_move};
 
 mod asking;
+mod holding;
 mod sharing;
 mod sweeping;
+mod yielding;
 
 use crate::asks::Asks;
 use crate::handover::Handover;
@@ -20,7 +22,7 @@ use mac_decide::{Macaroons, SeenTokens};
 use mac_host::{Traffic, microseconds, microseconds_of};
 use mac_plain::{Came, Client, Round};
 use mac_queue::Desk;
-use mac_sockets::{Connections, Inbox, WaitFault};
+use mac_sockets::{Account, Connections, Inbox, WaitFault};
 use mio::{Token, Waker};
 use std::alloc::Global;
 use std::net::Net;
@@ -57,6 +59,9 @@ pub struct Loop {
     round: Round,
     parts: usize,
     shares: Shares,
+    // What its clients have of the memory of all, and how many bytes they hold.
+    account: Account,
+    held: u64,
     // How many bytes may be unsent in this turn on a client that is read.
     unsent_max: usize,
     // How many looks at all loops there were.
@@ -75,19 +80,36 @@ pub struct Loop {
     now: u64,
 }
 
-/// As many loops as are asked for, which end a client that makes no progress for so many seconds.
-/// Where none are asked for, they end one that has sent nothing whole for five minutes. They share
-/// a memory of tokens, and turns where they may: threads that begin for one have the stack that the
-/// process was started under.
+/// What loops are held to.
+#[derive(Clone, Copy)]
+pub struct LoopTerms {
+    /// How many there are.
+    pub count: usize,
+    /// The seconds after which a client that makes no progress is ended. Where none are asked for,
+    /// one is that has sent nothing whole for five minutes.
+    pub idle: Option<u64>,
+    /// Whether they share turns: threads that begin for one have the stack that the process was
+    /// started under.
+    pub may_share: bool,
+    /// How many bytes of memory their clients may hold together.
+    pub memory: u64,
+}
+
+/// The loops of these terms, which share a memory of tokens.
 pub fn make_loops<R: Net>(
     rt: &R,
     alloc: Global,
-    count: usize,
-    idle: Option<u64>,
+    terms: LoopTerms,
     seen: &SeenTokens,
-    may_share: bool,
 ) -> Result<(Arc<Loops, Global>, Vec<Loop>), WaitFault> {
-    let mut loops = Loops::new(alloc, may_share);
+    let LoopTerms {
+        count,
+        idle,
+        may_share,
+        memory,
+    } = terms;
+    let account = Account::open(alloc, memory)?;
+    let mut loops = Loops::new(alloc, may_share, memory);
     let mut made = Vec::with_capacity(alloc, count)?;
     for number in 0..count {
         let (members, waker) = Connections::new(rt, alloc)?;
@@ -102,6 +124,8 @@ pub fn make_loops<R: Net>(
             round: Round::new(alloc, seen.share()?)?,
             parts: PARTS_MAX,
             shares: Shares::new(alloc, count)?,
+            account: account.share()?,
+            held: 0,
             unsent_max: 0,
             looks: 0,
             late: 0,
@@ -193,7 +217,9 @@ impl Loop {
             let Some(client) = loops.take(rt, self.number) else {
                 return;
             };
-            self.receive(rt, client, loops, outlook, watch);
+            if let Some(client) = self.admit(rt, client, loops, watch) {
+                self.receive(rt, client, loops, outlook, watch);
+            }
         }
     }
 
@@ -246,6 +272,7 @@ impl Loop {
             place: _,
             since,
             badge,
+            displaces: _,
         } = client;
         let Ok(slot) = self.members.slots.reserve() else {
             return false;
@@ -257,10 +284,10 @@ impl Loop {
         }
         let client = Client::new(port, session, rights);
         loops.count_unsent(0, client.unsent());
-        let _ = self
-            .members
-            .slots
-            .put(slot, Member::new(client, since, badge, self.looks));
+        loops.note_rest(self.number, badge.socket, since);
+        let mut member = Member::new(client, since, badge, self.looks);
+        self.count_held(&mut member);
+        let _ = self.members.slots.put(slot, member);
         if self.is_draining {
             self.end_reading(slot);
         } else {
@@ -280,21 +307,39 @@ impl Loop {
     )
         ensures { asks.new ≡ asks.old }
     {
-        self.pick(rt, loops);
         self.unsent_max = loops.unsent_max();
+        let growth = self.pick(rt, loops);
+        let is_room = self.has_room(rt, growth);
+        let unsent_max = if is_room { self.unsent_max } else { 0 };
         let spare = loops.begin_turn();
         // What makes turns long is read in small pieces.
         let threads = if self.parts < PARTS_MAX { 1 } else { spare };
         let batch = self.batch.as_mut_slice();
-        self.round
-            .serve(rt, threads, outlook, batch, self.unsent_max);
+        self.round.serve(rt, threads, outlook, batch, unsent_max);
         loops.end_turn();
+        self.finish_turn(rt, loops, outlook, asks, watch);
+        self.settle(rt, loops, watch, is_room, growth);
+    }
+
+    /// Does what the clients of a turn have left to do, and tells what the turn came to.
+    fn finish_turn<R: Wait + Clock, K: Outlook, W: Watch>(
+        &mut self,
+        rt: &R,
+        loops: &Loops,
+        outlook: &K,
+        asks: &mut Asks,
+        watch: &W,
+    )
+        ensures { asks.new ≡ asks.old }
+    {
         let mut traffic = Traffic::NONE;
         for _ in rt.forever() {
-            let (Some(client), Some(Lent { slot, note })) = (self.batch.pop(), self.turn.pop())
+            let (Some(mut client), Some(Lent { slot, note })) = (self.batch.pop(), self.turn.pop())
             else {
                 break;
             };
+            // What isn't told here a worker answers.
+            let _ = self.round.recall(&mut client, outlook.current());
             loops.count_unsent(0, client.unsent());
             let mut member = Member { client, note };
             traffic = traffic.plus(member.count_traffic());
@@ -306,22 +351,26 @@ impl Loop {
         });
     }
 
-    /// Takes the clients of a turn out of their slots.
-    fn pick<R: Wait>(&mut self, rt: &R, loops: &Loops) {
-        let mut parts = 0usize;
+    /// Takes the clients of a turn out of their slots. How many bytes those hold that may be read.
+    fn pick<R: Wait>(&mut self, rt: &R, loops: &Loops) -> u64 {
+        let (mut parts, mut growth) = (0usize, 0u64);
         for _ in rt.forever() {
             if parts >= self.parts {
-                return;
+                return growth;
             }
             let Some(slot) = self.members.slots.next_ready() else {
-                return;
+                return growth;
             };
             if let Some(mut member) = self.members.slots.take(slot) {
                 parts = parts.saturating_add(member.begin_turn(DEEP, self.looks));
+                if member.client.unsent() < self.unsent_max {
+                    growth = growth.saturating_add(member.note.held);
+                }
                 loops.count_unsent(member.client.unsent(), 0);
                 self.add(slot, member);
             }
         }
+        unreachable!()
     }
 
     /// Adds a client to a turn.
@@ -357,12 +406,14 @@ impl Loop {
         }
         if member.client.is_over() && !self.drops_rest(slot, &mut member) {
             loops.count_unsent(member.client.unsent(), 0);
+            self.count_left(&member);
             let _ = self.members.slots.release(slot);
             end_member(rt, watch, &member, PlainFault::of(&member.client));
             return;
         }
         watch.see(member.life(), member.client.unsent());
         self.note_turn(slot, &mut member);
+        self.count_held(&mut member);
         let _ = self.members.slots.put(slot, member);
     }
 
@@ -406,11 +457,13 @@ impl Loop {
             place: outlook.place(),
             since,
             badge: note.badge,
+            displaces: None,
         }
     }
 
     /// Notes what a client waits for after its turn.
     fn note_turn(&mut self, slot: usize, member: &mut Member) {
+        let _ = member.note_progress(self.now);
         let client = &mut member.client;
         let awaits = client.unsent() > 0;
         // A read that ends within a request may have left some of it.

@@ -1,10 +1,11 @@
 //! A client of a loop, and what the loop knows of it.
 
 ghost use Rattle.std.specs.Prelude.{◌≡◌};
+ghost use Rattle.mac_loop.specs.Resting.{since_at};
 
 use crate::port::SocketPort;
 use crate::watch::Watch;
-use mac_host::{Badge, Life, Traffic};
+use mac_host::{Badge, Life, Socket, Traffic};
 use mac_plain::{Came, Client, Course};
 use mac_sockets::{Readiness, Wakes};
 use std::sync::Wait;
@@ -39,6 +40,8 @@ pub struct Note {
     pub traffic: Traffic,
     /// How many reads have dropped what came behind a frame that was too long.
     pub dropped: usize,
+    /// How many bytes of memory it held when that was last counted.
+    pub held: u64,
 }
 
 /// How many such reads there are at most.
@@ -86,6 +89,7 @@ impl Member {
             badge,
             traffic: client.port().traffic(),
             dropped: 0,
+            held: 0,
         };
         Member { client, note }
     }
@@ -106,6 +110,18 @@ impl Member {
         counted
     }
 
+    /// Counts how many bytes of memory it holds: so many before, and so many now. Where its requests
+    /// are noted, what has begun to come is there a second time.
+    pub fn count_held(&mut self) -> (u64, u64)
+        ensures { self.new.client ≡ self.old.client }
+    {
+        let before = self.note.held;
+        let held = self.client.held();
+        let noted = self.client.port().held(held);
+        self.note.held = held.saturating_add(noted) as u64;
+        (before, self.note.held)
+    }
+
     /// Notes how it stands now. When it was last seen to make progress, in microseconds.
     pub fn note_progress(&mut self, now: u64) -> u64
         ensures { self.new.client ≡ self.old.client }
@@ -116,6 +132,25 @@ impl Member {
             self.note.since = now;
         }
         self.note.since
+    }
+
+    /// Since when it has rested, where it came in at this socket.
+    pub fn rested_since(&self, socket: Socket) -> Option<u64>
+        ensures { result ≡ since_at socket self.now }
+    {
+        match (socket, self.note.badge.socket) {
+            (Socket::Main, Socket::Main) | (Socket::Side, Socket::Side) => Some(self.note.since),
+            (Socket::Main, Socket::Side) | (Socket::Side, Socket::Main) => None,
+        }
+    }
+
+    /// Notes whether it rests: one doesn't that made progress, or waits for a worker's answer. Since
+    /// when it has rested, in microseconds.
+    pub fn note_rest(&mut self, now: u64) -> u64 {
+        if self.client.is_waiting() {
+            self.note.since = now;
+        }
+        self.note_progress(now)
     }
 
     /// Whether it may be owed something: replies, or to be read on in a request that has begun, or

@@ -63,6 +63,17 @@ impl SocketPort {
         }
     }
 
+    /// How many bytes of memory its notes hold at most, whose client holds so many.
+    pub fn held(&self, client: usize) -> usize {
+        let Some(transcript) = &self.transcript else {
+            return 0;
+        };
+        match transcript.try_borrow() {
+            Ok(transcript) => transcript.held().saturating_add(client),
+            Err(_) => client,
+        }
+    }
+
     /// Whether the last read was put off, since it was full.
     pub fn is_put_off(&self) -> bool {
         self.is_put_off

@@ -30,6 +30,9 @@ pub enum PlainFault {
     /// It made no progress for as long as it may.
     #[error("it made no progress")]
     Idle,
+    /// It held more than others of the memory that all have together, and there was no more.
+    #[error("it held most of the memory that connections have together, which is used up")]
+    Heavy,
 }
 
 impl PlainFault {
@@ -77,6 +80,10 @@ pub trait Watch: Send + Sync {
 
     /// A client asks for what a loop must not answer, and waits for a worker.
     fn widen(&self, life: Life);
+
+    /// A client comes in the place of one that has gone, or of nobody. What it is known by, where
+    /// there is room for it.
+    fn displace<R: Wait + Clock>(&self, rt: &R, gone: Option<Life>, comes: Badge) -> Option<Badge>;
 
     /// A client waits for a worker no more. Whether it has the answer.
     fn narrow(&self, life: Life, is_answered: bool);

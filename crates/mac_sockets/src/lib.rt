@@ -8,6 +8,7 @@
 //! ready. Nothing here knows what is said on a stream.
 #![tactic(auto)]
 
+mod budget;
 mod connections;
 mod door;
 mod doors;
@@ -20,6 +21,7 @@ mod place;
 mod stacks;
 mod stream;
 
+pub use budget::{Account, Budget};
 pub use connections::{Connections, Readiness, Wakes};
 pub use door::Door;
 pub use doors::Doors;

@@ -2,7 +2,6 @@ pub mod Payload
 pub mod TokenText
 pub mod Spelling
 pub mod Moment
-pub mod Fingerprint
 pub mod NameList
 pub mod Warned
 pub mod Escaped

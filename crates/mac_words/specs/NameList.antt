@@ -5,13 +5,17 @@ use Rattle.std.specs.List.{flat_map}
 use Rattle.mac_keys.specs.Names.{names_of}
 use Rattle.mac_keys.specs.KeyTable.{Table}
 use Rattle.mac_keys.specs.declared.keys.Keys.{Keys}
-use Rattle.mac_words.specs.Fingerprint.{fingerprint}
+use Rattle.mac_calls.specs.Fingerprint.{fingerprint}
+
+-- the fingerprint of a second key, behind that of the first
+unfoldable pub second_words : List ℕ → List ℕ
+second_words key = codes " and " ++ fingerprint key
 
 -- that there is one key, or that there are two, and their fingerprints
 abbrev pub key_words : List ℕ → Option (List ℕ) → List ℕ
 key_words first None = codes ": one key, " ++ fingerprint first
 key_words first (Some second) =
-    codes ": two keys, " ++ (fingerprint first ++ (codes " and " ++ fingerprint second))
+    codes ": two keys, " ++ (fingerprint first ++ second_words second)
 
 -- the same of the keys of a name, if it has any
 abbrev pub keys_words : Option Keys → List ℕ

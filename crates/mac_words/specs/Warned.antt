@@ -26,7 +26,8 @@ warning_of (Some doubt) caveat = warning_line doubt caveat
 
 -- what is told of the caveat at a place, at a moment
 abbrev pub warning_at : List (List ℕ) → ℕ → ℕ → List ℕ
-warning_at caveats moment place = warning_of (doubt_at caveats moment place) (get_or caveats place [])
+warning_at caveats moment place =
+    warning_of (doubt_at caveats moment place) (get_or caveats place [])
 
 -- what is told of the first n caveats
 abbrev pub warnings_to : ℕ → List (List ℕ) → ℕ → List ℕ

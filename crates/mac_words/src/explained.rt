@@ -89,7 +89,14 @@ fn append_lack(
         ≡ out.old.items ++ lack_at context.now (byte_lists caveats.now) place) }
 {
     let caveat = caveats[place].as_slice();
-    append_told(alloc, find_lack(caveat, context), place, caveat, context, out)
+    append_told(
+        alloc,
+        find_lack(caveat, context),
+        place,
+        caveat,
+        context,
+        out,
+    )
 }
 
 /// Appends the lines of a lack, if there is one.
@@ -157,48 +164,31 @@ fn append_words(
 }
 
 /// Appends how long before the moment a time limit ended.
-fn append_ended(
-    alloc: Global,
-    limit: i64,
-    moment: u64,
-    out: &mut Vec<u8>,
-) -> Result<(), NoMemory>
+fn append_ended(alloc: Global, limit: i64, moment: u64, out: &mut Vec<u8>) -> Result<(), NoMemory>
     ensures { OnOk result (out.new.items ≡ out.old.items ++ ended_words limit moment) }
 {
     let ago = i128::from(moment) - i128::from(limit);
     let words = format!(in alloc;
         "it ended at second {} since 1970, {} s before the moment",
-        limit,
-        ago
+        limit, ago
     )?;
     out.extend_from_slice(words.as_bytes())
 }
 
 /// Appends how long after the moment a lower bound of time begins.
-fn append_ahead(
-    alloc: Global,
-    bound: i64,
-    moment: u64,
-    out: &mut Vec<u8>,
-) -> Result<(), NoMemory>
+fn append_ahead(alloc: Global, bound: i64, moment: u64, out: &mut Vec<u8>) -> Result<(), NoMemory>
     ensures { OnOk result (out.new.items ≡ out.old.items ++ ahead_words bound moment) }
 {
     let left = i128::from(bound) - i128::from(moment);
     let words = format!(in alloc;
         "it begins at second {} since 1970, {} s after the moment",
-        bound,
-        left
+        bound, left
     )?;
     out.extend_from_slice(words.as_bytes())
 }
 
 /// Appends how far the fact that is nearest to a caveat agrees with it, if one does at all.
-fn append_fact(
-    alloc: Global,
-    caveat: &[u8],
-    fact: &[u8],
-    out: &mut Vec<u8>,
-) -> Result<(), NoMemory>
+fn append_fact(alloc: Global, caveat: &[u8], fact: &[u8], out: &mut Vec<u8>) -> Result<(), NoMemory>
     ensures { OnOk result (out.new.items ≡ out.old.items ++ fact_words caveat.now fact.now) }
 {
     match fact {

@@ -10,7 +10,6 @@ mod caveat_lines;
 mod escaped;
 mod explained;
 mod fault;
-mod fingerprint;
 mod inspected;
 mod key_lines;
 mod moments;

@@ -158,8 +158,10 @@ listen_options words e =
       idle = maybe_number c (codes "idle") rows 1 86400 _ refl refl (value_or_none c (codes "idle") rows found.0);
       loops = maybe_number c (codes "loops") rows 1 64 _ refl refl (value_or_none c (codes "loops") rows found.0);
       connections = maybe_number c (codes "connections") rows 1 1000000 _ refl refl (value_or_none c (codes "connections") rows found.0);
+      verify_connections = maybe_number c (codes "verify-connections") rows 1 1000000 _ refl refl (value_or_none c (codes "verify-connections") rows found.0);
       drain = maybe_number c (codes "drain") rows 1 3600 _ refl refl (value_or_none c (codes "drain") rows found.0);
       remember = maybe_number c (codes "remember") rows 0 1073741824 _ refl refl (value_or_none c (codes "remember") rows found.0);
+      memory = maybe_number c (codes "memory") rows 67108864 1099511627776 _ refl refl (value_or_none c (codes "memory") rows found.0);
       http = (
         maybe_number c (codes "http-connections") rows 1 1024 _ refl refl (value_or_none c (codes "http-connections") rows found.0),
         maybe_number c (codes "http-patience") rows 1 3600 _ refl refl (value_or_none c (codes "http-patience") rows found.0),

@@ -67,8 +67,10 @@ pub record HasListenOptions (rows : List Row) : Type 0 where
   pub idle : MayBeNumber 86400 (codes "idle") rows
   pub loops : MayBeNumber 64 (codes "loops") rows
   pub connections : MayBeNumber 1000000 (codes "connections") rows
+  pub verify_connections : MayBeNumber 1000000 (codes "verify-connections") rows
   pub drain : MayBeNumber 3600 (codes "drain") rows
   pub remember : MayBeNumberFrom 0 1073741824 (codes "remember") rows
+  pub memory : MayBeNumberFrom 67108864 1099511627776 (codes "memory") rows
   pub http : HasHttpOptions rows
 
 -- the rows are those of one of the four subcommands

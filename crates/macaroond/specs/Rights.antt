@@ -1,5 +1,5 @@
 -- What the sockets of `listen` allow, as its options say.
-use Rattle.std.specs.Prelude.{◌≡◌, ℕ, ◌==◌, Bool, false, List, Option, Some, None, option_map, string_bytes}
+use Rattle.std.specs.Prelude.{◌≡◌, ℕ, ◌==◌, Bool, false, List, [], Option, Some, None, option_map, string_bytes}
 use Rattle.std.specs.List.{slice_split}
 use Rattle.std.specs.declared.alloc.Global.{Global}
 use Rattle.std.specs.declared.string.String.{String}
@@ -19,6 +19,10 @@ listed_names list = option_map (λ text. slice_split is_comma (string_bytes text
 abbrev pub IsRights : Bool → Option (String Global) → Rights → Type 0
 IsRights may_mint names rights =
     (rights.may_mint ≡ may_mint) × (rights.names ≡ listed_names names)
+
+-- nothing is allowed: to mint isn't, and no name is there whose keys may be used
+abbrev pub AreNone : Rights → Type 0
+AreNone rights = (rights.may_mint ≡ false) × (rights.names ≡ Some [])
 
 -- the second socket, where a path is given for it: it has its own mode and names, and nothing may
 -- be minted there

@@ -72,6 +72,9 @@ pub struct ListenOptions {
     /// How many bytes its memory of tokens that it found good may take, from 0 (none) to
     /// 1,073,741,824.
     pub remember: Option<u64>,
+    /// How many bytes of memory its connections may have together with those tokens, from
+    /// 67,108,864 to 1,099,511,627,776.
+    pub memory: Option<u64>,
     /// The names that its connections may use, with commas between them; else all.
     pub names: Option<String>,
     /// The path of a second socket, whose connections may not mint.
@@ -80,6 +83,8 @@ pub struct ListenOptions {
     pub verify_mode: Mode,
     /// The names that its connections may use, with commas between them; else all.
     pub verify_names: Option<String>,
+    /// How many connections it has at a time, from 1 to 1,000,000; else as many as there may be.
+    pub verify_connections: Option<u64>,
     /// Whether it takes its sockets over from a daemon that listens there.
     pub replace: bool,
     /// What is logged beside the usual: the words `requests` and `mints`, with a comma between them.

@@ -24,7 +24,7 @@ pub const IDLE_MAX: u64 = 86400;
 /// The most threads that `--loops` takes.
 pub const LOOPS_MAX: u64 = 64;
 
-/// The most connections that `--connections` takes.
+/// The most connections that `--connections` and `--verify-connections` take.
 pub const CONNECTIONS_MAX: u64 = 1_000_000;
 
 /// The most seconds that `--drain` takes: an hour.
@@ -32,6 +32,12 @@ pub const DRAIN_MAX: u64 = 3600;
 
 /// The most bytes that `--remember` takes: a gibibyte.
 pub const REMEMBER_MAX: u64 = 1_073_741_824;
+
+/// The fewest bytes that `--memory` takes: 64 MiB.
+pub const MEMORY_MIN: u64 = 67_108_864;
+
+/// The most bytes that it takes: a tebibyte.
+pub const MEMORY_MAX: u64 = 1_099_511_627_776;
 
 /// The most connections that `--http-connections` takes.
 pub const HTTP_CONNECTIONS_MAX: u64 = 1024;
@@ -71,6 +77,9 @@ const DRAIN_HELP: &str =
 const REMEMBER_HELP: &str = "How many bytes tokens found good are remembered in, from 0 (none) \
     to 1073741824 [default: 16777216]";
 
+const MEMORY_HELP: &str = "How many bytes connections have together with these tokens, \
+    from 67108864 [default: half of all]";
+
 const NAMES_HELP: &str =
     "The key names that may be used at the socket, with commas between them [default: all]";
 
@@ -82,6 +91,9 @@ const VERIFY_MODE_HELP: &str =
 
 const VERIFY_NAMES_HELP: &str =
     "The key names that may be used at the second socket [default: all]";
+
+const VERIFY_CONNECTIONS_HELP: &str =
+    "How many connections the second socket has at a time, from 1 to 1000000 [default: see below]";
 
 const REPLACE_HELP: &str =
     "Takes the sockets over from a daemon that listens there; that one ends without loss";
@@ -207,8 +219,15 @@ fn build_listen<'a>(alloc: Global) -> Result<Command<'a>, AllocError>
     let about = "Answers requests over a Unix socket until it is told to end";
     let workers = build_count(alloc, "workers", WORKERS_MAX as u64, LISTEN_WORKERS_HELP);
     let connections = build_count(alloc, "connections", CONNECTIONS_MAX, CONNECTIONS_HELP);
+    let verify_connections = build_count(
+        alloc,
+        "verify-connections",
+        CONNECTIONS_MAX,
+        VERIFY_CONNECTIONS_HELP,
+    );
     let drain = build_count(alloc, "drain", DRAIN_MAX, DRAIN_HELP);
-    let remember = build_bytes(alloc, "remember", REMEMBER_MAX, REMEMBER_HELP);
+    let remember = build_bytes(alloc, "remember", 0, REMEMBER_MAX, REMEMBER_HELP);
+    let memory = build_bytes(alloc, "memory", MEMORY_MIN, MEMORY_MAX, MEMORY_HELP);
     let listen = build_subcommand(alloc, "listen", about, LISTEN_HELP);
     let listen = add_arg(listen, build_path(alloc, "socket", SOCKET_HELP))?;
     let listen = add_arg(listen, build_path(alloc, "keys", KEYS_HELP))?;
@@ -219,6 +238,7 @@ fn build_listen<'a>(alloc: Global) -> Result<Command<'a>, AllocError>
     let listen = add_arg(listen, connections)?;
     let listen = add_arg(listen, drain)?;
     let listen = add_arg(listen, remember)?;
+    let listen = add_arg(listen, memory)?;
     let listen = add_arg(listen, build_option(alloc, "names", "NAMES", NAMES_HELP))?;
     let listen = add_arg(
         listen,
@@ -232,6 +252,7 @@ fn build_listen<'a>(alloc: Global) -> Result<Command<'a>, AllocError>
         listen,
         build_option(alloc, "verify-names", "NAMES", VERIFY_NAMES_HELP),
     )?;
+    let listen = add_arg(listen, verify_connections)?;
     let listen = add_arg(listen, build_flag(alloc, "replace", REPLACE_HELP))?;
     let listen = add_arg(listen, build_option(alloc, "log", "WORDS", LOG_HELP))?;
     let listen = add_arg(listen, build_flag(alloc, "keys-of-others", OTHERS_HELP))?;
@@ -327,10 +348,10 @@ fn build_count<'a>(alloc: Global, name: &'a str, most: u64, help: &'a str) -> Ar
     build_option(alloc, name, "COUNT", help).value_parser(ValueParser::unsigned(1, most))
 }
 
-/// An option that takes a number of bytes from 0 to `most`.
-fn build_bytes<'a>(alloc: Global, name: &'a str, most: u64, help: &'a str) -> Arg<'a>
-    ensures rule { rule_of result ≡ number_from 0 most (option name.entry.now) }
+/// An option that takes a number of bytes from `least` to `most`.
+fn build_bytes<'a>(alloc: Global, name: &'a str, least: u64, most: u64, help: &'a str) -> Arg<'a>
+    ensures rule { rule_of result ≡ number_from least most (option name.entry.now) }
     ensures local { result.global ≡ false }
 {
-    build_option(alloc, name, "BYTES", help).value_parser(ValueParser::unsigned(0, most))
+    build_option(alloc, name, "BYTES", help).value_parser(ValueParser::unsigned(least, most))
 }

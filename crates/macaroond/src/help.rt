@@ -58,6 +58,10 @@ file has key lines, as `macaroond pipe` reads them, and at most 16777216 bytes.
 Without --idle a connection is ended that has sent nothing whole for 300 seconds: one that was never
 answered, or that began a request since. One that rests, or that is owed replies, stays.
 
+Where there are as many connections as there may be, the one that has rested longest gives way to a
+further one: of the second socket at --verify-connections, else of the socket that has more. Without
+--verify-connections the second socket may have as many as --connections.
+
 Runs until SIGTERM or SIGINT. Then it takes no more connections, answers what has come, closes each
 connection once its replies are sent, and ends. A second signal ends it at once. The key file and
 the list of --revoked are looked at twice a second, and at SIGHUP. A changed one is taken where it

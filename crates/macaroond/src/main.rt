@@ -9,7 +9,7 @@ ghost use Rattle.std.specs.Option.{is_some};
 ghost use Rattle.mac_pool.specs.declared.pool.TheConstants.{WORKERS_MAX};
 ghost use Rattle.macaroond.specs.CommandLine.{permissions};
 ghost use Rattle.macaroond.specs.Doing.{IsKeyTable, IsList};
-ghost use Rattle.macaroond.specs.Shape.{HasCount, connections_of, drain_of, remember_of};
+ghost use Rattle.macaroond.specs.Shape.{HasCount, connections_of, drain_of, memory_of, remember_of};
 ghost use Rattle.macaroond.specs.Status.{IsShown};
 ghost use Rattle.macaroond.specs.declared.commands.TheConstants.{LOOPS_MAX};
 
@@ -31,6 +31,7 @@ pub mod laws;
 mod lines;
 mod list_store;
 mod logging;
+mod memory;
 mod operating;
 mod options;
 mod page;
@@ -43,6 +44,7 @@ mod rights;
 mod serving;
 mod status;
 mod telling;
+mod watching;
 
 pub use choices::{
     Choice, Chosen, HttpOptions, ListenOptions, Mode, PageOptions, PipeOptions, ServeOptions,
@@ -51,14 +53,14 @@ pub use command_line::{choose, read_words};
 use commands::VERSION;
 pub use commands::{
     ACCEPT_MAX, CONNECTIONS_MAX, DRAIN_MAX, HTTP_CONNECTIONS_MAX, HTTP_PATIENCE_MAX, IDLE_MAX,
-    LOOPS_MAX, REMEMBER_MAX,
+    LOOPS_MAX, MEMORY_MAX, MEMORY_MIN, REMEMBER_MAX,
 };
 use descriptors::open_standard;
 pub use fault::PipeFault;
 use http::plan_http;
 pub use input::INPUT_MAX;
 use key_store::{KeyPlace, read_first};
-use key_watch::{Followed, Found, Sockets, listen_and_watch};
+use key_watch::{Found, Sockets, listen_and_watch};
 use list_store::{ListPlace, find_first_list, find_list};
 use logging::read_log;
 use mac_daemon::{DaemonTerms, Shape};
@@ -67,6 +69,7 @@ use mac_pool::WORKERS_MAX;
 use mac_sockets::PathClaim;
 use mac_system::SystemMoments;
 use mac_wire::{ReaderSource, WriterSink};
+use memory::find_memory;
 use page::run_page;
 use people::{admit_keys, run_task, warn_of_readers};
 pub use people::{PersonFault, Task};
@@ -88,6 +91,7 @@ use telling::{
     show, tell_ending, tell_fault, tell_http, tell_key_file, tell_listen, tell_log, tell_nowhere,
     warn_of_minting,
 };
+use watching::Followed;
 
 /// How many connections there are at a time, where nothing else is asked for.
 const CONNECTIONS: u64 = 10_000;
@@ -212,7 +216,7 @@ where
     warn_of_minting(rt, http.minting_port());
     let names = found.first.read.table.len();
     let reserved = http.descriptors(count_loops(rt, options.loops));
-    let terms = name_terms(rt, options, names, reserved, logged);
+    let terms = name_terms(rt, options, names, reserved, logged, find_memory(rt));
     let Ok((rights, side)) = read_sockets(rt.alloc(), options) else {
         return tell_fault(rt, Status::NoMemory);
     };
@@ -272,19 +276,22 @@ fn claim_of(is_replacing: bool) -> PathClaim
     }
 }
 
-/// The terms that the options of `listen` name.
+/// The terms that the options of `listen` name, where so much memory was found.
 fn name_terms<'a, R: Threads>(
     rt: &R,
     options: &'a ListenOptions,
     names: usize,
     reserved: u64,
     logged: Logged,
+    memory: u64,
 ) -> DaemonTerms<'a>
     ensures mode { result.permissions ≡ permissions options.now.mode }
     ensures idle { result.shape.idle ≡ options.now.idle }
     ensures drain { result.drain ≡ drain_of options.now.drain }
     ensures connections { result.shape.connections ≡ connections_of options.now.connections }
+    ensures side_connections { result.shape.side_connections ≡ options.now.verify_connections }
     ensures remembered { result.shape.remembered ≡ remember_of options.now.remember }
+    ensures memory { result.shape.memory ≡ memory_of memory options.now.memory }
     ensures loops { HasCount LOOPS_MAX options.now.loops result.shape.loops }
     ensures workers { HasCount WORKERS_MAX options.now.workers result.shape.workers }
     ensures logged { result.logged ≡ logged }
@@ -300,8 +307,10 @@ fn name_terms<'a, R: Threads>(
             loops: count_loops(rt, options.loops),
             workers: count_workers(rt, options.workers),
             connections: options.connections.unwrap_or(CONNECTIONS),
+            side_connections: options.verify_connections,
             idle: options.idle,
             remembered: options.remember.unwrap_or(REMEMBER),
+            memory: options.memory.unwrap_or(memory),
         },
         drain: options.drain.unwrap_or(DRAIN),
         reserved,

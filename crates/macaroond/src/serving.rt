@@ -6,7 +6,7 @@ ghost use Rattle.mac_pool.specs.declared.pool.TheConstants.{WORKERS_MAX};
 ghost use Rattle.macaroond.specs.Shape.{HasCount};
 
 use crate::choices::ServeOptions;
-use crate::commands::{ACCEPT_MAX, VERSION};
+use crate::commands::{ACCEPT_MAX, MEMORY_MAX, VERSION};
 use crate::descriptors::open_standard;
 use crate::key_file::read_key_file;
 use crate::list_store::{ListPlace, take_list};
@@ -118,8 +118,10 @@ fn counted_terms<'a, R: Threads>(rt: &R, options: &'a ServeOptions, names: usize
             loops: count_loops(rt, None),
             workers: count_workers(rt, Some(options.workers)),
             connections: ACCEPT_MAX,
+            side_connections: None,
             idle: None,
             remembered: REMEMBER,
+            memory: MEMORY_MAX,
         },
         drain: DRAIN,
         reserved: 0,

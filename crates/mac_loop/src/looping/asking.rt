@@ -72,6 +72,8 @@ impl Loop {
             watch.narrow(member.life(), member.client.unsent() > unsent);
         }
         loops.count_unsent(unsent, member.client.unsent());
+        let (before, now) = member.count_held();
+        self.held = self.held.saturating_sub(before).saturating_add(now);
         self.members.slots.list(asker.slot);
     }
 }

@@ -139,10 +139,11 @@ Exit status:
 /// What the help of `status` says below its options.
 const STATUS_HELP: &str = "\
 Asks a daemon that listens at PATH, over the socket PATH.status, which is for the user that the
-daemon runs as. Prints a line for each number that it counts, `NAME VALUE`. With --prometheus the
-lines are those of Prometheus's text form. With --connections there is a line for each connection:
-its number, its socket, for how many milliseconds it is there, how many requests it was answered,
-how many bytes it hasn't taken, and whether it is plain or wide.
+daemon runs as. Prints a line for each number that it counts, `NAME VALUE`, and behind them one for
+each name that has a key: `key NAME` and eight digits of each of its keys, as `check` prints them.
+With --prometheus the lines are those of Prometheus's text form, without keys. With --connections
+there is a line for each connection: its number, its socket, for how many milliseconds it is there,
+how many requests it was answered, how many bytes it hasn't taken, and whether it is plain or wide.
 
 Example:
   macaroond status --socket /run/macaroond/socket

@@ -1,0 +1,72 @@
+//! Clients that give way: where there are as many as there may be, a further one comes in the place of
+//! the one that has rested longest.
+
+use crate::handover::Handover;
+use crate::inbox::Loops;
+use crate::looping::Loop;
+use crate::resting::stalest;
+use crate::watch::Watch;
+use mac_host::{Life, Socket};
+use std::sync::Wait;
+use std::time::Clock;
+
+impl Loop {
+    /// A client that was handed over, once another one has given way where one is to. Nothing, where
+    /// there is no room for it: then it is closed.
+    pub(super) fn admit<R: Wait + Clock, W: Watch>(
+        &mut self,
+        rt: &R,
+        client: Handover,
+        loops: &Loops,
+        watch: &W,
+    ) -> Option<Handover> {
+        let Some(socket) = client.displaces else {
+            return Some(client);
+        };
+        let gone = self.release_stalest(rt, loops, watch, socket);
+        self.tell_stalest(loops);
+        let badge = watch.displace(rt, gone, client.badge)?;
+        Some(Handover {
+            badge,
+            displaces: None,
+            ..client
+        })
+    }
+
+    /// Lets the client go that has rested longest of those that came in at a socket. What it had come
+    /// to, where there was one.
+    fn release_stalest<R: Wait + Clock, W: Watch>(
+        &mut self,
+        rt: &R,
+        loops: &Loops,
+        watch: &W,
+        socket: Socket,
+    ) -> Option<Life> {
+        for slot in 0..self.members.slots.bound() {
+            self.note_rest(slot);
+        }
+        let found = stalest(&self.members.slots, socket)?;
+        let member = self.members.slots.release(found.slot)?;
+        loops.count_unsent(member.client.unsent(), 0);
+        self.count_left(&member);
+        if member.client.is_waiting() {
+            watch.narrow(member.life(), false);
+        }
+        Some(member.life())
+    }
+
+    /// Notes whether the client of a slot rests.
+    fn note_rest(&mut self, slot: usize) {
+        if let Some(member) = self.members.slots.get_mut(slot) {
+            let _ = member.note_rest(self.now);
+        }
+    }
+
+    /// Tells others since when its clients have rested.
+    pub(super) fn tell_stalest(&self, loops: &Loops) {
+        for socket in [Socket::Main, Socket::Side] {
+            let found = stalest(&self.members.slots, socket);
+            loops.note_stalest(self.number, socket, found.map(|found| found.since));
+        }
+    }
+}
