@@ -11,7 +11,7 @@ from check.http_sockets import SECRET, asking, bearing, key_file, listening, res
 from check.key_lines import fingerprint
 from check.numbers import WIDE
 from common import daemon, logged
-from common.daemon import PATIENCE, awaited, come_to, connected, free_port, reply_to
+from common.daemon import PATIENCE, awaited, come_to, connected, free_port, numbers, reply_to
 from common.processes import become_nobody
 from common.rows import judged
 
@@ -27,12 +27,6 @@ def status(path, *words, **how):
     """How `macaroond status` ends, what it prints, and what it says."""
     run = daemon.status(path, *words, **how)
     return run.returncode, run.stdout, run.stderr
-
-
-def numbers(path):
-    """The numbers that `status` prints, by name, behind the line of the version."""
-    _, text, _ = status(path)
-    return dict(line.rsplit(" ", 1) for line in text.splitlines()[1:] if not line.startswith("key "))
 
 
 def keys_in(text):

@@ -85,8 +85,9 @@ def status(path, *words, **how):
 
 
 def numbers(path):
-    """The numbers that `macaroond status` prints, by name, behind the line of the version."""
-    return dict(line.rsplit(" ", 1) for line in status(path).stdout.splitlines()[1:])
+    """The numbers that `macaroond status` prints, by name: they stand behind the version, before what it tells of keys."""
+    lines = status(path).stdout.splitlines()[1:]
+    return dict(line.rsplit(" ", 1) for line in lines if not line.startswith("key "))
 
 
 def refused(path, *words, keys=KEYS, **how):

@@ -23,7 +23,7 @@ import time
 
 sys.path.insert(0, str(pathlib.Path(__file__).resolve().parents[1]))
 from check.revoking import MILLION, TEN, drawn, write_list
-from common.daemon import awaited, connected, frame, listening, received, status
+from common.daemon import awaited, connected, frame, listening, numbers, received
 from common.processes import mebibytes, processor_seconds
 from common.tokens import text_of, v2
 from measure.remembered import GRANTED, secret
@@ -77,8 +77,7 @@ def least_of_starts(*words):
 
 def lines_up(path):
     """How many lines of its list are up, as the daemon tells."""
-    told = status(path).stdout.splitlines()
-    return int(next(line.split()[1] for line in told if line.startswith("revoked ")))
+    return int(numbers(path)["revoked"])
 
 
 def changed(revoked, count):
