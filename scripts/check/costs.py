@@ -57,10 +57,16 @@ def recorded():
 
 
 def record(costs):
-    """Writes these crates' lines over what the file tells of them, with the commit that is checked out."""
+    """Writes these crates' lines over what the file tells of them, with the commit that is checked out. Of tests and
+    wrong bodies that weren't tried anew it tells what it told before."""
     command = ["git", "rev-parse", "--short=7", "HEAD"]
     commit = subprocess.run(command, cwd=TOP, capture_output=True, text=True).stdout.strip() or "unknown"
-    found = {**recorded(), **{name: it._replace(commit=commit) for name, it in costs.items()}}
+    found = recorded()
+    for name, it in costs.items():
+        before = found.get(name, it)
+        tests = before.tests if it.tests is None else it.tests
+        edits, count = (before.edits, before.count) if it.edits is None else (it.edits, it.count)
+        found[name] = it._replace(commit=commit, tests=tests, edits=edits, count=count)
     rows = (
         " ".join([name, it.commit, str(it.lines), word(it.proof), word(it.tests), word(it.edits), str(it.count)])
         for name, it in found.items()
