@@ -16,8 +16,8 @@ from common import TOP, crates
 RECORD = TOP / "docs" / "proof-times.txt"
 HEAD = """\
 # What each crate takes the gate, by `scripts/measure/proofs.py --record`: the crate, the commit whose tree was
-# proved, its lines then, and processor minutes of its proof, of its tests' and of its wrong bodies', with how many
-# these were. A dash stands for what wasn't measured.
+# proved, its lines then, and processor minutes of its proof and of its wrong bodies, with how many these were. A dash
+# stands for what wasn't measured.
 """
 PAGE = TOP / "docs" / "CONTRIBUTING.md"
 PART = re.compile(r"<!-- costs -->\n.*?<!-- end -->", re.S)
@@ -30,7 +30,6 @@ class Cost(typing.NamedTuple):
     commit: str
     lines: int
     proof: float
-    tests: float | None
     edits: float | None
     count: int
 
@@ -51,24 +50,22 @@ def recorded():
     """What the file tells of each crate."""
     rows = [line.split() for line in RECORD.read_text().splitlines() if not line.startswith("#")]
     return {
-        name: Cost(commit, int(lines), float(proof), number(tests), number(edits), int(count))
-        for name, commit, lines, proof, tests, edits, count in rows
+        name: Cost(commit, int(lines), float(proof), number(edits), int(count))
+        for name, commit, lines, proof, edits, count in rows
     }
 
 
 def record(costs):
-    """Writes these crates' lines over what the file tells of them, with the commit that is checked out. Of tests and
-    wrong bodies that weren't tried anew it tells what it told before."""
+    """Writes these crates' lines over what the file tells of them, with the commit that is checked out. Of wrong
+    bodies that weren't tried anew it tells what it told before."""
     command = ["git", "rev-parse", "--short=7", "HEAD"]
     commit = subprocess.run(command, cwd=TOP, capture_output=True, text=True).stdout.strip() or "unknown"
     found = recorded()
     for name, it in costs.items():
-        before = found.get(name, it)
-        tests = before.tests if it.tests is None else it.tests
-        edits, count = (before.edits, before.count) if it.edits is None else (it.edits, it.count)
-        found[name] = it._replace(commit=commit, tests=tests, edits=edits, count=count)
+        tried = it if it.edits is not None else found.get(name, it)
+        found[name] = it._replace(commit=commit, edits=tried.edits, count=tried.count)
     rows = (
-        " ".join([name, it.commit, str(it.lines), word(it.proof), word(it.tests), word(it.edits), str(it.count)])
+        " ".join([name, it.commit, str(it.lines), word(it.proof), word(it.edits), str(it.count)])
         for name, it in found.items()
     )
     RECORD.write_text(HEAD + "\n".join(sorted(rows)) + "\n")
@@ -93,8 +90,7 @@ def row(name, proofs, cost):
     above = crates.above(name)
     reach = sum(proofs.get(it, 0) for it in (name, *above))
     edits = f"{cost.edits:.1f} for {cost.count}" if cost.edits else ""
-    tests = f"{cost.tests:.1f}" if cost.tests else ""
-    return f"| `{name}` | {cost.proof:.1f} | {tests} | {edits} | {len(above)} | {reach:.1f} |"
+    return f"| `{name}` | {cost.proof:.1f} | {edits} | {len(above)} | {reach:.1f} |"
 
 
 def listed(what, names):
@@ -107,15 +103,15 @@ def part():
     known = recorded()
     costs = {name: known[name] for name in crates.uses() if name in known}
     proofs = {name: it.proof for name, it in costs.items()}
-    tests, edits = (sum(filter(None, column)) for column in zip(*((it.tests, it.edits) for it in costs.values())))
+    edits = sum(it.edits or 0 for it in costs.values())
     length, chain = longest_chain(proofs)
     return [
-        "| Crate | Proof | Tests | Wrong bodies of the gate | Crates above | Proofs of it and of these |",
-        "|---|---|---|---|---|---|",
+        "| Crate | Proof | Wrong bodies of the gate | Crates above | Proofs of it and of these |",
+        "|---|---|---|---|---|",
         *(row(name, proofs, it) for name, it in costs.items()),
         "",
-        f"All proofs here take {sum(proofs.values()):.0f} processor minutes, tests {tests:.0f} and wrong bodies {edits:.0f}.",
-        f"The longest chain takes {length:.0f} on any number of processors: {', '.join(f'`{it}`' for it in chain)}.",
+        f"All these proofs take {sum(proofs.values()):.0f} processor minutes, and the wrong bodies {edits:.0f}. On any number of",
+        f"processors the longest chain of crates takes {length:.0f}: {', '.join(f'`{it}`' for it in chain)}.",
         *listed("Not measured yet, and in no sum", [it for it in crates.uses() if it not in costs]),
         *listed("Grown or shrunk by half since", [name for name, it in costs.items() if it.is_old(name)]),
     ]

@@ -129,8 +129,8 @@ class Watch:
             if all(it.is_anew for it in seen.values())
         }
         for crate in (crate for crate, what in anew if what == "proof"):
-            tests, edits = anew.get((crate, "tests")), anew.get((crate, "edits"))
-            yield crate, costs.Cost("", crates.lines(crate), anew[crate, "proof"], tests, edits, costs.edits_of(crate))
+            edits = anew.get((crate, "edits"))
+            yield crate, costs.Cost("", crates.lines(crate), anew[crate, "proof"], edits, costs.edits_of(crate))
 
 
 def watched(command):
