@@ -120,8 +120,9 @@ fn enter<R: Wait + Clock>(rt: &R, alloc: Global, newcomer: Newcomer, loops: &Loo
     let badge = newcomer.badge;
     let gives_way = match quay.enter(rt, badge.socket) {
         Entry::Free => {
-            let badge = quay.listed(rt, badge);
-            begin(rt, alloc, Newcomer { badge, ..newcomer }, loops, quay);
+            let mut newcomer = newcomer;
+            newcomer.badge = quay.listed(rt, badge);
+            begin(rt, alloc, newcomer, loops, quay);
             return;
         }
         Entry::SideFull => Socket::Side,
@@ -139,14 +140,14 @@ fn begin<R: Wait + Clock>(rt: &R, alloc: Global, newcomer: Newcomer, loops: &Loo
         badge: newcomer.badge,
         answered: 0,
     };
-    let met = meet(alloc, newcomer, quay);
-    let handed = met.and_then(|client| match loops.hand(rt, FIRST_LOOP, client) {
-        Ok(()) => Ok(()),
-        Err(_) => Err(Notice::NoMemory),
-    });
-    if let Err(notice) = handed {
-        quay.end(rt, life, Some(notice));
-    }
+    let notice = match meet(alloc, newcomer, quay) {
+        Ok(client) => match loops.hand(rt, FIRST_LOOP, client) {
+            Ok(()) => return,
+            Err(_) => Notice::NoMemory,
+        },
+        Err(notice) => notice,
+    };
+    quay.end(rt, life, Some(notice));
 }
 
 /// A connection as loops have it.

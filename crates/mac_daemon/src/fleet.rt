@@ -1,5 +1,5 @@
 //! The threads of a daemon: its loops, its workers, and who accepts.
-ghost use Rattle.std.specs.Prelude.{◌≡◌, ◌+◌, IfOk};
+ghost use Rattle.std.specs.Prelude.{◌≡◌, ◌-◌, IfOk};
 ghost use Rattle.mac_daemon.specs.Day.{MeetsCount};
 ghost use Rattle.mac_daemon.specs.Memory.{tokens_memory};
 ghost use Rattle.mac_loop.specs.Asks.{home_of};
@@ -58,14 +58,14 @@ impl Shape {
 
     /// How many bytes of memory the connections may have together: what those tokens leave.
     pub fn connections_memory(self) -> u64
-        ensures { result + tokens_memory self ≡ self.memory }
+        ensures { result ≡ self.memory - tokens_memory self }
     {
-        self.memory - self.tokens_memory()
+        self.memory.saturating_sub(self.tokens_memory())
     }
 
     /// What its loops are held to.
     fn loop_terms(self, may_share: bool) -> LoopTerms
-        ensures memory { result.memory + tokens_memory self ≡ self.memory }
+        ensures memory { result.memory ≡ self.memory - tokens_memory self }
         ensures count { result.count ≡ self.loops }
         ensures idle { result.idle ≡ self.idle }
     {

@@ -122,10 +122,8 @@ impl Loops {
             self.displacing.fetch_sub(1, SeqCst);
             return Err(client);
         }
-        let client = Handover {
-            displaces: Some(socket),
-            ..client
-        };
+        let mut client = client;
+        client.displaces = Some(socket);
         let handed = self.hand(rt, self.stalest(socket), client);
         if handed.is_err() {
             self.displacing.fetch_sub(1, SeqCst);

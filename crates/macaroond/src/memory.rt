@@ -102,6 +102,6 @@ fn rest_of_line<'a>(text: &'a [u8], front: &[u8]) -> Option<&'a [u8]> {
 fn first_number(text: &[u8]) -> Option<u64> {
     let text = text.trim_ascii_start();
     let end = text.iter().position(|byte| !byte.is_ascii_digit());
-    let digits = &text[..end.unwrap_or(text.len())];
+    let digits = text.get(..end.unwrap_or(text.len()))?;
     str::from_utf8(digits).ok()?.parse::<u64>().ok()
 }

@@ -73,12 +73,19 @@ impl Loop {
                 None
             };
             let Some((slot, held)) = heaviest else {
-                loops.wake_all();
-                thread::sleep(rt, Duration::from_millis(PAUSE_MILLIS));
+                self.await_others(rt, loops);
                 return;
             };
             growth = growth.saturating_sub(held);
             self.end(rt, loops, watch, slot, Some(PlainFault::Heavy));
+        }
+    }
+
+    /// Where a client waits to be read, has the other loops look, whose clients may hold more.
+    fn await_others<R: Wait + Clock>(&self, rt: &R, loops: &Loops) {
+        if self.members.slots.has_ready() {
+            loops.wake_all();
+            thread::sleep(rt, Duration::from_millis(PAUSE_MILLIS));
         }
     }
 

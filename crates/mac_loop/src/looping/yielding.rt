@@ -25,12 +25,10 @@ impl Loop {
         };
         let gone = self.release_stalest(rt, loops, watch, socket);
         self.tell_stalest(loops);
-        let badge = watch.displace(rt, gone, client.badge)?;
-        Some(Handover {
-            badge,
-            displaces: None,
-            ..client
-        })
+        let mut client = client;
+        client.badge = watch.displace(rt, gone, client.badge)?;
+        client.displaces = None;
+        Some(client)
     }
 
     /// Lets the client go that has rested longest of those that came in at a socket. What it had come
@@ -64,9 +62,13 @@ impl Loop {
 
     /// Tells others since when its clients have rested.
     pub(super) fn tell_stalest(&self, loops: &Loops) {
-        for socket in [Socket::Main, Socket::Side] {
-            let found = stalest(&self.members.slots, socket);
-            loops.note_stalest(self.number, socket, found.map(|found| found.since));
-        }
+        self.tell_stalest_of(loops, Socket::Main);
+        self.tell_stalest_of(loops, Socket::Side);
+    }
+
+    /// The same of those that came in at a socket.
+    fn tell_stalest_of(&self, loops: &Loops, socket: Socket) {
+        let found = stalest(&self.members.slots, socket);
+        loops.note_stalest(self.number, socket, found.map(|found| found.since));
     }
 }
