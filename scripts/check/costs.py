@@ -62,7 +62,7 @@ def record(costs):
     commit = subprocess.run(command, cwd=TOP, capture_output=True, text=True).stdout.strip() or "unknown"
     found = recorded()
     for name, it in costs.items():
-        tried = it if it.edits is not None else found.get(name, it)
+        tried = it if it.edits is not None or not it.count else found.get(name, it)
         found[name] = it._replace(commit=commit, edits=tried.edits, count=tried.count)
     rows = (
         " ".join([name, it.commit, str(it.lines), word(it.proof), word(it.edits), str(it.count)])
