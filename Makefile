@@ -87,9 +87,11 @@ completions:
 	scripts/build/completions.py
 
 # What stands in pages and is made of other files: the counts, laws and wrong bodies in the pages of promises, from
-# the tree; docs/architecture.svg, from docs/architecture.dot, where Graphviz is there or the text is as it was.
+# the tree; what crates cost, from docs/proof-times.txt; docs/architecture.svg, from docs/architecture.dot, where
+# Graphviz is there or the text is as it was.
 pages:
 	scripts/check/promises.py
+	scripts/check/costs.py
 	scripts/check/draw.py
 
 # The vectors, from what try_cases answers to their rows, and the scoreboard, from what each library does with them.

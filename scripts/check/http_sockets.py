@@ -200,8 +200,7 @@ def gateways_never_mint():
                         yield f"{target} of a gateway over {where}", asked(stream, calling(target, MINT)), 404
                     yield f"a verify over {where}", asked(stream, bearing(README)), 200
             yield "the mode of the calls' socket", stat.S_IMODE(pathlib.Path(calls).stat().st_mode), 0o660
-            with socket.socket(socket.AF_UNIX) as stream:
-                stream.connect(calls)
+            with connected(calls) as stream:
                 for target, due in (("/mint/shop", 200), ("/mint/bank", 404), ("/mint/none", 404), ("/check", 404)):
                     yield f"{target} at the calls' socket", asked(stream, calling(target, MINT)), due
                 yield "a verify under a name of gateways", asked(stream, bearing(README)), 401

@@ -70,15 +70,10 @@ def lines_of(reading, held):
         with contextlib.suppress(BlockingIOError):
             text += os.read(reading, 65_536)
             continue
-        if told(whole_lines(text[held:])) >= TORN:
+        if told(logged.read_whole(text[held:])) >= TORN:
             break
         time.sleep(0.05)
-    return whole_lines(text[held:])
-
-
-def whole_lines(text):
-    """The lines that came whole."""
-    return logged.read_all(text[: text.rfind(b"\n") + 1].decode())
+    return logged.read_whole(text[held:])
 
 
 def told(lines):

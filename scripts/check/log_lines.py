@@ -72,8 +72,7 @@ def connections(folder):
         start = log.first("start")
         yield "start", told(start, "socket", "names", "workers"), ("info", path, "2", "2")
         yield "start: its memory", int(told(start, "memory")[1]) >= MEMORY_MIN, True
-        version = subprocess.run([daemon.PROGRAM, "--version"], capture_output=True, text=True)
-        yield "start: its version", f"macaroond {start.fields['version']}\n", version.stdout
+        yield "start: its version", f"macaroond {start.fields['version']}\n", daemon.version()
         with connected(path) as one, connected(path) as other:
             one.sendall(frame(b""))
             received(one, len(NO_REQUEST))
@@ -288,7 +287,7 @@ def flooded(words, kind, asked, due):
 def read_until(reading, is_all):
     """The lines that come out of a pipe, until that is all."""
     text, until = b"", time.monotonic() + PATIENCE
-    while not is_all(lines := logged.read_all(text[: text.rfind(b"\n") + 1].decode())) and time.monotonic() < until:
+    while not is_all(lines := logged.read_whole(text)) and time.monotonic() < until:
         with contextlib.suppress(BlockingIOError):
             text += os.read(reading, 65_536)
         time.sleep(0.02)

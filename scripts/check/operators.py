@@ -4,7 +4,6 @@ import os
 import re
 import socket
 import stat
-import subprocess
 import tempfile
 
 from check.http_rows import README
@@ -12,7 +11,8 @@ from check.http_sockets import SECRET, asking, bearing, key_file, listening, res
 from check.key_lines import fingerprint
 from check.numbers import WIDE
 from common import daemon, logged
-from common.daemon import PATIENCE, PROGRAM, awaited, come_to, connected, free_port, reply_to
+from common.daemon import PATIENCE, awaited, come_to, connected, free_port, numbers, reply_to
+from common.processes import become_nobody
 from common.rows import judged
 
 import request
@@ -21,20 +21,12 @@ NO_DAEMON = "no daemon answers there; is one running, and are you its user?"
 TWO_PAGES = "error: of `--prometheus` and `--connections` one alone may be given\n"
 # A path that has room for a socket, and none for that of its status.
 LONG = 101
-NOBODY = 65_534
 
 
 def status(path, *words, **how):
     """How `macaroond status` ends, what it prints, and what it says."""
-    command = [PROGRAM, "status", "--socket", path, *words]
-    run = subprocess.run(command, capture_output=True, text=True, timeout=PATIENCE, **how)
+    run = daemon.status(path, *words, **how)
     return run.returncode, run.stdout, run.stderr
-
-
-def numbers(path):
-    """The numbers that `status` prints, by name, behind the line of the version."""
-    _, text, _ = status(path)
-    return dict(line.rsplit(" ", 1) for line in text.splitlines()[1:] if not line.startswith("key "))
 
 
 def keys_in(text):
@@ -79,8 +71,7 @@ def forms(served):
         token = "hex:" + reply_to(stream, request.mint("v2-binary", "bank", "here", "alice"))[1:].hex()
         reply_to(stream, request.verify("bank", token, 0))
         told = numbers(path)
-        version = subprocess.run([PROGRAM, "--version"], capture_output=True, text=True).stdout
-        yield "its version", f"macaroond {version_in(path)}\n", version
+        yield "its version", f"macaroond {version_in(path)}\n", daemon.version()
         due = {"requests mint token": "1", "requests verify granted": "1", "connections": "1", "key_names": "1"}
         yield "what was asked", {name: told.get(name) for name in due}, due
         both = metrics(path)
@@ -124,14 +115,8 @@ def places(served):
     yield "two pages", status(own, "--prometheus", "--connections"), (2, "", TWO_PAGES)
     if os.getuid() == 0:
         os.chmod(served.folder, 0o755)
-        code, printed, said = status(own, preexec_fn=as_nobody)
+        code, printed, said = status(own, preexec_fn=become_nobody)
         yield "another user", (code, printed, NO_DAEMON in said), (3, "", True)
-
-
-def as_nobody():
-    os.setgroups([])
-    os.setgid(NOBODY)
-    os.setuid(NOBODY)
 
 
 def admin():

@@ -5,7 +5,6 @@ Frames tell the number of a reason, and the place of a caveat. HTTP tells a stat
 the log the verdict and its code, and `macaroond verify --explain` the number, and what the token lacks in words.
 """
 import pathlib
-import socket
 import subprocess
 import sys
 import tempfile
@@ -13,7 +12,7 @@ import typing
 
 sys.path.insert(0, str(pathlib.Path(__file__).resolve().parents[1]))
 from common import daemon
-from common.daemon import Daemon, awaited, frame, put_keys
+from common.daemon import Daemon, awaited, connected, frame, put_keys
 from common.rows import judged, of_each
 from common.tokens import field, signed, text_of, v2
 
@@ -102,9 +101,7 @@ class Refusing(Daemon):
 
 def asked(path, sent, is_whole):
     """What comes back on a connection of its own."""
-    with socket.socket(socket.AF_UNIX) as stream:
-        stream.settimeout(daemon.PATIENCE)
-        stream.connect(path)
+    with connected(path) as stream:
         stream.sendall(sent)
         data = b""
         while not is_whole(data) and (piece := stream.recv(65_536)):

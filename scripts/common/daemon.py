@@ -73,6 +73,23 @@ def started(path, *words, keys=KEYS, before=(), **how):
     return begun([*before, *command(path, *words, keys=keys)], **how)
 
 
+def version():
+    """What the program tells of its version, with the end of its line."""
+    return subprocess.run([PROGRAM, "--version"], capture_output=True, text=True).stdout
+
+
+def status(path, *words, **how):
+    """How `macaroond status` of the daemon at this path ends, and what it prints."""
+    command = [PROGRAM, "status", "--socket", path, *words]
+    return subprocess.run(command, capture_output=True, text=True, timeout=PATIENCE, **how)
+
+
+def numbers(path):
+    """The numbers that `macaroond status` prints, by name: they stand behind the version, before what it tells of keys."""
+    lines = status(path).stdout.splitlines()[1:]
+    return dict(line.rsplit(" ", 1) for line in lines if not line.startswith("key "))
+
+
 def refused(path, *words, keys=KEYS, **how):
     """How a daemon ends that can't begin, and what it prints."""
     pipes = {"capture_output": True, "text": True, "timeout": PATIENCE}

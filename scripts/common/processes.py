@@ -3,6 +3,16 @@ import os
 import pathlib
 
 TICKS = os.sysconf("SC_CLK_TCK")
+# A user that owns nothing here, as who commands run that root may not.
+NOBODY = 65_534
+
+
+def become_nobody():
+    """Has this process be nobody's from now on, where it is root's."""
+    if os.geteuid() == 0:
+        os.setgroups([])
+        os.setgid(NOBODY)
+        os.setuid(NOBODY)
 
 
 def status(pid):

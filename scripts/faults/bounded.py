@@ -30,7 +30,7 @@ import time
 
 sys.path.insert(0, str(pathlib.Path(__file__).resolve().parents[1]))
 from common import daemon, programs
-from common.daemon import awaited, connected, frame, received
+from common.daemon import awaited, connected, frame, numbers, received
 from common.processes import mebibytes
 
 import request
@@ -78,12 +78,6 @@ def unread(words):
             print(f"bounded: {held:.0f} MiB held for {sent >> 20} MiB of requests, replies not read {' '.join(words)}")
             if held > HELD_MAX:
                 yield f"{held:.0f} MiB were held for one client that never reads {' '.join(words)}"
-
-
-def numbers(path):
-    """What the daemon counts, by the names."""
-    told = subprocess.run([daemon.PROGRAM, "status", "--socket", path], capture_output=True, text=True, check=True)
-    return dict(line.rsplit(" ", 1) for line in told.stdout.splitlines())
 
 
 def comes(crowd, path, bytes_sent):
