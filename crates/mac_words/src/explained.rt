@@ -1,6 +1,7 @@
 //! What a refused token lacks, as people are told.
 
 ghost use Rattle.std.specs.Prelude.{◌≡◌, ◌<◌, ◌^◌, ◌++◌, List, ℕ, length, IfOk, OnOk};
+ghost use Rattle.std.specs.Fmt.{signed_decimal};
 ghost use Rattle.mac_token.specs.RawToken.{byte_lists};
 ghost use Rattle.mac_token.specs.Read.{read_of};
 ghost use Rattle.mac_wire.specs.Request.{AreFields, counted_fields};
@@ -164,27 +165,47 @@ fn append_words(
 }
 
 /// Appends how long before the moment a time limit ended.
+#[tactic(auto, unfolding(crate::specs::Explained::ended_words))]
 fn append_ended(alloc: Global, limit: i64, moment: u64, out: &mut Vec<u8>) -> Result<(), NoMemory>
     ensures { OnOk result (out.new.items ≡ out.old.items ++ ended_words limit moment) }
 {
     let ago = i128::from(moment) - i128::from(limit);
-    let words = format!(in alloc;
-        "it ended at second {} since 1970, {} s before the moment",
-        limit, ago
-    )?;
-    out.extend_from_slice(words.as_bytes())
+    out.extend_from_slice(b"it ended at second ")?;
+    append_second(alloc, limit, out)?;
+    out.extend_from_slice(b" since 1970, ")?;
+    append_seconds(alloc, ago, out)?;
+    out.extend_from_slice(b" s before the moment")?;
+    Ok(())
 }
 
 /// Appends how long after the moment a lower bound of time begins.
+#[tactic(auto, unfolding(crate::specs::Explained::ahead_words))]
 fn append_ahead(alloc: Global, bound: i64, moment: u64, out: &mut Vec<u8>) -> Result<(), NoMemory>
     ensures { OnOk result (out.new.items ≡ out.old.items ++ ahead_words bound moment) }
 {
     let left = i128::from(bound) - i128::from(moment);
-    let words = format!(in alloc;
-        "it begins at second {} since 1970, {} s after the moment",
-        bound, left
-    )?;
-    out.extend_from_slice(words.as_bytes())
+    out.extend_from_slice(b"it begins at second ")?;
+    append_second(alloc, bound, out)?;
+    out.extend_from_slice(b" since 1970, ")?;
+    append_seconds(alloc, left, out)?;
+    out.extend_from_slice(b" s after the moment")?;
+    Ok(())
+}
+
+/// Appends a second in decimal.
+fn append_second(alloc: Global, second: i64, out: &mut Vec<u8>) -> Result<(), NoMemory>
+    ensures { OnOk result (out.new.items ≡ out.old.items ++ signed_decimal second) }
+{
+    let digits = format!(in alloc; "{second}")?;
+    out.extend_from_slice(digits.as_bytes())
+}
+
+/// Appends how many seconds lie between two moments, in decimal.
+fn append_seconds(alloc: Global, seconds: i128, out: &mut Vec<u8>) -> Result<(), NoMemory>
+    ensures { OnOk result (out.new.items ≡ out.old.items ++ signed_decimal seconds) }
+{
+    let digits = format!(in alloc; "{seconds}")?;
+    out.extend_from_slice(digits.as_bytes())
 }
 
 /// Appends how far the fact that is nearest to a caveat agrees with it, if one does at all.
@@ -198,6 +219,7 @@ fn append_fact(alloc: Global, caveat: &[u8], fact: &[u8], out: &mut Vec<u8>) -> 
 }
 
 /// Appends a fact that agrees with a caveat in so many first bytes.
+#[tactic(auto, unfolding(crate::specs::Explained::difference_words))]
 fn append_difference(
     alloc: Global,
     count: usize,
@@ -206,9 +228,10 @@ fn append_difference(
 ) -> Result<(), NoMemory>
     ensures { OnOk result (out.new.items ≡ out.old.items ++ difference_words count fact.now) }
 {
-    let words = format!(in alloc;
-        "it differs behind its first {count} bytes from the nearest fact: "
-    )?;
-    out.extend_from_slice(words.as_bytes())?;
-    append_escaped(fact, out)
+    let digits = format!(in alloc; "{count}")?;
+    out.extend_from_slice(b"it differs behind its first ")?;
+    out.extend_from_slice(digits.as_bytes())?;
+    out.extend_from_slice(b" bytes from the nearest fact: ")?;
+    append_escaped(fact, out)?;
+    Ok(())
 }

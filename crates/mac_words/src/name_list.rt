@@ -76,7 +76,8 @@ fn append_both(
 {
     out.extend_from_slice(b": two keys, ")?;
     append_fingerprint(alloc, first, out)?;
-    append_second(alloc, second, out)
+    append_second(alloc, second, out)?;
+    Ok(())
 }
 
 /// Appends the fingerprint of a second key, behind that of the first.
