@@ -18,19 +18,19 @@ use Rattle.mac_words.specs.declared.fault.FieldFault.{FieldFault}
 use Rattle.mac_words.specs.declared.fault.FieldFault.TheVariants as fault
 
 -- a time limit, and how long before the moment it ended
-unfoldable pub ended_words : ℤ → ℕ → List ℕ
+abbrev pub ended_words : ℤ → ℕ → List ℕ
 ended_words limit moment = codes "it ended at second " ++ (signed_decimal limit
     ++ (codes " since 1970, " ++ (signed_decimal (pos moment -ℤ limit)
     ++ codes " s before the moment")))
 
 -- a lower bound of time, and how long after the moment it begins
-unfoldable pub ahead_words : ℤ → ℕ → List ℕ
+abbrev pub ahead_words : ℤ → ℕ → List ℕ
 ahead_words bound moment = codes "it begins at second " ++ (signed_decimal bound
     ++ (codes " since 1970, " ++ (signed_decimal (bound -ℤ pos moment)
     ++ codes " s after the moment")))
 
 -- a fact that agrees with a caveat in so many first bytes
-unfoldable pub difference_words : ℕ → List ℕ → List ℕ
+abbrev pub difference_words : ℕ → List ℕ → List ℕ
 difference_words count fact = codes "it differs behind its first " ++ (decimal count
     ++ (codes " bytes from the nearest fact: " ++ escaped fact))
 

@@ -1,7 +1,7 @@
 //! What a refused token lacks, as people are told.
 
 ghost use Rattle.std.specs.Prelude.{◌≡◌, ◌<◌, ◌^◌, ◌++◌, List, ℕ, length, IfOk, OnOk};
-ghost use Rattle.std.specs.Fmt.{signed_decimal};
+ghost use Rattle.std.specs.Fmt.{decimal, signed_decimal};
 ghost use Rattle.mac_token.specs.RawToken.{byte_lists};
 ghost use Rattle.mac_token.specs.Read.{read_of};
 ghost use Rattle.mac_wire.specs.Request.{AreFields, counted_fields};
@@ -165,7 +165,6 @@ fn append_words(
 }
 
 /// Appends how long before the moment a time limit ended.
-#[tactic(auto, unfolding(crate::specs::Explained::ended_words))]
 fn append_ended(alloc: Global, limit: i64, moment: u64, out: &mut Vec<u8>) -> Result<(), NoMemory>
     ensures { OnOk result (out.new.items ≡ out.old.items ++ ended_words limit moment) }
 {
@@ -179,7 +178,6 @@ fn append_ended(alloc: Global, limit: i64, moment: u64, out: &mut Vec<u8>) -> Re
 }
 
 /// Appends how long after the moment a lower bound of time begins.
-#[tactic(auto, unfolding(crate::specs::Explained::ahead_words))]
 fn append_ahead(alloc: Global, bound: i64, moment: u64, out: &mut Vec<u8>) -> Result<(), NoMemory>
     ensures { OnOk result (out.new.items ≡ out.old.items ++ ahead_words bound moment) }
 {
@@ -219,7 +217,6 @@ fn append_fact(alloc: Global, caveat: &[u8], fact: &[u8], out: &mut Vec<u8>) -> 
 }
 
 /// Appends a fact that agrees with a caveat in so many first bytes.
-#[tactic(auto, unfolding(crate::specs::Explained::difference_words))]
 fn append_difference(
     alloc: Global,
     count: usize,
@@ -228,10 +225,17 @@ fn append_difference(
 ) -> Result<(), NoMemory>
     ensures { OnOk result (out.new.items ≡ out.old.items ++ difference_words count fact.now) }
 {
-    let digits = format!(in alloc; "{count}")?;
     out.extend_from_slice(b"it differs behind its first ")?;
-    out.extend_from_slice(digits.as_bytes())?;
+    append_count(alloc, count, out)?;
     out.extend_from_slice(b" bytes from the nearest fact: ")?;
     append_escaped(fact, out)?;
     Ok(())
+}
+
+/// Appends a number in decimal.
+fn append_count(alloc: Global, count: usize, out: &mut Vec<u8>) -> Result<(), NoMemory>
+    ensures { OnOk result (out.new.items ≡ out.old.items ++ decimal count) }
+{
+    let digits = format!(in alloc; "{count}")?;
+    out.extend_from_slice(digits.as_bytes())
 }
