@@ -1,5 +1,5 @@
 //! The loop that accepts the connections of sockets: so many of them, or until it is shut.
-ghost use Rattle.std.specs.Prelude.{◌≡◌, IfOk};
+ghost use Rattle.std.specs.Prelude.{◌≡◌, IfOk, IsTrue};
 ghost use Rattle.mac_daemon.specs.Day.{MeetsCount};
 ghost use Rattle.mac_sockets.specs.Entrance.{taken_of};
 
@@ -63,6 +63,16 @@ where
     served
 }
 
+/// Whether as many were served as are asked for.
+fn has_met(count: Option<u64>, served: u64) -> bool
+    ensures { IsTrue result → MeetsCount count served }
+{
+    match count {
+        Some(asked) => asked == served,
+        None => false,
+    }
+}
+
 /// Accepts so many connections, where a count is given, and hands each to a loop. Some may not have
 /// ended yet where it returns the number of those that were accepted. With a count, a socket that
 /// accepts nothing is an error; without one, it is asked again after a pause, until the entrance is
@@ -82,9 +92,8 @@ where
 {
     for _ in rt.forever() {
         let served = entrance.taken();
-        match count {
-            Some(count) if count == served => return Ok(served),
-            _ => {}
+        if has_met(count, served) {
+            return Ok(served);
         }
         match entrance.accept(rt) {
             Some(Ok(arrived)) => {
