@@ -5,13 +5,14 @@ use crate::http::HttpPlan;
 use crate::key_store::FirstKeys;
 use crate::list_store::FirstList;
 use crate::operating::{OPERATORS_LOOPS, open_status, operators_terms, warn_of_no_status};
-use crate::watching::{Followed, start_watching};
+use crate::watching::{Followed, look_once};
 use mac_board::Editor;
 use mac_daemon::{
     Daemon, DaemonFault, DaemonTerms, FOLLOWERS_MAX, Gift, SideSocket, Surroundings, give, listen,
 };
 use mac_decide::Rights;
 use mac_gate::{Address, DoorFault, HttpServer, ServerFault};
+use mac_host::{Call, Host};
 use mac_sockets::{Door, Doors, Holdings, PathClaim, PlaceFault};
 use mac_system::handed_listener;
 use std::alloc::{Alloc, AllocError, Global};
@@ -29,7 +30,7 @@ use std::time::{Clock, Duration};
 /// of gateways, of callers and of operators.
 const FOLLOWERS: usize = FOLLOWERS_MAX + 2 * LOOPS_MAX as usize + OPERATORS_LOOPS;
 
-/// How many milliseconds pass between two looks at the places of the sockets.
+/// How many milliseconds pass between two looks at the files.
 const PAUSE_MILLIS: u64 = 500;
 
 /// What `listen` listens at, beside the socket of its terms.
@@ -82,8 +83,8 @@ pub(crate) struct Found {
 }
 
 /// Listens until it is told to end, under the table that the key file at a path has at each moment.
-/// Other threads serve, and one watches the file; this one waits for no file but its sockets'. What
-/// it made of its sockets and didn't put in their places is removed.
+/// Other threads serve, and this one watches the files. What it made of its sockets and didn't put
+/// in their places is removed.
 pub(crate) fn listen_and_watch<'a, R>(
     rt: &R,
     terms: DaemonTerms<'_>,
@@ -145,11 +146,15 @@ where
     }
     let started = start_all(rt, terms, sockets, &editor, handed, holdings)?;
     started.daemon.tell_list_lines(lines);
-    let watching = start_watching(*rt, followed, editor, started.daemon.host()?)?;
+    let host = started.daemon.host()?;
     started.daemon.open(rt, terms, holdings)?;
-    await_end(rt, terms.path, &started.daemon, holdings);
+    let watched = Watched {
+        followed,
+        socket: terms.path,
+        host: &host,
+    };
+    let _kept_up = watch(rt, watched, editor, &started.daemon, holdings);
     end_all(rt, started);
-    drop(watching);
     Ok(())
 }
 
@@ -286,18 +291,43 @@ where
     Ok(Some(server))
 }
 
-/// Waits until the daemon is told to end, as it is where another one's socket is in the place of one
-/// of its own.
-fn await_end<R>(rt: &R, socket: &str, daemon: &Daemon, holdings: &mut Holdings)
+/// What a daemon looks at now and then, by their paths.
+#[derive(Clone, Copy)]
+struct Watched<'a> {
+    followed: Followed<'a>,
+    socket: &'a str,
+    host: &'a Host,
+}
+
+/// Watches a daemon's files until it is told to end, or another one's socket is in its place. At a
+/// call to look there are two looks, so that a file that rests between them is taken.
+fn watch<R>(
+    rt: &R,
+    watched: Watched<'_>,
+    editor: Editor<R>,
+    daemon: &Daemon,
+    holdings: &mut Holdings,
+) -> Editor<R>
 where
-    R: Files<File = File> + Clock + Wait,
+    R: Alloc<A = Global> + Files<File = File> + Clock + Wait + Drop,
 {
+    let Watched {
+        followed,
+        socket,
+        host,
+    } = watched;
+    let pause = Duration::from_millis(PAUSE_MILLIS);
+    let mut editor = editor;
     for _ in rt.forever() {
-        if daemon.await_ending(rt, Duration::from_millis(PAUSE_MILLIS)) {
-            return;
+        match host.ending().await_call(rt, pause) {
+            Call::End => return editor,
+            Call::Look => editor = look_once(rt, followed, editor, host),
+            Call::Nothing => {}
         }
         if let Some(path) = holdings.look(rt, socket) {
             daemon.end_replaced(rt, path);
         }
+        editor = look_once(rt, followed, editor, host);
     }
+    unreachable!()
 }
