@@ -21,7 +21,12 @@ pub(crate) struct Followed<'a> {
 
 /// Looks at the key file and at the list once: a table that is to be taken is put up, and what came
 /// of it is told. Where memory runs out, the next look finds the same.
-pub(crate) fn look_once<R>(rt: &R, followed: Followed<'_>, editor: Editor<R>, host: &Host) -> Editor<R>
+pub(crate) fn look_once<R>(
+    rt: &R,
+    followed: Followed<'_>,
+    editor: Editor<R>,
+    host: &Host,
+) -> Editor<R>
 where
     R: Alloc<A = Global> + Files<File = File> + Clock + Wait + Drop,
 {
