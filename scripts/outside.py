@@ -31,7 +31,6 @@ from check import (
     fleet,
     forgetting,
     gateways,
-    hanging,
     http_rows,
     http_sockets,
     installing,
@@ -145,7 +144,6 @@ OF_VECTORS = checking.PARTS
 OF_COMPILER = {
     "allocations": allocations.faults,
     "clockless": clocks.clockless_faults,
-    "hanging": hanging.faults,
     "faults": faults.some_faults,
     "moving": moving.faults,
     "installing": installing.faults,
