@@ -83,9 +83,22 @@ calls_rules = option (codes "http-calls")
     ∷ option (codes "http-admin")
     ∷ []
 
+-- its options for a second socket, for its log, and for its files
+abbrev pub further_rules : List Rule
+further_rules = option (codes "verify-socket")
+    ∷ option (codes "verify-mode")
+    ∷ option (codes "verify-names")
+    ∷ number 1000000 (option (codes "verify-connections"))
+    ∷ flag (codes "replace")
+    ∷ option (codes "log")
+    ∷ flag (codes "keys-of-others")
+    ∷ option (codes "revoked")
+    ∷ flag (codes "allow-empty-revoked")
+    ∷ []
+
 -- the subcommand `listen`, whose socket and key file have to be given
 abbrev pub listen_command : App
-listen_command = with_rules (with_rules (with_rules (new_app (codes "listen"))
+listen_command = with_rules (with_rules (with_rules (with_rules (new_app (codes "listen"))
     (required (option (codes "socket"))
     ∷ required (option (codes "keys"))
     ∷ number 16 (option (codes "workers"))
@@ -97,16 +110,7 @@ listen_command = with_rules (with_rules (with_rules (new_app (codes "listen"))
     ∷ number_from 0 1073741824 (option (codes "remember"))
     ∷ number_from 67108864 1099511627776 (option (codes "memory"))
     ∷ option (codes "names")
-    ∷ option (codes "verify-socket")
-    ∷ option (codes "verify-mode")
-    ∷ option (codes "verify-names")
-    ∷ number 1000000 (option (codes "verify-connections"))
-    ∷ flag (codes "replace")
-    ∷ option (codes "log")
-    ∷ flag (codes "keys-of-others")
-    ∷ option (codes "revoked")
-    ∷ flag (codes "allow-empty-revoked")
-    ∷ [])) gateway_rules) calls_rules
+    ∷ [])) further_rules) gateway_rules) calls_rules
 
 -- the subcommand `page`, whose options may be left out
 abbrev pub page_command : App

@@ -2,7 +2,8 @@
 ghost use Rattle.std.specs.Prelude.{◌≡◌, false, IfOk};
 ghost use Rattle.clap.specs.Words.{app_of, rule_of};
 ghost use Rattle.macaroond.specs.Arguments.{number, number_from, option, required, with_rules};
-ghost use Rattle.macaroond.specs.CommandLine.{calls_rules, command_line, gateway_rules, listen_command};
+ghost use Rattle.macaroond.specs.CommandLine.{calls_rules, command_line, further_rules};
+ghost use Rattle.macaroond.specs.CommandLine.{gateway_rules, listen_command};
 ghost use Rattle.macaroond.specs.CommandLine.{page_command, pipe_command, serve_command, served_app};
 
 use crate::help::{LISTEN_HELP, PAGE_HELP, PIPE_HELP, SERVE_HELP};
@@ -219,12 +220,6 @@ fn build_listen<'a>(alloc: Global) -> Result<Command<'a>, AllocError>
     let about = "Answers requests over a Unix socket until it is told to end";
     let workers = build_count(alloc, "workers", WORKERS_MAX as u64, LISTEN_WORKERS_HELP);
     let connections = build_count(alloc, "connections", CONNECTIONS_MAX, CONNECTIONS_HELP);
-    let verify_connections = build_count(
-        alloc,
-        "verify-connections",
-        CONNECTIONS_MAX,
-        VERIFY_CONNECTIONS_HELP,
-    );
     let drain = build_count(alloc, "drain", DRAIN_MAX, DRAIN_HELP);
     let remember = build_bytes(alloc, "remember", 0, REMEMBER_MAX, REMEMBER_HELP);
     let memory = build_bytes(alloc, "memory", MEMORY_MIN, MEMORY_MAX, MEMORY_HELP);
@@ -240,24 +235,37 @@ fn build_listen<'a>(alloc: Global) -> Result<Command<'a>, AllocError>
     let listen = add_arg(listen, remember)?;
     let listen = add_arg(listen, memory)?;
     let listen = add_arg(listen, build_option(alloc, "names", "NAMES", NAMES_HELP))?;
-    let listen = add_arg(
-        listen,
-        build_option(alloc, "verify-socket", "PATH", VERIFY_HELP),
-    )?;
-    let listen = add_arg(
-        listen,
-        build_option(alloc, "verify-mode", "DIGITS", VERIFY_MODE_HELP),
-    )?;
-    let listen = add_arg(
-        listen,
-        build_option(alloc, "verify-names", "NAMES", VERIFY_NAMES_HELP),
-    )?;
-    let listen = add_arg(listen, verify_connections)?;
-    let listen = add_arg(listen, build_flag(alloc, "replace", REPLACE_HELP))?;
-    let listen = add_arg(listen, build_option(alloc, "log", "WORDS", LOG_HELP))?;
-    let listen = add_arg(listen, build_flag(alloc, "keys-of-others", OTHERS_HELP))?;
-    let listen = add_arg(listen, build_option(alloc, "revoked", "FILE", REVOKED_HELP))?;
+    add_further(alloc, listen)
+}
+
+/// The subcommand with its options for a second socket, for its log and for its files, and with
+/// those for HTTP.
+fn add_further<'a>(alloc: Global, listen: Command<'a>) -> Result<Command<'a>, AllocError>
+    ensures { IfOk result (λ whole. app_of whole ≡ with_rules (with_rules
+        (with_rules (app_of listen.entry) further_rules) gateway_rules) calls_rules) }
+{
+    let socket = build_option(alloc, "verify-socket", "PATH", VERIFY_HELP);
+    let mode = build_option(alloc, "verify-mode", "DIGITS", VERIFY_MODE_HELP);
+    let names = build_option(alloc, "verify-names", "NAMES", VERIFY_NAMES_HELP);
+    let connections = build_count(
+        alloc,
+        "verify-connections",
+        CONNECTIONS_MAX,
+        VERIFY_CONNECTIONS_HELP,
+    );
+    let replace = build_flag(alloc, "replace", REPLACE_HELP);
+    let log = build_option(alloc, "log", "WORDS", LOG_HELP);
+    let others = build_flag(alloc, "keys-of-others", OTHERS_HELP);
+    let revoked = build_option(alloc, "revoked", "FILE", REVOKED_HELP);
     let emptied = build_flag(alloc, "allow-empty-revoked", EMPTY_REVOKED_HELP);
+    let listen = add_arg(listen, socket)?;
+    let listen = add_arg(listen, mode)?;
+    let listen = add_arg(listen, names)?;
+    let listen = add_arg(listen, connections)?;
+    let listen = add_arg(listen, replace)?;
+    let listen = add_arg(listen, log)?;
+    let listen = add_arg(listen, others)?;
+    let listen = add_arg(listen, revoked)?;
     let listen = add_arg(listen, emptied)?;
     add_http(alloc, listen)
 }

@@ -2,7 +2,7 @@ use Rattle.std.proofs.Common.{◌∙◌, ap, ap₂}
 use Rattle.std.proofs.lemmas.Result.{IfOk-weaker}
 use Rattle.clap.specs.Words.{App, with_rule}
 use Rattle.macaroond.specs.Arguments.{with_rules}
-use Rattle.macaroond.specs.CommandLine.{calls_rules, gateway_rules}
+use Rattle.macaroond.specs.CommandLine.{calls_rules, further_rules, gateway_rules}
 use Rattle.macaroond.proofs.commands.build_listen.Goals as goal
 
 -- one line for each option
@@ -19,13 +19,4 @@ returns c =
     let remember = c.in_ok-listen-9.ensures ∙ ap₂ with_rule drain c.build_bytes-remember.ensures.rule in
     let memory = c.in_ok-listen-10.ensures ∙ ap₂ with_rule remember c.build_bytes-memory.ensures.rule in
     let names = c.in_ok-listen-11.ensures ∙ ap₂ with_rule memory c.build_option-2.ensures.rule in
-    let socket_too = c.in_ok-listen-12.ensures ∙ ap₂ with_rule names c.build_option-3.ensures.rule in
-    let mode_too = c.in_ok-listen-13.ensures ∙ ap₂ with_rule socket_too c.build_option-4.ensures.rule in
-    let names_too = c.in_ok-listen-14.ensures ∙ ap₂ with_rule mode_too c.build_option-5.ensures.rule in
-    let verify_connections = c.in_ok-listen-15.ensures ∙ ap₂ with_rule names_too c.build_count-verify_connections.ensures.rule in
-    let replace = c.in_ok-listen-16.ensures ∙ ap₂ with_rule verify_connections c.build_flag.ensures.rule in
-    let log = c.in_ok-listen-17.ensures ∙ ap₂ with_rule replace c.build_option-6.ensures.rule in
-    let others = c.in_ok-listen-18.ensures ∙ ap₂ with_rule log c.build_flag-2.ensures.rule in
-    let revoked = c.in_ok-listen-19.ensures ∙ ap₂ with_rule others c.build_option-7.ensures.rule in
-    let emptied = c.in_ok-listen-20.ensures ∙ ap₂ with_rule revoked c.build_flag-emptied.ensures.rule in
-    IfOk-weaker c.add_http.result _ _ (λ listen last. last ∙ ap (λ (app : App). with_rules (with_rules app gateway_rules) calls_rules) emptied) c.add_http.ensures
+    IfOk-weaker c.add_further.result _ _ (λ listen last. last ∙ ap (λ (app : App). with_rules (with_rules (with_rules app further_rules) gateway_rules) calls_rules) names) c.add_further.ensures
