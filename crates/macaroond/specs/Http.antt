@@ -19,9 +19,9 @@ use Rattle.mac_http.specs.declared.rules.Calls.{Calls}
 use Rattle.mac_http.specs.declared.rules.Granted.{Granted}
 use Rattle.mac_http.specs.declared.rules.Granted.TheVariants as granted
 use Rattle.mac_http.specs.declared.rules.Sources.{Sources}
-use Rattle.macaroond.specs.CommandLine.{permissions}
+use Rattle.mac_commands.specs.CommandLine.{permissions}
 use Rattle.macaroond.specs.Rights.{AreNone, IsRights, is_comma}
-use Rattle.macaroond.specs.declared.choices.HttpOptions.{HttpOptions}
+use Rattle.mac_commands.specs.declared.choices.HttpOptions.{HttpOptions}
 use Rattle.macaroond.specs.declared.http.HttpFault.{HttpFault}
 use Rattle.macaroond.specs.declared.http.HttpFault.TheVariants as fault
 use Rattle.macaroond.specs.declared.http.HttpPlan.{HttpPlan}

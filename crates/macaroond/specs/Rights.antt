@@ -5,8 +5,8 @@ use Rattle.std.specs.declared.alloc.Global.{Global}
 use Rattle.std.specs.declared.string.String.{String}
 use Rattle.mac_daemon.specs.declared.door.SideSocket.{SideSocket}
 use Rattle.mac_decide.specs.declared.rights.Rights.{Rights}
-use Rattle.macaroond.specs.CommandLine.{permissions}
-use Rattle.macaroond.specs.declared.choices.ListenOptions.{ListenOptions}
+use Rattle.mac_commands.specs.CommandLine.{permissions}
+use Rattle.mac_commands.specs.declared.choices.ListenOptions.{ListenOptions}
 
 abbrev pub is_comma : ℕ → Bool
 is_comma b = b == 44

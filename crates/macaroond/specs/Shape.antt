@@ -1,5 +1,5 @@
 -- How a daemon serves, as its options say.
-use Rattle.std.specs.Prelude.{◌≡◌, ℕ, ◌/◌, ◌≤◌, Option, Some, None, max, min}
+use Rattle.std.specs.Prelude.{◌≡◌, ℕ, ◌≤◌, Option, Some, None}
 
 -- so many threads: at least one and no more than may be, and those that were asked for
 abbrev pub HasCount : ℕ → Option ℕ → ℕ → Type 0
@@ -27,7 +27,3 @@ remember_of (Some asked) = asked
 abbrev pub memory_of : ℕ → Option ℕ → ℕ
 memory_of found None = found
 memory_of found (Some asked) = asked
-
--- half of what the system allows, from 64 MiB to a tebibyte
-abbrev pub half_of_memory : ℕ → ℕ
-half_of_memory told = min (max (told / 2) 67108864) 1099511627776

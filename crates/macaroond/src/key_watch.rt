@@ -1,12 +1,10 @@
 //! The daemon whose keys follow its key file.
-use crate::commands::LOOPS_MAX;
 use crate::doors::{OpenDoors, open_doors};
 use crate::http::HttpPlan;
-use crate::key_store::FirstKeys;
-use crate::list_store::FirstList;
 use crate::operating::{OPERATORS_LOOPS, open_status, operators_terms, warn_of_no_status};
 use crate::watching::{Followed, look_once};
 use mac_board::Editor;
+use mac_commands::{FirstKeys, FirstList, LOOPS_MAX};
 use mac_daemon::{
     Daemon, DaemonFault, DaemonTerms, FOLLOWERS_MAX, Gift, SideSocket, Surroundings, give, listen,
 };

@@ -1,10 +1,10 @@
 //! Where operators ask how a daemon is: a socket beside its own, and addresses of this machine.
 
-use crate::commands::VERSION;
+use mac_commands::{VERSION, status_path};
 use mac_gate::{DoorFault, HttpTerms};
 use mac_http::{Calls, Granted, Pages, Sources};
 use mac_sockets::{Doors, Holdings};
-use std::alloc::{AllocError, Global};
+use std::alloc::Global;
 use std::fs::{File, Files};
 use std::net::{Net, TcpListener, TcpStream};
 use std::sync::Wait;
@@ -21,11 +21,6 @@ pub(crate) const OPERATORS_LOOPS: usize = 1;
 
 /// How many seconds an operator may bring no whole request.
 const PATIENCE: u64 = 10;
-
-/// The path of the status socket of a daemon.
-pub(crate) fn status_path(alloc: Global, socket: &str) -> Result<String, AllocError> {
-    format!(in alloc; "{socket}.status")
-}
 
 /// Makes the status socket of a daemon, and adds its door.
 pub(crate) fn open_status<R>(

@@ -4,7 +4,7 @@ ghost use Rattle.std.specs.Prelude.{◌≡◌, IfOk, true};
 ghost use Rattle.std.specs.List.{slice_split};
 ghost use Rattle.macaroond.specs.Rights.{AreNone, IsRights, IsSideSocket, is_comma};
 
-use crate::choices::ListenOptions;
+use mac_commands::ListenOptions;
 use mac_daemon::SideSocket;
 use mac_decide::{Names, Rights};
 use mac_wire::Bytes;

@@ -1,9 +1,8 @@
 //! The files that a daemon follows: its key file, and its list of tokens that were taken back.
 ghost use Rattle.macaroond.specs.Watching.{Watches, WatchesList};
 
-use crate::key_store::{KeyPlace, look_at};
-use crate::list_store::{ListPlace, look_at_list};
 use mac_board::Editor;
+use mac_commands::{KeyPlace, ListPlace, look_at, look_at_list};
 use mac_host::Host;
 use std::alloc::{Alloc, Global};
 use std::fs::{File, Files};
