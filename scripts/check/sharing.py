@@ -3,6 +3,7 @@
 import contextlib
 import pathlib
 import sys
+import time
 
 sys.path.insert(0, str(pathlib.Path(__file__).resolve().parents[1]))
 from check.daemon_rows import MINT, NO_REQUEST, TOKEN
@@ -10,8 +11,9 @@ from common import KEYS
 from common.daemon import Daemon, awaited, connected, frame, received, reply_to
 from common.rows import in_folders, judged
 
-# How many connections there may be, and how many a flood brings.
-MOST, FLOOD = 8, 40
+# How many connections there may be, how many a flood brings, and for how many seconds the others have rested when
+# one comes: one that was answered a quarter of a second ago gives way to none of its own socket.
+MOST, FLOOD, REST = 8, 16, 0.3
 MINTED = b"\x01" + TOKEN
 
 
@@ -37,7 +39,8 @@ def served(stream):
 
 
 def taken(stack, path):
-    """A connection that was answered, which stays as long as this stack."""
+    """A connection that comes once others have rested, and whether it was answered. It stays as long as this stack."""
+    time.sleep(REST)
     stream = stack.enter_context(connected(path))
     return stream, served(stream)
 
@@ -101,9 +104,19 @@ def longest_rest(folder):
         yield "and all others", live(streams[2:]), MOST - 2
 
 
+def just_answered(folder):
+    """One that was answered just now gives way to none of its own socket: those that come are closed."""
+    with contextlib.ExitStack() as stack, meeting(folder) as (daemon, _):
+        streams = flooded(stack, daemon.path, MOST)
+        for _ in range(3):
+            yield "all are answered", live(streams), MOST
+            yield "a further one isn't", served(stack.enter_context(connected(daemon.path))), False
+        yield "and all are there still", live(streams), MOST
+
+
 def faults():
     """What went otherwise than it must, and how many checks there were."""
-    return judged(in_folders(verifiers_first, minters_first, bounded, longest_rest))
+    return judged(in_folders(verifiers_first, minters_first, bounded, longest_rest, just_answered))
 
 
 if __name__ == "__main__":

@@ -22,6 +22,9 @@ const UNSENT_LITTLE: usize = 65_536;
 /// How many clients at most come into loops at a time in place of others.
 const DISPLACING_MAX: usize = 16;
 
+/// How many microseconds a client has rested at least that gives way to another one of its socket.
+pub const REST_MIN: u64 = 250_000;
+
 /// Since when the client of a loop has rested that rests longest of those that came in at a socket,
 /// as far as the loop looked; the greatest number where there is none.
 #[derive(Drop)]
@@ -111,20 +114,26 @@ impl Loops {
     }
 
     /// Hands a client to the loop of which one of a socket is to give way to it. It comes back
-    /// without memory, and where as many are on their way so as may be.
+    /// without memory, where none of its own socket has rested for long enough to give way to it, and
+    /// where as many are on their way so as may be.
     pub fn hand_displacing<R: Wait>(
         &self,
         rt: &R,
         socket: Socket,
         client: Handover,
     ) -> Result<(), Handover> {
+        let (number, since) = self.stalest(socket);
+        let is_own = client.badge.socket == socket;
+        if is_own && client.since.saturating_sub(since) < REST_MIN {
+            return Err(client);
+        }
         if self.displacing.fetch_add(1, SeqCst) >= DISPLACING_MAX {
             self.displacing.fetch_sub(1, SeqCst);
             return Err(client);
         }
         let mut client = client;
         client.displaces = Some(socket);
-        let handed = self.hand(rt, self.stalest(socket), client);
+        let handed = self.hand(rt, number, client);
         if handed.is_err() {
             self.displacing.fetch_sub(1, SeqCst);
         }
@@ -163,8 +172,9 @@ impl Loops {
         }
     }
 
-    /// The loop whose clients include the one that has rested longest of those of a socket.
-    fn stalest(&self, socket: Socket) -> usize {
+    /// The loop whose clients include the one that has rested longest of those of a socket, and since
+    /// when that has.
+    fn stalest(&self, socket: Socket) -> (usize, u64) {
         let (mut found, mut earliest) = (0, u64::MAX);
         for (number, side) in self.sides.iter().enumerate() {
             let since = side.stalest.at(socket).load(SeqCst);
@@ -172,7 +182,7 @@ impl Loops {
                 (found, earliest) = (number, since);
             }
         }
-        found
+        (found, earliest)
     }
 
     /// A loop begins a turn. How many threads it may answer with: those of loops that rest are

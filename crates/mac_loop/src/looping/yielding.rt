@@ -2,7 +2,7 @@
 //! the one that has rested longest.
 
 use crate::handover::Handover;
-use crate::inbox::Loops;
+use crate::inbox::{Loops, REST_MIN};
 use crate::looping::Loop;
 use crate::resting::stalest;
 use crate::watch::Watch;
@@ -23,7 +23,7 @@ impl Loop {
         let Some(socket) = client.displaces else {
             return Some(client);
         };
-        let gone = self.release_stalest(rt, loops, watch, socket);
+        let gone = self.release_stalest(rt, loops, watch, socket, client.badge.socket);
         self.tell_stalest(loops);
         let mut client = client;
         client.badge = watch.displace(rt, gone, client.badge)?;
@@ -31,19 +31,25 @@ impl Loop {
         Some(client)
     }
 
-    /// Lets the client go that has rested longest of those that came in at a socket. What it had come
-    /// to, where there was one.
+    /// Lets the client go that has rested longest of those that came in at a socket, for one that comes
+    /// in at this one: of its own it has to have rested for long enough. What it had come to, where
+    /// there was one.
     fn release_stalest<R: Wait + Clock, W: Watch>(
         &mut self,
         rt: &R,
         loops: &Loops,
         watch: &W,
         socket: Socket,
+        comes: Socket,
     ) -> Option<Life> {
         for slot in 0..self.members.slots.bound() {
             self.note_rest(slot);
         }
         let found = stalest(&self.members.slots, socket)?;
+        let is_own = comes == socket;
+        if is_own && self.now.saturating_sub(found.since) < REST_MIN {
+            return None;
+        }
         let member = self.members.slots.release(found.slot)?;
         loops.count_unsent(member.client.unsent(), 0);
         self.count_left(&member);
