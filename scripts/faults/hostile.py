@@ -157,17 +157,20 @@ def crowded(path, seconds):
         for kind in HOSTILE
         for number in range(3)
     ]
-    with client.Client(path) as asked:
-        # Connected before the crowd comes: who comes later waits behind those that are to be accepted.
-        asked.ask(b"")
-        for one in crowd:
-            one.start()
-            # A machine under load may take longer to start them all than a connection may be idle.
+    try:
+        with client.Client(path) as asked:
+            # Connected before the crowd comes: who comes later waits behind those that are to be accepted.
             asked.ask(b"")
-        count, longest = behaves(asked, time.monotonic() + seconds)
-    is_over.set()
-    for one in crowd:
-        one.join(timeout=30)
+            for one in crowd:
+                one.start()
+                # A machine under load may take longer to start them all than a connection may be idle.
+                asked.ask(b"")
+            count, longest = behaves(asked, time.monotonic() + seconds)
+    finally:
+        is_over.set()
+        for one in crowd:
+            if one.pid is not None:
+                one.join(timeout=30)
     return count, longest
 
 
