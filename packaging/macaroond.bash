@@ -22,7 +22,7 @@ _macaroond() {
         --verify-mode) words=(600 660 666) ;;
         --http-mode) words=(600 660 666) ;;
         --http-calls-mode) words=(600 660 666) ;;
-        --form) words=(v1 v2 json v2-text) ;;
+        --form) words=(v1-text v2-text v2-binary v2-json) ;;
         --key) mapfile -t words < <(_macaroond_key_names) ;;
         --workers | --accept | --idle | --loops | --connections | --drain | --remember | --memory | --names | --verify-names | --verify-connections | --log | --http | --http-anywhere | --http-connections | --http-patience | --http-granted | --http-facts | --http-names | --http-calls | --http-calls-allow | --http-calls-names | --http-allow | --http-admin | --address | --location | --identifier | --caveat | --fact | --at) return ;;
         *)

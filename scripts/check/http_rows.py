@@ -403,13 +403,13 @@ def said(form, identifier, caveats, location, sig):
 
 ROWS += [
     # ---- a mint: forms, parts that are left out, and what a text may hold
-    minted('{"identifier":"we used our secret key","location":"http://mybank/","form":"v1"}',
+    minted('{"identifier":"we used our secret key","location":"http://mybank/","form":"v1-text"}',
            made(README)),
     minted('{"identifier":"alice"}', made(plain)),
-    minted('{ "form" : "v2" , "caveats" : [ ] , "location" : "" , "identifier" : "alice" }',
+    minted('{ "form" : "v2-text" , "caveats" : [ ] , "location" : "" , "identifier" : "alice" }',
            made(plain)),
     minted('{"identifier":"alice","caveats":["a = 1","b = 2"]}', made(v2(b"alice", TWO))),
-    minted('{"identifier":"alice","caveats":["a = 1","b = 2"],"form":"json"}',
+    minted('{"identifier":"alice","caveats":["a = 1","b = 2"],"form":"v2-json"}',
            made(whole_json(b"alice", TWO))),
     minted('{"identifier64":"YWwl_wE"}', made(v2(b"al%\xff\x01"))),
     minted('{"identifier64":"YWwl_wE="}', made(v2(b"al%\xff\x01"))),
@@ -417,7 +417,7 @@ ROWS += [
            made(v2("é\"é".encode(), location="ü".encode()))),
     minted('{"identifier":"bob","identifier":"alice"}', made(plain)),
     # ---- a mint without an identifier gets one that was drawn; an empty one is one
-    minted("{}", drawn()), minted('{"caveats":["a = 1"],"form":"json","location":""}', told(
+    minted("{}", drawn()), minted('{"caveats":["a = 1"],"form":"v2-json","location":""}', told(
         '{"identifier":"%s","token":"%s"}' % (DRAWN, whole_json(DRAWN.encode(), TWO[:1])))),
     minted('{"identifier":""}', made(v2(b""))), minted('{"identifier64":""}', made(v2(b""))),
     ("mint drawless", [(post("/mint/bank", "{}"), response(503)), (post("/mint/none", "{}"), response(503))]),
@@ -441,11 +441,11 @@ ROWS += [
     minted('{"identifier":"alice","location":null}', bad("the location is no text")),
     minted('{"identifier":"alice","caveats":"a = 1"}', NO_CAVEATS),
     minted('{"identifier":"alice","caveats":["a = 1",2]}', NO_CAVEATS),
-    minted('{"identifier":"alice","form":"v2-text"}', bad("the form is none of v1, v2 and json")),
+    minted('{"identifier":"alice","form":"v2"}', bad("the form is none of v1-text, v2-text and v2-json")),
     minted('{"identifier":"%s"}' % ("a" * 4097), refused(22, "the token passes a limit")),
     minted('{"identifier":"a","caveats":[%s]}' % ",".join(['"b"'] * 129),
            refused(22, "the token passes a limit")),
-    minted('{"identifier":"a","form":"json","caveats":[%s]}' % ",".join(['"%s"' % ("b" * 4096)] * 6),
+    minted('{"identifier":"a","form":"v2-json","caveats":[%s]}' % ",".join(['"%s"' % ("b" * 4096)] * 6),
            refused(22, "the token passes a limit")),
     # ---- an attenuate
     narrowed('{"token":"%s","caveats":["a = 1"]}' % README, made(v1(
@@ -458,13 +458,13 @@ ROWS += [
     narrowed('{"token":"%s","caveats":[]}' % plain, bad("there is no caveat to add")),
     narrowed('{"caveats":["a = 1"]}', NO_TEXT), narrowed('{"token":[],"caveats":["a"]}', NO_TEXT),
     narrowed('{"token":"%s","caveats":["a"],"key":"bank"}' % plain, UNKNOWN_MEMBER),
-    narrowed('{"token":"%s","caveats":["a = 1","b = 2"],"form":"v1"}' % plain, made(v1(b"alice", TWO))),
-    narrowed('{"token":"%s","caveats":["a = 1"],"form":"v2"}' % README, made(v2(
+    narrowed('{"token":"%s","caveats":["a = 1","b = 2"],"form":"v1-text"}' % plain, made(v1(b"alice", TWO))),
+    narrowed('{"token":"%s","caveats":["a = 1"],"form":"v2-text"}' % README, made(v2(
         b"we used our secret key", [b"a = 1"], location=b"http://mybank/"))),
-    narrowed('{"token":"%s","caveats":["a = 1"],"form":"json"}' % plain,
+    narrowed('{"token":"%s","caveats":["a = 1"],"form":"v2-json"}' % plain,
              made(whole_json(b"alice", TWO[:1]))),
-    narrowed('{"token":"?","caveats":["a"],"form":"v3"}', bad("the form is none of v1, v2 and json")),
-    narrowed('{"token":"?","caveats":[],"form":"v2"}', bad("there is no caveat to add")),
+    narrowed('{"token":"?","caveats":["a"],"form":"v3"}', bad("the form is none of v1-text, v2-text and v2-json")),
+    narrowed('{"token":"?","caveats":[],"form":"v2-text"}', bad("there is no caveat to add")),
     narrowed('{"token":"?","caveats":["a = 1"]}',
              refused(19, "the token is neither a bare form nor base64 text")),
     narrowed('{"token":"AAAA","caveats":["a = 1"]}', refused(20, "the bytes are in no form of a token")),
@@ -474,13 +474,13 @@ ROWS += [
              refused(22, "the token passes a limit")),
     # ---- an inspect
     inspected('{"token":"%s"}' % README, said(
-        "v1", '"identifier":"we used our secret key"', [], "http://mybank/",
+        "v1-text", '"identifier":"we used our secret key"', [], "http://mybank/",
         "e3d9e02908526c4c0039ae15114115d97fdd68bf2ba379b342aaf0f617d0552f")),
     inspected('{"token":"%s"}' % v2(b"al\xff", [b"a \"b\"", b"\xff"]), said(
-        "v2", '"identifier64":"YWz_"', ['"text":"a \\"b\\""', '"bytes64":"_w"'], "",
+        "v2-text", '"identifier64":"YWz_"', ['"text":"a \\"b\\""', '"bytes64":"_w"'], "",
         signature(b"al\xff", [b"a \"b\"", b"\xff"], SECRET).hex())),
     inspected('{"token":"%s"}' % json_text(b"alice", [b"a"]), said(
-        "json", '"identifier":"alice"', ['"text":"a"'], "",
+        "v2-json", '"identifier":"alice"', ['"text":"a"'], "",
         signature(b"alice", [b"a"], SECRET).hex())),
     inspected("{}", NO_TEXT), inspected('{"token":"?"}', refused(
         19, "the token is neither a bare form nor base64 text")),

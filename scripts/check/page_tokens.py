@@ -272,7 +272,7 @@ def with_keys(page):
     yield "in the command", "--key shop" in page.text("#commands"), True
     page.paste(v2("action = read", secret=SECRETS["shop"]))
     yield "a token of that key", headline(page, "Granted now"), "Granted now"
-    mint = {"mint-name": "bank", "identifier": "bob", "location": "here", "mint-form-of": "v1"}
+    mint = {"mint-name": "bank", "identifier": "bob", "location": "here", "mint-form-of": "v1-text"}
     mint["mint-caveats"] = "a\ntime < 2100-01-01T00:00\n"
     for name, value in mint.items():
         page.tab.value(f"document.getElementById('{name}').value = {json.dumps(value)}")

@@ -286,7 +286,7 @@ async function look() {
 }
 
 function showParts() {
-  const form = { v1: "V1 packets", v2: "V2 binary", json: "V2 JSON" }[said.form];
+  const form = { "v1-text": "V1 packets", "v2-text": "V2 binary", "v2-json": "V2 JSON" }[said.form];
   const rows = [
     ["Form", form + (isBare(pasted.token) ? " as it is" : " in base64")],
     ["Location", shown(said.location)],
@@ -666,7 +666,7 @@ function doubtsOf(told, caveats) {
     .map((it) => "A" + it.reason.slice(1) + ": " + printed(utf8(caveats[it.caveat])));
 }
 
-const FORMS = [["v1", "V1, base64"], ["v2", "V2, base64"], ["json", "V2 JSON, base64url"]];
+const FORMS = [["v1-text", "V1, base64"], ["v2-text", "V2, base64"], ["v2-json", "V2 JSON, base64url"]];
 
 async function narrow() {
   if (!said) return;

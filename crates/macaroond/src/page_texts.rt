@@ -102,7 +102,7 @@ where it is one of them, letter by letter.</p>
 <label for="mint-caveats">Caveats, one a line</label>
 <textarea id="mint-caveats" rows="3" dir="ltr" spellcheck="false" autocapitalize="off"></textarea>
 <label for="mint-form-of">Form</label>
-<select id="mint-form-of"><option value="v2">V2</option><option value="v1">V1</option><option value="json">V2
+<select id="mint-form-of"><option value="v2-text">V2</option><option value="v1-text">V1</option><option value="v2-json">V2
 JSON</option></select>
 <button>Mint</button>
 </form>
@@ -581,7 +581,7 @@ async function look() {
 }
 
 function showParts() {
-  const form = { v1: "V1 packets", v2: "V2 binary", json: "V2 JSON" }[said.form];
+  const form = { "v1-text": "V1 packets", "v2-text": "V2 binary", "v2-json": "V2 JSON" }[said.form];
   const rows = [
     ["Form", form + (isBare(pasted.token) ? " as it is" : " in base64")],
     ["Location", shown(said.location)],
@@ -961,7 +961,7 @@ function doubtsOf(told, caveats) {
     .map((it) => "A" + it.reason.slice(1) + ": " + printed(utf8(caveats[it.caveat])));
 }
 
-const FORMS = [["v1", "V1, base64"], ["v2", "V2, base64"], ["json", "V2 JSON, base64url"]];
+const FORMS = [["v1-text", "V1, base64"], ["v2-text", "V2, base64"], ["v2-json", "V2 JSON, base64url"]];
 
 async function narrow() {
   if (!said) return;

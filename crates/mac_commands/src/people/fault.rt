@@ -26,7 +26,7 @@ pub enum PersonFault<'a> {
     #[error("{0}")]
     Token(TextFault),
     /// The form of the new token has another name.
-    #[error("the form of a token is v1, v2, json or v2-text")]
+    #[error("the form of a token is v1-text, v2-text, v2-binary or v2-json")]
     Form,
     /// The moment is none.
     #[error("the moment is neither seconds since 1970 nor a time as 2026-01-31T12:00:00Z")]

@@ -192,9 +192,9 @@ const EXPLAIN_HELP: &str = "Tells which caveats are not satisfied, and why";
 
 const FACT_HELP: &str = "What is known of the request; may be given often";
 
-const MINT_FORM_HELP: &str = "The form: v1, v2, json or v2-text [default: v2-text]";
+const MINT_FORM_HELP: &str = "The form: v1-text, v2-text, v2-binary or v2-json [default: v2-text]";
 
-const NEXT_FORM_HELP: &str = "The form: v1, v2, json or v2-text [default: that of the token]";
+const NEXT_FORM_HELP: &str = "The form: v1-text, v2-text, v2-binary or v2-json [default: that of the token]";
 
 /// What the help of `revoke` says below its options.
 const REVOKE_HELP: &str = "\
