@@ -25,6 +25,13 @@ impl Weight {
         }
     }
 
+    /// How many bytes came since then.
+    pub fn bytes(&self) -> u64
+        ensures { result ≡ self.now.bytes }
+    {
+        self.bytes
+    }
+
     /// Whether nothing has come since the last response.
     pub fn is_idle(&self) -> bool
         ensures { result ≡ self.now.is_idle }

@@ -4,6 +4,7 @@ ghost use Rattle.std.specs.Option.{is_some};
 ghost use Rattle.macaroond.specs.Doing.{IsKeyTable};
 
 use crate::choices::PageOptions;
+use crate::commands::MEMORY_MIN;
 use crate::descriptors::open_standard;
 use crate::key_file::read_keys;
 use crate::list_store::{ListPlace, take_list};
@@ -153,7 +154,8 @@ where
     R: Threads + Wait + Sync + Copy + Send + 'static,
 {
     let contents = Content::site(rt.alloc(), site)?;
-    start_server(rt, doors, contents, bounds(), Host::alone(rt, rt.alloc())?)
+    let host = Host::alone(rt, rt.alloc(), MEMORY_MIN)?;
+    start_server(rt, doors, contents, bounds(), host)
 }
 
 /// What the connections of the page are held to. Those that are silent give way, so that they shut
