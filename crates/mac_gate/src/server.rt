@@ -100,7 +100,7 @@ where
     }
     let shutter = Arc::try_clone(entrance.shutter())?;
     let server = Shared::new(alloc, bounds, host, shutter, wakers)?;
-    server.open(rt);
+    server.open(rt)?;
     match start_all(rt, made, entrance, &server) {
         Some(acceptor) => Ok(HttpServer { server, acceptor }),
         None => {

@@ -29,7 +29,8 @@ impl Weight {
     pub fn bytes(&self) -> u64
         ensures { result ≡ self.now.bytes }
     {
-        self.bytes
+        let Weight { bytes, .. } = *self;
+        bytes
     }
 
     /// Whether nothing has come since the last response.

@@ -6,7 +6,7 @@ use crate::numbers::Numbers;
 use crate::roster::Roster;
 use mac_board::{ListNews, News};
 use mac_decide::SeenTokens;
-use mac_sockets::SharedBudget;
+use mac_sockets::{SharedBudget, Shutter};
 use std::alloc::{AllocError, Global};
 use std::sync::{Arc, Wait};
 use std::time::Clock;
@@ -111,9 +111,14 @@ impl Host {
         self.notices.tell_revoked(rt, file, news);
     }
 
-    /// Counts a further server. The end waits until it takes no connections any more, and has none.
-    pub fn open_server<R: Wait>(&self, rt: &R) {
-        self.ending.open_server(rt);
+    /// Counts a further server. The end shuts it so, and waits until it takes no connections any more,
+    /// and has none.
+    pub fn open_server<R: Wait>(
+        &self,
+        rt: &R,
+        shutter: &Arc<Shutter, Global>,
+    ) -> Result<(), AllocError> {
+        self.ending.open_server(rt, shutter)
     }
 
     /// Counts a further server less: it takes no connections any more.

@@ -216,7 +216,8 @@ impl Holds for Member {
     ghost bytes = { λ member. member.note.held };
 
     fn held(&self) -> u64 {
-        self.note.held
+        let Note { held, .. } = self.note;
+        held
     }
 
     fn since(&self) -> u64 {

@@ -19,4 +19,4 @@ is_waiting (course.Fallen why) = false
 abbrev pub least_held : {P : Type 0} → Client P → ℕ
 least_held client =
     min ((if is_waiting client.course then 2 else 1) * vec_capacity client.session.carried
-        + length client.session.unsent) 18_446_744_073_709_551_615
+    + length client.session.unsent) 18_446_744_073_709_551_615
