@@ -23,7 +23,7 @@ pub use clock::{microseconds, microseconds_of};
 pub use ending::Ending;
 pub use exchange::{Exchange, Logged, LoggedReason, copy_told_identifier, copy_told_name};
 pub use host::Host;
-pub use notices::{Beginning, Notices};
+pub use notices::{Beginning, HEAVY, Notices};
 pub use numbers::Numbers;
 pub use roster::Roster;
 pub use standing::Call;

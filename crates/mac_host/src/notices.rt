@@ -17,6 +17,10 @@ use std::time::Clock;
 /// How many milliseconds the daemon waits at its end until its last lines are printed.
 const PATIENCE_MILLIS: u64 = 200;
 
+/// Why a connection was ended that held most of the memory of all.
+pub const HEAVY: &str =
+    "it held most of the memory that connections have together, which is used up";
+
 /// What a daemon serves, as it is told at its start.
 #[derive(Clone, Copy)]
 pub struct Beginning<'a> {
@@ -150,6 +154,12 @@ impl Notices {
     ) {
         let fields = parting_fields(rt, self.alloc, life, kind, why);
         self.post(rt, kind, fields);
+    }
+
+    /// Tells that a connection without a number was ended, since it held most of the memory of all.
+    pub fn tell_heavy<R: Wait + Clock>(&self, rt: &R) {
+        let fields = Fields::new(self.alloc).with_text(Key::Fault, HEAVY.as_bytes());
+        self.post(rt, Kind::ConnectionFault, fields);
     }
 
     /// Tells that a connection was closed, since there are as many as this limit allows.

@@ -2,7 +2,7 @@
 
 use crate::port::SocketPort;
 use mac_count::REQUESTS;
-use mac_host::{Badge, Exchange, Life, Traffic};
+use mac_host::{Badge, Exchange, HEAVY, Life, Traffic};
 use mac_plain::{Client, Course, Ended, Fall};
 use std::alloc::AllocError;
 use std::sync::Wait;
@@ -31,7 +31,7 @@ pub enum PlainFault {
     #[error("it made no progress")]
     Idle,
     /// It held more than others of the memory that all have together, and there was no more.
-    #[error("it held most of the memory that connections have together, which is used up")]
+    #[error("{}", HEAVY)]
     Heavy,
 }
 
