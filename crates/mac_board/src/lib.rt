@@ -15,6 +15,7 @@ mod access;
 mod editor;
 mod follower;
 mod issue;
+mod last_number;
 pub mod laws;
 mod listing;
 mod moments;
