@@ -18,6 +18,7 @@ mod issue;
 mod last_number;
 pub mod laws;
 mod listing;
+mod lookout;
 mod moments;
 mod outlook;
 mod publisher;
