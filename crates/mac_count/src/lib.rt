@@ -7,12 +7,14 @@
 mod counters;
 pub mod laws;
 mod number;
+mod request_counts;
 mod snapshot;
 mod texts;
 mod version;
 
 pub use counters::Counters;
 pub use number::{Asked, NUMBERS, Number, REQUESTS, Request, Told};
+pub use request_counts::RequestCounts;
 pub use snapshot::Snapshot;
 pub use std::alloc::AllocError as NoMemory;
 pub use texts::{append_metrics, append_status};
