@@ -1,7 +1,8 @@
 //! Numbers of a daemon: counted without a lock, and written for people and for Prometheus.
 //!
-//! [`Counters`] are shared by all threads. A [`Snapshot`] is what they show at a moment, and
-//! [`append_status`] and [`append_metrics`] write each of its numbers once.
+//! [`Counters`] are shared by all threads; [`RequestCounts`] are one thread's own, until it adds
+//! them there. A [`Snapshot`] is what the counters show at a moment, and [`append_status`] and
+//! [`append_metrics`] write each of its numbers once.
 #![tactic(auto)]
 
 mod counters;
