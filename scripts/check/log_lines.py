@@ -117,7 +117,7 @@ def few_descriptors(folder):
     log = Log(folder)
     limited = lambda: resource.setrlimit(resource.RLIMIT_NOFILE, (128, 4096))
     with listening(log, "--loops", "1", preexec_fn=limited) as (path, run):
-        yield "limit_low", told(log.first("limit_low"), "limit", "connections"), ("warning", "descriptors", "70")
+        yield "limit_low", told(log.first("limit_low"), "limit", "connections"), ("warning", "descriptors", "68")
         held = len(os.listdir(f"/proc/{run.pid}/fd"))
         resource.prlimit(run.pid, resource.RLIMIT_NOFILE, (held, 4096))
         with connected(path) as stream:
