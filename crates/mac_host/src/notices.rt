@@ -4,8 +4,9 @@ use crate::badge::{Badge, Life};
 use crate::clock::microseconds;
 use crate::exchange::{Exchange, Logged};
 use crate::minted::minted_fields;
+use crate::requested::request_fields;
 use mac_board::{ListNews, ListRefusal, News, Refusal};
-use mac_log::{Fields, Key, Kind, Log, NoMemory, is_told_name, start_log};
+use mac_log::{Fields, Key, Kind, Log, NoMemory, start_log};
 use std::alloc::Global;
 use std::fmt::Display;
 use std::io;
@@ -264,22 +265,14 @@ fn connection_fields(alloc: Global, badge: Option<Badge>) -> Result<Fields, NoMe
     }
 }
 
-/// What a request asked for, under which name, and what it was answered: no token and no fact.
+/// What is told of a request, behind its connection.
 fn exchange_fields(
     alloc: Global,
     badge: Option<Badge>,
     exchange: Exchange,
 ) -> Result<Fields, NoMemory> {
-    let mut fields = connection_fields(alloc, badge)?;
-    fields = fields.with_text(Key::Asks, exchange.asks.as_bytes())?;
-    if is_told_name(exchange.name.as_slice()) {
-        fields = fields.with_text(Key::Name, exchange.name.as_slice())?;
-    }
-    fields = fields.with_text(Key::Verdict, exchange.verdict.as_bytes())?;
-    match exchange.code {
-        Some(code) => fields.with_number(alloc, Key::Code, code as u64),
-        None => Ok(fields),
-    }
+    let fields = connection_fields(alloc, badge)?;
+    request_fields(alloc, fields, &exchange)
 }
 
 fn limit_fields(alloc: Global, limit: &str, most: u64) -> Result<Fields, NoMemory> {

@@ -1,3 +1,4 @@
 pub mod Asks
 pub mod Minted
+pub mod Reason
 pub mod Resting
