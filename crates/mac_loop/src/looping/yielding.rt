@@ -1,12 +1,13 @@
 //! Clients that give way: where there are as many as there may be, a further one comes in the place of
 //! the one that has rested longest.
 
+use crate::ended::EndedLife;
 use crate::handover::Handover;
 use crate::inbox::Loops;
 use crate::looping::Loop;
 use crate::resting::stalest;
-use crate::watch::Watch;
-use mac_host::{Life, Socket};
+use crate::watch::{PlainFault, Watch};
+use mac_host::Socket;
 use std::sync::Wait;
 use std::time::Clock;
 
@@ -31,15 +32,15 @@ impl Loop {
         Some(client)
     }
 
-    /// Lets the client go that has rested longest of those that came in at a socket. What it had come
-    /// to, where there was one.
+    /// Lets the client go that has rested longest of those that came in at a socket, where there is
+    /// one.
     fn release_stalest<R: Wait + Clock, W: Watch>(
         &mut self,
         rt: &R,
         loops: &Loops,
         watch: &W,
         socket: Socket,
-    ) -> Option<Life> {
+    ) -> Option<EndedLife> {
         for slot in 0..self.members.slots.bound() {
             self.note_rest(slot);
         }
@@ -50,7 +51,7 @@ impl Loop {
         if member.client.is_waiting() {
             watch.narrow(member.life(), false);
         }
-        Some(member.life())
+        Some(EndedLife::by(member, PlainFault::GaveWay))
     }
 
     /// Notes whether the client of a slot rests.
