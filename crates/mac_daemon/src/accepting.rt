@@ -11,7 +11,7 @@ use crate::quay::Quay;
 use crate::room::Entry;
 use mac_host::{Badge, Life, Socket};
 use mac_loop::{Handover, Loops};
-use mac_sockets::{Arrived, Entrance, Stream};
+use mac_sockets::{Arrived, Entrance, Fresh};
 use std::alloc::Global;
 use std::io::ErrorKind;
 use std::sync::{Arc, Wait};
@@ -27,7 +27,7 @@ const FIRST_LOOP: usize = 0;
 /// A connection that came in.
 #[derive(Drop)]
 struct Newcomer {
-    stream: Stream,
+    stream: Fresh,
     // What its requests may do, where there is memory for that.
     rights: Option<Gift>,
     badge: Badge,

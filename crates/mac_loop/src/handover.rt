@@ -7,7 +7,7 @@ use crate::port::SocketPort;
 use crate::transcript::Transcript;
 use mac_decide::Rights;
 use mac_host::{Badge, Life, Socket};
-use mac_sockets::Stream;
+use mac_sockets::Fresh;
 use mac_wire::Session;
 use std::alloc::Global;
 use std::io;
@@ -37,11 +37,11 @@ pub struct Handover {
 }
 
 impl Handover {
-    /// A connection that was accepted just now: nothing has come on its stream. There is no other
-    /// way to begin one, so no session begins anew on a socket that was read.
+    /// A connection that was accepted just now, so that nothing has come on its stream. There is no
+    /// other way to begin one: no session begins anew on a socket that was read.
     pub fn begin(
         alloc: Global,
-        stream: Stream,
+        stream: Fresh,
         transcript: Option<Transcript>,
         rights: Arc<Rights, Global>,
         badge: Badge,

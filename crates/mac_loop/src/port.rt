@@ -7,7 +7,7 @@ use crate::transcript::Transcript;
 use mac_host::{Exchange, Traffic};
 use mac_mail::History;
 use mac_plain::{Came, Port, Went};
-use mac_sockets::Stream;
+use mac_sockets::{Fresh, Stream};
 use std::alloc::AllocError;
 use std::cell::RefCell;
 use std::io;
@@ -33,9 +33,10 @@ pub struct SocketPort {
 impl SocketPort {
     /// A port at a stream on which nothing has come or gone. Its reads and writes wait no more, and
     /// what comes and goes is noted in a transcript where there is one.
-    pub(crate) fn new(stream: Stream, transcript: Option<Transcript>) -> io::Result<SocketPort>
+    pub(crate) fn new(stream: Fresh, transcript: Option<Transcript>) -> io::Result<SocketPort>
         ensures { IfOk result (λ port. (port.came ≡ []) × (port.went ≡ [])) }
     {
+        let stream = stream.into_stream();
         stream.hurry()?;
         Ok(SocketPort {
             stream,
