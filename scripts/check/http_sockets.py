@@ -10,7 +10,7 @@ import tempfile
 import time
 
 from check.http_rows import README, v2
-from common.daemon import PATIENCE, Daemon, awaited, connected, free_port, refused
+from common.daemon import PATIENCE, REST, Daemon, awaited, connected, free_port, refused
 from common.rows import judged, of_each
 
 import request
@@ -303,14 +303,17 @@ def slow_peers():
 
 
 def full_house():
-    """To one connection too many the one gives way that was sent nothing for longest."""
+    """To one connection too many the one gives way that was sent nothing for longest, if for long enough."""
     with listening("--http-connections", "3") as daemon:
         with contextlib.ExitStack() as stack:
-            guests = []
+            guests, begin = [], time.monotonic()
             for connect in (daemon.unix, daemon.tcp, daemon.unix):
                 guests.append(stack.enter_context(connect()))
                 yield "one of three", asked(guests[-1], asking("/healthz")), 200
+            if time.monotonic() - begin < REST / 3:
+                yield "one that comes too soon", status_at(daemon), None
             for number, connect in enumerate((daemon.unix, daemon.tcp)):
+                time.sleep(REST)
                 guests.append(stack.enter_context(connect()))
                 yield "one more", asked(guests[-1], asking("/healthz")), 200
                 yield "the one that gave way", guests[number].recv(1), b""

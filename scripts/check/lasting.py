@@ -10,7 +10,7 @@ import time
 
 from check.daemon_rows import MALFORMED, MINT, NO_REQUEST, TOKEN
 from common import daemon, logged
-from common.daemon import come_to, connected, frame, received
+from common.daemon import REST, come_to, connected, frame, received
 from common.rows import judged, of_each
 from faults import hostile
 
@@ -230,6 +230,7 @@ def past_the_limit():
             for stream in (one, other):
                 stream.sendall(frame(b""))
                 yield "a client within the limit", received(stream, len(NO_REQUEST)), NO_REQUEST
+            time.sleep(REST)
             with connected(path) as third:
                 yield "one gives way", end_of(one), "an end"
                 third.sendall(frame(b""))

@@ -11,7 +11,7 @@ import time
 
 from check.daemon_rows import HELLO, MINT, NO_REQUEST, SLOW_TOKEN, TOKEN, placed
 from common import KEYS, TOP, daemon, logged
-from common.daemon import awaited, connected, frame, put_keys, received, reply_to
+from common.daemon import REST, awaited, connected, frame, put_keys, received, reply_to
 from common.rows import in_folders, judged
 
 import request
@@ -74,6 +74,7 @@ def connections(folder):
         yield "start: its memory", int(told(start, "memory")[1]) >= MEMORY_MIN, True
         yield "start: its version", f"macaroond {start.fields['version']}\n", daemon.version()
         with connected(path) as one, connected(path) as other:
+            time.sleep(REST)
             one.sendall(frame(b""))
             received(one, len(NO_REQUEST))
             with connected(path) as third:

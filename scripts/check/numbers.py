@@ -10,7 +10,7 @@ import time
 from check.http_rows import OLD, json_text, v2
 from check.http_sockets import asking, bearing, listening, response
 from common import TOP
-from common.daemon import PROGRAM, come_to, connected, frame, put_keys, reply_to
+from common.daemon import PROGRAM, REST, come_to, connected, frame, put_keys, reply_to
 from common.rows import judged
 
 import request
@@ -151,6 +151,7 @@ def connections(daemon):
     with connected(daemon.path) as one, connected(daemon.path) as other:
         for stream in (one, other):
             reply_to(stream, b"")
+        time.sleep(REST)
         with connected(daemon.path) as third:
             yield "one gives way to a third", one.recv(1), b""
             reply_to(third, b"")

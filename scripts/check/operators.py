@@ -70,6 +70,8 @@ def forms(served):
     with connected(served.path) as stream:
         token = "hex:" + reply_to(stream, request.mint("v2-binary", "bank", "here", "alice"))[1:].hex()
         reply_to(stream, request.verify("bank", token, 0))
+        # A request is counted right behind its reply.
+        awaited(lambda: numbers(path).get("requests verify granted") == "1", 5)
         told = numbers(path)
         yield "its version", f"macaroond {version_in(path)}\n", daemon.version()
         due = {"requests mint token": "1", "requests verify granted": "1", "connections": "1", "key_names": "1"}

@@ -8,12 +8,11 @@ import time
 sys.path.insert(0, str(pathlib.Path(__file__).resolve().parents[1]))
 from check.daemon_rows import MINT, NO_REQUEST, TOKEN
 from common import KEYS
-from common.daemon import Daemon, awaited, connected, frame, received, reply_to
+from common.daemon import REST, Daemon, awaited, connected, frame, received, reply_to
 from common.rows import in_folders, judged
 
-# How many connections there may be, how many a flood brings, and for how many seconds the others have rested when
-# one comes: one that was answered a quarter of a second ago gives way to none of its own socket.
-MOST, FLOOD, REST = 8, 16, 0.3
+# How many connections there may be, and how many a flood brings.
+MOST, FLOOD = 8, 16
 MINTED = b"\x01" + TOKEN
 
 

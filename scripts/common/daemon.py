@@ -15,6 +15,8 @@ from common import KEYS, logged, programs
 PROGRAM = os.environ.get("MACAROOND", str(programs.path_of("macaroond")))
 # How many seconds anything may take, on a machine that is busy with other work.
 PATIENCE = 120
+# How many seconds a client has rested once it gives way to one of its own socket, and some more.
+REST = 0.3
 # Ports that the system gives to no connection, so that one which is free now stays so.
 PORTS = iter(random.sample(range(20_000, 30_000), 10_000))
 

@@ -1,6 +1,7 @@
 """What the system tells of a process."""
 import os
 import pathlib
+import resource
 
 TICKS = os.sysconf("SC_CLK_TCK")
 # A user that owns nothing here, as who commands run that root may not.
@@ -13,6 +14,12 @@ def become_nobody():
         os.setgroups([])
         os.setgid(NOBODY)
         os.setuid(NOBODY)
+
+
+def allow_descriptors(count):
+    """Lets this process, and those that it starts, have so many descriptors, as far as the system does."""
+    soft, hard = resource.getrlimit(resource.RLIMIT_NOFILE)
+    resource.setrlimit(resource.RLIMIT_NOFILE, (max(soft, min(count, hard)), hard))
 
 
 def status(pid):

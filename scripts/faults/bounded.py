@@ -11,16 +11,19 @@ much again as a byte of a frame that comes so, where the machine takes longer to
 
 A crowd of CROWD clients sends frames that aren't whole, or never reads: with `--memory MEMORY` the daemon
 holds no more than that and BESIDE_MAX MiB, ends some of them, counts those, and answers one that behaves.
-With a number the crowd has so many clients (10,000 take 20,100 descriptors):
+Once the crowd has gone it has none of their connections, and BESIDE_MAX MiB more than before at most. With a
+number the crowd has so many clients (10,000 take 20,100 descriptors):
 
     bounded.py [CROWD]
+
+As many clients over HTTP as there may be send the dearest tokens in JSON without end: the same bounds hold,
+though connections over HTTP aren't within that memory.
 
 Asks for bin/macaroond, or the program that MACAROOND names.
 """
 import contextlib
 import fcntl
 import pathlib
-import resource
 import struct
 import subprocess
 import sys
@@ -30,8 +33,9 @@ import time
 
 sys.path.insert(0, str(pathlib.Path(__file__).resolve().parents[1]))
 from common import daemon, programs
-from common.daemon import awaited, connected, frame, numbers, received
-from common.processes import mebibytes
+from common.daemon import awaited, come_to, connected, frame, numbers, received
+from common.processes import allow_descriptors, mebibytes
+from faults.hostile import dearest_token, over_http, sends_dear
 
 import request
 
@@ -45,6 +49,10 @@ HEAD, PARTS, BYTE_MAX, FRAME_BYTES = 49_152, 8, 3.0, 4_000
 # What all clients may have together, how many MiB the daemon may hold beside that, and how many clients of a
 # crowd come that hold some 80 or 170 KiB each.
 MEMORY, BESIDE_MAX, CROWD = 64 << 20, 40, 1_200
+# How many clients over HTTP send the dearest tokens, and for how many seconds.
+HTTP_CROWD, HTTP_SECONDS = 256, 3
+# How many seconds the daemon may take to let go of what a crowd held.
+SETTLING = 10
 # A frame of which a byte is lacking, and mints whose replies are more than a socket takes.
 TORN = frame(bytes(65_000))[:-1]
 MINTS = frame(request.mint("v1-text", "bank", "", "")) * 2_500
@@ -88,36 +96,71 @@ def comes(crowd, path, bytes_sent):
         stream.sendall(bytes_sent)
 
 
-def crowded(what, bytes_sent, count, words):
-    """What is held for a crowd that sends this and reads nothing, beside one that asks on."""
-    with daemon.listening("--memory", str(MEMORY), "--remember", "0", *words) as (path, run):
-        with connected(path, patience=PATIENCE) as beside, contextlib.ExitStack() as crowd:
-            beside.sendall(frame(b""))
-            answered = [received(beside, 5)]
-            before = mebibytes(run.pid)
-            for number in range(count):
-                comes(crowd, path, bytes_sent)
-                if number % 100 == 0:
-                    beside.sendall(frame(b""))
-                    answered.append(received(beside, 5))
-            heavy = lambda: int(numbers(path)["connections_ended_for_memory_total"])
-            awaited(lambda: heavy() > 0, PATIENCE)
-            beside.sendall(frame(b""))
-            answered.append(received(beside, 5))
-            held, ended = mebibytes(run.pid, "VmHWM") - before, heavy()
-    print(f"bounded: {held:.0f} MiB held for {count} clients with {what}, {ended} of them ended {' '.join(words)}")
+def left_of(pid, before):
+    """How many MiB the daemon has more than before, once that is little or `SETTLING` seconds have passed."""
+    awaited(lambda: mebibytes(pid) - before <= BESIDE_MAX, SETTLING)
+    return mebibytes(pid) - before
+
+
+def past_bounds(who, held, left):
+    """What is wrong with the MiB that were held for these clients, and with those that were left behind them."""
     if held > (MEMORY >> 20) + BESIDE_MAX:
-        yield f"{held:.0f} MiB were held for {count} clients with {what} {' '.join(words)}"
+        yield f"{held:.0f} MiB were held for {who}"
+    if left > BESIDE_MAX:
+        yield f"{left:.0f} MiB were left {SETTLING} seconds behind {who}"
+
+
+def crowded(what, bytes_sent, count, words):
+    """What is held for a crowd that sends this and reads nothing, beside one that asks on, and what is left of it."""
+    who = " ".join([f"{count} clients with {what}", *words])
+    with daemon.listening("--memory", str(MEMORY), "--remember", "0", *words) as (path, run):
+        with connected(path, patience=PATIENCE) as beside:
+            with contextlib.ExitStack() as crowd:
+                beside.sendall(frame(b""))
+                answered = [received(beside, 5)]
+                before = mebibytes(run.pid)
+                for number in range(count):
+                    comes(crowd, path, bytes_sent)
+                    if number % 100 == 0:
+                        beside.sendall(frame(b""))
+                        answered.append(received(beside, 5))
+                heavy = lambda: int(numbers(path)["connections_ended_for_memory_total"])
+                awaited(lambda: heavy() > 0, PATIENCE)
+                beside.sendall(frame(b""))
+                answered.append(received(beside, 5))
+                held, ended = mebibytes(run.pid, "VmHWM") - before, heavy()
+            there = come_to(lambda: numbers(path)["connections"], "1", SETTLING)
+            left = left_of(run.pid, before)
+    print(f"bounded: {held:.0f} MiB held for {who}, {ended} of them ended, {left:.0f} left behind them")
+    yield from past_bounds(who, held, left)
+    if there != "1":
+        yield f"{there} connections were there behind {who}, beside which there was one"
     if not 0 < ended < count:
-        yield f"{ended} of {count} clients with {what} were ended {' '.join(words)}"
+        yield f"{ended} of {who} were ended"
     if not all(len(reply) == 5 for reply in answered):
-        yield f"one that asked beside {count} clients with {what} wasn't answered {' '.join(words)}"
+        yield f"one that asked beside {who} wasn't answered"
+
+
+def dear_over_http():
+    """What is held for as many clients over HTTP as there may be, with the dearest tokens, and what is left of them."""
+    who = f"{HTTP_CROWD} clients over HTTP with the dearest tokens"
+    with tempfile.TemporaryDirectory() as folder:
+        http = f"{folder}/http"
+        with daemon.listening("--memory", str(MEMORY), "--remember", "0", "--http", f"unix:{http}") as (path, run):
+            awaited(pathlib.Path(http).exists)
+            before = mebibytes(run.pid)
+            sends_dear(http, over_http(dearest_token()), HTTP_CROWD, time.monotonic() + HTTP_SECONDS)
+            held, left = mebibytes(run.pid, "VmHWM") - before, left_of(run.pid, before)
+            answered = int(numbers(path)["requests verify refused"])
+    print(f"bounded: {held:.0f} MiB held for {who}, {answered} requests answered, {left:.0f} left behind them")
+    yield from past_bounds(who, held, left)
+    if answered < HTTP_CROWD:
+        yield f"{answered} requests of {who} were answered"
 
 
 def all_together(count):
     """What is held for crowds with partial frames, and for those that never read, with notes and without."""
-    most = resource.getrlimit(resource.RLIMIT_NOFILE)
-    resource.setrlimit(resource.RLIMIT_NOFILE, (max(most[0], min(count + 100, most[1])), most[1]))
+    allow_descriptors(count + 100)
     yield from crowded("partial frames", TORN, count, ())
     yield from crowded("replies not read", MINTS, count, ())
     yield from crowded("replies not read", MINTS, count, ("--log", "requests"))
@@ -208,7 +251,8 @@ def dripped():
 
 def faults(count=CROWD):
     """What costs more than it may, beside what it prints."""
-    found = [*unread(()), *unread(("--log", "requests")), *all_together(count), *told_once_read(), *dripped()]
+    found = [*unread(()), *unread(("--log", "requests")), *all_together(count), *dear_over_http()]
+    found += [*told_once_read(), *dripped()]
     return [f"bounded: {fault}" for fault in found]
 
 

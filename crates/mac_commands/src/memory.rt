@@ -35,10 +35,11 @@ where
     ensures least { MEMORY_MIN ≤ result }
     ensures most { result ≤ MEMORY_MAX }
 {
-    let machine = machine_memory(rt).unwrap_or(UNTOLD);
-    let told = match group_memory(rt) {
-        Some(group) => group.min(machine),
-        None => machine,
+    let told = match (group_memory(rt), machine_memory(rt)) {
+        (Some(group), Some(machine)) => group.min(machine),
+        (Some(group), None) => group,
+        (None, Some(machine)) => machine,
+        (None, None) => UNTOLD,
     };
     half_of(told)
 }

@@ -95,6 +95,7 @@ where
         if has_met(count, served) {
             return Ok(served);
         }
+        loops.await_taken(rt, FIRST_LOOP);
         match entrance.accept(rt) {
             Some(Ok(arrived)) => {
                 let Arrived { stream, door } = arrived;

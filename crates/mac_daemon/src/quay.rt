@@ -191,6 +191,15 @@ impl Watch for Quay {
         self.roster.see(life, unsent);
     }
 
+    fn gives_way<R: Wait>(&self, rt: &R, comes: Socket) -> Option<Socket> {
+        let room = self.room.lock(rt);
+        match room.entry(comes) {
+            Entry::Free => None,
+            Entry::SideFull => Some(Socket::Side),
+            Entry::Full(socket) => Some(socket),
+        }
+    }
+
     fn displace<R: Wait + Clock>(&self, rt: &R, gone: Option<Life>, comes: Badge) -> Option<Badge> {
         if let Some(life) = gone {
             self.roster.leave(rt, life);

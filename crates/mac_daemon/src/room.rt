@@ -1,8 +1,8 @@
 //! How many connections there are at the sockets of a daemon, and who gives way to a further one.
 
 ghost use Rattle.std.specs.Prelude.{◌≡◌, ◌+◌, ◌-◌, ◌^◌, if◌then◌else◌, min};
-ghost use Rattle.mac_daemon.specs.Room.{entry_at, has_room, IsWithin, no_connections, with_entry};
-ghost use Rattle.mac_daemon.specs.Room.{with_one, without_one};
+ghost use Rattle.mac_daemon.specs.Room.{entry_at, full_at, has_room, IsWithin, no_connections};
+ghost use Rattle.mac_daemon.specs.Room.{with_entry, with_one, without_one};
 
 use mac_host::Socket;
 
@@ -99,6 +99,23 @@ impl Room {
         if self.take(socket) {
             return Entry::Free;
         }
+        self.full_at(socket)
+    }
+
+    /// What becomes of one that comes in now, and isn't counted yet.
+    pub fn entry(&self, socket: Socket) -> Entry
+        ensures { result ≡ entry_at self.now socket }
+    {
+        if self.has_room(socket) {
+            return Entry::Free;
+        }
+        self.full_at(socket)
+    }
+
+    /// Who gives way to one that comes in at a socket where there is no room for it.
+    fn full_at(&self, socket: Socket) -> Entry
+        ensures { result ≡ full_at self.now socket }
+    {
         match socket {
             Socket::Side if self.side >= self.most.side => Entry::SideFull,
             Socket::Side if self.side < self.main => Entry::Full(Socket::Main),

@@ -5,7 +5,7 @@ use crate::turns::Turns;
 use http_server::Service;
 use mac_host::microseconds_of;
 use mac_http::Way;
-use mac_sockets::{Connections, Readiness};
+use mac_sockets::{Connections, REST_MIN, Readiness};
 use mio::{Token, Waker};
 use std::alloc::Global;
 use std::io;
@@ -107,11 +107,14 @@ impl Waiting {
         }
     }
 
-    /// Lets the connection go to which nothing was sent for longest. Whether there is one.
+    /// Lets the connection go to which nothing was sent for longest, where that is for long enough.
+    /// Whether there is one.
     pub fn drop_stalest(&mut self) -> bool {
         match self.stalest() {
-            Some((slot, _)) => self.release(slot),
-            None => false,
+            Some((slot, since)) if self.now().saturating_sub(since) >= REST_MIN => self.release(
+                slot,
+            ),
+            _ => false,
         }
     }
 

@@ -4,11 +4,13 @@ use crate::handover::Handover;
 use crate::meter::{Meter, Shares};
 use mac_host::Socket;
 use mac_plain::UNSENT_MAX;
-use mac_sockets::Inbox;
+use mac_sockets::{Inbox, REST_MIN};
 use std::alloc::{AllocError, Global};
 use std::sync::Wait;
 use std::sync::atomic::Ordering::SeqCst;
 use std::sync::atomic::{AtomicBool, AtomicU64, AtomicUsize};
+use std::thread;
+use std::time::{Clock, Duration};
 
 /// How many bytes may be unsent on all clients before each may have less.
 const UNSENT_ALL: u64 = 67_108_864;
@@ -19,11 +21,15 @@ const UNSENT_PART: u64 = 4;
 /// How much may be unsent on a client then.
 const UNSENT_LITTLE: usize = 65_536;
 
-/// How many clients at most come into loops at a time in place of others.
-const DISPLACING_MAX: usize = 16;
+/// How many clients a loop takes in between two turns. Where more wait for it, no further one is to
+/// be accepted.
+pub const NEWCOMERS_MAX: usize = 64;
 
-/// How many microseconds a client has rested at least that gives way to another one of its socket.
-pub const REST_MIN: u64 = 250_000;
+/// How many milliseconds pass until it is looked again whether fewer wait.
+const PAUSE_MILLIS: u64 = 1;
+
+/// How many clients of a socket at most come into loops at a time in place of others.
+const DISPLACING_MAX: usize = 16;
 
 /// Since when the client of a loop has rested that rests longest of those that came in at a socket,
 /// as far as the loop looked; the greatest number where there is none.
@@ -33,10 +39,19 @@ struct Stalest {
     side: AtomicU64,
 }
 
+/// How many clients of each socket are on their way that others are to give way to.
+#[derive(Drop)]
+struct Displacing {
+    main: AtomicUsize,
+    side: AtomicUsize,
+}
+
 /// A loop, as others see it.
 #[derive(Drop)]
 struct LoopSide {
     inbox: Inbox<Handover>,
+    // How many clients wait in it.
+    waiting: AtomicUsize,
     meter: Meter,
     stalest: Stalest,
 }
@@ -57,6 +72,22 @@ impl Stalest {
     }
 }
 
+impl Displacing {
+    fn none() -> Displacing {
+        Displacing {
+            main: AtomicUsize::new(0),
+            side: AtomicUsize::new(0),
+        }
+    }
+
+    fn at(&self, socket: Socket) -> &AtomicUsize {
+        match socket {
+            Socket::Main => &self.main,
+            Socket::Side => &self.side,
+        }
+    }
+}
+
 /// The loops of a daemon, as others see them.
 #[derive(Drop)]
 pub struct Loops {
@@ -65,8 +96,7 @@ pub struct Loops {
     may_share: bool,
     // How many loops are in a turn.
     busy: AtomicUsize,
-    // How many clients are on their way that others are to give way to.
-    displacing: AtomicUsize,
+    displacing: Displacing,
     unsent: AtomicU64,
     // How many bytes may be unsent on all clients before each may have less.
     unsent_all: u64,
@@ -82,7 +112,7 @@ impl Loops {
             sides: Vec::new(alloc),
             may_share,
             busy: AtomicUsize::new(0),
-            displacing: AtomicUsize::new(0),
+            displacing: Displacing::none(),
             unsent: AtomicU64::new(0),
             unsent_all: UNSENT_ALL.min(memory / UNSENT_PART),
             is_draining: AtomicBool::new(false),
@@ -94,6 +124,7 @@ impl Loops {
     pub fn push(&mut self, inbox: Inbox<Handover>) -> Result<(), AllocError> {
         self.sides.push(LoopSide {
             inbox,
+            waiting: AtomicUsize::new(0),
             meter: Meter::new(),
             stalest: Stalest::new(),
         })?;
@@ -107,15 +138,32 @@ impl Loops {
 
     /// Hands a client to a loop. Without memory it comes back.
     pub fn hand<R: Wait>(&self, rt: &R, number: usize, client: Handover) -> Result<(), Handover> {
-        match self.sides.get(number) {
-            Some(side) => side.inbox.push(rt, client),
-            None => Err(client),
+        let Some(side) = self.sides.get(number) else {
+            return Err(client);
+        };
+        side.waiting.fetch_add(1, SeqCst);
+        let handed = side.inbox.push(rt, client);
+        if handed.is_err() {
+            side.waiting.fetch_sub(1, SeqCst);
+        }
+        handed
+    }
+
+    /// Waits while more clients wait for a loop than it takes in between two turns.
+    pub fn await_taken<R: Wait + Clock>(&self, rt: &R, number: usize) {
+        for _ in rt.forever() {
+            match self.sides.get(number) {
+                Some(side) if side.waiting.load(SeqCst) >= NEWCOMERS_MAX => {
+                    thread::sleep(rt, Duration::from_millis(PAUSE_MILLIS));
+                }
+                _ => return,
+            }
         }
     }
 
     /// Hands a client to the loop of which one of a socket is to give way to it. It comes back
     /// without memory, where none of its own socket has rested for long enough to give way to it, and
-    /// where as many are on their way so as may be.
+    /// where as many of its socket are on their way so as may be.
     pub fn hand_displacing<R: Wait>(
         &self,
         rt: &R,
@@ -127,29 +175,36 @@ impl Loops {
         if is_own && client.since.saturating_sub(since) < REST_MIN {
             return Err(client);
         }
-        if self.displacing.fetch_add(1, SeqCst) >= DISPLACING_MAX {
-            self.displacing.fetch_sub(1, SeqCst);
+        let displacing = self.displacing.at(client.badge.socket);
+        if displacing.fetch_add(1, SeqCst) >= DISPLACING_MAX {
+            displacing.fetch_sub(1, SeqCst);
             return Err(client);
         }
         let mut client = client;
         client.displaces = Some(socket);
         let handed = self.hand(rt, number, client);
         if handed.is_err() {
-            self.displacing.fetch_sub(1, SeqCst);
+            displacing.fetch_sub(1, SeqCst);
         }
         handed
     }
 
     /// The next client that was handed to a loop.
     pub fn take<R: Wait>(&self, rt: &R, number: usize) -> Option<Handover> {
-        let client = match self.sides.get(number) {
-            Some(side) => side.inbox.pop(rt)?,
-            None => return None,
-        };
+        let side = self.sides.get(number)?;
+        let client = side.inbox.pop(rt)?;
+        side.waiting.fetch_sub(1, SeqCst);
         if client.displaces.is_some() {
-            self.displacing.fetch_sub(1, SeqCst);
+            self.displacing.at(client.badge.socket).fetch_sub(1, SeqCst);
         }
         Some(client)
+    }
+
+    /// Has a loop look once more for what was handed to it.
+    pub fn wake(&self, number: usize) {
+        if let Some(side) = self.sides.get(number) {
+            side.inbox.wake();
+        }
     }
 
     /// A loop notes since when the client has rested that rests longest of those of a socket, where

@@ -12,7 +12,7 @@ mod yielding;
 
 use crate::asks::Asks;
 use crate::handover::Handover;
-use crate::inbox::Loops;
+use crate::inbox::{Loops, NEWCOMERS_MAX};
 use crate::members::{Lent, Member};
 use crate::meter::Shares;
 use crate::port::SocketPort;
@@ -205,7 +205,8 @@ impl Loop {
         Some(Duration::from_micros(self.sweep_span()))
     }
 
-    /// Takes in the clients that were handed over.
+    /// Takes in the clients that were handed over: so many between two turns at most, and then it looks
+    /// again. So a flood of newcomers keeps none of its clients from a turn.
     fn take_in_all<R: Wait + Clock, K: Outlook, W: Watch>(
         &mut self,
         rt: &R,
@@ -213,13 +214,23 @@ impl Loop {
         outlook: &mut K,
         watch: &W,
     ) {
+        let (mut came, mut displaces) = (0usize, false);
         for _ in rt.forever() {
+            if came >= NEWCOMERS_MAX {
+                loops.wake(self.number);
+                break;
+            }
             let Some(client) = loops.take(rt, self.number) else {
-                return;
+                break;
             };
+            came = came.saturating_add(1);
+            displaces = displaces || client.displaces.is_some();
             if let Some(client) = self.admit(rt, client, loops, watch) {
                 self.receive(rt, client, loops, outlook, watch);
             }
+        }
+        if displaces {
+            self.tell_stalest(loops);
         }
     }
 

@@ -2,7 +2,7 @@
 
 use crate::port::SocketPort;
 use mac_count::REQUESTS;
-use mac_host::{Badge, Exchange, Life, Traffic};
+use mac_host::{Badge, Exchange, Life, Socket, Traffic};
 use mac_plain::{Client, Course, Ended, Fall};
 use std::alloc::AllocError;
 use std::sync::Wait;
@@ -80,6 +80,10 @@ pub trait Watch: Send + Sync {
 
     /// A client asks for what a loop must not answer, and waits for a worker.
     fn widen(&self, life: Life);
+
+    /// The socket of which a client is to give way to one that comes in at this one, where there is
+    /// no room for that.
+    fn gives_way<R: Wait>(&self, rt: &R, comes: Socket) -> Option<Socket>;
 
     /// A client comes in the place of one that has gone, or of nobody. What it is known by, where
     /// there is room for it.

@@ -22,7 +22,7 @@ mod stacks;
 mod stream;
 
 pub use budget::{Account, Budget};
-pub use connections::{Connections, Readiness, Wakes};
+pub use connections::{Connections, REST_MIN, Readiness, Wakes};
 pub use door::Door;
 pub use doors::Doors;
 pub use entrance::{Accepted, Arrived, Entrance, Shutter};

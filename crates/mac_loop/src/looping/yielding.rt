@@ -2,17 +2,19 @@
 //! the one that has rested longest.
 
 use crate::handover::Handover;
-use crate::inbox::{Loops, REST_MIN};
+use crate::inbox::Loops;
 use crate::looping::Loop;
 use crate::resting::stalest;
 use crate::watch::Watch;
 use mac_host::{Life, Socket};
+use mac_sockets::REST_MIN;
 use std::sync::Wait;
 use std::time::Clock;
 
 impl Loop {
-    /// A client that was handed over, once another one has given way where one is to. Nothing, where
-    /// there is no room for it: then it is closed.
+    /// A client that was handed over, once another one has given way where one is to: of which
+    /// socket, is decided here, by how many there are now. Nothing, where there is no room for it:
+    /// then it is closed.
     pub(super) fn admit<R: Wait + Clock, W: Watch>(
         &mut self,
         rt: &R,
@@ -20,11 +22,14 @@ impl Loop {
         loops: &Loops,
         watch: &W,
     ) -> Option<Handover> {
-        let Some(socket) = client.displaces else {
+        if client.displaces.is_none() {
             return Some(client);
+        }
+        let comes = client.badge.socket;
+        let gone = match watch.gives_way(rt, comes) {
+            Some(socket) => self.release_stalest(rt, loops, watch, socket, comes),
+            None => None,
         };
-        let gone = self.release_stalest(rt, loops, watch, socket, client.badge.socket);
-        self.tell_stalest(loops);
         let mut client = client;
         client.badge = watch.displace(rt, gone, client.badge)?;
         client.displaces = None;
