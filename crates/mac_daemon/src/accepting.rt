@@ -1,7 +1,8 @@
 //! The loop that accepts the connections of sockets: so many of them, or until it is shut.
-ghost use Rattle.std.specs.Prelude.{◌≡◌, IfOk, IsTrue};
+ghost use Rattle.std.specs.Prelude.{◌≡◌, ◌<◌, length, IfOk, IsTrue, Some};
 ghost use Rattle.mac_daemon.specs.Day.{MeetsCount};
-ghost use Rattle.mac_sockets.specs.Entrance.{taken_of};
+ghost use Rattle.mac_host.specs.Badge.{socket_of_door};
+ghost use Rattle.mac_sockets.specs.Entrance.{doors_of, taken_of};
 
 use crate::door::Gift;
 use crate::fault::DaemonFault;
@@ -9,9 +10,8 @@ use crate::notice::Notice;
 use crate::quay::Quay;
 use crate::room::Entry;
 use mac_host::{Badge, Life, Socket};
-use mac_loop::{Handover, Loops, SocketPort};
-use mac_sockets::{Arrived, Entrance, Stream};
-use mac_wire::Session;
+use mac_loop::{Handover, Loops};
+use mac_sockets::{Arrived, Entrance, Fresh};
 use std::alloc::Global;
 use std::io::ErrorKind;
 use std::sync::{Arc, Wait};
@@ -27,7 +27,7 @@ const FIRST_LOOP: usize = 0;
 /// A connection that came in.
 #[derive(Drop)]
 struct Newcomer {
-    stream: Stream,
+    stream: Fresh,
     // What its requests may do, where there is memory for that.
     rights: Option<Gift>,
     badge: Badge,
@@ -98,13 +98,7 @@ where
         loops.await_taken(rt, FIRST_LOOP);
         match entrance.accept(rt) {
             Some(Ok(arrived)) => {
-                let Arrived { stream, door } = arrived;
-                let socket = Socket::of_door(door);
-                let newcomer = Newcomer {
-                    stream,
-                    rights: Arc::try_clone(entrance.gift(door)).ok(),
-                    badge: quay.badge(rt, entrance.taken(), socket),
-                };
+                let newcomer = receive(rt, entrance, arrived, quay);
                 enter(rt, alloc, newcomer, loops, quay);
             }
             Some(Err(fault)) if count.is_some() => return Err(DaemonFault::System(fault)),
@@ -114,6 +108,21 @@ where
         }
     }
     unreachable!()
+}
+
+/// A connection that came in, with what its door gives.
+fn receive<R: Clock>(rt: &R, entrance: &Entrance<Gift>, arrived: Arrived, quay: &Quay) -> Newcomer
+    requires { arrived.door < length (doors_of entrance.now) }
+    ensures { result.badge.socket ≡ socket_of_door arrived.door }
+{
+    let Arrived { stream, door } = arrived;
+    let rights = Arc::try_clone(entrance.gift(door)).ok();
+    let badge = quay.badge(rt, entrance.taken(), Socket::of_door(door));
+    Newcomer {
+        stream,
+        rights,
+        badge,
+    }
 }
 
 /// Waits for a moment where the system gave no connection, and tells why.
@@ -157,29 +166,24 @@ fn begin<R: Wait + Clock>(rt: &R, alloc: Global, newcomer: Newcomer, loops: &Loo
         },
         Err(notice) => notice,
     };
-    quay.end(rt, life, Some(notice));
+    quay.refuse(rt, life, notice);
 }
 
 /// A connection as loops have it.
-fn meet(alloc: Global, newcomer: Newcomer, quay: &Quay) -> Result<Handover, Notice> {
+fn meet(alloc: Global, newcomer: Newcomer, quay: &Quay) -> Result<Handover, Notice>
+    ensures rights { IfOk result (λ client. newcomer.rights ≡ Some client.rights) }
+    ensures badge { IfOk result (λ client. client.badge ≡ newcomer.badge) }
+{
     let Newcomer {
         stream,
         rights,
         badge,
     } = newcomer;
-    let Ok(port) = SocketPort::new(stream, quay.transcript(alloc)) else {
-        return Err(Notice::System);
-    };
     let Some(rights) = rights else {
         return Err(Notice::NoMemory);
     };
-    Ok(Handover {
-        port,
-        session: Session::new(alloc),
-        rights,
-        place: 0,
-        since: badge.accepted,
-        badge,
-        displaces: None,
-    })
+    match Handover::begin(alloc, stream, quay.transcript(alloc), rights, badge) {
+        Ok(client) => Ok(client),
+        Err(_) => Err(Notice::System),
+    }
 }

@@ -1,10 +1,12 @@
 //! What the threads of a daemon tell one another of its connections: how many there are, and what is
 //! printed.
 
+ghost use Rattle.std.specs.Prelude.{◌≡◌};
+
 use crate::notice::Notice;
 use crate::room::{Entry, Most, Room};
 use mac_host::{Badge, Exchange, Life, Notices, Numbers, Roster, Socket, microseconds};
-use mac_loop::{PlainFault, Transcript, Turn, Watch};
+use mac_loop::{EndedLife, Transcript, Turn, Watch};
 use mac_mail::Bell;
 use std::alloc::{AllocError, Global};
 use std::sync::atomic::AtomicU64;
@@ -65,7 +67,9 @@ impl Quay {
 
     /// What the connection of this number is known by, which came in now at this socket. It has no
     /// place in the list yet.
-    pub fn badge<R: Clock>(&self, rt: &R, number: u64, socket: Socket) -> Badge {
+    pub fn badge<R: Clock>(&self, rt: &R, number: u64, socket: Socket) -> Badge
+        ensures { result.socket ≡ socket }
+    {
         Badge {
             number,
             socket,
@@ -75,7 +79,9 @@ impl Quay {
     }
 
     /// The same of a connection that is counted, listed until it ends.
-    pub fn listed<R: Wait>(&self, rt: &R, badge: Badge) -> Badge {
+    pub fn listed<R: Wait>(&self, rt: &R, badge: Badge) -> Badge
+        ensures { result.socket ≡ badge.socket }
+    {
         let Badge {
             number,
             socket,
@@ -121,8 +127,14 @@ impl Quay {
         self.notices.tell_refused(rt, fault);
     }
 
+    /// Notes that a connection is closed which no loop had: nothing was read from it, and nothing
+    /// written to it.
+    pub fn refuse<R: Wait + Clock>(&self, rt: &R, life: Life, notice: Notice) {
+        self.end(rt, life, Some(notice));
+    }
+
     /// Notes that a connection has ended, with what is to be told of that.
-    pub fn end<R: Wait + Clock>(&self, rt: &R, life: Life, notice: Option<Notice>) {
+    fn end<R: Wait + Clock>(&self, rt: &R, life: Life, notice: Option<Notice>) {
         self.roster.leave(rt, life);
         self.numbers
             .count_ended(notice.is_some_and(Notice::is_fault));
@@ -175,8 +187,8 @@ impl Quay {
 }
 
 impl Watch for Quay {
-    fn end<R: Wait + Clock>(&self, rt: &R, life: Life, fault: Option<PlainFault>) {
-        Quay::end(self, rt, life, fault.map(Notice::Plain));
+    fn end<R: Wait + Clock>(&self, rt: &R, ended: EndedLife) {
+        Quay::end(self, rt, ended.life, ended.fault.map(Notice::Plain));
     }
 
     fn count(&self, turn: &Turn) {
@@ -200,7 +212,13 @@ impl Watch for Quay {
         }
     }
 
-    fn displace<R: Wait + Clock>(&self, rt: &R, gone: Option<Life>, comes: Badge) -> Option<Badge> {
+    fn displace<R: Wait + Clock>(
+        &self,
+        rt: &R,
+        gone: Option<EndedLife>,
+        comes: Badge,
+    ) -> Option<Badge> {
+        let gone = gone.map(|ended| ended.life);
         if let Some(life) = gone {
             self.roster.leave(rt, life);
             self.numbers.count_ended(false);

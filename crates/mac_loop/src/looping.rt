@@ -11,11 +11,12 @@ mod sweeping;
 mod yielding;
 
 use crate::asks::Asks;
+use crate::batch::Batch;
+use crate::ended::EndedLife;
 use crate::handover::Handover;
 use crate::inbox::{Loops, NEWCOMERS_MAX};
-use crate::members::{Lent, Member};
+use crate::members::Member;
 use crate::meter::Shares;
-use crate::port::SocketPort;
 use crate::watch::{PlainFault, Turn, Watch};
 use mac_board::Outlook;
 use mac_decide::{Macaroons, SeenTokens};
@@ -53,9 +54,8 @@ pub struct Loop {
     members: Connections<Member>,
     // What ends its waits once workers have answered.
     waker: Option<Waker>,
-    // The slots and the clients of a turn.
-    turn: Vec<Lent>,
-    batch: Vec<Client<SocketPort>>,
+    // The clients of a turn.
+    batch: Batch,
     round: Round,
     parts: usize,
     shares: Shares,
@@ -119,8 +119,7 @@ pub fn make_loops<R: Net>(
             alloc,
             waker: Some(members.waker()?),
             members,
-            turn: Vec::with_capacity(alloc, PARTS_MAX)?,
-            batch: Vec::with_capacity(alloc, PARTS_MAX)?,
+            batch: Batch::with_capacity(alloc, PARTS_MAX)?,
             round: Round::new(alloc, seen.share()?)?,
             parts: PARTS_MAX,
             shares: Shares::new(alloc, count)?,
@@ -244,13 +243,16 @@ impl Loop {
         outlook: &mut K,
         watch: &W,
     ) {
-        let life = client.life();
-        if outlook.reach(client.place) {
-            if self.take_in(client, loops, outlook) {
-                return;
-            }
+        let place = client.place;
+        let left = if outlook.reach(place) {
+            self.take_in(client, loops, outlook)
+        } else {
+            Err(client)
+        };
+        if let Err(client) = left {
+            let ended = EndedLife::on_the_way(client, PlainFault::NoMemory);
+            watch.end(rt, ended);
         }
-        watch.end(rt, life, Some(PlainFault::NoMemory));
     }
 
     /// Once the loops are draining, takes nothing more from its clients than what has come.
@@ -272,10 +274,23 @@ impl Loop {
         self.members.slots.list(slot);
     }
 
-    /// Whether there was memory to take a client in.
-    fn take_in<K: Outlook>(&mut self, client: Handover, loops: &Loops, outlook: &K) -> bool
+    /// Takes a client in. Without memory it comes back.
+    fn take_in<K: Outlook>(
+        &mut self,
+        client: Handover,
+        loops: &Loops,
+        outlook: &K,
+    ) -> Result<(), Handover>
         requires { client.place ≤ (K.known outlook.now).tables.place }
     {
+        let Ok(slot) = self.members.slots.reserve() else {
+            return Err(client);
+        };
+        let registry = self.members.registry();
+        if client.port.stream().join(registry, Token(slot)).is_err() {
+            let _ = self.members.slots.release(slot);
+            return Err(client);
+        }
         let Handover {
             port,
             session,
@@ -285,14 +300,6 @@ impl Loop {
             badge,
             displaces: _,
         } = client;
-        let Ok(slot) = self.members.slots.reserve() else {
-            return false;
-        };
-        let registry = self.members.registry();
-        if port.stream().join(registry, Token(slot)).is_err() {
-            let _ = self.members.slots.release(slot);
-            return false;
-        }
         let client = Client::new(port, session, rights);
         loops.count_unsent(0, client.unsent());
         loops.note_rest(self.number, badge.socket, since);
@@ -304,7 +311,7 @@ impl Loop {
         } else {
             self.members.slots.list(slot);
         }
-        true
+        Ok(())
     }
 
     /// Answers what clients that are ready have sent.
@@ -325,8 +332,8 @@ impl Loop {
         let spare = loops.begin_turn();
         // What makes turns long is read in small pieces.
         let threads = if self.parts < PARTS_MAX { 1 } else { spare };
-        let batch = self.batch.as_mut_slice();
-        self.round.serve(rt, threads, outlook, batch, unsent_max);
+        self.batch
+            .serve(rt, &mut self.round, threads, outlook, unsent_max);
         loops.end_turn();
         self.finish_turn(rt, loops, outlook, asks, watch);
         self.settle(rt, loops, watch, is_room, growth);
@@ -345,14 +352,12 @@ impl Loop {
     {
         let mut traffic = Traffic::NONE;
         for _ in rt.forever() {
-            let (Some(mut client), Some(Lent { slot, note })) = (self.batch.pop(), self.turn.pop())
-            else {
+            let Some((slot, mut member)) = self.batch.pop() else {
                 break;
             };
             // What isn't told here a worker answers.
-            let _ = self.round.recall(&mut client, outlook.current());
-            loops.count_unsent(0, client.unsent());
-            let mut member = Member { client, note };
+            member.recall(&mut self.round, outlook.current());
+            loops.count_unsent(0, member.client.unsent());
             traffic = traffic.plus(member.count_traffic());
             self.look_after(rt, slot, member, loops, outlook, asks, watch);
         }
@@ -386,15 +391,8 @@ impl Loop {
 
     /// Adds a client to a turn.
     fn add(&mut self, slot: usize, member: Member) {
-        let Member { client, note } = member;
-        if self.turn.push(Lent { slot, note }).is_err() {
-            let _ = self.members.slots.put(slot, Member { client, note });
-            return;
-        }
-        if let Err(refused) = self.batch.push(client) {
-            let client = refused.value;
-            let _ = self.members.slots.put(slot, Member { client, note });
-            let _ = self.turn.pop();
+        if let Err(member) = self.batch.push(slot, member) {
+            let _ = self.members.slots.put(slot, member);
         }
     }
 
@@ -419,7 +417,7 @@ impl Loop {
             loops.count_unsent(member.client.unsent(), 0);
             self.count_left(&member);
             let _ = self.members.slots.release(slot);
-            end_member(rt, watch, &member, PlainFault::of(&member.client));
+            end_member(rt, watch, member, None);
             return;
         }
         watch.see(member.life(), member.client.unsent());
@@ -475,14 +473,15 @@ impl Loop {
     /// Notes what a client waits for after its turn.
     fn note_turn(&mut self, slot: usize, member: &mut Member) {
         let _ = member.note_progress(self.now);
-        let client = &mut member.client;
-        let awaits = client.unsent() > 0;
         // A read that ends within a request may have left some of it.
-        let may_have_left = client.has_begun() && client.port().has_read();
-        let may_have_more = member.note.is_closing || may_have_left || client.port().is_put_off();
-        if may_have_more && !client.port().is_full() {
-            client.wake_reading();
+        let port = member.client.port();
+        let may_have_left = member.client.has_begun() && port.has_read();
+        let may_have_more = member.note.is_closing || may_have_left || port.is_put_off();
+        if may_have_more && !port.is_full() {
+            member.wake_reading();
         }
+        let client = &member.client;
+        let awaits = client.unsent() > 0;
         member.note.is_deep = client.is_busy(self.unsent_max);
         if awaits != member.note.awaits_room {
             member.note.awaits_room = awaits;
@@ -520,15 +519,20 @@ impl Loop {
     }
 }
 
-/// Tells that a client has ended, which may have waited for a worker's answer.
+/// Tells that a client has ended, by a fault or as it stands. It may have waited for a worker's
+/// answer.
 fn end_member<R: Wait + Clock, W: Watch>(
     rt: &R,
     watch: &W,
-    member: &Member,
+    member: Member,
     fault: Option<PlainFault>,
 ) {
     if member.client.is_waiting() {
         watch.narrow(member.life(), false);
     }
-    watch.end(rt, member.life(), fault);
+    let ended = match fault {
+        Some(fault) => EndedLife::by(member, fault),
+        None => EndedLife::of(member),
+    };
+    watch.end(rt, ended);
 }

@@ -1,7 +1,7 @@
 //! Which client of a loop has rested longest.
 
 ghost use Rattle.std.specs.Prelude.{◌≡◌, ◌⊎◌, ℕ, IfSome, Some};
-ghost use Rattle.mac_loop.specs.Resting.{IsStalest, rested_at, RestedSince};
+ghost use Rattle.mac_loop.specs.Resting.{IsStalest, rested_at, RestedSince, since_at};
 
 use crate::members::Member;
 use mac_host::Socket;
@@ -14,6 +14,18 @@ pub struct Resting {
     pub slot: usize,
     /// Since when, in microseconds.
     pub since: u64,
+}
+
+impl Member {
+    /// Since when it has rested, where it came in at this socket.
+    pub fn rested_since(&self, socket: Socket) -> Option<u64>
+        ensures { result ≡ since_at socket self.now }
+    {
+        match (socket, self.note.badge.socket) {
+            (Socket::Main, Socket::Main) | (Socket::Side, Socket::Side) => Some(self.note.since),
+            (Socket::Main, Socket::Side) | (Socket::Side, Socket::Main) => None,
+        }
+    }
 }
 
 /// The one that has rested longest of those that came in at a socket, where there is one.

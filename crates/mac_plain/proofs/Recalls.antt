@@ -27,6 +27,11 @@ takes_reply {P} before after reply job is (inl r) = inl (record {
 })
 takes_reply before after reply job is (inr fell) = inr fell
 
+-- who is passed keeps its rights
+pub keeps_rights : {P : Type 0} (before after : Client P) (reply : Reply) → PassesWith reply before after → after.rights ≡ before.rights
+keeps_rights {P} before after reply (inl r) = ap (λ (x : Client P). x.rights) r.after_is
+keeps_rights {P} before after reply (inr fell) = ap (λ (x : Client P). x.rights) fell.1
+
 -- a client that waits for the answer to a job has it
 pub lets_go : {P : Type 0} (tells : Bool) (taken written : P → List ℕ) (before after : Client P) (reply : Reply) (job : Job) → before.course ≡ course.Awaiting job.basis
     → job.arrival ≡ front_of before.session.carried.items → reply ≡ reply_to_job job → PassesWith reply before after → Answers tells taken written before after []

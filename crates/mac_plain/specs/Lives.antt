@@ -1,7 +1,7 @@
 -- A connection's life: all that came and went on it, from its first byte on, and how it stands.
 use Rattle.std.specs.Prelude.{◌≡◌, ℕ, List, All}
 use Rattle.mac_board.specs.Noticed.{Current}
-use Rattle.mac_wire.specs.declared.arrival.Ending.TheVariants as ending
+use Rattle.mac_wire.specs.declared.arrival.Ending.{Ending}
 use Rattle.mac_wire.specs.declared.session.Session.{Session}
 use Rattle.mac_wire.specs.Reply.{reply_text}
 use Rattle.mac_wire.specs.Session.{Stands}
@@ -38,11 +38,11 @@ pub record Said (rights : Rights) (came went : List ℕ) : Type 0 where
   pub under : All (IsUnder rights) done
   pub promised : IsPromised came went done
 
--- What was read ends behind a request, and what was written are the framed answers to all that was
--- read, in order, each once, all under these rights.
-pub record SaidAll (rights : Rights) (came went : List ℕ) : Type 0 where
+-- What was read ends so, and what was written are the framed answers to all that arrived, in order,
+-- each once, all under these rights.
+pub record SaidAll (rights : Rights) (came went : List ℕ) (ends : Ending) : Type 0 where
   pub done : List Job
   pub under : All (IsUnder rights) done
   pub arrived : (arrivals_of came).arrived ≡ arrivals done
-  pub ended : (arrivals_of came).ending ≡ ending.Clean
+  pub ended : (arrivals_of came).ending ≡ ends
   pub all : went ≡ reply_text (arrivals_of came).version (replies done)

@@ -29,6 +29,7 @@ impl<P: Port> Client<P> {
         ensures idle { self.old.course ≢ course.Wide → (result ≡ None) × (self.new ≡ self.old) }
         ensures asked { IfSome result (IsAsked (lent_current current.entry) self.old self.new) }
         ensures fallen { self.old.course ≡ course.Wide → IfNone result (IsGivenUp self.old self.new) }
+        ensures rights { self.new.rights ≡ self.old.rights }
         ensures answers { Answers P.tells P.taken P.written self.old self.new
             (option_to_list result) }
     {
@@ -61,6 +62,7 @@ impl<P: Port> Client<P> {
             × (GoesWide self.old.session.carried.items → IsAwaited job.now self.old) }
         ensures another { IsFalse result → (self.new ≡ self.old)
             × (GoesWide self.old.session.carried.items → ¬ IsAwaited job.now self.old) }
+        ensures rights { self.new.rights ≡ self.old.rights }
         ensures answers { Answers P.tells P.taken P.written self.old self.new [] }
     {
         let Course::Awaiting(basis) = self.course else {
@@ -86,6 +88,7 @@ impl<P: Port> Client<P> {
         ensures answers { IsTrue result → Answers P.tells P.taken P.written self.old self.new
             (asked_job (lent_current current.entry) self.old ∷ []) }
         ensures unknown { IsFalse result → self.new ≡ self.old }
+        ensures rights { self.new.rights ≡ self.old.rights }
     {
         match self.known_reply(bench, alloc, current) {
             Some(reply) => {
@@ -139,6 +142,7 @@ impl<P: Port> Client<P> {
             → IsGivenUp self.old self.new }
         ensures idle { ((basis : Seen) → self.old.course ≢ course.Awaiting basis)
             → self.new ≡ self.old }
+        ensures rights { self.new.rights ≡ self.old.rights }
         ensures answers { Answers P.tells P.taken P.written self.old self.new [] }
     {
         if let Course::Awaiting(_) = self.course {

@@ -116,6 +116,7 @@ impl Round {
         ensures answers { IsTrue result → Answers P.tells P.taken P.written client.old client.new
             (asked_job (lent_current current.entry) client.old ∷ []) }
         ensures untold { IsFalse result → client.new ≡ client.old }
+        ensures rights { client.new.rights ≡ client.old.rights }
     {
         if !client.recall(&mut self.bench, self.alloc, current) {
             return false;
@@ -132,6 +133,7 @@ impl Round {
             → Takes answer client.old client.new }
         ensures another { GoesWide client.old.session.carried.items → ¬ IsAwaited answer client.old
             → client.new ≡ client.old }
+        ensures rights { client.new.rights ≡ client.old.rights }
         ensures answers { Answers P.tells P.taken P.written client.old client.new [] }
     {
         let (job, reply) = answer.into_parts();

@@ -32,4 +32,4 @@ pub use inbox::Inbox;
 pub use lock::PathClaim;
 pub use place::{PlaceFault, bind_new};
 pub use stacks::{STACK, has_roomy_stacks};
-pub use stream::Stream;
+pub use stream::{Fresh, Stream};

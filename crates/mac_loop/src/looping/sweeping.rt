@@ -44,7 +44,7 @@ impl Loop {
         self.tell_stalest(loops);
     }
 
-    /// Ends the client of a slot.
+    /// Ends the client of a slot, by a fault or as it stands.
     pub(super) fn end<R: Wait + Clock, W: Watch>(
         &mut self,
         rt: &R,
@@ -56,7 +56,7 @@ impl Loop {
         if let Some(member) = self.members.slots.release(slot) {
             loops.count_unsent(member.client.unsent(), 0);
             self.count_left(&member);
-            end_member(rt, watch, &member, fault);
+            end_member(rt, watch, member, fault);
         }
     }
 

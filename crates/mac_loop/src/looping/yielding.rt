@@ -1,12 +1,13 @@
 //! Clients that give way: where there are as many as there may be, a further one comes in the place of
 //! the one that has rested longest.
 
+use crate::ended::EndedLife;
 use crate::handover::Handover;
 use crate::inbox::Loops;
 use crate::looping::Loop;
 use crate::resting::stalest;
-use crate::watch::Watch;
-use mac_host::{Life, Socket};
+use crate::watch::{PlainFault, Watch};
+use mac_host::Socket;
 use mac_sockets::REST_MIN;
 use std::sync::Wait;
 use std::time::Clock;
@@ -46,7 +47,7 @@ impl Loop {
         watch: &W,
         socket: Socket,
         comes: Socket,
-    ) -> Option<Life> {
+    ) -> Option<EndedLife> {
         for slot in 0..self.members.slots.bound() {
             self.note_rest(slot);
         }
@@ -61,7 +62,7 @@ impl Loop {
         if member.client.is_waiting() {
             watch.narrow(member.life(), false);
         }
-        Some(member.life())
+        Some(EndedLife::by(member, PlainFault::GaveWay))
     }
 
     /// Notes whether the client of a slot rests.

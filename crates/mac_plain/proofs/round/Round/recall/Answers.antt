@@ -1,4 +1,4 @@
-use Rattle.std.proofs.Common.{[], ◌∷◌}
+use Rattle.std.proofs.Common.{[], ◌∷◌, ◌∙◌}
 use Rattle.mac_board.specs.Noticed.{lent_current}
 use Rattle.mac_plain.specs.Client.{asked_job}
 use Rattle.mac_plain.proofs.Promises.{composes}
@@ -11,3 +11,6 @@ returns-clause-answers g c told =
     composes g.P.Port.tells g.P.Port.taken g.P.Port.written c.args.client.now c.recall.new.self c.flush.new.self (asked_job current c.args.client.now ∷ []) []
     (c.recall.ensures.answers c.if-not-recall.false)
     (goes_answers g.P.Port.tells g.P.Port.taken g.P.Port.written current c.recall.new.self c.flush.new.self (c.flush.ensures current))
+
+pub returns-clause-rights : goal.returns-clause-rights
+returns-clause-rights g c = (c.flush.ensures (lent_current c.args.current)).rights_kept ∙ c.recall.ensures.rights
