@@ -254,13 +254,18 @@ def waits_beside(grants, path, text, count):
     return sorted(waits)
 
 
+def told_of(waits):
+    """How many waits there were, and how long: in the middle, at the 99th percentile, and the longest."""
+    median, late = waits[len(waits) // 2], waits[len(waits) * 99 // 100]
+    return f"{len(waits)} times: p50 {median * 1000:.2f} ms, p99 {late * 1000:.1f} ms, the longest {waits[-1] * 1000:.0f} ms"
+
+
 def late_beside(where, most, *asked):
     """What is wrong with the waits of a client beside others with dear requests there, if anything."""
     for count in CROWDS:
         waits = waits_beside(*asked, count)
-        median, late = waits[len(waits) // 2], waits[len(waits) * 99 // 100]
-        told = f"p50 {median * 1000:.2f} ms, p99 {late * 1000:.1f} ms, the longest {waits[-1] * 1000:.0f} ms"
-        print(f"hostile: a small verify {where} beside {count} clients with dear requests, {len(waits)} times: {told}")
+        late = waits[len(waits) * 99 // 100]
+        print(f"hostile: a small verify {where} beside {count} clients with dear requests, {told_of(waits)}")
         if late > most:
             yield f"{where} beside {count} clients with dear requests a small verify waited {late:.3f} s (p99)"
 
@@ -346,6 +351,19 @@ def await_quick(asked, text):
         quick = quick + 1 if wait_for(asked, text) < SLOW_WAIT_MAX else 0
 
 
+def large_waits(path):
+    """The seconds that verifies of 8 KiB wait, sorted, once they are quick."""
+    with client.Client(path, timeout=SLOW_SETTLING) as asked:
+        token = asked.ask(request.mint("v2-binary", "bank", "", "a"))[1:]
+        large = request.verify("bank", "hex:" + token.hex(), 0, *["a" * 250] * 32)
+        await_quick(asked, large)
+        until, waits = time.monotonic() + SLOW_SECONDS, []
+        while time.monotonic() < until:
+            waits.append(wait_for(asked, large))
+            time.sleep(0.002)
+    return sorted(waits)
+
+
 def beside_slow(path):
     """What is wrong with the waits of a client with verifies of 8 KiB beside others that read slowly, if anything."""
     text = largest_reply(path)
@@ -353,20 +371,11 @@ def beside_slow(path):
         is_over = multiprocessing.Event()
         crowd = multiprocessing.Process(target=reads_slowly, args=(path, text, count, is_over), daemon=True)
         crowd.start()
-        with client.Client(path) as asked:
-            token = asked.ask(request.mint("v2-binary", "bank", "", "a"))[1:]
-            large = request.verify("bank", "hex:" + token.hex(), 0, *["a" * 250] * 32)
-            await_quick(asked, large)
-            until, waits = time.monotonic() + SLOW_SECONDS, []
-            while time.monotonic() < until:
-                waits.append(wait_for(asked, large))
-                time.sleep(0.002)
+        waits = large_waits(path)
         is_over.set()
         crowd.join(timeout=30)
-        waits.sort()
         late = waits[len(waits) * 99 // 100]
-        told = f"p50 {waits[len(waits) // 2] * 1000:.2f} ms, p99 {late * 1000:.1f} ms, the longest {waits[-1] * 1000:.0f} ms"
-        print(f"hostile: a verify of 8 KiB beside {count} clients that read slowly, {len(waits)} times: {told}")
+        print(f"hostile: a verify of 8 KiB beside {count} clients that read slowly, {told_of(waits)}")
         if late > SLOW_WAIT_MAX:
             yield f"beside {count} clients that read slowly a verify of 8 KiB waited {late:.3f} s (p99)"
 
