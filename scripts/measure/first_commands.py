@@ -22,6 +22,7 @@ import time
 
 sys.path.insert(0, str(pathlib.Path(__file__).resolve().parents[1]))
 from common import TOP
+from common.processes import stolen, stolen_since
 
 # What each runs. A kit may take over what it proved on this machine, unless the gate is told to begin anew.
 COMMANDS = {
@@ -46,25 +47,17 @@ def processor_seconds():
     return used.ru_utime + used.ru_stime
 
 
-def stolen():
-    """The time of all processors since the machine was started, and how much of it its host gave to others."""
-    fields = [int(word) for word in pathlib.Path("/proc/stat").read_text().split("\n", 1)[0].split()[1:9]]
-    return sum(fields), fields[7]
-
-
 def measured(command, clone, cores):
     """How the command ended, its minutes by the clock and of processor time, and the share that was stolen."""
     words = ["taskset", "--cpu-list", f"0-{cores - 1}", *COMMANDS[command]]
     how = {"cwd": clone, "stdout": subprocess.PIPE, "stderr": subprocess.STDOUT, "text": True, "errors": "replace"}
-    begin, before, last, (all_before, stolen_before) = time.monotonic(), processor_seconds(), "", stolen()
+    begin, before, last, stolen_before = time.monotonic(), processor_seconds(), "", stolen()
     with subprocess.Popen(words, **how) as run:
         for line in run.stdout:
             sys.stderr.write(line)
             last = line.strip() or last
     taken = (time.monotonic() - begin) / 60, (processor_seconds() - before) / 60
-    all_after, stolen_after = stolen()
-    share = (stolen_after - stolen_before) / max(1, all_after - all_before)
-    return f"{last} (status {run.returncode})", *taken, share
+    return f"{last} (status {run.returncode})", *taken, stolen_since(stolen_before)
 
 
 def main():
