@@ -5,3 +5,4 @@ pub mod Patience
 pub mod Pace
 pub mod Turns
 pub mod Weight
+pub mod Load

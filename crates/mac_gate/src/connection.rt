@@ -1,15 +1,17 @@
 //! A connection of a loop: how far it is answered, and what it waits for.
 
 ghost use Rattle.std.specs.Prelude.{None};
+ghost use Rattle.mac_gate.specs.Load.{held_by};
 ghost use Rattle.mac_gate.specs.Patience.{IsLeft};
 ghost use Rattle.mac_http.specs.Turn.{IsTurn};
 
 use crate::devices::{Heard, Spoken};
 use crate::gathering::Gathered;
+use crate::load::Load;
 use crate::weight::Weight;
 use http_server::{Connection, Service};
 use mac_http::{Way, take_turn};
-use mac_sockets::{Readiness, Stream, Wakes};
+use mac_sockets::{Holds, Readiness, Stream, Wakes};
 use mio::{Registry, Token};
 use std::alloc::Global;
 use std::io;
@@ -36,6 +38,8 @@ pub struct HttpConnection {
     since: u64,
     // What has come since then.
     weight: Weight,
+    // How much memory it is counted for.
+    load: Load,
     // Whether the last read gave some bytes.
     has_come: bool,
     // Whether there may be something to be read, and room to write.
@@ -58,6 +62,7 @@ impl HttpConnection {
             gathered: Gathered::new(alloc),
             since: now,
             weight: Weight::new(),
+            load: Load::new(),
             has_come: false,
             has_more: true,
             has_room: true,
@@ -81,11 +86,6 @@ impl HttpConnection {
         }
         self.awaits_room = awaits;
         self.stream.await_room(registry, token, awaits)
-    }
-
-    /// When something was written last, or it began.
-    pub fn since(&self) -> u64 {
-        self.since
     }
 
     /// The way by which its peer comes.
@@ -153,7 +153,7 @@ impl HttpConnection {
         let mut heard = Heard::new(&self.stream, &mut self.gathered, self.has_more, now);
         let mut spoken = Spoken::new(&self.stream, self.has_room);
         let turned = answer_turn(&mut self.connection, service, &mut heard, &mut spoken);
-        let (came, has_gone) = (heard.came, spoken.has_gone);
+        let (came, waited, has_gone) = (heard.came, spoken.waited, spoken.has_gone);
         let has_come = came > 0;
         self.has_more = heard.has_more || (has_come && self.is_closing);
         self.has_room = spoken.has_room;
@@ -161,6 +161,7 @@ impl HttpConnection {
             self.has_come = has_come;
         }
         self.weight.hear(came as u64);
+        self.load.note(self.weight.bytes(), waited as u64);
         if has_gone {
             self.weight.answer();
             self.since = now;
@@ -198,6 +199,19 @@ impl HttpConnection {
             }
             Ok(_) | Err(_) => false,
         }
+    }
+}
+
+impl Holds for HttpConnection {
+    ghost bytes = { λ one. held_by one.load };
+
+    fn held(&self) -> u64 {
+        self.load.held()
+    }
+
+    // When something was written last, or it began.
+    fn since(&self) -> u64 {
+        self.since
     }
 }
 

@@ -97,7 +97,7 @@ impl<'a, R: Wait + Clock + RandomSource> Monitor for OwnDaemon<'a, R> {
     }
 
     fn note(&self, noted: Noted<'_>, status: StatusCode) {
-        if let Some(request) = request_of(noted.asks, noted.is_revoked, status) {
+        if let Some(request) = request_of(noted.asks, noted.reason, status) {
             self.host().numbers().count_request(request);
         }
         self.log(noted, status);

@@ -69,6 +69,8 @@ impl<'a> Read for Heard<'a> {
 #[derive(Drop)]
 pub struct Spoken<'a> {
     stream: &'a Stream,
+    /// How many bytes were to be written.
+    pub waited: usize,
     /// Whether bytes went.
     pub has_gone: bool,
     /// Whether there may be room for more.
@@ -80,6 +82,7 @@ impl<'a> Spoken<'a> {
     pub fn new(stream: &'a Stream, has_room: bool) -> Spoken<'a> {
         Spoken {
             stream,
+            waited: 0,
             has_gone: false,
             has_room,
         }
@@ -88,6 +91,7 @@ impl<'a> Spoken<'a> {
 
 impl<'a> Write for Spoken<'a> {
     fn write(&mut self, buf: &[u8]) -> io::Result<usize> {
+        self.waited = buf.len();
         let outcome = self.stream.write_past_signals(buf);
         match &outcome {
             Ok(count) => {

@@ -7,7 +7,7 @@ use crate::waiting::Waiting;
 use http_server::Connection;
 use mac_host::{microseconds, microseconds_of};
 use mac_http::CONFIG;
-use mac_sockets::{STACK, Stream};
+use mac_sockets::{STACK, SharedBudget, Stream};
 use mio::Waker;
 use std::alloc::Global;
 use std::hash::RandomState;
@@ -28,15 +28,16 @@ pub struct HttpLoop {
 }
 
 impl HttpLoop {
-    /// A loop of this number, whose connections' peers may each take so long, with what ends its
-    /// waits.
-    pub fn new<R: Net>(
+    /// A loop of this number, whose connections' peers may each take so long and hold memory within
+    /// this budget, with what ends its waits.
+    pub fn new<R: Net + Wait>(
         rt: &R,
         alloc: Global,
         number: usize,
         patience: Duration,
+        budget: &Arc<SharedBudget, Global>,
     ) -> io::Result<(HttpLoop, Waker)> {
-        let (connections, waker) = Waiting::new(rt, alloc, microseconds_of(patience))?;
+        let (connections, waker) = Waiting::new(rt, alloc, microseconds_of(patience), budget)?;
         let mut piece = Vec::new(alloc);
         piece.resize(DROPPED_PIECE, 0)?;
         let own = HttpLoop {
@@ -132,21 +133,49 @@ impl HttpLoop {
     }
 
     /// Has those that are ready do what they can, once each; but of those with a dear request only the
-    /// next one, behind the others.
-    fn advance_ready<R: Wait, S: Answers>(&mut self, rt: &R, server: &Shared, service: &mut S) {
+    /// next one, behind the others. Where there is no memory for a turn, none has one.
+    fn advance_ready<R: Wait + Clock, S: Answers>(
+        &mut self,
+        rt: &R,
+        server: &Shared,
+        service: &mut S,
+    ) {
         if server.is_ending() {
             self.connections.end_idle();
         }
-        for _ in 0..self.connections.count_ready() {
-            if let Some((slot, way)) = self.connections.next_ready() {
+        let ready = self.connections.count_ready();
+        for turn in 0..=ready {
+            if !self.has_room(rt, server) {
+                break;
+            }
+            let next = if turn < ready {
+                self.connections.next_ready()
+            } else {
+                self.connections.next_dear()
+            };
+            if let Some((slot, way)) = next {
                 service.come_by(way);
                 self.advance(rt, server, service, slot);
             }
         }
-        if let Some((slot, way)) = self.connections.next_dear() {
-            service.come_by(way);
-            self.advance(rt, server, service, slot);
+        self.connections.settle(rt);
+    }
+
+    /// Whether there is memory for a turn. Where there is none, the connections that hold most are let
+    /// go until there is; or others are waited for that hold more.
+    fn has_room<R: Wait + Clock>(&mut self, rt: &R, server: &Shared) -> bool {
+        for _ in rt.forever() {
+            if self.connections.has_room(rt) {
+                return true;
+            }
+            if !self.connections.drop_heaviest(rt) {
+                self.connections.await_others(rt);
+                return false;
+            }
+            server.host().tell_heavy(rt);
+            server.leave(rt, self.number);
         }
+        unreachable!()
     }
 
     /// Has the connection of a slot do what it can.

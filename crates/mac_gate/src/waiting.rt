@@ -5,21 +5,28 @@ use crate::turns::Turns;
 use http_server::Service;
 use mac_host::microseconds_of;
 use mac_http::Way;
-use mac_sockets::{Connections, REST_MIN, Readiness};
+use mac_sockets::{Account, Connections, Holds, REST_MIN, Readiness, SharedBudget, heaviest};
 use mio::{Token, Waker};
 use std::alloc::Global;
 use std::io;
 use std::net::Net;
+use std::sync::{Arc, Wait};
 use std::time::{Clock, Duration};
 
 /// How many microseconds pass at most until one that is owed something is looked at again, though no
 /// event told of it.
 const OWED: u64 = 1_000_000;
 
+/// How many bytes the turn of a connection may take beside what it is counted for: for the dearest
+/// request, until it is answered, and for its response.
+const TURN_ROOM: u64 = 4_194_304;
+
 /// The connections of a loop, each in its slot.
 #[derive(Drop)]
 pub struct Waiting {
     connections: Connections<HttpConnection>,
+    // What they have of the memory of all.
+    account: Account,
     // Those that are ready and have a dear request.
     dear: Turns,
     // Both in microseconds.
@@ -29,10 +36,17 @@ pub struct Waiting {
 }
 
 impl Waiting {
-    /// No connections, whose peers may each take so long, and what ends the waits for them.
-    pub fn new<R: Net>(rt: &R, alloc: Global, patience: u64) -> io::Result<(Waiting, Waker)> {
+    /// No connections, whose peers may each take so long, and what ends the waits for them. What they
+    /// hold is within this budget.
+    pub fn new<R: Net + Wait>(
+        rt: &R,
+        alloc: Global,
+        patience: u64,
+        budget: &Arc<SharedBudget, Global>,
+    ) -> io::Result<(Waiting, Waker)> {
         let (connections, waker) = Connections::new(rt, alloc)?;
         let waiting = Waiting {
+            account: Account::open(rt, budget, connections.waker()?)?,
             connections,
             dear: Turns::new(alloc),
             patience,
@@ -121,7 +135,40 @@ impl Waiting {
     /// Lets the connection of a slot go. Whether there is one.
     fn release(&mut self, slot: usize) -> bool {
         self.dear.leave(slot);
-        self.connections.slots.release(slot).is_some()
+        let Some(one) = self.connections.slots.release(slot) else {
+            return false;
+        };
+        self.account.count(one.held(), 0);
+        true
+    }
+
+    /// Has the memory that one turn may take. Whether there is as much.
+    pub fn has_room<R: Wait>(&mut self, rt: &R) -> bool {
+        self.account.has_room(rt, TURN_ROOM)
+    }
+
+    /// Gives back what turns haven't taken.
+    pub fn settle<R: Wait>(&mut self, rt: &R) {
+        let _ = self.account.settle(rt);
+    }
+
+    /// Lets the connection go that holds most, where those here hold much of what all do. Whether
+    /// there is one.
+    pub fn drop_heaviest<R: Wait>(&mut self, rt: &R) -> bool {
+        if !self.account.holds_much(rt) {
+            return false;
+        }
+        match heaviest(&self.connections.slots) {
+            Some(heavy) => self.release(heavy.slot),
+            None => false,
+        }
+    }
+
+    /// Where a turn is due, has the other loops look, whose connections may hold more.
+    pub fn await_others<R: Wait + Clock>(&self, rt: &R) {
+        if self.connections.slots.has_ready() || !self.dear.is_empty() {
+            self.account.await_others(rt);
+        }
     }
 
     /// When something was sent to that one, in microseconds.
@@ -191,12 +238,15 @@ impl Waiting {
         let Some(mut one) = self.connections.slots.take(slot) else {
             return false;
         };
+        let before = one.held();
         let goes_on = one.advance(service, now, piece)
             && one.update(self.connections.registry(), Token(slot)).is_ok();
         if !goes_on {
+            self.account.count(before, 0);
             let _ = self.release(slot);
             return true;
         }
+        self.account.count(before, one.held());
         let _ = self.connections.slots.put(slot, one);
         if is_ending {
             self.end_if_idle(slot);

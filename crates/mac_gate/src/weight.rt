@@ -25,6 +25,14 @@ impl Weight {
         }
     }
 
+    /// How many bytes came since then.
+    pub fn bytes(&self) -> u64
+        ensures { result ≡ self.now.bytes }
+    {
+        let Weight { bytes, .. } = *self;
+        bytes
+    }
+
     /// Whether nothing has come since the last response.
     pub fn is_idle(&self) -> bool
         ensures { result ≡ self.now.is_idle }

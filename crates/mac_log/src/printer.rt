@@ -1,13 +1,16 @@
 //! The thread that prints lines.
 
+ghost use Rattle.std.specs.Prelude.{◌≡◌};
+ghost use Rattle.mac_log.specs.Books.{Gains};
+
 use crate::NoMemory;
+use crate::books::{Books, PrintedLine};
 use crate::clock::{millis_now, millis_of};
 use crate::fields::Fields;
 use crate::key::Key;
-use crate::kind::{KINDS, Kind};
+use crate::kind::Kind;
 use crate::line::Line;
 use crate::log::Log;
-use crate::quota::Quota;
 use std::alloc::Global;
 use std::sync::{Arc, Wait};
 use std::thread;
@@ -21,7 +24,7 @@ struct Printer {
     alloc: Global,
     has_priority: bool,
     begun: Option<Instant>,
-    quotas: [Quota; KINDS],
+    books: Books,
     text: Vec<u8>,
 }
 
@@ -31,7 +34,7 @@ impl Printer {
             alloc,
             has_priority,
             begun: Instant::now(rt).ok(),
-            quotas: [Quota::new(); KINDS],
+            books: Books::new(),
             text: Vec::new(alloc),
         }
     }
@@ -52,23 +55,29 @@ impl Printer {
             let Some(line) = log.next(rt) else {
                 return;
             };
-            if let Some(count) = self.admit(line.kind, now) {
-                if count > 0 {
-                    self.print_left_out(rt, line.kind, line.millis, count);
-                }
-                self.print(rt, &line);
-            }
+            self.deal_with(rt, &line, now);
             log.settle_one();
         }
     }
 
-    /// Whether a line of a kind may be printed now: how many were left out of which is to be told
-    /// in front of it.
-    fn admit(&mut self, kind: Kind, now: u64) -> Option<u64> {
-        if kind.is_bounded() {
-            self.quotas[kind.place()].admit(now)
+    /// Prints a line behind how many of its kind were left out, or counts it as left out.
+    fn deal_with<R: Eprint>(&mut self, rt: &R, line: &Line, now: u64)
+        ensures { Gains self.old.books self.new.books line.now.kind 1 }
+    {
+        if let Some(count) = self.books.admit(line.kind, now) {
+            self.print_left_out(rt, line.kind, line.millis, count);
+            self.print_or_count(rt, line);
+        }
+    }
+
+    /// Prints a line, or counts it as left out where there is no memory for its text.
+    fn print_or_count<R: Eprint>(&mut self, rt: &R, line: &Line)
+        ensures { Gains self.old.books self.new.books line.now.kind 1 }
+    {
+        if self.print(rt, line) {
+            self.books.note(PrintedLine::Posted(line.kind));
         } else {
-            Some(0)
+            self.books.leave_out(line.kind, 1);
         }
     }
 
@@ -77,39 +86,64 @@ impl Printer {
     fn tell_left_out<R: Wait + Clock + Eprint>(&mut self, rt: &R, log: &Log, now: u64) -> bool {
         let mut is_owing = false;
         for kind in Kind::ALL {
-            let place = kind.place();
-            self.quotas[place].leave_out(log.take_left_out(kind));
-            let count = self.quotas[place].settle(now);
-            if count > 0 {
-                let millis = millis_now(rt);
-                self.print_left_out(rt, kind, millis, count);
-            }
-            is_owing = is_owing || self.quotas[place].is_owing();
+            let lost = log.take_left_out(kind);
+            self.settle(rt, kind, lost, now);
+            is_owing = is_owing || self.books.is_owing(kind);
         }
         is_owing
     }
 
-    /// Prints that lines of a kind were left out.
-    fn print_left_out<R: Eprint>(&mut self, rt: &R, kind: Kind, millis: u64, count: u64) {
-        if let Ok(fields) = left_out_fields(self.alloc, kind, count) {
-            let line = Line {
-                kind: Kind::LeftOut,
-                millis,
-                fields,
-            };
-            self.print(rt, &line);
+    /// Takes in how many lines of a kind were left out, and tells how many there are of them all,
+    /// where that is due.
+    fn settle<R: Clock + Eprint>(&mut self, rt: &R, kind: Kind, lost: u64, now: u64)
+        ensures { Gains self.old.books self.new.books kind lost }
+    {
+        self.books.leave_out(kind, lost);
+        let due = self.books.settle(kind, now);
+        if due > 0 {
+            let millis = millis_now(rt);
+            self.print_left_out(rt, kind, millis, due);
         }
     }
 
-    /// Prints a line by one call of the system. Without memory it is left out.
-    fn print<R: Eprint>(&mut self, rt: &R, line: &Line) {
+    /// Prints that lines of a kind were left out, if any were. Where there is no memory for that, it
+    /// is still to be told.
+    fn print_left_out<R: Eprint>(&mut self, rt: &R, kind: Kind, millis: u64, count: u64)
+        ensures { Gains self.old.books self.new.books kind count }
+    {
+        if count == 0 {
+            return;
+        }
+        let is_printed = match left_out_fields(self.alloc, kind, count) {
+            Ok(fields) => self.print(
+                rt,
+                &Line {
+                    kind: Kind::LeftOut,
+                    millis,
+                    fields,
+                },
+            ),
+            Err(_) => false,
+        };
+        if is_printed {
+            self.books.note(PrintedLine::LeftOut(kind, count));
+        } else {
+            self.books.leave_out(kind, count);
+        }
+    }
+
+    /// Prints a line by one call of the system, unless there is no memory for its text.
+    fn print<R: Eprint>(&mut self, rt: &R, line: &Line) -> bool
+        ensures { self.new.books ≡ self.old.books }
+    {
         self.text.clear();
         if line.append_to(self.has_priority, &mut self.text).is_err() {
-            return;
+            return false;
         }
         if let Ok(text) = str::from_utf8(self.text.as_slice()) {
             let _ = eprint!(rt; "{text}");
         }
+        true
     }
 
     /// Milliseconds since the thread began, or 0 where the clock can't be read.

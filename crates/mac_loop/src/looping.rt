@@ -23,7 +23,7 @@ use mac_decide::{Macaroons, SeenTokens};
 use mac_host::{Traffic, microseconds, microseconds_of};
 use mac_plain::{Came, Client, Round};
 use mac_queue::Desk;
-use mac_sockets::{Account, Connections, Inbox, WaitFault};
+use mac_sockets::{Account, Connections, Inbox, SharedBudget, WaitFault};
 use mio::{Token, Waker};
 use std::alloc::Global;
 use std::net::Net;
@@ -59,9 +59,8 @@ pub struct Loop {
     round: Round,
     parts: usize,
     shares: Shares,
-    // What its clients have of the memory of all, and how many bytes they hold.
+    // What its clients have of the memory of all, and hold of it.
     account: Account,
-    held: u64,
     // How many bytes may be unsent in this turn on a client that is read.
     unsent_max: usize,
     // How many looks at all loops there were.
@@ -95,12 +94,13 @@ pub struct LoopTerms {
     pub memory: u64,
 }
 
-/// The loops of these terms, which share a memory of tokens.
-pub fn make_loops<R: Net>(
+/// The loops of these terms, which share a memory of tokens, and the budget of what their clients hold.
+pub fn make_loops<R: Net + Wait>(
     rt: &R,
     alloc: Global,
     terms: LoopTerms,
     seen: &SeenTokens,
+    budget: &Arc<SharedBudget, Global>,
 ) -> Result<(Arc<Loops, Global>, Vec<Loop>), WaitFault> {
     let LoopTerms {
         count,
@@ -108,7 +108,6 @@ pub fn make_loops<R: Net>(
         may_share,
         memory,
     } = terms;
-    let account = Account::open(alloc, memory)?;
     let mut loops = Loops::new(alloc, may_share, memory);
     let mut made = Vec::with_capacity(alloc, count)?;
     for number in 0..count {
@@ -118,13 +117,12 @@ pub fn make_loops<R: Net>(
             number,
             alloc,
             waker: Some(members.waker()?),
+            account: Account::open(rt, budget, members.waker()?)?,
             members,
             batch: Batch::with_capacity(alloc, PARTS_MAX)?,
             round: Round::new(alloc, seen.share()?)?,
             parts: PARTS_MAX,
             shares: Shares::new(alloc, count)?,
-            account: account.share()?,
-            held: 0,
             unsent_max: 0,
             looks: 0,
             late: 0,

@@ -73,7 +73,7 @@ impl Loop {
         }
         loops.count_unsent(unsent, member.client.unsent());
         let (before, now) = member.count_held();
-        self.held = self.held.saturating_sub(before).saturating_add(now);
+        self.account.count(before, now);
         self.members.slots.list(asker.slot);
     }
 }
