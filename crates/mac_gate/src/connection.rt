@@ -5,7 +5,7 @@ ghost use Rattle.mac_gate.specs.Load.{held_by};
 ghost use Rattle.mac_gate.specs.Patience.{IsLeft};
 ghost use Rattle.mac_http.specs.Turn.{IsTurn};
 
-use crate::devices::{Heard, Spoken};
+use crate::devices::{Heard, READ_MAX, Spoken};
 use crate::gathering::Gathered;
 use crate::load::Load;
 use crate::weight::Weight;
@@ -150,7 +150,8 @@ impl HttpConnection {
 
     /// Takes a turn. A fault ends the connection.
     fn answer<S: Service>(&mut self, service: &mut S, now: u64) -> bool {
-        let mut heard = Heard::new(&self.stream, &mut self.gathered, self.has_more, now);
+        let limit = self.weight.read_limit(READ_MAX as u64) as usize;
+        let mut heard = Heard::new(&self.stream, &mut self.gathered, self.has_more, limit, now);
         let mut spoken = Spoken::new(&self.stream, self.has_room);
         let turned = answer_turn(&mut self.connection, service, &mut heard, &mut spoken);
         let (came, waited, has_gone) = (heard.came, spoken.waited, spoken.has_gone);

@@ -7,13 +7,15 @@ use std::io::{Read, Write};
 
 /// How many bytes one read takes at most. So a turn answers one long request at most, and as many
 /// bytes behind it.
-const READ_MAX: usize = 8_192;
+pub const READ_MAX: usize = 8_192;
 
 /// What is read of a stream.
 #[derive(Drop)]
 pub struct Heard<'a> {
     stream: &'a Stream,
     gathered: &'a mut Gathered,
+    // How many bytes the read takes at most.
+    limit: usize,
     now: u64,
     /// Whether it was read.
     pub was_read: bool,
@@ -24,17 +26,19 @@ pub struct Heard<'a> {
 }
 
 impl<'a> Heard<'a> {
-    /// A turn's reader, at this moment in microseconds, where there may be something to be read, or
-    /// not. Small pieces are gathered.
+    /// A turn's reader of so many bytes at most, at this moment in microseconds, where there may be
+    /// something to be read, or not. Small pieces are gathered.
     pub fn new(
         stream: &'a Stream,
         gathered: &'a mut Gathered,
         has_more: bool,
+        limit: usize,
         now: u64,
     ) -> Heard<'a> {
         Heard {
             stream,
             gathered,
+            limit,
             now,
             was_read: false,
             came: 0,
@@ -45,7 +49,7 @@ impl<'a> Heard<'a> {
 
 impl<'a> Read for Heard<'a> {
     fn read(&mut self, buf: &mut [u8]) -> io::Result<usize> {
-        let room = buf.len().min(READ_MAX);
+        let room = buf.len().min(self.limit);
         let outcome = self.stream.read_past_signals(&mut buf[..room]);
         self.was_read = true;
         match outcome {

@@ -82,6 +82,7 @@ impl HttpLoop {
             self.take_in_all(rt, alloc, server);
             self.advance_ready(rt, server, service);
             self.sweep(rt, server);
+            self.settle(rt, server);
             if is_closed && self.connections.count() == 0 {
                 return;
             }
@@ -95,11 +96,15 @@ impl HttpLoop {
         alloc: Global,
         server: &Shared,
     ) {
+        let mut has_come = false;
         for _ in rt.forever() {
             let Some(newcomer) = server.take(rt, self.number) else {
-                return;
+                break;
             };
             self.receive(rt, alloc, server, newcomer);
+            has_come = true;
+        }
+        if has_come {
             server.note_stalest(self.number, self.connections.stalest_since());
         }
     }
@@ -145,7 +150,7 @@ impl HttpLoop {
         }
         let ready = self.connections.count_ready();
         for turn in 0..=ready {
-            if !self.has_room(rt, server) {
+            if !self.connections.has_room(rt) {
                 break;
             }
             let next = if turn < ready {
@@ -158,24 +163,25 @@ impl HttpLoop {
                 self.advance(rt, server, service, slot);
             }
         }
-        self.connections.settle(rt);
     }
 
-    /// Whether there is memory for a turn. Where there is none, the connections that hold most are let
-    /// go until there is; or others are waited for that hold more.
-    fn has_room<R: Wait + Clock>(&mut self, rt: &R, server: &Shared) -> bool {
+    /// Gives back what turns haven't taken, and what those had who have left. Where some loop lacks
+    /// more than connections leave, those here that hold most are let go, as long as they hold much;
+    /// else a loop that lacks memory waits for others.
+    fn settle<R: Wait + Clock>(&mut self, rt: &R, server: &Shared) {
+        self.connections.settle(rt);
+        let mut has_ended = false;
         for _ in rt.forever() {
-            if self.connections.has_room(rt) {
-                return true;
-            }
             if !self.connections.drop_heaviest(rt) {
-                self.connections.await_others(rt);
-                return false;
+                break;
             }
             server.host().tell_heavy(rt);
             server.leave(rt, self.number);
+            has_ended = true;
         }
-        unreachable!()
+        if !has_ended {
+            self.connections.await_others(rt);
+        }
     }
 
     /// Has the connection of a slot do what it can.

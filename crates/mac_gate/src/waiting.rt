@@ -8,6 +8,7 @@ use mac_http::Way;
 use mac_sockets::{Account, Connections, Holds, REST_MIN, Readiness, SharedBudget, heaviest};
 use mio::{Token, Waker};
 use std::alloc::Global;
+use std::collections::VecDeque;
 use std::io;
 use std::net::Net;
 use std::sync::{Arc, Wait};
@@ -21,6 +22,13 @@ const OWED: u64 = 1_000_000;
 /// request, until it is answered, and for its response.
 const TURN_ROOM: u64 = 4_194_304;
 
+/// When a slot's connection is looked at, of which something came that was put off.
+#[derive(Clone, Copy)]
+struct PutOff {
+    slot: usize,
+    at: u64,
+}
+
 /// The connections of a loop, each in its slot.
 #[derive(Drop)]
 pub struct Waiting {
@@ -31,8 +39,10 @@ pub struct Waiting {
     dear: Turns,
     // Both in microseconds.
     patience: u64,
-    // Nobody has to be looked at before then of whom no event tells.
+    // Nobody has to be looked at before then of whom no event tells, but for those below.
     due: Option<u64>,
+    // Those of whom something came that was put off, the first one that is due in front.
+    put_off: VecDeque<PutOff>,
 }
 
 impl Waiting {
@@ -51,6 +61,7 @@ impl Waiting {
             dear: Turns::new(alloc),
             patience,
             due: None,
+            put_off: VecDeque::new(alloc),
         };
         Ok((waiting, waker))
     }
@@ -75,7 +86,7 @@ impl Waiting {
     pub fn wait<R: Clock>(&mut self, rt: &R) {
         let now = self.now();
         let due = if self.dear.is_empty() {
-            self.due
+            self.next_due()
         } else {
             Some(now)
         };
@@ -84,6 +95,39 @@ impl Waiting {
             None => None,
         };
         self.connections.wait(rt, patience);
+        self.look_again();
+    }
+
+    /// When somebody has to be looked at of whom no event tells.
+    fn next_due(&self) -> Option<u64> {
+        match (self.due, self.put_off.front()) {
+            (Some(due), Some(first)) => Some(due.min(first.at)),
+            (None, Some(first)) => Some(first.at),
+            (due, None) => due,
+        }
+    }
+
+    /// Lists those of whom something was put off until now.
+    fn look_again(&mut self) {
+        let now = self.now();
+        for _ in 0..self.put_off.len() {
+            match self.put_off.front() {
+                Some(first) if first.at <= now => {}
+                _ => return,
+            }
+            if let Some(first) = self.put_off.pop_front() {
+                self.connections.wake(first.slot, Readiness::UNTOLD);
+            }
+        }
+    }
+
+    /// Has the connection of a slot looked at so long from now; or all, where there is no memory to
+    /// note one.
+    fn look_later(&mut self, slot: usize, left: u64) {
+        let at = self.now().saturating_add(left);
+        if self.put_off.push_back(PutOff { slot, at }).is_err() {
+            self.expect(left);
+        }
     }
 
     /// Takes a connection in, and has the poll tell of it. Whether that could be.
@@ -142,31 +186,39 @@ impl Waiting {
         true
     }
 
-    /// Has the memory that one turn may take. Whether there is as much.
-    pub fn has_room<R: Wait>(&mut self, rt: &R) -> bool {
-        self.account.has_room(rt, TURN_ROOM)
+    /// Whether one is ready, or has its turn among those with a dear request.
+    fn has_turn(&self) -> bool {
+        self.connections.slots.has_ready() || !self.dear.is_empty()
     }
 
-    /// Gives back what turns haven't taken.
+    /// Has the memory that one turn may take, where one is due. Whether there is as much.
+    pub fn has_room<R: Wait>(&mut self, rt: &R) -> bool {
+        let more = if self.has_turn() { TURN_ROOM } else { 0 };
+        self.account.has_room(rt, more)
+    }
+
+    /// Gives back what turns haven't taken, and what those had who have left.
     pub fn settle<R: Wait>(&mut self, rt: &R) {
         let _ = self.account.settle(rt);
     }
 
-    /// Lets the connection go that holds most, where those here hold much of what all do. Whether
-    /// there is one.
+    /// Lets the connection go that holds most, where one of this loop is to end. Whether there is
+    /// one.
     pub fn drop_heaviest<R: Wait>(&mut self, rt: &R) -> bool {
-        if !self.account.holds_much(rt) {
+        if !self.account.must_end(rt) {
             return false;
         }
-        match heaviest(&self.connections.slots) {
-            Some(heavy) => self.release(heavy.slot),
-            None => false,
-        }
+        let Some(heavy) = heaviest(&self.connections.slots) else {
+            return false;
+        };
+        let is_gone = self.release(heavy.slot);
+        self.settle(rt);
+        is_gone
     }
 
-    /// Where a turn is due, has the other loops look, whose connections may hold more.
+    /// Where there was no memory for a turn that is due, waits for what other loops give back.
     pub fn await_others<R: Wait + Clock>(&self, rt: &R) {
-        if self.connections.slots.has_ready() || !self.dear.is_empty() {
+        if self.account.lacks() && self.has_turn() {
             self.account.await_others(rt);
         }
     }
@@ -266,7 +318,7 @@ impl Waiting {
             self.expect(left);
         }
         if let Some(micros) = due_in {
-            self.expect(micros);
+            self.look_later(slot, micros);
         }
         if is_owed {
             self.expect(OWED);

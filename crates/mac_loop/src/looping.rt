@@ -184,6 +184,7 @@ impl Loop {
             self.serve_ready(rt, loops, outlook, asks, watch);
             self.sweep(rt, loops, watch);
             self.keep_time(rt, loops, outlook, watch);
+            self.settle(rt, loops, watch);
             if self.members.slots.count() == 0 && loops.is_closed() {
                 return;
             }
@@ -334,7 +335,6 @@ impl Loop {
             .serve(rt, &mut self.round, threads, outlook, unsent_max);
         loops.end_turn();
         self.finish_turn(rt, loops, outlook, asks, watch);
-        self.settle(rt, loops, watch, is_room, growth);
     }
 
     /// Does what the clients of a turn have left to do, and tells what the turn came to.

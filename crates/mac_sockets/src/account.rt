@@ -1,7 +1,7 @@
 //! What each of several loops has of a budget of memory that all share.
 
-ghost use Rattle.std.specs.Prelude.{◌≡◌, ◌≤◌, if◌then◌else◌, IsTrue};
-ghost use Rattle.mac_sockets.specs.Budget.{counted, is_much, plus_more};
+ghost use Rattle.std.specs.Prelude.{◌≡◌, ◌≤◌, ◌-◌, if◌then◌else◌, not, IsTrue};
+ghost use Rattle.mac_sockets.specs.Budget.{counted, is_much, plus_more, wanted_behind};
 
 use crate::budget::Budget;
 use mio::Waker;
@@ -52,10 +52,11 @@ impl SharedBudget {
         }
     }
 
-    /// How many bytes all have together.
-    fn taken<R: Wait>(&self, rt: &R) -> u64 {
+    /// How many bytes the connections of all loops hold, where these leave less than some loop
+    /// wants.
+    fn held_in_want<R: Wait>(&self, rt: &R) -> Option<u64> {
         let budget = self.budget.lock(rt);
-        budget.taken()
+        budget.held_in_want()
     }
 }
 
@@ -65,6 +66,12 @@ pub struct Account {
     budget: Arc<SharedBudget, Global>,
     taken: u64,
     held: u64,
+    // What the budget knows of what they hold.
+    told: u64,
+    // Whether there was less than it asked for when it asked last.
+    lacks: bool,
+    // What others know that it wants.
+    wants: u64,
 }
 
 impl Account {
@@ -80,6 +87,9 @@ impl Account {
             budget,
             taken: 0,
             held: 0,
+            told: 0,
+            lacks: false,
+            wants: 0,
         })
     }
 
@@ -92,20 +102,28 @@ impl Account {
     }
 
     /// Has what its connections hold and so much besides. Whether there is as much: else it has what
-    /// it had.
+    /// it had. A first lack may be a moment's, as other loops give back what their turns haven't
+    /// taken; at the next one in a row others know what it wants.
     pub fn has_room<R: Wait>(&mut self, rt: &R, more: u64) -> bool
         ensures taken { self.new.taken
             ≡ (if result then plus_more self.old.held more else self.old.taken) }
         ensures held { self.new.held ≡ self.old.held }
+        ensures lacks { self.new.lacks ≡ not result }
+        ensures wants { self.new.wants ≡ wanted_behind result self.old.lacks more }
     {
         let most = self.held.saturating_add(more);
-        self.hold(rt, most)
+        let is_room = self.hold(rt, most);
+        let wants = if is_room || !self.lacks { 0 } else { more };
+        self.want(rt, wants);
+        self.lacks = !is_room;
+        is_room
     }
 
     /// Has what its connections hold, and gives back what it has besides. Whether there is as much.
     pub fn settle<R: Wait>(&mut self, rt: &R) -> bool
         ensures taken { self.new.taken ≡ (if result then self.old.held else self.old.taken) }
         ensures held { self.new.held ≡ self.old.held }
+        ensures told { self.new.told ≡ self.old.held }
         ensures less { self.old.held ≤ self.old.taken → IsTrue result }
     {
         let held = self.held;
@@ -113,14 +131,20 @@ impl Account {
     }
 
     /// Has so many bytes from now on: takes what is lacking, where as much is left, or gives back
-    /// what is over. Whether it has them: else it has what it had.
+    /// what is over. Whether it has them: else it has what it had. Others know what its connections
+    /// hold.
     fn hold<R: Wait>(&mut self, rt: &R, count: u64) -> bool
         ensures taken { self.new.taken ≡ (if result then count else self.old.taken) }
         ensures held { self.new.held ≡ self.old.held }
+        ensures told { self.new.told ≡ self.old.held }
         ensures less { count ≤ self.old.taken → IsTrue result }
+        ensures lacks { self.new.lacks ≡ self.old.lacks }
+        ensures wants { self.new.wants ≡ self.old.wants }
     {
         let mut budget = self.budget.budget.lock(rt);
         let budget = &mut *budget;
+        budget.note_held(self.told, self.held);
+        self.told = self.held;
         if count <= self.taken {
             budget.give(self.taken - count);
         } else if !budget.take(count - self.taken) {
@@ -130,14 +154,53 @@ impl Account {
         true
     }
 
-    /// Whether its connections hold much of what all loops have.
-    pub fn holds_much<R: Wait>(&self, rt: &R) -> bool {
-        is_much(self.held, self.budget.loops(rt), self.budget.taken(rt))
+    /// Others know that it wants so much.
+    fn want<R: Wait>(&mut self, rt: &R, wants: u64)
+        ensures wants { self.new.wants ≡ wants }
+        ensures taken { self.new.taken ≡ self.old.taken }
+        ensures held { self.new.held ≡ self.old.held }
+    {
+        if self.wants == 0 && wants == 0 {
+            return;
+        }
+        let mut budget = self.budget.budget.lock(rt);
+        let budget = &mut *budget;
+        budget.note_wanted(self.wants, wants);
+        self.wants = wants;
     }
 
-    /// Has the other loops look, whose connections may hold more, and waits for a moment.
+    /// So much less is wanted, as a connection has ended that might have grown by as much.
+    pub fn want_less<R: Wait>(&mut self, rt: &R, less: u64)
+        ensures wants { self.new.wants ≡ self.old.wants - less }
+        ensures taken { self.new.taken ≡ self.old.taken }
+        ensures held { self.new.held ≡ self.old.held }
+    {
+        let wants = self.wants.saturating_sub(less);
+        self.want(rt, wants);
+    }
+
+    /// Whether there was less than it asked for when it asked last.
+    pub fn lacks(&self) -> bool
+        ensures { result ≡ self.now.lacks }
+    {
+        self.lacks
+    }
+
+    /// Whether one of its connections is to end: the connections of all leave less than some loop
+    /// wants, and those here hold much of what all do.
+    pub fn must_end<R: Wait>(&self, rt: &R) -> bool {
+        match self.budget.held_in_want(rt) {
+            Some(all) => is_much(self.held, self.budget.loops(rt), all),
+            None => false,
+        }
+    }
+
+    /// Waits for a moment, for what other loops give back. Where they know that it lacks memory, they
+    /// look, whose connections may hold more.
     pub fn await_others<R: Wait + Clock>(&self, rt: &R) {
-        self.budget.wake_all(rt);
+        if self.wants > 0 {
+            self.budget.wake_all(rt);
+        }
         thread::sleep(rt, Duration::from_millis(PAUSE_MILLIS));
     }
 }

@@ -25,61 +25,40 @@ impl Loop {
         self.account.count(member.note.held, 0);
     }
 
-    /// Has the memory that a turn may take, whose clients may hold so much more behind it. Whether
-    /// there is as much: else nobody is to be read.
+    /// Has the memory that the turn of its batch may take, whose clients may hold so much more behind
+    /// it. Whether there is as much: else nobody is to be read.
     pub(super) fn has_room<R: Wait>(&mut self, rt: &R, growth: u64) -> bool {
-        self.account.has_room(rt, growth.saturating_add(TURN_ROOM))
+        let more = if self.batch.is_empty() {
+            0
+        } else {
+            growth.saturating_add(TURN_ROOM)
+        };
+        self.account.has_room(rt, more)
     }
 
-    /// Gives back what a turn hasn't taken. Where there was no room for it, the clients that hold
-    /// most are ended, until there is; or others are waited for that hold more.
-    pub(super) fn settle<R: Wait + Clock, W: Watch>(
-        &mut self,
-        rt: &R,
-        loops: &Loops,
-        watch: &W,
-        was_room: bool,
-        growth: u64,
-    ) {
-        if was_room && self.account.settle(rt) {
-            return;
-        }
-        self.make_room(rt, loops, watch, growth);
+    /// Gives back what a turn hasn't taken, and what those had who have left. Where some loop lacks
+    /// more than clients leave, those here that hold most are ended, as long as they hold much; else
+    /// a loop that lacks memory waits for others.
+    pub(super) fn settle<R: Wait + Clock, W: Watch>(&mut self, rt: &R, loops: &Loops, watch: &W) {
         let _ = self.account.settle(rt);
-    }
-
-    /// Ends the clients that hold most until there is room for a turn.
-    fn make_room<R: Wait + Clock, W: Watch>(
-        &mut self,
-        rt: &R,
-        loops: &Loops,
-        watch: &W,
-        growth: u64,
-    ) {
-        let mut growth = growth;
+        let mut has_ended = false;
         for _ in rt.forever() {
-            if self.has_room(rt, growth) {
-                return;
-            }
             let Some(Heavy { slot, held, .. }) = self.heaviest(rt) else {
-                self.await_others(rt);
-                return;
+                break;
             };
-            growth = growth.saturating_sub(held);
             self.end(rt, loops, watch, slot, Some(PlainFault::Heavy));
+            self.account.want_less(rt, held);
+            let _ = self.account.settle(rt);
+            has_ended = true;
         }
-    }
-
-    /// Where a client waits to be read, has the other loops look, whose clients may hold more.
-    fn await_others<R: Wait + Clock>(&self, rt: &R) {
-        if self.members.slots.has_ready() {
+        if !has_ended && self.account.lacks() && self.members.slots.has_ready() {
             self.account.await_others(rt);
         }
     }
 
-    /// The client that holds most, where its clients hold much of what those of all loops do.
+    /// The client that holds most, where one of this loop is to end.
     fn heaviest<R: Wait>(&self, rt: &R) -> Option<Heavy> {
-        if self.account.holds_much(rt) {
+        if self.account.must_end(rt) {
             heaviest(&self.members.slots)
         } else {
             None
