@@ -16,6 +16,9 @@ Then 8 and 60 clients send the dearest requests without end, tokens in JSON of 3
 small verify is timed beside them: its median, its 99th percentile and its longest wait are told. The
 same is done over HTTP.
 
+Then 64 and 640 clients send requests of 5 KiB whose replies have 30, and read them slowly, some 36 KB in
+ten seconds; once what they sent first is answered, a verify of 8 KiB is timed beside them.
+
 Then 63 clients that never read send requests whose replies are the largest beside them, as many as
 the daemon takes, and the daemon, now with all arenas, stays below PEAK_MAX. Asks for bin/macaroond,
 or the program that MACAROOND names.
@@ -37,7 +40,7 @@ import time
 sys.path.insert(0, str(pathlib.Path(__file__).resolve().parents[1]))
 from common import daemon, programs
 from common.daemon import awaited, come_to, frame
-from common.processes import mebibytes, status
+from common.processes import allow_descriptors, mebibytes, status
 
 import client
 import request
@@ -54,6 +57,11 @@ SILENT, PEAK_MAX = 63, 450
 # how many seconds of its waits the 99th percentile may be, on a machine that does other work too; and
 # over HTTP, where a loop answers what is dear, on one that does no other.
 CROWDS, DEAR_SECONDS, DEAR_WAIT_MAX, HTTP_WAIT_MAX = (8, 60), 3, 0.5, 0.01
+# How many clients read slowly, how many bytes each of them a second, and what each of them sends at most. For how
+# many seconds another is timed beside them, in how many waits in a row what they sent first is known to be answered,
+# within how many seconds that has to be, and how many seconds of its waits the 99th percentile may be.
+SLOW_CROWDS, SLOW_BYTES, SLOW_REQUESTS = (64, 640), 3_600, 40
+SLOW_SECONDS, QUICK_WAITS, SLOW_SETTLING, SLOW_WAIT_MAX = 3, 50, 30, 0.1
 # A caveat that JSON writes with six letters for a byte, and how many of them fill a token.
 CONTROL, CONTROLS = "hex:" + "01" * 1000, 5
 
@@ -246,13 +254,18 @@ def waits_beside(grants, path, text, count):
     return sorted(waits)
 
 
+def told_of(waits):
+    """How many waits there were, and how long: in the middle, at the 99th percentile, and the longest."""
+    median, late = waits[len(waits) // 2], waits[len(waits) * 99 // 100]
+    return f"{len(waits)} times: p50 {median * 1000:.2f} ms, p99 {late * 1000:.1f} ms, the longest {waits[-1] * 1000:.0f} ms"
+
+
 def late_beside(where, most, *asked):
     """What is wrong with the waits of a client beside others with dear requests there, if anything."""
     for count in CROWDS:
         waits = waits_beside(*asked, count)
-        median, late = waits[len(waits) // 2], waits[len(waits) * 99 // 100]
-        told = f"p50 {median * 1000:.2f} ms, p99 {late * 1000:.1f} ms, the longest {waits[-1] * 1000:.0f} ms"
-        print(f"hostile: a small verify {where} beside {count} clients with dear requests, {len(waits)} times: {told}")
+        late = waits[len(waits) * 99 // 100]
+        print(f"hostile: a small verify {where} beside {count} clients with dear requests, {told_of(waits)}")
         if late > most:
             yield f"{where} beside {count} clients with dear requests a small verify waited {late:.3f} s (p99)"
 
@@ -308,6 +321,65 @@ def fill(path, pid):
         yield f"the daemon had {size:.0f} MiB still after {SETTLING} seconds"
 
 
+def reads_slowly(path, text, count, is_over):
+    """So many connections on which this goes out as far as it is taken, and what is answered is read slowly."""
+    allow_descriptors(count + 100)
+    rest = {connected(path): memoryview(text * SLOW_REQUESTS) for _ in range(count)}
+    for one in rest:
+        one.setblocking(False)
+    while not is_over.is_set():
+        for one in rest:
+            with contextlib.suppress(BlockingIOError):
+                one.recv(SLOW_BYTES // 4)
+            with contextlib.suppress(BlockingIOError):
+                rest[one] = rest[one][one.send(rest[one]) :] if rest[one] else rest[one]
+        time.sleep(0.25)
+
+
+def wait_for(asked, text):
+    """How many seconds a verify waits that is granted."""
+    begin = time.monotonic()
+    if asked.ask(text) != b"\x00":
+        raise SystemExit("hostile: a large verify was not granted")
+    return time.monotonic() - begin
+
+
+def await_quick(asked, text):
+    """Waits until so many replies in a row come in time."""
+    quick, until = 0, time.monotonic() + SLOW_SETTLING
+    while quick < QUICK_WAITS and time.monotonic() < until:
+        quick = quick + 1 if wait_for(asked, text) < SLOW_WAIT_MAX else 0
+
+
+def large_waits(path):
+    """The seconds that verifies of 8 KiB wait, sorted, once they are quick."""
+    with client.Client(path, timeout=SLOW_SETTLING) as asked:
+        token = asked.ask(request.mint("v2-binary", "bank", "", "a"))[1:]
+        large = request.verify("bank", "hex:" + token.hex(), 0, *["a" * 250] * 32)
+        await_quick(asked, large)
+        until, waits = time.monotonic() + SLOW_SECONDS, []
+        while time.monotonic() < until:
+            waits.append(wait_for(asked, large))
+            time.sleep(0.002)
+    return sorted(waits)
+
+
+def beside_slow(path):
+    """What is wrong with the waits of a client with verifies of 8 KiB beside others that read slowly, if anything."""
+    text = largest_reply(path)
+    for count in SLOW_CROWDS:
+        is_over = multiprocessing.Event()
+        crowd = multiprocessing.Process(target=reads_slowly, args=(path, text, count, is_over), daemon=True)
+        crowd.start()
+        waits = large_waits(path)
+        is_over.set()
+        crowd.join(timeout=30)
+        late = waits[len(waits) * 99 // 100]
+        print(f"hostile: a verify of 8 KiB beside {count} clients that read slowly, {told_of(waits)}")
+        if late > SLOW_WAIT_MAX:
+            yield f"beside {count} clients that read slowly a verify of 8 KiB waited {late:.3f} s (p99)"
+
+
 def listening(*words):
     """A daemon that listens: its socket's path and its process."""
     return daemon.listening("--workers", "4", *words, stderr=subprocess.DEVNULL)
@@ -319,6 +391,8 @@ def faults(seconds):
         found = [*soak(path, run.pid, seconds)]
     with tempfile.TemporaryDirectory() as folder, listening("--http", f"unix:{folder}/http") as (path, _):
         found += beside_dear(path, f"{folder}/http")
+    with listening() as (path, _):
+        found += beside_slow(path)
     with listening() as (path, run):
         found += fill(path, run.pid)
     return [f"hostile: {fault}" for fault in found]

@@ -1,6 +1,7 @@
 //! The loop that accepts the connections of sockets: so many of them, or until it is shut.
-ghost use Rattle.std.specs.Prelude.{◌≡◌, ◌<◌, length, IfOk, IsTrue, Some};
+ghost use Rattle.std.specs.Prelude.{◌≡◌, ◌<◌, length, IfOk, IfSome, IsTrue, Some};
 ghost use Rattle.mac_daemon.specs.Day.{MeetsCount};
+ghost use Rattle.mac_daemon.specs.Gift.{GivesAt};
 ghost use Rattle.mac_host.specs.Badge.{socket_of_door};
 ghost use Rattle.mac_sockets.specs.Entrance.{doors_of, taken_of};
 
@@ -113,7 +114,9 @@ where
 /// A connection that came in, with what its door gives.
 fn receive<R: Clock>(rt: &R, entrance: &Entrance<Gift>, arrived: Arrived, quay: &Quay) -> Newcomer
     requires { arrived.door < length (doors_of entrance.now) }
-    ensures { result.badge.socket ≡ socket_of_door arrived.door }
+    ensures badge { result.badge.socket ≡ socket_of_door arrived.door }
+    ensures rights { IfSome result.rights (λ gift.
+        GivesAt (doors_of entrance.now) arrived.door gift.value) }
 {
     let Arrived { stream, door } = arrived;
     let rights = Arc::try_clone(entrance.gift(door)).ok();

@@ -12,7 +12,7 @@ ghost use Rattle.mac_wire.specs.declared.session.Session.{Session};
 ghost use Rattle.mac_decide.specs.declared.rights.Rights.{Rights};
 ghost use Rattle.mac_plain.specs.Asking.{IsAsked};
 ghost use Rattle.mac_plain.specs.Client.{Answers, HasAnswered, IsPromised, Serves, asked_job, may_move, replies};
-ghost use Rattle.mac_plain.specs.Lives.{IsUnder, Lives, Rests, Said, SaidAll};
+ghost use Rattle.mac_plain.specs.Lives.{IsOfWorld, IsUnder, Lives, Rests, Said, SaidAll};
 ghost use Rattle.mac_plain.specs.declared.course.Course.{Course};
 ghost use Rattle.mac_plain.specs.Rounds.{AnswersUnder, ServesUnder};
 ghost use Rattle.mac_plain.specs.declared.client.Client.{Client};
@@ -104,6 +104,13 @@ pub fn lives_are_said()
 pub fn what_rests_is_said()
     ensures { (rights : Rights) (came went : List ℕ) (session : Session)
         → Rests rights came went session → Said rights came went }
+{}
+
+/// So what was written on a connection is what a connection of the world comes to, in some order of
+/// events: all that holds there in every order holds of it.
+pub fn lives_are_of_the_world()
+    ensures { (rights : Rights) (came went : List ℕ)
+        → Said rights came went → IsOfWorld rights came went }
 {}
 
 /// Of a life whose peer sends no more, of which nothing is carried and nothing is unsent, all that

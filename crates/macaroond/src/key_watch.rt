@@ -1,4 +1,8 @@
 //! The daemon whose keys follow its key file.
+
+ghost use Rattle.std.specs.Prelude.{IfOk};
+ghost use Rattle.macaroond.specs.Rights.{GiveInOrder};
+
 use crate::doors::{OpenDoors, open_doors};
 use crate::http::HttpPlan;
 use crate::operating::{OPERATORS_LOOPS, open_status, operators_terms, warn_of_no_status};
@@ -224,6 +228,7 @@ fn open_own<R>(
 ) -> Result<Doors<Gift>, DaemonFault>
 where
     R: Alloc<A = Global> + Files<File = File> + Net + Clock + Wait,
+    ensures { IfOk result (GiveInOrder rights side) }
 {
     let mut doors = Doors::new(rt.alloc());
     let gift = give(rt.alloc(), rights)?;
