@@ -74,7 +74,11 @@ impl Budget {
     pub fn note_wanted(&mut self, before: u64, now: u64)
         ensures { self.new ≡ with_wanted self.old (most_wanted self.old.wanted before now) }
     {
-        let others = if self.wanted == before { 0 } else { self.wanted };
+        let others = if self.wanted == before {
+            0
+        } else {
+            self.wanted
+        };
         self.wanted = others.max(now);
     }
 
