@@ -38,5 +38,5 @@ pub all-counted : (counts : List ℕ) (jobs : List JobView) (replies : List Repl
     → with_all_counted counts (requests_of (map viewed (drop i jobs)) (drop i replies)) ≡ counts
 all-counted counts jobs replies i over =
     ⊎_elim (λ (h : length jobs ≤ i). ap (λ (l : List JobView). with_all_counted counts (requests_of (map viewed l) (drop i replies))) (drop_all i jobs h))
-        (λ (h : length replies ≤ i). ap (λ (l : List Reply). with_all_counted counts (requests_of (map viewed (drop i jobs)) l)) (drop_all i replies h)
-        ∙ ap (with_all_counted counts) (none-left (map viewed (drop i jobs)))) (past-one (length jobs) (length replies) i over)
+    (λ (h : length replies ≤ i). ap (λ (l : List Reply). with_all_counted counts (requests_of (map viewed (drop i jobs)) l)) (drop_all i replies h)
+    ∙ ap (with_all_counted counts) (none-left (map viewed (drop i jobs)))) (past-one (length jobs) (length replies) i over)
