@@ -11,14 +11,14 @@ use Rattle.mac_daemon.proofs.quay.Quay.TheSendSync as quay
 use Rattle.mac_daemon.specs.contracts.fleet.FleetParts as FleetParts
 use Rattle.mac_daemon.specs.contracts.fleet.Idlers as Idlers
 use Rattle.mac_decide.proofs.rights.Rights.TheSendSync as rights
-use Rattle.mac_loop.proofs.Sent.{loop_sent, loop_field_sent, loops_sent, loops_field_sent, loops_shared, loops_field_shared}
+use Rattle.mac_loop.proofs.Sent.{loop_sent, loops_sent, loops_shared}
 use Rattle.mac_sockets.proofs.entrance.Entrance.TheSendSync as entrance
 
 pub idlers_field_sent : IsSend (Idlers.the_field).row
-idlers_field_sent = search (sendable, crosses, loop_sent, loop_field_sent, loops_sent, loops_field_sent, loops_shared, loops_field_shared) depth 20
+idlers_field_sent = search (sendable, crosses, loop_sent, loops_sent, loops_shared) depth 20
 
 pub parts_sent : IsSend FleetParts.the_row
-parts_sent = search (sendable, crosses, idlers_field_sent, entrance.the_send, entrance.the_field_send, rights.the_send, rights.the_field_send, rights.the_sync, rights.the_field_sync, quay.the_send, quay.the_field_send, quay.the_sync, quay.the_field_sync) depth 20
+parts_sent = search (sendable, crosses, idlers_field_sent, entrance.the_field_send, rights.the_send, rights.the_sync, quay.the_send, quay.the_sync) depth 20
 
 -- what a thread captured: five values, or six
 pub five_sent : (ν : Sym) (A B C D E : RattleType) → IsSend A → IsSend B → IsSend C → IsSend D → IsSend E → IsSend (TupleAt ν (A ∷ B ∷ C ∷ D ∷ E ∷ []))
