@@ -87,9 +87,11 @@ completions:
 	scripts/build/completions.py
 
 # What stands in pages and is made of other files: the counts, laws and wrong bodies in the pages of promises, from
-# the tree; docs/architecture.svg, from docs/architecture.dot, where Graphviz is there or the text is as it was.
+# the tree; what crates cost, from docs/proof-times.txt; docs/architecture.svg, from docs/architecture.dot, where
+# Graphviz is there or the text is as it was.
 pages:
 	scripts/check/promises.py
+	scripts/check/costs.py
 	scripts/check/draw.py
 
 # The vectors, from what try_cases answers to their rows, and the scoreboard, from what each library does with them.
@@ -133,11 +135,14 @@ clients:
 
 # Four workers, 64 desks of two threads, pauses by chance, on two processors: 19,200 posts, then 1,000,320 of them.
 # A wait that nobody ends shows as a run that doesn't end. Then hostile clients of the daemon, beside one that
-# compares every reply, and clients that never read. After make build build-runs.
+# compares every reply, and clients that never read; crowds of 10,000 clients that hold what they may, which take
+# 20,100 descriptors; and tokens taken back under 100,000 requests. After make build build-runs.
 MINUTES = 1
 soak:
 	scripts/faults/soak.sh
 	scripts/faults/hostile.py $(MINUTES)
+	scripts/faults/bounded.py 10000
+	scripts/check/revoking.py
 
 # nginx, HAProxy, three daemons, both faces and both clients together: keys change each ten seconds, a daemon is
 # replaced each minute, and nothing may be wrong, lost or grow. After make build.

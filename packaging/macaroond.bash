@@ -22,9 +22,9 @@ _macaroond() {
         --verify-mode) words=(600 660 666) ;;
         --http-mode) words=(600 660 666) ;;
         --http-calls-mode) words=(600 660 666) ;;
-        --form) words=(v1 v2 json v2-text) ;;
+        --form) words=(v1-text v2-text v2-binary v2-json) ;;
         --key) mapfile -t words < <(_macaroond_key_names) ;;
-        --workers | --accept | --idle | --loops | --connections | --drain | --remember | --names | --verify-names | --log | --http | --http-anywhere | --http-connections | --http-patience | --http-granted | --http-facts | --http-names | --http-calls | --http-calls-allow | --http-calls-names | --http-allow | --http-admin | --address | --location | --identifier | --caveat | --fact | --at) return ;;
+        --workers | --accept | --idle | --loops | --connections | --drain | --remember | --memory | --names | --verify-names | --verify-connections | --log | --http | --http-anywhere | --http-connections | --http-patience | --http-granted | --http-facts | --http-names | --http-calls | --http-calls-allow | --http-calls-names | --http-allow | --http-admin | --address | --location | --identifier | --caveat | --fact | --at) return ;;
         *)
             if ((COMP_CWORD == 1)); then
                 words=(pipe serve listen page keygen check mint attenuate verify inspect status revoke --help --version)
@@ -32,13 +32,13 @@ _macaroond() {
                 case ${COMP_WORDS[1]} in
                     pipe) words=(--revoked --help) ;;
                     serve) words=(--socket --keys --workers --accept --keys-of-others --revoked --help) ;;
-                    listen) words=(--socket --keys --workers --mode --idle --loops --connections --drain --remember --names --verify-socket --verify-mode --verify-names --replace --log --keys-of-others --revoked --allow-empty-revoked --http --http-anywhere --http-mode --http-connections --http-patience --http-granted --http-facts --http-strict-paths --http-names --http-calls --http-calls-mode --http-calls-allow --http-calls-names --http-allow --http-admin --help) ;;
+                    listen) words=(--socket --keys --workers --mode --idle --loops --connections --drain --remember --memory --names --verify-socket --verify-mode --verify-names --verify-connections --replace --log --keys-of-others --revoked --allow-empty-revoked --http --http-anywhere --http-mode --http-connections --http-patience --http-granted --http-facts --http-strict-paths --http-names --http-calls --http-calls-mode --http-calls-allow --http-calls-names --http-allow --http-admin --help) ;;
                     page) words=(--address --keys --revoked --help) ;;
                     keygen) words=(--into --above --below --raise --drop --drop-first --help) ;;
                     check) words=(--keys --revoked --help) ;;
                     mint) words=(--keys --key --location --identifier --caveat --form --help) ;;
                     attenuate) words=(--caveat --form --help) ;;
-                    verify) words=(--keys --key --fact --at --revoked --help) ;;
+                    verify) words=(--keys --key --fact --at --revoked --explain --help) ;;
                     inspect) words=(--key --help) ;;
                     status) words=(--socket --prometheus --connections --help) ;;
                     revoke) words=(--into --drop --identifier --help) ;;

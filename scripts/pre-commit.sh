@@ -17,5 +17,5 @@ if [ -n "$changed" ] && command -v rt > /dev/null; then
 fi
 # A commit made in a hook's surroundings is not this repository's alone.
 unset GIT_INDEX_FILE GIT_DIR
-exec scripts/outside.py covering promises pages quotes unused "wrong bodies apply" \
+exec scripts/outside.py covering promises costs pages quotes unused "wrong bodies apply" \
     "lint of Python" "lint of shells" "lint of Go"

@@ -459,7 +459,7 @@ func TestCancelled(t *testing.T) {
 // Calls that are out together end each in its own time, also where the first of them were
 // answered, and where none was out for a while.
 func TestEachInItsTime(t *testing.T) {
-	const timeout = 200 * time.Millisecond
+	const timeout = 500 * time.Millisecond
 	answersThree := func(s *stream) {
 		for range s.requests(3) {
 			s.reply(granted)

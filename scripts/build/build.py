@@ -52,6 +52,7 @@ class Record(typing.NamedTuple):
 
 
 def version():
+    """The version of the release that is here, or of the last one."""
     return (TOP / "VERSION").read_text().strip()
 
 

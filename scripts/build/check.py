@@ -19,7 +19,7 @@ from common import crates, programs
 def main(names):
     programs.stop_without_toolchain()
     if not names or (unknown := [it for it in names if it not in crates.uses()]):
-        raise SystemExit(f"there is no crate {' '.join(unknown)}" if names else __doc__.split("\n\n")[1].strip())
+        raise SystemExit(f"there is no crate {' '.join(unknown)}" if names else "say which crate: make check mac_keys")
     with proving.at_work():
         proving.prove_all(names)
         above = dict.fromkeys(it for name in names for it in crates.above(name))

@@ -16,7 +16,7 @@ from common import TOP, programs, runs
 PACKAGING = TOP / "packaging"
 BASH, ZSH = PACKAGING / "macaroond.bash", PACKAGING / "_macaroond"
 # What an option takes, by the name that help has for its value. Help says these words too.
-CHOICES = {"FORM": ["v1", "v2", "json", "v2-text"], "DIGITS": ["600", "660", "666"]}
+CHOICES = {"FORM": ["v1-text", "v2-text", "v2-binary", "v2-json"], "DIGITS": ["600", "660", "666"]}
 FILES = {"FILE", "PATH"}
 # The option whose value is one of the names in the file of another one.
 KEY, KEYS = "--key", "--keys"

@@ -26,6 +26,7 @@ import time
 
 sys.path.insert(0, str(pathlib.Path(__file__).resolve().parents[1]))
 from build import build
+from build.build import version
 from common import TOP
 
 DIST = TOP / "dist"
@@ -44,11 +45,6 @@ SNAPSHOT = """macaroond ({version}-1) unstable; urgency=medium
 """
 # Where a .tar.gz that is unpacked for all users lies, and what its unit names.
 PREFIX = "/usr/local"
-
-
-def version():
-    """The version of the release that is here, or of the last one."""
-    return (TOP / "VERSION").read_text().strip()
 
 
 def is_released():

@@ -2,12 +2,11 @@
 the paths over HTTP."""
 import json
 import os
-import socket
 import tempfile
 
 from check.http_sockets import bearing, response
 from common import TOP
-from common.daemon import PATIENCE, listening
+from common.daemon import connected, listening
 
 from macaroond import Client
 
@@ -20,9 +19,7 @@ CAVEAT_MAX = 4_096
 
 def answer(path, token, target):
     """What a gateway is answered that was asked for this target: the status, and the reason."""
-    with socket.socket(socket.AF_UNIX) as stream:
-        stream.settimeout(PATIENCE)
-        stream.connect(path)
+    with connected(path) as stream:
         field = f"X-Forwarded-Uri: {target}" if target else "X-Forwarded-Uri:"
         stream.sendall(bearing(token, field))
         status, fields, _, _ = response(stream)

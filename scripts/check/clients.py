@@ -16,14 +16,13 @@ import shutil
 import subprocess
 import sys
 import tempfile
-import time
 import urllib.error
 import urllib.request
 
 sys.path.insert(0, str(pathlib.Path(__file__).resolve().parents[1]))
 from check import client_cases, client_paths, client_tokens, client_words, peers
 from common import TOP, programs
-from common.daemon import free_port, listening
+from common.daemon import awaited, free_port, listening
 
 PYTHON, GO = TOP / "clients" / "python", TOP / "clients" / "go"
 GO_LIBRARIES = pathlib.Path("/usr/share/gocode")
@@ -97,15 +96,17 @@ def status_of(port, path, token=None):
     asked = urllib.request.Request(f"http://127.0.0.1:{port}{path}")
     if token is not None:
         asked.add_header("Authorization", f"Bearer {token}")
-    for _ in range(200):
+
+    def came():
         try:
             with urllib.request.urlopen(asked, timeout=30) as response:
                 return response.status, response.read().decode()
         except urllib.error.HTTPError as refused:
             return refused.code, ""
         except urllib.error.URLError:
-            time.sleep(0.05)
-    return 0, "the service doesn't come up"
+            return None
+
+    return awaited(came) or (0, "the service doesn't come up")
 
 
 # What the example services answer to a path and a token.

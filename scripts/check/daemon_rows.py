@@ -12,8 +12,8 @@ import tempfile
 import threading
 import time
 
-from common import logged, runs
-from common.daemon import PATIENCE, connected, frame, received, refused, running, serve_command, serving
+from common import logged
+from common.daemon import PATIENCE, connected, frame, received, refused, running, serve_command, serving, version
 from common.rows import in_folders, judged
 
 import request
@@ -147,8 +147,7 @@ def versions(path):
 
 def listening_line(path, workers):
     """What `listen` prints once clients can connect."""
-    version = subprocess.run([runs.PROGRAM, "--version"], capture_output=True, text=True).stdout
-    return f"listening at {path}: 2 names, {workers}; {version}"
+    return f"listening at {path}: 2 names, {workers}; {version()}"
 
 
 def listening(folder):

@@ -120,6 +120,19 @@ def made(text):
     return told('{"token":"%s"}' % text)
 
 
+def doubted(caveats, *doubts):
+    """The response that brings a token of these caveats, and at which places of them what is amiss."""
+    told_of = ",".join('{"caveat":%d,"reason":"a caveat %s"}' % doubt for doubt in doubts)
+    return told('{"token":"%s","warnings":[%s]}' % (v2(b"alice", [it.encode() for it in caveats]), told_of))
+
+
+NO_BOUND = "is no bound of time, and holds only as a fact"
+PASSED = "is a time limit that has passed, and holds only as a fact"
+SLASH = "ends in a slash, and no path is under it"
+SPACES = "has not one space on each side of its equals sign"
+TWICE = "stands there twice"
+
+
 def bad(reason):
     return response(400, [JSON], '{"reason":"%s"}' % reason)
 
@@ -390,13 +403,13 @@ def said(form, identifier, caveats, location, sig):
 
 ROWS += [
     # ---- a mint: forms, parts that are left out, and what a text may hold
-    minted('{"identifier":"we used our secret key","location":"http://mybank/","form":"v1"}',
+    minted('{"identifier":"we used our secret key","location":"http://mybank/","form":"v1-text"}',
            made(README)),
     minted('{"identifier":"alice"}', made(plain)),
-    minted('{ "form" : "v2" , "caveats" : [ ] , "location" : "" , "identifier" : "alice" }',
+    minted('{ "form" : "v2-text" , "caveats" : [ ] , "location" : "" , "identifier" : "alice" }',
            made(plain)),
     minted('{"identifier":"alice","caveats":["a = 1","b = 2"]}', made(v2(b"alice", TWO))),
-    minted('{"identifier":"alice","caveats":["a = 1","b = 2"],"form":"json"}',
+    minted('{"identifier":"alice","caveats":["a = 1","b = 2"],"form":"v2-json"}',
            made(whole_json(b"alice", TWO))),
     minted('{"identifier64":"YWwl_wE"}', made(v2(b"al%\xff\x01"))),
     minted('{"identifier64":"YWwl_wE="}', made(v2(b"al%\xff\x01"))),
@@ -404,11 +417,21 @@ ROWS += [
            made(v2("é\"é".encode(), location="ü".encode()))),
     minted('{"identifier":"bob","identifier":"alice"}', made(plain)),
     # ---- a mint without an identifier gets one that was drawn; an empty one is one
-    minted("{}", drawn()), minted('{"caveats":["a = 1"],"form":"json","location":""}', told(
+    minted("{}", drawn()), minted('{"caveats":["a = 1"],"form":"v2-json","location":""}', told(
         '{"identifier":"%s","token":"%s"}' % (DRAWN, whole_json(DRAWN.encode(), TWO[:1])))),
     minted('{"identifier":""}', made(v2(b""))), minted('{"identifier64":""}', made(v2(b""))),
     ("mint drawless", [(post("/mint/bank", "{}"), response(503)), (post("/mint/none", "{}"), response(503))]),
     ("mint names=shop", [(post("/mint/bank", "{}"), UNKNOWN), (post("/mint/shop", "{}"), drawn(b"shop"))]),
+    # ---- caveats that can hardly hold
+    *(minted('{"identifier":"alice","caveats":["%s"]}' % caveat, doubted([caveat], (0, why))) for caveat, why in (
+        ("time < 2030-01-01", NO_BOUND), ("TIME < 2030-01-01T00:00", NO_BOUND), ("time<2030-01-01T00:00", NO_BOUND),
+        ("time < 2023-11-14T22:13:20", PASSED), ("path under /guarded/", SLASH), ("method=GET", SPACES))),
+    minted('{"identifier":"alice","caveats":["a = 1","method =GET","a = 1","time < 2023-11-14T22:13:21","a = 1"]}', doubted(
+        ["a = 1", "method =GET", "a = 1", "time < 2023-11-14T22:13:21", "a = 1"], (1, SPACES), (2, TWICE), (4, TWICE))),
+    minted('{"identifier":"alice","caveats":["path under /","method is safe","time >= 2030-01-01T00:00"]}',
+           made(v2(b"alice", [b"path under /", b"method is safe", b"time >= 2030-01-01T00:00"]))),
+    narrowed('{"token":"%s","caveats":["a = 1","a = 1"]}' % plain, doubted(["a = 1", "a = 1"], (1, TWICE))),
+    narrowed('{"token":"%s","caveats":["a = 1"]}' % v2(b"alice", TWO[:1]), made(v2(b"alice", [b"a = 1", b"a = 1"]))),
     # ---- what is no mint
     minted("alice", NO_OBJECT), minted("[]", NO_OBJECT), minted('{"identifier":"alice"', NO_OBJECT),
     minted('{"identifier":7}', NO_IDENTIFIER), minted('{"identifier64":7}', NO_IDENTIFIER),
@@ -418,11 +441,11 @@ ROWS += [
     minted('{"identifier":"alice","location":null}', bad("the location is no text")),
     minted('{"identifier":"alice","caveats":"a = 1"}', NO_CAVEATS),
     minted('{"identifier":"alice","caveats":["a = 1",2]}', NO_CAVEATS),
-    minted('{"identifier":"alice","form":"v2-text"}', bad("the form is none of v1, v2 and json")),
+    minted('{"identifier":"alice","form":"v2"}', bad("the form is none of v1-text, v2-text and v2-json")),
     minted('{"identifier":"%s"}' % ("a" * 4097), refused(22, "the token passes a limit")),
     minted('{"identifier":"a","caveats":[%s]}' % ",".join(['"b"'] * 129),
            refused(22, "the token passes a limit")),
-    minted('{"identifier":"a","form":"json","caveats":[%s]}' % ",".join(['"%s"' % ("b" * 4096)] * 6),
+    minted('{"identifier":"a","form":"v2-json","caveats":[%s]}' % ",".join(['"%s"' % ("b" * 4096)] * 6),
            refused(22, "the token passes a limit")),
     # ---- an attenuate
     narrowed('{"token":"%s","caveats":["a = 1"]}' % README, made(v1(
@@ -435,13 +458,13 @@ ROWS += [
     narrowed('{"token":"%s","caveats":[]}' % plain, bad("there is no caveat to add")),
     narrowed('{"caveats":["a = 1"]}', NO_TEXT), narrowed('{"token":[],"caveats":["a"]}', NO_TEXT),
     narrowed('{"token":"%s","caveats":["a"],"key":"bank"}' % plain, UNKNOWN_MEMBER),
-    narrowed('{"token":"%s","caveats":["a = 1","b = 2"],"form":"v1"}' % plain, made(v1(b"alice", TWO))),
-    narrowed('{"token":"%s","caveats":["a = 1"],"form":"v2"}' % README, made(v2(
+    narrowed('{"token":"%s","caveats":["a = 1","b = 2"],"form":"v1-text"}' % plain, made(v1(b"alice", TWO))),
+    narrowed('{"token":"%s","caveats":["a = 1"],"form":"v2-text"}' % README, made(v2(
         b"we used our secret key", [b"a = 1"], location=b"http://mybank/"))),
-    narrowed('{"token":"%s","caveats":["a = 1"],"form":"json"}' % plain,
+    narrowed('{"token":"%s","caveats":["a = 1"],"form":"v2-json"}' % plain,
              made(whole_json(b"alice", TWO[:1]))),
-    narrowed('{"token":"?","caveats":["a"],"form":"v3"}', bad("the form is none of v1, v2 and json")),
-    narrowed('{"token":"?","caveats":[],"form":"v2"}', bad("there is no caveat to add")),
+    narrowed('{"token":"?","caveats":["a"],"form":"v3"}', bad("the form is none of v1-text, v2-text and v2-json")),
+    narrowed('{"token":"?","caveats":[],"form":"v2-text"}', bad("there is no caveat to add")),
     narrowed('{"token":"?","caveats":["a = 1"]}',
              refused(19, "the token is neither a bare form nor base64 text")),
     narrowed('{"token":"AAAA","caveats":["a = 1"]}', refused(20, "the bytes are in no form of a token")),
@@ -451,13 +474,13 @@ ROWS += [
              refused(22, "the token passes a limit")),
     # ---- an inspect
     inspected('{"token":"%s"}' % README, said(
-        "v1", '"identifier":"we used our secret key"', [], "http://mybank/",
+        "v1-text", '"identifier":"we used our secret key"', [], "http://mybank/",
         "e3d9e02908526c4c0039ae15114115d97fdd68bf2ba379b342aaf0f617d0552f")),
     inspected('{"token":"%s"}' % v2(b"al\xff", [b"a \"b\"", b"\xff"]), said(
-        "v2", '"identifier64":"YWz_"', ['"text":"a \\"b\\""', '"bytes64":"_w"'], "",
+        "v2-text", '"identifier64":"YWz_"', ['"text":"a \\"b\\""', '"bytes64":"_w"'], "",
         signature(b"al\xff", [b"a \"b\"", b"\xff"], SECRET).hex())),
     inspected('{"token":"%s"}' % json_text(b"alice", [b"a"]), said(
-        "json", '"identifier":"alice"', ['"text":"a"'], "",
+        "v2-json", '"identifier":"alice"', ['"text":"a"'], "",
         signature(b"alice", [b"a"], SECRET).hex())),
     inspected("{}", NO_TEXT), inspected('{"token":"?"}', refused(
         19, "the token is neither a bare form nor base64 text")),

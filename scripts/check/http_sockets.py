@@ -10,7 +10,7 @@ import tempfile
 import time
 
 from check.http_rows import README, v2
-from common.daemon import PATIENCE, Daemon, awaited, connected, free_port, refused
+from common.daemon import PATIENCE, REST, Daemon, awaited, connected, free_port, refused
 from common.rows import judged, of_each
 
 import request
@@ -200,8 +200,7 @@ def gateways_never_mint():
                         yield f"{target} of a gateway over {where}", asked(stream, calling(target, MINT)), 404
                     yield f"a verify over {where}", asked(stream, bearing(README)), 200
             yield "the mode of the calls' socket", stat.S_IMODE(pathlib.Path(calls).stat().st_mode), 0o660
-            with socket.socket(socket.AF_UNIX) as stream:
-                stream.connect(calls)
+            with connected(calls) as stream:
                 for target, due in (("/mint/shop", 200), ("/mint/bank", 404), ("/mint/none", 404), ("/check", 404)):
                     yield f"{target} at the calls' socket", asked(stream, calling(target, MINT)), due
                 yield "a verify under a name of gateways", asked(stream, bearing(README)), 401
@@ -304,16 +303,23 @@ def slow_peers():
 
 
 def full_house():
-    """One connection too many is closed, and there is a place again once another has gone."""
+    """To one connection too many the one gives way that was sent nothing for longest, if for long enough."""
     with listening("--http-connections", "3") as daemon:
         with contextlib.ExitStack() as stack:
-            guests = [stack.enter_context(connect()) for connect in (daemon.unix, daemon.tcp, daemon.unix)]
-            yield "three of three", [asked(guest, asking("/healthz")) for guest in guests], [200] * 3
-            for connect in (daemon.unix, daemon.tcp):
-                with connect() as late:
-                    yield "a fourth", late.recv(1), b""
-            yield "the three go on", [asked(guest, asking("/healthz")) for guest in guests], [200] * 3
-            guests[0].close()
+            guests, begin = [], time.monotonic()
+            for connect in (daemon.unix, daemon.tcp, daemon.unix):
+                guests.append(stack.enter_context(connect()))
+                yield "one of three", asked(guests[-1], asking("/healthz")), 200
+            if time.monotonic() - begin < REST / 3:
+                yield "one that comes too soon", status_at(daemon), None
+            for number, connect in enumerate((daemon.unix, daemon.tcp)):
+                time.sleep(REST)
+                guests.append(stack.enter_context(connect()))
+                yield "one more", asked(guests[-1], asking("/healthz")), 200
+                yield "the one that gave way", guests[number].recv(1), b""
+            yield "the others go on", [asked(guest, asking("/healthz")) for guest in guests[2:]], [200] * 3
+            for guest in guests:
+                guest.close()
             yield "a place again", awaited(lambda: status_at(daemon) == 200), True
 
 

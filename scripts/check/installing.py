@@ -10,6 +10,7 @@ import tarfile
 
 from build import build, packaging
 from common import TOP
+from common.processes import NOBODY
 from common.rows import in_folders, judged
 
 import request
@@ -19,7 +20,6 @@ STRICT = ["cc", "-O2", "-Wall", "-Wextra", "-Wpedantic", "-Werror"]
 # A program that tells what it was started with; and one that tells how long a core file of it may be.
 STAND_IN = '#!/bin/sh\necho "${0##*/} $$ $WORD $*"\n'
 CORE_TELLING = '#!/bin/sh\necho "$(ulimit -S -c) $(ulimit -H -c)"\n'
-NOBODY = 65534
 VERSION = f"macaroond {packaging.version()} ("
 
 

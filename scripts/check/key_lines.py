@@ -18,7 +18,7 @@ import typing
 sys.path.insert(0, str(pathlib.Path(__file__).resolve().parents[1]))
 from check import statuses
 from check.statuses import Ending, bad
-from common import runs
+from common import runs, tokens
 from common.runs import Case, Run
 
 LINE = r"key bank [0-9a-f]{64}\n"
@@ -56,6 +56,19 @@ def failed(what):
 def kept(text, words, ending):
     """A run that leaves the file as it is."""
     return Row(text, words, ending, None if text is None else re.escape(text))
+
+
+def fingerprint(secret):
+    """Eight digits of the key of a secret in hexadecimal: they begin the HMAC of a fixed text under it."""
+    return tokens.hashed(tokens.root_of(bytes.fromhex(secret)), b"macaroond fingerprint").hex()[:8]
+
+
+def one_key(name, secret):
+    return f"{name}: one key, {fingerprint(secret)}\n"
+
+
+def two_keys(name, first, second):
+    return f"{name}: two keys, {fingerprint(first)} and {fingerprint(second)}\n"
 
 
 WRITTEN = Ending(0, "", "")
@@ -107,9 +120,9 @@ ROWS = {
         bad(ONE_OPTION),
     ),
     "two_of_each": kept(ONE, ["keygen", "bank", "--below", "keys", "--raise", "keys"], bad(ONE_OPTION)),
-    "check": kept(TWO, CHECK, Ending(0, "bank: two keys\npier: one key\nshop: one key\n", f"warning: keys: line 3: {WEAK}\n")),
-    "check_sound": kept("key bank " + "0" * 32 + "\n", CHECK, Ending(0, "bank: one key\n", "")),
-    "check_weak": kept("key bank " + "0" * 30 + "\n", CHECK, Ending(0, "bank: one key\n", f"warning: keys: line 1: {WEAK}\n")),
+    "check": kept(TWO, CHECK, Ending(0, two_keys("bank", "aa", "bb") + one_key("pier", "22") + one_key("shop", "0011"), f"warning: keys: line 3: {WEAK}\n")),
+    "check_sound": kept("key bank " + "0" * 32 + "\n", CHECK, Ending(0, one_key("bank", "0" * 32), "")),
+    "check_weak": kept("key bank " + "0" * 30 + "\n", CHECK, Ending(0, one_key("bank", "0" * 30), f"warning: keys: line 1: {WEAK}\n")),
     "check_empty": kept("", CHECK, Ending(0, "", NO_KEY)),
     "check_faulty": kept(FAULTY, CHECK, refused(BAD_HEX)),
     "check_missing": kept(None, CHECK, failed(MISSING)),

@@ -103,7 +103,7 @@ def joined(parts):
 
 def misled(container, mounts):
     """Options that macaroond doesn't take, and paths in them at which nothing is mounted."""
-    sources = "".join(path.read_text() for path in TOP.glob("crates/macaroond/src/**/*.rt"))
+    sources = "".join(path.read_text() for path in TOP.glob("crates/mac_commands/src/**/*.rt"))
     known = {f"--{name}" for name in re.findall(r'\balloc,\s+"([a-z-]+)",', sources)}
     for word in container.get("args", []):
         option, _, value = word.partition("=")

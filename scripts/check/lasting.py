@@ -10,7 +10,7 @@ import time
 
 from check.daemon_rows import MALFORMED, MINT, NO_REQUEST, TOKEN
 from common import daemon, logged
-from common.daemon import come_to, connected, frame, received
+from common.daemon import REST, come_to, connected, frame, received
 from common.rows import judged, of_each
 from faults import hostile
 
@@ -70,15 +70,10 @@ def lines_of(reading, held):
         with contextlib.suppress(BlockingIOError):
             text += os.read(reading, 65_536)
             continue
-        if told(whole_lines(text[held:])) >= TORN:
+        if told(logged.read_whole(text[held:])) >= TORN:
             break
         time.sleep(0.05)
-    return whole_lines(text[held:])
-
-
-def whole_lines(text):
-    """The lines that came whole."""
-    return logged.read_all(text[: text.rfind(b"\n") + 1].decode())
+    return logged.read_whole(text[held:])
 
 
 def told(lines):
@@ -229,14 +224,17 @@ def busy_clients():
 
 
 def past_the_limit():
-    """More connections than there may be: the last is closed, and one that ends makes room."""
+    """More connections than there may be: one gives way to the last, and one that ends makes room."""
     with listening(subprocess.DEVNULL, "--connections", "2") as (path, _):
         with connected(path) as one, connected(path) as other:
             for stream in (one, other):
                 stream.sendall(frame(b""))
                 yield "a client within the limit", received(stream, len(NO_REQUEST)), NO_REQUEST
+            time.sleep(REST)
             with connected(path) as third:
-                yield "a client past it", end_of(third), "an end"
+                yield "one gives way", end_of(one), "an end"
+                third.sendall(frame(b""))
+                yield "a client past it", received(third, len(NO_REQUEST)), NO_REQUEST
         yield "a client once they have gone", come_to(lambda: answered(path), NO_REQUEST, LONGEST_WAIT), NO_REQUEST
 
 

@@ -262,7 +262,7 @@ def by_hand(system):
         macaroond keygen bank > /tmp/keys
         token=$(macaroond mint --keys /tmp/keys --key bank --identifier alice)
         macaroond verify --keys /tmp/keys --key bank "$token"
-        macaroond verify --keys /tmp/keys --key bank --at 0 "$(macaroond attenuate --caveat 'time < 1970-01-01T00:00' "$token")"
+        macaroond verify --keys /tmp/keys --key bank --at 0 "$(macaroond attenuate --caveat 'time < 1970-01-01T00:00' "$token" 2> /dev/null)"
     """
     due = "granted\nrefused 24: caveat 0 is not satisfied: time < 1970-01-01T00:00"
     yield "commands", system.says("setpriv", "--reuid=nobody", "--clear-groups", "sh", "-c", script), due

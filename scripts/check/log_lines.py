@@ -11,7 +11,7 @@ import time
 
 from check.daemon_rows import HELLO, MINT, NO_REQUEST, SLOW_TOKEN, TOKEN, placed
 from common import KEYS, TOP, daemon, logged
-from common.daemon import awaited, connected, frame, put_keys, received, reply_to
+from common.daemon import REST, awaited, connected, frame, put_keys, received, reply_to
 from common.rows import in_folders, judged
 
 import request
@@ -25,6 +25,8 @@ NOT_PROVOKED = {"connection_dropped"}
 EACH = 1_000
 # How many are sent at once while nobody reads the lines: more than wait, and than the pipe to who reads them holds.
 FLOOD = 5_000
+# The fewest bytes that `--memory` takes, or has where it is left out.
+MEMORY_MIN = 1 << 26
 # How many connections end at once inside a frame; of each kind so many lines a second are printed.
 TORN, LINES_MAX = 300, 10
 # The most bytes of a line, and how many of them the value of a lone field has at least, where it is cut.
@@ -69,23 +71,24 @@ def connections(folder):
     with listening(log, "--connections", "2", "--idle", "1") as (path, run):
         start = log.first("start")
         yield "start", told(start, "socket", "names", "workers"), ("info", path, "2", "2")
-        version = subprocess.run([daemon.PROGRAM, "--version"], capture_output=True, text=True)
-        yield "start: its version", f"macaroond {start.fields['version']}\n", version.stdout
+        yield "start: its memory", int(told(start, "memory")[1]) >= MEMORY_MIN, True
+        yield "start: its version", f"macaroond {start.fields['version']}\n", daemon.version()
         with connected(path) as one, connected(path) as other:
+            time.sleep(REST)
             one.sendall(frame(b""))
             received(one, len(NO_REQUEST))
             with connected(path) as third:
-                yield "one too many", third.recv(1), b""
-            due = ("warning", "connections", "2")
-            yield "limit_reached", told(log.first("limit_reached"), "limit", "connections"), due
-            one.sendall(bytes(3))
-            one.close()
-            fault = log.first("connection_fault")
-            due = ("warning", "1", "1", "the stream ended inside a frame")
-            yield "connection_fault", told(fault, "connection", "requests", "fault"), due
-            yield "an idle one is closed", other.recv(1), b""
+                yield "one gives way to a third", other.recv(1), b""
+                due = ("warning", "connections", "2")
+                yield "limit_reached", told(log.first("limit_reached"), "limit", "connections"), due
+                one.sendall(bytes(3))
+                one.close()
+                fault = log.first("connection_fault")
+                due = ("warning", "1", "1", "the stream ended inside a frame")
+                yield "connection_fault", told(fault, "connection", "requests", "fault"), due
+                yield "an idle one is closed", third.recv(1), b""
         idle = log.first("connection_idle")
-        yield "connection_idle", told(idle, "connection", "requests", "fault"), ("info", "2", "0", None)
+        yield "connection_idle", told(idle, "connection", "requests", "fault"), ("info", "3", "0", None)
         yield "connection_idle: after its second", 900 <= int(idle.fields["millis"]) < 60_000, True
         run.terminate()
         yield "drain", told(log.first("drain"), "connections"), ("info", "0")
@@ -285,7 +288,7 @@ def flooded(words, kind, asked, due):
 def read_until(reading, is_all):
     """The lines that come out of a pipe, until that is all."""
     text, until = b"", time.monotonic() + PATIENCE
-    while not is_all(lines := logged.read_all(text[: text.rfind(b"\n") + 1].decode())) and time.monotonic() < until:
+    while not is_all(lines := logged.read_whole(text)) and time.monotonic() < until:
         with contextlib.suppress(BlockingIOError):
             text += os.read(reading, 65_536)
         time.sleep(0.02)

@@ -17,7 +17,7 @@ def faults():
     """What is wrong with the pages, how many names they are asked for, and what wasn't looked at."""
     text = PAGE.read_text().replace("\\-", "-")
     uses = [f"macaroond {name}" for name in SUBCOMMANDS]
-    sources = "".join(path.read_text() for path in TOP.glob("crates/macaroond/src/**/*.rt"))
+    sources = "".join(path.read_text() for path in TOP.glob("crates/mac_commands/src/**/*.rt"))
     options = set(re.findall(r'\balloc, "([a-z-]+)", ', sources)) - set(SUBCOMMANDS) - {"macaroond", "name", "token"}
     names = uses + [f"--{name}" for name in sorted(options)]
     missing = [name for name in names if name not in text]

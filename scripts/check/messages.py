@@ -6,13 +6,10 @@ import subprocess
 
 from check.daemon_rows import END_FIRST, EXISTS, NO_SOCKET, TOKEN
 from common import KEYS, TOP
-from common.daemon import PROGRAM, command, connected, serve_command
+from common.daemon import PATIENCE, PROGRAM, command, connected, serve_command
+from common.processes import NOBODY, become_nobody
 from common.rows import in_folders, judged
 
-# How many seconds anything may take, on a machine that is busy with other work.
-PATIENCE = 120
-# A user that owns nothing here, for messages of permissions where root runs this.
-NOBODY = 65_534
 PAGE = TOP / "docs" / "OPERATING.md"
 NO_FOLDER = "there is no such folder; make it first, or give another path"
 NO_PERMISSION = "no permission; let this user write the folder, or give another path"
@@ -23,13 +20,6 @@ UNREADABLE = "the key file can't be read: no permission; give it to the daemon's
 LONG_FILE = "the key file is longer than a key file may be; 16777216 bytes are read"
 NO_OUTPUT = "standard output failed; give it a place where the first line can be written"
 NO_LINE = "standard output failed; it doesn't say that clients can connect"
-
-
-def as_nobody():
-    if os.getuid() == 0:
-        os.setgroups([])
-        os.setgid(NOBODY)
-        os.setuid(NOBODY)
 
 
 def refused(words, **how):
@@ -79,7 +69,7 @@ def key_files(folder):
         yield f"{name}: no key file", refused(words(socket, missing)), (3, due)
         yield f"{name}: a folder", refused(words(socket, inside)), (3, f"error: {inside}: {FOLDER}\n")
         yield f"{name}: a long file", refused(words(socket, long)), (3, f"error: {long}: {LONG_FILE}\n")
-        yield f"{name}: no permission", refused(words(socket, locked), preexec_fn=as_nobody), (3, f"error: {locked}: {UNREADABLE}\n")
+        yield f"{name}: no permission", refused(words(socket, locked), preexec_fn=become_nobody), (3, f"error: {locked}: {UNREADABLE}\n")
 
 
 def key_lines(folder):
@@ -117,7 +107,7 @@ def paths(folder):
     for name, words in (("listen", listen), ("serve", serve)):
         yield f"{name}: no folder", refused(words(gone)), (3, f"error: {gone}: {NO_FOLDER}\n")
         yield f"{name}: a long path", refused(words(long)), (3, f"error: {long}: {TOO_LONG}\n")
-        status, error = refused(words(closed, keys), preexec_fn=as_nobody)
+        status, error = refused(words(closed, keys), preexec_fn=become_nobody)
         yield f"{name}: no permission", (status, error.splitlines()[-1:]), (3, [f"error: {closed}: {NO_PERMISSION}"])
 
 

@@ -10,7 +10,7 @@ import time
 from check.http_rows import OLD, json_text, v2
 from check.http_sockets import asking, bearing, listening, response
 from common import TOP
-from common.daemon import PROGRAM, come_to, connected, frame, put_keys, reply_to
+from common.daemon import PROGRAM, REST, come_to, connected, frame, put_keys, reply_to
 from common.rows import judged
 
 import request
@@ -101,6 +101,20 @@ def wide(daemon):
     yield "bytes out", after["bytes_out_total"] - before["bytes_out_total"], 3 * len(frame(b"\x14"))
 
 
+def remembered(daemon):
+    """A dear verify waits for a worker until its token is remembered, and then for none; with other facts too."""
+    token, before = json_text(b"carol", [b"a = 1"]), numbers(daemon)
+    granted, lacks = (request.verify("bank", token, 0, *facts, *LONG) for facts in (["a = 1"], []))
+    with connected(daemon.path) as stream:
+        replies = [reply_to(stream, granted) for _ in range(5)]
+        told = await_number(daemon, "requests_wide_total", before["requests_wide_total"] + 2)
+        replies += [reply_to(stream, payload) for payload in (lacks, granted, lacks)]
+    yield "replies of a dear token", replies, [b"\0"] * 5 + [b"\x18\0\0", b"\0", b"\x18\0\0"]
+    yield "what a worker told of it", told - before["requests_wide_total"], 2
+    after = numbers(daemon)["requests_wide_total"]
+    yield "what a worker told of it then", after - before["requests_wide_total"], 2
+
+
 def taken_back():
     """A token that was taken back is counted apart from one of another secret: in loops, by a worker, and over HTTP."""
     gone, forged, stays = v2(b"alice"), v2(b"alice", secret=OLD), v2(b"bob")
@@ -137,11 +151,13 @@ def connections(daemon):
     with connected(daemon.path) as one, connected(daemon.path) as other:
         for stream in (one, other):
             reply_to(stream, b"")
+        time.sleep(REST)
         with connected(daemon.path) as third:
-            yield "one too many is closed", third.recv(1), b""
-        told = numbers(daemon)
-        yield "connections at the limit", (told["connections"], told["connections_closed_at_limit_total"]), (2, 1)
-        one.sendall(bytes(3))
+            yield "one gives way to a third", one.recv(1), b""
+            reply_to(third, b"")
+            told = numbers(daemon)
+            yield "connections at the limit", (told["connections"], told["connections_closed_at_limit_total"]), (2, 1)
+        other.sendall(bytes(3))
     yield "connections_faulty_total", await_number(daemon, "connections_faulty_total", 1), 1
     with daemon.unix(), daemon.tcp():
         yield "connections_http", await_number(daemon, "connections_http", 3), 3
@@ -197,7 +213,7 @@ def another():
 def faults():
     seen = [*another(), *taken_back()]
     with listening() as daemon:
-        for part in (requests_and_bytes, wide, keys, page):
+        for part in (requests_and_bytes, wide, remembered, keys, page):
             seen += part(daemon)
     with listening("--connections", "2") as daemon:
         seen += connections(daemon)

@@ -1,17 +1,18 @@
-"""What operators ask a daemon: `macaroond status` in its three forms, the status socket beside the daemon's own, and
-the addresses of `--http-admin`."""
+"""What operators ask a daemon: `macaroond status` in its three forms, the status socket beside the daemon's own, the
+addresses of `--http-admin`, and the fingerprints of keys."""
 import os
 import re
 import socket
 import stat
-import subprocess
 import tempfile
 
 from check.http_rows import README
-from check.http_sockets import asking, bearing, listening, response
+from check.http_sockets import SECRET, asking, bearing, key_file, listening, response
+from check.key_lines import fingerprint
 from check.numbers import WIDE
 from common import daemon, logged
-from common.daemon import PATIENCE, PROGRAM, awaited, connected, free_port, reply_to
+from common.daemon import PATIENCE, awaited, come_to, connected, free_port, numbers, reply_to
+from common.processes import become_nobody
 from common.rows import judged
 
 import request
@@ -20,20 +21,19 @@ NO_DAEMON = "no daemon answers there; is one running, and are you its user?"
 TWO_PAGES = "error: of `--prometheus` and `--connections` one alone may be given\n"
 # A path that has room for a socket, and none for that of its status.
 LONG = 101
-NOBODY = 65_534
 
 
 def status(path, *words, **how):
     """How `macaroond status` ends, what it prints, and what it says."""
-    command = [PROGRAM, "status", "--socket", path, *words]
-    run = subprocess.run(command, capture_output=True, text=True, timeout=PATIENCE, **how)
+    run = daemon.status(path, *words, **how)
     return run.returncode, run.stdout, run.stderr
 
 
-def numbers(path):
-    """The numbers that `status` prints, by name, behind the line of the version."""
-    _, text, _ = status(path)
-    return dict(line.rsplit(" ", 1) for line in text.splitlines()[1:])
+def keys_in(text):
+    """What a page tells of keys, behind its numbers."""
+    lines = text.splitlines()
+    told = [line for line in lines if line.startswith("key ")]
+    return told if told == lines[len(lines) - len(told):] else ["not at the end"]
 
 
 def version_in(path):
@@ -70,9 +70,10 @@ def forms(served):
     with connected(served.path) as stream:
         token = "hex:" + reply_to(stream, request.mint("v2-binary", "bank", "here", "alice"))[1:].hex()
         reply_to(stream, request.verify("bank", token, 0))
+        # A request is counted right behind its reply.
+        awaited(lambda: numbers(path).get("requests verify granted") == "1", 5)
         told = numbers(path)
-        version = subprocess.run([PROGRAM, "--version"], capture_output=True, text=True).stdout
-        yield "its version", f"macaroond {version_in(path)}\n", version
+        yield "its version", f"macaroond {version_in(path)}\n", daemon.version()
         due = {"requests mint token": "1", "requests verify granted": "1", "connections": "1", "key_names": "1"}
         yield "what was asked", {name: told.get(name) for name in due}, due
         both = metrics(path)
@@ -102,7 +103,7 @@ def connections(served):
 
 
 def places(served):
-    """The status socket is its owner's alone, has no key, and is no place for frames."""
+    """The status socket is its owner's alone, lets no key be used, and is no place for frames."""
     path = f"{served.path}.status"
     yield "its mode", oct(stat.S_IMODE(os.stat(path).st_mode)), "0o600"
     with daemon.connected(path) as stream:
@@ -116,14 +117,8 @@ def places(served):
     yield "two pages", status(own, "--prometheus", "--connections"), (2, "", TWO_PAGES)
     if os.getuid() == 0:
         os.chmod(served.folder, 0o755)
-        code, printed, said = status(own, preexec_fn=as_nobody)
+        code, printed, said = status(own, preexec_fn=become_nobody)
         yield "another user", (code, printed, NO_DAEMON in said), (3, "", True)
-
-
-def as_nobody():
-    os.setgroups([])
-    os.setgid(NOBODY)
-    os.setuid(NOBODY)
 
 
 def admin():
@@ -136,6 +131,33 @@ def admin():
     with tempfile.TemporaryDirectory() as folder:
         run = daemon.refused(f"{folder}/socket", "--http-admin", "0.0.0.0:8080")
     yield "an address of others", (run.returncode, "0.0.0.0:8080" in run.stderr), (2, True)
+
+
+def keys():
+    """The fingerprints of the keys by which a daemon answers at each moment: at Unix sockets, and at no port."""
+    port = free_port()
+    first, other = fingerprint(SECRET.encode().hex()), fingerprint(b"another".hex())
+    with tempfile.TemporaryDirectory() as folder:
+        with listening("--http-admin", f"unix:{folder}/admin,127.0.0.1:{port}", "--http-mode", "600") as served:
+            told = lambda: keys_in(status(served.path)[1])
+            yield "one key", told(), [f"key bank {first}"]
+            both = [f"key bank {other} {first}", f"key shop {first}"]
+            served.put_keys(f"{request.key('shop', SECRET)}\n{request.key('bank', 'another')}\n{key_file(['bank'])}")
+            yield "two keys of a name, and another name", come_to(told, both), both
+            with connected(f"{folder}/admin") as stream:
+                stream.sendall(asking("/status"))
+                yield "at a Unix socket", keys_in(response(stream)[2].decode()), both
+            for page in ("/status", "/metrics"):
+                with socket.create_connection(("127.0.0.1", port), PATIENCE) as stream:
+                    stream.sendall(asking(page))
+                    told_there = response(stream)[2].decode()
+                yield f"at a port: {page}", (first in told_there, other in told_there), (False, False)
+            with connected(f"{folder}/admin") as stream:
+                stream.sendall(bearing(README))
+                yield "none may be used there", response(stream)[0], 401
+            with served.unix() as gateway:
+                gateway.sendall(bearing(README))
+                yield "a gateway may", response(gateway)[0], 200
 
 
 def asked_at(port, page):
@@ -162,4 +184,4 @@ def without():
 def faults():
     with listening() as served:
         seen = [row for part in (forms, connections, places) for row in part(served)]
-    return judged([*seen, *admin(), *without()])
+    return judged([*seen, *admin(), *keys(), *without()])

@@ -12,13 +12,13 @@ import tempfile
 
 from build import packaging
 from common import TOP
+from common.processes import NOBODY
 
 UNITS = "lib/systemd/system"
 PYTHON, GO = "usr/lib/python3/dist-packages", "usr/share/gocode/src/macaroond"
 NAMES = ["macaroond", "golang-macaroond-dev", "macaroond-fleet", "python3-macaroond"]
 # The most that `systemd-analyze security` may find, in tenths; and of an agent, which asks a store over the network.
 EXPOSURE, OF_AGENT = 10, 12
-NOBODY = 65534
 COMMANDS = {
     "dpkg-buildpackage": "package dpkg-dev",
     "dh": "package debhelper",

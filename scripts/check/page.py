@@ -73,7 +73,7 @@ def calls(page):
     """What the page asks, asked by hand."""
     caveats = ["a", "time < 1970-01-01T00:01"]
     token, narrow = parts(*caveats), parts(*caveats, "b")
-    forms = {"v1": packets.write, "v2": binary.write, "json": jsontext.write}
+    forms = {"v1-text": packets.write, "v2-text": binary.write, "v2-json": jsontext.write}
     texts = {form: encoded(write(token)).decode() for form, write in forms.items()}
     longer = {form: (200, {"token": encoded(write(narrow)).decode()}) for form, write in forms.items()}
     told = {"caveats": [{"text": caveat} for caveat in caveats], "identifier": "alice", "location": "http://mybank/"}
@@ -84,10 +84,10 @@ def calls(page):
         for to in forms:
             yield f"from {form} to {to}", asked(page, "attenuate", token=text, caveats=["b"], form=to), longer[to]
     for given, holds in CHECKS:
-        found = asked(page, "check", token=texts["v2"], **{"facts": [], **given})
+        found = asked(page, "check", token=texts["v2-text"], **{"facts": [], **given})
         yield f"a check with {str(given)[:60]}", found, (200, {"holds": holds})
     for given in NO_CHECKS:
-        status, fault = asked(page, "check", token=texts["v2"], **{"facts": [], **given})
+        status, fault = asked(page, "check", token=texts["v2-text"], **{"facts": [], **given})
         yield f"no check with {str(given)[:60]}", (status, list(fault)), (400, ["reason"])
     refused = {"code": 19, "reason": "the token is neither a bare form nor base64 text"}
     for call, given in (("inspect", {}), ("check", {"facts": [], "moment": 1}), ("attenuate", {"caveats": ["a"]})):
@@ -96,10 +96,10 @@ def calls(page):
         yield f"no object for {call}", (status, content), (400, b'{"reason":"the body is no JSON object"}')
         status, fields, _ = page.asked("GET", f"/{call}")
         yield f"a GET of {call}", (status, fields["Allow"]), (405, "POST")
-    fault = {"reason": "the form is none of v1, v2 and json"}
-    yield "no form", asked(page, "attenuate", token=texts["v2"], caveats=["b"], form="v3"), (400, fault)
+    fault = {"reason": "the form is none of v1-text, v2-text and v2-json"}
+    yield "no form", asked(page, "attenuate", token=texts["v2-text"], caveats=["b"], form="v3"), (400, fault)
     fault = {"reason": "there is no caveat to add"}
-    yield "no caveat", asked(page, "attenuate", token=texts["v2"], caveats=[]), (400, fault)
+    yield "no caveat", asked(page, "attenuate", token=texts["v2-text"], caveats=[]), (400, fault)
 
 
 def no_names(page):

@@ -8,10 +8,11 @@ import json
 import os
 import socket
 import tempfile
+import time
 
 from check.page_tab import SECRET, SECRETS, asked_at, secrets_in, serving, v2
 from common import TOP
-from common.daemon import put_keys
+from common.daemon import REST, put_keys
 from common.rows import judged
 
 COMMAND = [str(TOP / "bin" / "macaroond"), "page"]
@@ -121,6 +122,7 @@ def silent(url):
             stream = held.enter_context(socket.create_connection((host, int(port)), 20))
             if index % 2:
                 stream.sendall(b"G")
+        time.sleep(REST)
         for _ in range(3):
             yield "it is served beside them", answer(url, "GET", "/here", None, {SECRET: own}), (200, others.encode())
 

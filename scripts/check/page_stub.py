@@ -44,8 +44,8 @@ REASONS = {
     23: "the key does not give the signature of the token",
     26: "a first-party caveat of the token has a location",
 }
-WRITERS = {"v1": packets.write, "v2": binary.write, "json": jsontext.write}
-NAMES = {Form.V1_TEXT: "v1", Form.V2_BINARY: "v2", Form.V2_TEXT: "v2", Form.V2_JSON: "json"}
+WRITERS = {"v1-text": packets.write, "v2-text": binary.write, "v2-json": jsontext.write}
+NAMES = {Form.V1_TEXT: "v1-text", Form.V2_BINARY: "v2-text", Form.V2_TEXT: "v2-text", Form.V2_JSON: "v2-json"}
 MEMBERS = {
     "mint": ("identifier", "identifier64", "location", "caveats", "form"),
     "attenuate": ("token", "caveats", "form"),
@@ -135,7 +135,7 @@ def texts(body, name, reason):
 
 def form_in(body, own):
     form = body.get("form", own)
-    demand(form in WRITERS, "the form is none of v1, v2 and json")
+    demand(form in WRITERS, "the form is none of v1-text, v2-text and v2-json")
     return form
 
 
@@ -160,7 +160,7 @@ def inspected(body):
 def attenuated(body):
     demand(isinstance(body.get("token"), str), "there is no text that is the token")
     added = texts(body, "caveats", "the caveats are no list of texts")
-    form_in(body, "v2")
+    form_in(body, "v2-text")
     demand(added, "there is no caveat to add")
     parts, form = read(body)
     caveats = (*parts.caveats, *map(Caveat, added))
@@ -208,7 +208,7 @@ def minted(body, keys):
     demand(isinstance(location, str), "the location is no text")
     caveats = texts(body, "caveats", "the caveats are no list of texts")
     signature = chained(keys[0], identifier, *caveats)
-    return written(Parts(location.encode(), identifier, tuple(map(Caveat, caveats)), signature), form_in(body, "v2"))
+    return written(Parts(location.encode(), identifier, tuple(map(Caveat, caveats)), signature), form_in(body, "v2-text"))
 
 
 class Answering(http.server.BaseHTTPRequestHandler):

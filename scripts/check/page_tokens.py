@@ -250,7 +250,8 @@ def without_keys(page):
     page.paste(v2("a"))
     yield "no choice of a key", page.is_hidden("#choice"), True
     yield "no mint", page.is_hidden("#mint"), True
-    yield "what would help", "--keys FILE" in page.text("#verdict-words"), True
+    is_told = "document.getElementById('verdict-words').innerText.includes('--keys FILE')"
+    yield "what would help", page.tab.until(is_told, True), True
 
 
 def with_keys(page):
@@ -272,7 +273,7 @@ def with_keys(page):
     yield "in the command", "--key shop" in page.text("#commands"), True
     page.paste(v2("action = read", secret=SECRETS["shop"]))
     yield "a token of that key", headline(page, "Granted now"), "Granted now"
-    mint = {"mint-name": "bank", "identifier": "bob", "location": "here", "mint-form-of": "v1"}
+    mint = {"mint-name": "bank", "identifier": "bob", "location": "here", "mint-form-of": "v1-text"}
     mint["mint-caveats"] = "a\ntime < 2100-01-01T00:00\n"
     for name, value in mint.items():
         page.tab.value(f"document.getElementById('{name}').value = {json.dumps(value)}")

@@ -15,7 +15,7 @@ import subprocess
 import sys
 
 sys.path.insert(0, str(pathlib.Path(__file__).resolve().parents[1]))
-from common import TOP
+from common import TOP, crates
 
 PAGES = [
     *sorted(TOP.glob("*.md")),
@@ -38,6 +38,8 @@ LINK = re.compile(r"\]\(([^)#\s:]+)(?:#[^)]*)?\)")
 RULE = re.compile(r"\|[-| :]+\|?$")
 # How many words a sentence has: the mean of a page, and the longest, in what is written by hand.
 MEAN_MAX, WORDS_MAX = 25, 45
+# Where README lists the toolchain's crates whose contracts are trusted.
+PORTS = re.compile(r"^- The contracts of its ports of (.*)$", re.M)
 # What is no sentence: code and comments, and what make pages writes.
 ASIDE = re.compile(r"^```.*?^```$|<!-- (?:laws|bodies) -->.*?<!-- end -->|<!--.*?-->", re.M | re.S)
 # What each passage begins with: a row's cell, an item of a list, or a blank line.
@@ -133,10 +135,17 @@ def long_sentences(text):
             yield f"a sentence of {len(words)} words: {' '.join(words[:8])} .."
 
 
+def ports():
+    """What README's list of trusted crates lacks of those that crates.txt names, or has besides."""
+    used = {it for names in crates.uses().values() for it in names} - {*crates.uses()}
+    told = {*NAMED.findall(PORTS.search((TOP / "README.md").read_text())[1])}
+    return [f"README.md: its ports have {it} too much or too little" for it in sorted(used ^ told)]
+
+
 def faults():
     """What is wrong with the pages, and how many pages there are."""
     files = tracked()
-    found = []
+    found = ports()
     for page in PAGES:
         text = page.read_text()
         name = page.relative_to(TOP)

@@ -12,6 +12,7 @@ SOURCES = {
     **{(page, "rust"): ROWS for page in CALLING},
     ("README.md", "python"): ["examples/service.py"],
     ("docs/FORMATS.md", "python"): ["examples/ask.py"],
+    ("crates/mac_loop/PROMISES.md", "rust"): ["crates/mac_loop/src/port.rt"],
     ("clients/README.md", "python"): ["examples/service.py"],
     ("clients/README.md", "go"): ["clients/go/readme_test.go", "examples/service_go/main.go"],
 }

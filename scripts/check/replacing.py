@@ -1,7 +1,5 @@
 """How `macaroond listen --replace` takes the sockets of a daemon over: under load, without a daemon, with a fault, and
 twice at once. Nobody is refused, and each request is answered."""
-import contextlib
-import http.client
 import os
 import pathlib
 import signal
@@ -11,8 +9,9 @@ import time
 
 from check.daemon_rows import MINT, NO_REQUEST, TOKEN
 from check.ending import Asking, ended, fill, started
+from check.http_sockets import asked, asking
 from common import KEYS, daemon
-from common.daemon import PROGRAM, awaited, come_to, connected, frame, received, refused
+from common.daemon import awaited, come_to, connected, frame, received, refused
 from common.rows import in_folders, judged
 
 # How many requests are answered over all replacements at least, by how many clients, and how many replacements.
@@ -29,9 +28,10 @@ MINTING, MINTED = frame(MINT), frame(b"\x01" + TOKEN)
 
 
 def lines(run):
-    """How a run ended, and what it said but for its start."""
+    """How a run ended, and what it said but for its start. A daemon may see first that its status socket is another's."""
     status, _, said = ended(run)
-    return status, said
+    return status, [(what, {**fields, "socket": fields["socket"].removesuffix(".status")} if what == "replaced" else fields)
+                    for what, fields in said]
 
 
 def replaced(path, left, cut=0):
@@ -210,20 +210,15 @@ def all_sockets(folder):
             stream.sendall(frame(b""))
             yield f"a reply at {pathlib.Path(one).name}", received(stream, len(NO_REQUEST)), NO_REQUEST
     yield "over HTTP", health(web), 200
-    asking = subprocess.run([PROGRAM, "status", "--socket", path], capture_output=True, text=True)
-    yield "its status", asking.returncode, 0
+    yield "its status", daemon.status(path).returncode, 0
     second.send_signal(signal.SIGTERM)
     yield "the second one", ended(second)[0], 0
 
 
 def health(path):
     """The status of the page that tells how a daemon is."""
-    asked = http.client.HTTPConnection("localhost", timeout=PATIENCE)
-    asked.sock = socket.socket(socket.AF_UNIX)
-    asked.sock.connect(path)
-    with contextlib.closing(asked):
-        asked.request("GET", "/healthz")
-        return asked.getresponse().status
+    with connected(path) as stream:
+        return asked(stream, asking("/healthz"))
 
 
 def waiting(folder):

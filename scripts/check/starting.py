@@ -11,8 +11,9 @@ import tempfile
 import time
 
 from check.daemon_rows import END_FIRST, NO_REQUEST, answer, listening_line
+from check.messages import listen, serve
 from common import KEYS
-from common.daemon import command, connected, frame, serve_command
+from common.daemon import connected, frame
 from common.rows import judged
 
 # What is told where the file in the lock's place is none.
@@ -26,20 +27,12 @@ RACING_SECONDS = 3
 ROUNDS = 60
 
 
-def listen_words(path, keys=KEYS):
-    return command(path, "--workers", "1", keys=keys)
-
-
-def served_words(path, keys):
-    return serve_command(path, accept=1, workers=1, keys=keys)
-
-
 def started(path, keys=KEYS, words=(), **how):
-    return subprocess.Popen([*listen_words(path, keys), *words], **{"stdout": subprocess.PIPE, "stderr": subprocess.PIPE, "text": True, **how})
+    return subprocess.Popen([*listen(path, keys), *words], **{"stdout": subprocess.PIPE, "stderr": subprocess.PIPE, "text": True, **how})
 
 
 def first_line(path):
-    return first_line_of(listen_words(path))
+    return first_line_of(listen(path))
 
 
 def first_line_of(command):
@@ -122,7 +115,7 @@ def linked_locks(folder):
     yield "a lock that leads nowhere", (first_line(path), victim.exists()), (refused, False)
     lock.unlink()
     pathlib.Path(path + ".next.lock").symlink_to(victim)
-    yield "the turn", first_line_of([*listen_words(path), "--replace"]), refused
+    yield "the turn", first_line_of([*listen(path), "--replace"]), refused
     yield "nothing is made there", victim.exists(), False
 
 
@@ -180,7 +173,7 @@ def shared_keys(folder):
     for mode in (0o644, 0o602, 0o620, 0o660, 0o604):
         keys.chmod(mode)
         why = f"{keys}: the file has mode {mode:o}, by which others than its owner may use it; `chmod 600` mends that"
-        for words in (listen_words(f"{folder}/shared", keys), served_words(f"{folder}/served", keys)):
+        for words in (listen(f"{folder}/shared", keys), serve(f"{folder}/served", keys)):
             run = subprocess.run(words, capture_output=True, text=True, timeout=20)
             due = (3, "", f"error: {why}; or take it so by --keys-of-others\n")
             yield f"{words[1]}: keys of mode {mode:o}", (run.returncode, run.stdout, run.stderr), due
@@ -199,7 +192,7 @@ def shared_keys(folder):
     yield from opened_keys(folder, keys)
     if not os.geteuid():
         os.chown(keys, 1234, 0)
-        run = subprocess.run(listen_words(f"{folder}/shared", keys), capture_output=True, text=True, timeout=20)
+        run = subprocess.run(listen(f"{folder}/shared", keys), capture_output=True, text=True, timeout=20)
         why = f"error: {keys}: the file belongs to user 1234; `chown 0` mends that; or take it so by --keys-of-others\n"
         yield "keys of another user", (run.returncode, run.stderr), (3, why)
 

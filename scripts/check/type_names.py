@@ -12,6 +12,7 @@ from common import TOP
 TYPE = re.compile(r"^pub (?:struct|enum|trait) (\w+)", re.M)
 # Names that stand for two things as yet, and for which.
 LEFT = {
+    "Account": "what a queue owes and is owed; what one of several has taken of a budget",
     "Asked": "what a request is counted as; a call that a path asks for",
     "Call": "a call over HTTP; what a daemon is told",
     "Cut": "what is in front of a stream's bytes; how a queue's account is divided",

@@ -6,7 +6,7 @@ from common import TOP, runs
 
 # Each place, and what surrounds the version there.
 PLACES = {
-    "crates/macaroond/src/commands.rt": r'^pub\(crate\) const VERSION: &str = "(.*) \(uncommitted\)";$',
+    "crates/mac_commands/src/commands.rt": r'^pub const VERSION: &str = "(.*) \(uncommitted\)";$',
     "debian/changelog": r"\Amacaroond \((.*)-\d+\) ",
     "CHANGELOG.md": r"^## (\S+) \(\d{4}-\d{2}-\d{2}\)$",
 }

@@ -15,6 +15,8 @@ from common import KEYS, logged, programs
 PROGRAM = os.environ.get("MACAROOND", str(programs.path_of("macaroond")))
 # How many seconds anything may take, on a machine that is busy with other work.
 PATIENCE = 120
+# How many seconds a client has rested once it gives way to one of its own socket, and some more.
+REST = 0.3
 # Ports that the system gives to no connection, so that one which is free now stays so.
 PORTS = iter(random.sample(range(20_000, 30_000), 10_000))
 
@@ -71,6 +73,23 @@ def begun(whole, **how):
 def started(path, *words, keys=KEYS, before=(), **how):
     """A daemon that clients can connect to, started behind these words."""
     return begun([*before, *command(path, *words, keys=keys)], **how)
+
+
+def version():
+    """What the program tells of its version, with the end of its line."""
+    return subprocess.run([PROGRAM, "--version"], capture_output=True, text=True).stdout
+
+
+def status(path, *words, **how):
+    """How `macaroond status` of the daemon at this path ends, and what it prints."""
+    command = [PROGRAM, "status", "--socket", path, *words]
+    return subprocess.run(command, capture_output=True, text=True, timeout=PATIENCE, **how)
+
+
+def numbers(path):
+    """The numbers that `macaroond status` prints, by name: they stand behind the version, before what it tells of keys."""
+    lines = status(path).stdout.splitlines()[1:]
+    return dict(line.rsplit(" ", 1) for line in lines if not line.startswith("key "))
 
 
 def refused(path, *words, keys=KEYS, **how):

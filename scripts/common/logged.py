@@ -42,3 +42,8 @@ def fields_of(text):
 def read_all(text):
     """What each line of a log says, but for the warnings of a start, which stand before it."""
     return [read(line) for line in text.splitlines() if not line.startswith("warning: ")]
+
+
+def read_whole(text):
+    """What the lines say of these bytes that came whole."""
+    return read_all(text[: text.rfind(b"\n") + 1].decode())

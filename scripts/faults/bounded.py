@@ -1,28 +1,61 @@
 #!/usr/bin/env python3
-"""What one client may cost `macaroond listen`, whatever it does.
+"""What one client may cost `macaroond listen`, whatever it does, and what all may cost together.
 
     bounded.py
 
 One that never reads its replies sends requests that are refused, as many as the daemon takes, with
 `--log requests` and without: the daemon holds no more than HELD_MAX MiB for it, and has a line for
-each request once its replies are read. Asks for bin/macaroond, or the program that MACAROOND names.
+each request once its replies are read. One over HTTP sends a head a byte at a time, as long as it may
+be: each byte costs BYTE_MAX microseconds of the processor at most, in each part of the head; or half as
+much again as a byte of a frame that comes so, where the machine takes longer to wake a thread at all.
+
+A crowd of CROWD clients sends frames that aren't whole, or never reads: with `--memory MEMORY` the daemon
+holds no more than that and BESIDE_MAX MiB, ends some of them, counts those, and answers one that behaves.
+Once the crowd has gone it has none of their connections, and BESIDE_MAX MiB more than before at most. With a
+number the crowd has so many clients (10,000 take 20,100 descriptors):
+
+    bounded.py [CROWD]
+
+As many clients over HTTP as there may be send the dearest tokens in JSON without end: the same bounds hold,
+though connections over HTTP aren't within that memory.
+
+Asks for bin/macaroond, or the program that MACAROOND names.
 """
 import contextlib
+import fcntl
 import pathlib
+import struct
 import subprocess
 import sys
 import tempfile
+import termios
 import time
 
 sys.path.insert(0, str(pathlib.Path(__file__).resolve().parents[1]))
 from common import daemon, programs
-from common.daemon import awaited, connected, frame, received
-from common.processes import mebibytes
+from common.daemon import awaited, come_to, connected, frame, numbers, received
+from common.processes import allow_descriptors, mebibytes
+from faults.hostile import dearest_token, over_http, sends_dear
+
+import request
 
 # How much a client sends that reads no reply, and how many MiB the daemon may hold for it.
 SENT_MAX, HELD_MAX = 64 << 20, 48
 # A verify without a token under a name of 255 bytes, which is refused.
 REFUSED = frame(b"\x03\xff" + b"n" * 255)
+# How many bytes a head has that come alone, in how many parts they are timed, how many microseconds of the
+# processor each of them may cost in any part, and how many of a frame they are compared with.
+HEAD, PARTS, BYTE_MAX, FRAME_BYTES = 49_152, 8, 3.0, 4_000
+# What all clients may have together, how many MiB the daemon may hold beside that, and how many clients of a
+# crowd come that hold some 80 or 170 KiB each.
+MEMORY, BESIDE_MAX, CROWD = 64 << 20, 40, 1_200
+# How many clients over HTTP send the dearest tokens, and for how many seconds.
+HTTP_CROWD, HTTP_SECONDS = 256, 3
+# How many seconds the daemon may take to let go of what a crowd held.
+SETTLING = 10
+# A frame of which a byte is lacking, and mints whose replies are more than a socket takes.
+TORN = frame(bytes(65_000))[:-1]
+MINTS = frame(request.mint("v1-text", "bank", "", "")) * 2_500
 # How many seconds the daemon takes nothing in before that counts as all.
 SILENCE = 10
 # How many requests are sent at once whose lines are counted, and how long that may take.
@@ -53,6 +86,84 @@ def unread(words):
             print(f"bounded: {held:.0f} MiB held for {sent >> 20} MiB of requests, replies not read {' '.join(words)}")
             if held > HELD_MAX:
                 yield f"{held:.0f} MiB were held for one client that never reads {' '.join(words)}"
+
+
+def comes(crowd, path, bytes_sent):
+    """A client of a crowd, which sends this as far as it is taken, and reads nothing."""
+    stream = crowd.enter_context(connected(path, patience=PATIENCE))
+    stream.setblocking(False)
+    with contextlib.suppress(OSError):
+        stream.sendall(bytes_sent)
+
+
+def left_of(pid, before):
+    """How many MiB the daemon has more than before, once that is little or `SETTLING` seconds have passed."""
+    awaited(lambda: mebibytes(pid) - before <= BESIDE_MAX, SETTLING)
+    return mebibytes(pid) - before
+
+
+def past_bounds(who, held, left):
+    """What is wrong with the MiB that were held for these clients, and with those that were left behind them."""
+    if held > (MEMORY >> 20) + BESIDE_MAX:
+        yield f"{held:.0f} MiB were held for {who}"
+    if left > BESIDE_MAX:
+        yield f"{left:.0f} MiB were left {SETTLING} seconds behind {who}"
+
+
+def crowded(what, bytes_sent, count, words):
+    """What is held for a crowd that sends this and reads nothing, beside one that asks on, and what is left of it."""
+    who = " ".join([f"{count} clients with {what}", *words])
+    with daemon.listening("--memory", str(MEMORY), "--remember", "0", *words) as (path, run):
+        with connected(path, patience=PATIENCE) as beside:
+            with contextlib.ExitStack() as crowd:
+                beside.sendall(frame(b""))
+                answered = [received(beside, 5)]
+                before = mebibytes(run.pid)
+                for number in range(count):
+                    comes(crowd, path, bytes_sent)
+                    if number % 100 == 0:
+                        beside.sendall(frame(b""))
+                        answered.append(received(beside, 5))
+                heavy = lambda: int(numbers(path)["connections_ended_for_memory_total"])
+                awaited(lambda: heavy() > 0, PATIENCE)
+                beside.sendall(frame(b""))
+                answered.append(received(beside, 5))
+                held, ended = mebibytes(run.pid, "VmHWM") - before, heavy()
+            there = come_to(lambda: numbers(path)["connections"], "1", SETTLING)
+            left = left_of(run.pid, before)
+    print(f"bounded: {held:.0f} MiB held for {who}, {ended} of them ended, {left:.0f} left behind them")
+    yield from past_bounds(who, held, left)
+    if there != "1":
+        yield f"{there} connections were there behind {who}, beside which there was one"
+    if not 0 < ended < count:
+        yield f"{ended} of {who} were ended"
+    if not all(len(reply) == 5 for reply in answered):
+        yield f"one that asked beside {who} wasn't answered"
+
+
+def dear_over_http():
+    """What is held for as many clients over HTTP as there may be, with the dearest tokens, and what is left of them."""
+    who = f"{HTTP_CROWD} clients over HTTP with the dearest tokens"
+    with tempfile.TemporaryDirectory() as folder:
+        http = f"{folder}/http"
+        with daemon.listening("--memory", str(MEMORY), "--remember", "0", "--http", f"unix:{http}") as (path, run):
+            awaited(pathlib.Path(http).exists)
+            before = mebibytes(run.pid)
+            sends_dear(http, over_http(dearest_token()), HTTP_CROWD, time.monotonic() + HTTP_SECONDS)
+            held, left = mebibytes(run.pid, "VmHWM") - before, left_of(run.pid, before)
+            answered = int(numbers(path)["requests verify refused"])
+    print(f"bounded: {held:.0f} MiB held for {who}, {answered} requests answered, {left:.0f} left behind them")
+    yield from past_bounds(who, held, left)
+    if answered < HTTP_CROWD:
+        yield f"{answered} requests of {who} were answered"
+
+
+def all_together(count):
+    """What is held for crowds with partial frames, and for those that never read, with notes and without."""
+    allow_descriptors(count + 100)
+    yield from crowded("partial frames", TORN, count, ())
+    yield from crowded("replies not read", MINTS, count, ())
+    yield from crowded("replies not read", MINTS, count, ("--log", "requests"))
 
 
 def told_once_read():
@@ -95,15 +206,59 @@ def lines_of(log):
     return count
 
 
-def faults():
+def processor_micros(pid):
+    """The processor time of all threads of a process."""
+    tasks = pathlib.Path(f"/proc/{pid}/task").iterdir()
+    return sum(int((task / "schedstat").read_text().split()[0]) for task in tasks) / 1000
+
+
+def taken(stream):
+    """Waits until all that was sent is read."""
+    awaited(lambda: struct.unpack("i", fcntl.ioctl(stream, termios.TIOCOUTQ, bytes(4)))[0] == 0, 5, pause=0)
+
+
+def drips(pid, stream, part):
+    """Microseconds of the processor for each of these bytes, which come alone."""
+    before = processor_micros(pid)
+    for byte in part:
+        stream.send(bytes([byte]))
+        taken(stream)
+    time.sleep(0.05)
+    return (processor_micros(pid) - before) / len(part)
+
+
+def dripped():
+    """A head whose bytes come alone, and is answered at its end."""
+    with tempfile.TemporaryDirectory() as folder:
+        http = f"{folder}/http"
+        with daemon.listening("--http", f"unix:{http}", "--http-patience", "60") as (path, run):
+            with connected(path, patience=PATIENCE) as stream:
+                stream.sendall(TORN[:4])
+                of_frame = drips(run.pid, stream, TORN[4 : 4 + FRAME_BYTES])
+            awaited(pathlib.Path(http).exists)
+            with connected(http, patience=PATIENCE) as stream:
+                head = b"GET /healthz HTTP/1.1\r\nHost: a\r\nX: ".ljust(HEAD - 4, b"a") + b"\r\n\r\n"
+                parts = [head[part * HEAD // PARTS : (part + 1) * HEAD // PARTS] for part in range(PARTS)]
+                costs = [drips(run.pid, stream, part) for part in parts]
+                status = stream.recv(1_000).split(b" ")[1]
+    told = " ".join(f"{cost:.1f}" for cost in costs)
+    print(f"bounded: a byte of a head that comes alone costs {told} us, part by part; one of a frame {of_frame:.1f}")
+    if max(costs) > max(BYTE_MAX, 1.5 * of_frame):
+        yield f"a byte of a head that comes alone costs {max(costs):.1f} us of the processor"
+    if status != b"200":
+        yield f"a head that came so was answered {status.decode()}"
+
+
+def faults(count=CROWD):
     """What costs more than it may, beside what it prints."""
-    found = [*unread(()), *unread(("--log", "requests")), *told_once_read()]
+    found = [*unread(()), *unread(("--log", "requests")), *all_together(count), *dear_over_http()]
+    found += [*told_once_read(), *dripped()]
     return [f"bounded: {fault}" for fault in found]
 
 
 def main():
     programs.stop_unless_built("macaroond")
-    if found := faults():
+    if found := faults(*map(int, sys.argv[1:])):
         raise SystemExit("\n".join(found))
 
 

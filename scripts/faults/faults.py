@@ -30,9 +30,10 @@ NO_MEMORY_FOR_PEOPLE = Ended(4, b"", b"error: memory ran out\n")
 DEVICE = b"fault 3\n"
 # Calls of try_refused that take no memory.
 WITHOUT_MEMORY = {"bare:v1", "bare:v2", "bare:json"}
-# The uses that warn of a caveat: where there is no memory for the warning, the token stands alone.
-WARNING = {"mint_near_bound", "attenuate_near_bound"}
-UNWARNED = "its token without the warning"
+# How a warning of a caveat begins, and how the names of the uses that ask why a caveat fails. Where there is no memory
+# to tell either, the token or the verdict stands alone.
+WARNING, EXPLAINED = b"warning: ", "explain_"
+UNTOLD = "its token without the warning, or its verdict without the reason"
 BARE = b"made", b"refused, and made once more", b"refused elsewhere"
 MINT = bytes.fromhex("01010462616e6b000e687474703a2f2f6d7962616e6b2f001677652075736564206f757220736563726574206b657900")
 REPLIES = [frame(b"\x01" + TOKEN), frame(b"\x10")]
@@ -71,23 +72,28 @@ def pipe(count, most=None, step=1):
 def lines_of(uses, most=None, step=1):
     """Each command line: it ends as with ample memory, or with status 4 and a line that says so.
 
-    A use that warns may also end without its warning, and does where that is what is refused.
+    A use that warns may also end without its warning, and does where that is what is refused; and so one that
+    explains, which may tell the reason and have no memory for the verdict behind it.
     """
     for name, case in uses:
         command = [runs.PROGRAM, *case.words]
         given = case.input.encode()
         ample, _, _ = watched(command, given, "memory", 0)
+        is_told_besides = ample.error.startswith(WARNING) or (name.startswith(EXPLAINED) and ample.error != b"")
+        behind_it = NO_MEMORY_FOR_PEOPLE._replace(error=ample.error + NO_MEMORY_FOR_PEOPLE.error)
 
         def judge(ended):
             if ended == ample or (name == "keygen" and ended and ended.status == 0):
                 return "as with ample memory"
-            if name in WARNING and ended == ample._replace(error=b""):
-                return UNWARNED
+            if is_told_besides and ended == ample._replace(error=b""):
+                return UNTOLD
+            if ended == behind_it and name.startswith(EXPLAINED):
+                return "status 4"
             return "status 4" if ended in (NO_MEMORY, NO_MEMORY_FOR_PEOPLE) else None
 
         row, found = in_turn(name, lambda n: watched(command, given, "memory", n), judge, most, step)
-        if name in WARNING and most is None and not row.came[UNWARNED]:
-            found.append(f"{name}: no request of the warning itself was refused")
+        if is_told_besides and most is None and not row.came[UNTOLD]:
+            found.append(f"{name}: no request of the warning or the reason itself was refused")
         yield row, found
 
 

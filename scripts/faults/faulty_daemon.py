@@ -64,9 +64,7 @@ class Client(threading.Thread):
 
     def run(self):
         try:
-            with socket.socket(socket.AF_UNIX) as stream:
-                stream.settimeout(PATIENCE)
-                stream.connect(self.path)
+            with connected(self.path, PATIENCE) as stream:
                 for _ in range(self.times):
                     stream.sendall(ASKED)
                 stream.shutdown(socket.SHUT_WR)

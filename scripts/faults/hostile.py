@@ -13,12 +13,17 @@ and within SETTLING seconds it is as large as after the first, but for GROWTH_MA
 and of the C library's arenas keeps some of what it once held.
 
 Then 8 and 60 clients send the dearest requests without end, tokens in JSON of 32 KiB, and another's
-small verify is timed beside them: its median, its 99th percentile and its longest wait are told.
+small verify is timed beside them: its median, its 99th percentile and its longest wait are told. The
+same is done over HTTP.
+
+Then 64 and 640 clients send requests of 5 KiB whose replies have 30, and read them slowly, some 36 KB in
+ten seconds; once what they sent first is answered, a verify of 8 KiB is timed beside them.
 
 Then 63 clients that never read send requests whose replies are the largest beside them, as many as
 the daemon takes, and the daemon, now with all arenas, stays below PEAK_MAX. Asks for bin/macaroond,
 or the program that MACAROOND names.
 """
+import base64
 import contextlib
 import functools
 import multiprocessing
@@ -29,12 +34,13 @@ import select
 import socket
 import subprocess
 import sys
+import tempfile
 import time
 
 sys.path.insert(0, str(pathlib.Path(__file__).resolve().parents[1]))
 from common import daemon, programs
 from common.daemon import awaited, come_to, frame
-from common.processes import mebibytes, status
+from common.processes import allow_descriptors, mebibytes, status, timed_calmly
 
 import client
 import request
@@ -48,8 +54,14 @@ SIZE_MAX, GROWTH_MAX, SETTLING = 40, 12, 10
 # How many clients never read, and the most MiB of the daemon that answers them.
 SILENT, PEAK_MAX = 63, 450
 # How many clients send dear requests at a time, for how many seconds another is timed beside them, and
-# how many seconds of its waits the 99th percentile may be, on a machine that does other work too.
-CROWDS, DEAR_SECONDS, DEAR_WAIT_MAX = (8, 60), 3, 0.5
+# how many seconds of its waits the 99th percentile may be, on a machine that does other work too; and
+# over HTTP, where a loop answers what is dear, on one that does no other.
+CROWDS, DEAR_SECONDS, DEAR_WAIT_MAX, HTTP_WAIT_MAX = (8, 60), 3, 0.5, 0.01
+# How many clients read slowly, how many bytes each of them a second, and what each of them sends at most. For how
+# many seconds another is timed beside them, in how many waits in a row what they sent first is known to be answered,
+# within how many seconds that has to be, and how many seconds of its waits the 99th percentile may be.
+SLOW_CROWDS, SLOW_BYTES, SLOW_REQUESTS = (64, 640), 3_600, 40
+SLOW_SECONDS, QUICK_WAITS, SLOW_SETTLING, SLOW_WAIT_MAX = 3, 50, 30, 0.1
 # A caveat that JSON writes with six letters for a byte, and how many of them fill a token.
 CONTROL, CONTROLS = "hex:" + "01" * 1000, 5
 
@@ -153,17 +165,20 @@ def crowded(path, seconds):
         for kind in HOSTILE
         for number in range(3)
     ]
-    with client.Client(path) as asked:
-        # Connected before the crowd comes: who comes later waits behind those that are to be accepted.
-        asked.ask(b"")
-        for one in crowd:
-            one.start()
-            # A machine under load may take longer to start them all than a connection may be idle.
+    try:
+        with client.Client(path) as asked:
+            # Connected before the crowd comes: who comes later waits behind those that are to be accepted.
             asked.ask(b"")
-        count, longest = behaves(asked, time.monotonic() + seconds)
-    is_over.set()
-    for one in crowd:
-        one.join(timeout=30)
+            for one in crowd:
+                one.start()
+                # A machine under load may take longer to start them all than a connection may be idle.
+                asked.ask(b"")
+            count, longest = behaves(asked, time.monotonic() + seconds)
+    finally:
+        is_over.set()
+        for one in crowd:
+            if one.pid is not None:
+                one.join(timeout=30)
     return count, longest
 
 
@@ -175,7 +190,7 @@ def soak(path, pid, seconds):
     before = state(pid)
     count, longest, states, sizes = 0, 0.0, [], []
     for _ in range(ROUNDS):
-        replies, wait = crowded(path, seconds / ROUNDS)
+        replies, wait = timed_calmly(lambda: crowded(path, seconds / ROUNDS), lambda found: found[1] > LONGEST_WAIT)
         count, longest = count + replies, max(longest, wait)
         states.append(settled(pid, before))
         sizes.append(settled_size(pid, sizes[0] + GROWTH_MAX if sizes else SIZE_MAX))
@@ -197,10 +212,21 @@ def dearest_request():
     return frame(payload)
 
 
-def sends_dear(path, count, until):
-    """So many connections on which dear requests go out without end, and replies are read."""
-    frames = dearest_request() * 8
-    rest = {connected(path): memoryview(frames) for _ in range(count)}
+def over_http(token):
+    """A verify of this token over HTTP."""
+    return f"GET /verify/bank HTTP/1.1\r\nHost: a\r\nAuthorization: Bearer {token}\r\n\r\n".encode()
+
+
+def dearest_token():
+    """A token of nearly 32 KiB in JSON that is dear to read, from one who has none."""
+    caveats = ",".join(['{"i":""}'] * 3_500)
+    return '{"v":2,"i":"a","c":[' + caveats + '],"s64":"' + "A" * 43 + '"}'
+
+
+def sends_dear(path, text, count, until):
+    """So many connections on which this goes out without end, and what is answered is read."""
+    texts = text * 8
+    rest = {connected(path): memoryview(texts) for _ in range(count)}
     for one in rest:
         one.setblocking(False)
     while time.monotonic() < until:
@@ -208,38 +234,62 @@ def sends_dear(path, count, until):
         for one in readable:
             one.recv(65_536)
         for one in writable:
-            rest[one] = rest[one][one.send(rest[one]) :] or memoryview(frames)
+            rest[one] = rest[one][one.send(rest[one]) :] or memoryview(texts)
 
 
-def waits_beside(path, count):
-    """The seconds that small verifies waited beside so many clients with dear requests, sorted."""
+def waits_beside(grants, path, text, count):
+    """The seconds that small verifies waited beside so many clients with this dear request, sorted."""
     until = time.monotonic() + DEAR_SECONDS
-    crowd = multiprocessing.Process(target=sends_dear, args=(path, count, until), daemon=True)
+    crowd = multiprocessing.Process(target=sends_dear, args=(path, text, count, until), daemon=True)
     waits = []
-    with client.Client(path) as asked:
-        token = asked.ask(request.mint("v2-binary", "bank", "", "a", "a = 1", "b = 2", "c = 3"))[1:]
-        small = request.verify("bank", "hex:" + token.hex(), 0, "a = 1", "b = 2", "c = 3")
-        crowd.start()
-        time.sleep(0.3)
-        while time.monotonic() < until:
-            begin = time.monotonic()
-            if asked.ask(small) != b"\x00":
-                raise SystemExit("hostile: a small verify was not granted")
-            waits.append(time.monotonic() - begin)
-            time.sleep(0.001)
+    crowd.start()
+    time.sleep(0.3)
+    while time.monotonic() < until:
+        begin = time.monotonic()
+        if not grants():
+            raise SystemExit("hostile: a small verify was not granted")
+        waits.append(time.monotonic() - begin)
+        time.sleep(0.001)
     crowd.join(timeout=30)
     return sorted(waits)
 
 
-def beside_dear(path):
-    """What is wrong with the waits of a client beside others with dear requests, if anything."""
+def late_of(waits):
+    """The 99th percentile of waits that are sorted."""
+    return waits[len(waits) * 99 // 100]
+
+
+def told_of(waits):
+    """How many waits there were, and how long: in the middle, at the 99th percentile, and the longest."""
+    median, late, longest = (1000 * wait for wait in (waits[len(waits) // 2], late_of(waits), waits[-1]))
+    return f"{len(waits)} times: p50 {median:.2f} ms, p99 {late:.1f} ms, the longest {longest:.0f} ms"
+
+
+def late_beside(where, most, *asked):
+    """What is wrong with the waits of a client beside others with dear requests there, if anything."""
     for count in CROWDS:
-        waits = waits_beside(path, count)
-        median, late = waits[len(waits) // 2], waits[len(waits) * 99 // 100]
-        told = f"p50 {median * 1000:.2f} ms, p99 {late * 1000:.1f} ms, the longest {waits[-1] * 1000:.0f} ms"
-        print(f"hostile: a small verify beside {count} clients with dear requests, {len(waits)} times: {told}")
-        if late > DEAR_WAIT_MAX:
-            yield f"beside {count} clients with dear requests a small verify waited {late:.2f} s (p99)"
+        waits = timed_calmly(lambda: waits_beside(*asked, count), lambda waits: late_of(waits) > most)
+        print(f"hostile: a small verify {where} beside {count} clients with dear requests, {told_of(waits)}")
+        if late_of(waits) > most:
+            yield f"{where} beside {count} clients with dear requests a small verify waited {late_of(waits):.3f} s (p99)"
+
+
+def beside_dear(path, http):
+    """The same at both: in frames, and over HTTP."""
+    with client.Client(path) as asked:
+        token = asked.ask(request.mint("v2-binary", "bank", "", "a", "a = 1", "b = 2", "c = 3"))[1:]
+        small = request.verify("bank", "hex:" + token.hex(), 0, "a = 1", "b = 2", "c = 3")
+        yield from late_beside("in frames", DEAR_WAIT_MAX, lambda: asked.ask(small) == b"\x00", path, dearest_request())
+        plain = asked.ask(request.mint("v2-binary", "bank", "", "a"))[1:]
+    text = over_http(base64.urlsafe_b64encode(plain).rstrip(b"=").decode())
+    awaited(pathlib.Path(http).exists)
+    with connected(http) as stream:
+
+        def grants():
+            stream.sendall(text)
+            return stream.recv(65_536).startswith(b"HTTP/1.1 200 ")
+
+        yield from late_beside("over HTTP", HTTP_WAIT_MAX, grants, http, over_http(dearest_token()))
 
 
 def largest_reply(path):
@@ -275,6 +325,71 @@ def fill(path, pid):
         yield f"the daemon had {size:.0f} MiB still after {SETTLING} seconds"
 
 
+def reads_slowly(path, text, count, is_over):
+    """So many connections on which this goes out as far as it is taken, and what is answered is read slowly."""
+    allow_descriptors(count + 100)
+    rest = {connected(path): memoryview(text * SLOW_REQUESTS) for _ in range(count)}
+    for one in rest:
+        one.setblocking(False)
+    while not is_over.is_set():
+        for one in rest:
+            with contextlib.suppress(BlockingIOError):
+                one.recv(SLOW_BYTES // 4)
+            with contextlib.suppress(BlockingIOError):
+                rest[one] = rest[one][one.send(rest[one]) :] if rest[one] else rest[one]
+        time.sleep(0.25)
+
+
+def wait_for(asked, text):
+    """How many seconds a verify waits that is granted."""
+    begin = time.monotonic()
+    if asked.ask(text) != b"\x00":
+        raise SystemExit("hostile: a large verify was not granted")
+    return time.monotonic() - begin
+
+
+def await_quick(asked, text):
+    """Waits until so many replies in a row come in time."""
+    quick, until = 0, time.monotonic() + SLOW_SETTLING
+    while quick < QUICK_WAITS and time.monotonic() < until:
+        quick = quick + 1 if wait_for(asked, text) < SLOW_WAIT_MAX else 0
+
+
+def large_waits(path):
+    """The seconds that verifies of 8 KiB wait, sorted, once they are quick."""
+    with client.Client(path, timeout=SLOW_SETTLING) as asked:
+        token = asked.ask(request.mint("v2-binary", "bank", "", "a"))[1:]
+        large = request.verify("bank", "hex:" + token.hex(), 0, *["a" * 250] * 32)
+        await_quick(asked, large)
+        until, waits = time.monotonic() + SLOW_SECONDS, []
+        while time.monotonic() < until:
+            waits.append(wait_for(asked, large))
+            time.sleep(0.002)
+    return sorted(waits)
+
+
+def waits_beside_slow(path, text, count):
+    """The same beside so many clients that read slowly what this is answered."""
+    is_over = multiprocessing.Event()
+    crowd = multiprocessing.Process(target=reads_slowly, args=(path, text, count, is_over), daemon=True)
+    crowd.start()
+    try:
+        return large_waits(path)
+    finally:
+        is_over.set()
+        crowd.join(timeout=30)
+
+
+def beside_slow(path):
+    """What is wrong with the waits of a client with verifies of 8 KiB beside others that read slowly, if anything."""
+    text = largest_reply(path)
+    for count in SLOW_CROWDS:
+        waits = timed_calmly(lambda: waits_beside_slow(path, text, count), lambda waits: late_of(waits) > SLOW_WAIT_MAX)
+        print(f"hostile: a verify of 8 KiB beside {count} clients that read slowly, {told_of(waits)}")
+        if late_of(waits) > SLOW_WAIT_MAX:
+            yield f"beside {count} clients that read slowly a verify of 8 KiB waited {late_of(waits):.3f} s (p99)"
+
+
 def listening(*words):
     """A daemon that listens: its socket's path and its process."""
     return daemon.listening("--workers", "4", *words, stderr=subprocess.DEVNULL)
@@ -284,8 +399,10 @@ def faults(seconds):
     """What is wrong with the daemon after so many seconds of hostile use, beside what it prints."""
     with listening("--idle", "2") as (path, run):
         found = [*soak(path, run.pid, seconds)]
+    with tempfile.TemporaryDirectory() as folder, listening("--http", f"unix:{folder}/http") as (path, _):
+        found += beside_dear(path, f"{folder}/http")
     with listening() as (path, _):
-        found += beside_dear(path)
+        found += beside_slow(path)
     with listening() as (path, run):
         found += fill(path, run.pid)
     return [f"hostile: {fault}" for fault in found]

@@ -9,12 +9,12 @@ load too, so believe the processor time of each request, and not how many there 
 """
 import multiprocessing
 import pathlib
-import socket
 import sys
 import tempfile
 import time
 
 sys.path.insert(0, str(pathlib.Path(__file__).resolve().parents[1]))
+from common.daemon import connected
 from faults import scaling, scaling_cluster
 from faults.scaling_cluster import balanced, started
 from measure import load
@@ -33,8 +33,7 @@ def over_http(path, folder):
         token = client.mint("bank", "alice", "http://mybank/", load.FACTS)
     facts = "".join(f"Macaroon-Fact: {fact}\r\n" for fact in load.FACTS)
     asked = f"GET /verify/bank HTTP/1.1\r\nHost: macaroond\r\nAuthorization: Bearer {token}\r\n{facts}\r\n".encode()
-    with socket.socket(socket.AF_UNIX) as stream:
-        stream.connect(path)
+    with connected(path) as stream:
         stream.sendall(asked)
         due = stream.recv(load.CHUNK)
     if not due.startswith(b"HTTP/1.1 200 ") or not due.endswith(b"\r\n\r\n"):

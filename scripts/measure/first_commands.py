@@ -5,7 +5,9 @@
 
 Each command is `demo`, `build` or `test`, by `make`, one after the other in a clone of what is checked out, on so many
 processors. `test` takes over nothing that this machine has proved before. Without a command all three are run. What a
-command prints goes to standard error, and its last line into the table.
+command prints goes to standard error, and its last line into the table. Where this machine is a virtual one, the last
+column tells how much of its processors' time its host gave to others: with more than a few hundredths the minutes by
+the clock say little.
 """
 import argparse
 import contextlib
@@ -20,6 +22,7 @@ import time
 
 sys.path.insert(0, str(pathlib.Path(__file__).resolve().parents[1]))
 from common import TOP
+from common.processes import stolen, stolen_since
 
 # What each runs. A kit may take over what it proved on this machine, unless the gate is told to begin anew.
 COMMANDS = {
@@ -45,16 +48,16 @@ def processor_seconds():
 
 
 def measured(command, clone, cores):
-    """How the command ended, and its minutes by the clock and of processor time."""
+    """How the command ended, its minutes by the clock and of processor time, and the share that was stolen."""
     words = ["taskset", "--cpu-list", f"0-{cores - 1}", *COMMANDS[command]]
     how = {"cwd": clone, "stdout": subprocess.PIPE, "stderr": subprocess.STDOUT, "text": True, "errors": "replace"}
-    begin, before, last = time.monotonic(), processor_seconds(), ""
+    begin, before, last, stolen_before = time.monotonic(), processor_seconds(), "", stolen()
     with subprocess.Popen(words, **how) as run:
         for line in run.stdout:
             sys.stderr.write(line)
             last = line.strip() or last
     taken = (time.monotonic() - begin) / 60, (processor_seconds() - before) / 60
-    return f"{last} (status {run.returncode})", *taken
+    return f"{last} (status {run.returncode})", *taken, stolen_since(stolen_before)
 
 
 def main():
@@ -65,13 +68,13 @@ def main():
     given = words.parse_args()
     ctypes.CDLL(None).prctl(PR_SET_CHILD_SUBREAPER, 1, 0, 0, 0)
     print(f"{os.cpu_count()} processors, on which {os.getloadavg()[0]:.1f} processes wanted to run in the last minute\n")
-    print(f"| on {given.cores} cores | minutes | processor minutes | its end |\n|---|---|---|---|", flush=True)
+    print(f"| on {given.cores} cores | minutes | processor minutes | its end | stolen |\n|---|---|---|---|---|", flush=True)
     with tempfile.TemporaryDirectory() as folder:
         clone = pathlib.Path(folder) / "clone"
         subprocess.run(["git", "clone", "--quiet", TOP, clone], check=True)
         for command in given.commands or COMMANDS:
-            ended, clock, processor = measured(command, clone, given.cores)
-            print(f"| `make {command}` | {clock:.1f} | {processor:.1f} | {ended} |", flush=True)
+            ended, clock, processor, share = measured(command, clone, given.cores)
+            print(f"| `make {command}` | {clock:.1f} | {processor:.1f} | {ended} | {share:.0%} |", flush=True)
 
 
 if __name__ == "__main__":

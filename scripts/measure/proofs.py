@@ -1,15 +1,19 @@
 #!/usr/bin/env python3
 """Tells what the proofs of the crates take: the longest chain of crates, processors that rest, the dearest functions.
 
-    proofs.py -- COMMAND ..     runs this, as rt ci, rt all check, make build or make check CRATE, and watches
-    proofs.py                   the dearest functions alone, of all crates
-    proofs.py --timed CRATE     proves a crate anew, by one job, and tells its dearest functions in seconds
+    proofs.py -- COMMAND ..            runs this, as rt ci, rt all check, make build or make check CRATE, and watches
+    proofs.py --record -- COMMAND ..   the same, and writes what each crate took that was proved from nothing
+    proofs.py                          the dearest functions alone, of all crates
+    proofs.py --timed CRATE            proves a crate anew, by one job, and tells its dearest functions in seconds
 
 While the command runs, each second tells which crates the toolchain works on, in how many processes, and how
 many processors rest. A check that is over within a second may be missed. The chain is the crates of which each
 waits for the one before: with any number of processors a run takes no less than these take one by one. How dear a
 function is, is told by the sizes of what its proof keeps in the crates' out/incremental, which don't vary
 with what else the machine does; `drop of` is the glue that lets go of a type. Beside other work times are longer.
+
+What is recorded goes into docs/proof-times.txt, of which `make pages` makes a table in docs/CONTRIBUTING.md. A
+kit that keeps what it proved proves it again by `rt ci --anew`.
 """
 import argparse
 import collections
@@ -23,6 +27,7 @@ import typing
 
 sys.path.insert(0, str(pathlib.Path(__file__).resolve().parents[1]))
 from build import proving, rooms
+from check import costs
 from common import TOP, crates, programs
 
 EVERY = 1.0
@@ -36,12 +41,15 @@ CHECKED = re.compile(r"checked (\S+), (\d+) of (\d+)")
 
 
 class Process(typing.NamedTuple):
-    """A process of the toolchain: whose it is, what it does for which crate, and its processor time."""
+    """A process of the toolchain: whose it is, what it does for which crate, whether from nothing, and the processor
+    time that it has used itself, and by processes that have ended below it."""
 
     parent: int
     crate: str
     what: str
-    seconds: float
+    is_anew: bool
+    own: float
+    ended: float
 
 
 def words_of(pid):
@@ -63,7 +71,17 @@ def process(pid):
     crate = words[words.index("--crate-name") + 1] if "--crate-name" in words[:-1] else ""
     what = "edits" if "/rt-edit-" in folder else "tests" if "--test" in words else "proof"
     is_build = "--crate-checked" in words or any(word.startswith("--cpu") for word in words)
-    return Process(int(fields[1]), crate, "building" if is_build else what, (int(fields[11]) + int(fields[12])) / TICKS)
+    own, ended = (sum(map(int, fields[at : at + 2])) / TICKS for at in (11, 13))
+    is_anew = what == "edits" or "--incremental" not in words
+    return Process(int(fields[1]), crate, "building" if is_build else what, is_anew, own, ended)
+
+
+def processor_seconds(seen):
+    """The processor time of these processes, by their numbers. Of those that another one has below it, some may have
+    ended unseen: that one tells what they used."""
+    first = {pid for pid, it in seen.items() if it.parent not in seen}
+    below = sum(it.own for pid, it in seen.items() if pid not in first)
+    return sum(seen[pid].own for pid in first) + max(below, sum(seen[pid].ended for pid in first))
 
 
 def all_below(top):
@@ -87,7 +105,7 @@ class Watch:
     """What was seen of a run: of each crate and what was done for it, when, and each process's time."""
 
     def __init__(self):
-        self.spans, self.spent, self.samples = {}, collections.defaultdict(dict), []
+        self.spans, self.seen, self.samples = {}, collections.defaultdict(dict), []
 
     def look(self, top, now):
         seen = all_below(top)
@@ -95,13 +113,24 @@ class Watch:
             key = it.crate, it.what
             first, _ = self.spans.get(key, (now, now))
             self.spans[key] = first, now
-            self.spent[key][pid] = it.seconds
+            self.seen[key][pid] = it
         self.samples.append(len({(it.crate, it.what) for it in seen.values()}))
 
     def minutes(self, key):
         """How long it took, and how much processor time."""
         first, last = self.spans[key]
-        return (last - first + EVERY) / 60, sum(self.spent[key].values()) / 60
+        return (last - first + EVERY) / 60, processor_seconds(self.seen[key]) / 60
+
+    def costs(self):
+        """What the gate's work on each crate took that was proved from nothing."""
+        anew = {
+            key: processor_seconds(seen) / 60
+            for key, seen in self.seen.items()
+            if all(it.is_anew for it in seen.values())
+        }
+        for crate in (crate for crate, what in anew if what == "proof"):
+            edits = anew.get((crate, "edits"))
+            yield crate, costs.Cost("", crates.lines(crate), anew[crate, "proof"], edits, costs.edits_of(crate))
 
 
 def watched(command):
@@ -115,15 +144,6 @@ def watched(command):
     return watch, seconds / 60, (at_rest() - rest) / seconds, run.returncode
 
 
-def longest_chain(minutes):
-    """The crates of the chain that takes longest, by what each takes."""
-    chain = {}
-    for name in crates.in_order():
-        best = max((chain[it] for it in crates.direct(name)), default=(0, []))
-        chain[name] = best[0] + minutes.get(name, 0), [*best[1], *[name] * (name in minutes)]
-    return max(chain.values())
-
-
 def tell(watch, minutes, rested, dearest):
     proofs = {crate: watch.minutes((crate, what))[0] for crate, what in watch.spans if what == "proof"}
     print(f"\n{minutes:.1f} minutes; {len(os.sched_getaffinity(0))} processors, of which {rested:.1f} rested in the mean")
@@ -134,7 +154,7 @@ def tell(watch, minutes, rested, dearest):
         print("the toolchain proved nothing meanwhile")
         return tell_dearest(dearest)
     print("processor minutes: " + ", ".join(f"{what} {spent:.1f}" for what, spent in work.most_common()))
-    length, chain = longest_chain(proofs)
+    length, chain = costs.longest_chain(proofs)
     print(f"the longest chain takes {length:.1f} minutes:")
     print("  " + " > ".join(f"{name} {proofs[name]:.1f}" for name in chain))
     shared = collections.Counter(watch.samples)
@@ -196,6 +216,7 @@ def timed(crate):
 def main():
     words = argparse.ArgumentParser(description=__doc__, formatter_class=argparse.RawDescriptionHelpFormatter)
     words.add_argument("--timed", metavar="CRATE")
+    words.add_argument("--record", action="store_true")
     words.add_argument("command", nargs="*")
     given = words.parse_args()
     if given.timed:
@@ -203,8 +224,10 @@ def main():
         with proving.at_work():
             tell_dearest(timed(given.timed))
     elif given.command:
-        *seen, status = watched(given.command)
-        tell(*seen, by_size())
+        watch, *rest, status = watched(given.command)
+        tell(watch, *rest, by_size())
+        if given.record and status == 0:
+            costs.record(dict(watch.costs()))
         sys.exit(status)
     else:
         tell_dearest(by_size())

@@ -17,14 +17,13 @@ Asks for bin/macaroond, or the program that MACAROOND names.
 import multiprocessing
 import pathlib
 import statistics
-import subprocess
 import sys
 import tempfile
 import time
 
 sys.path.insert(0, str(pathlib.Path(__file__).resolve().parents[1]))
 from check.revoking import MILLION, TEN, drawn, write_list
-from common.daemon import PROGRAM, awaited, connected, frame, listening, received
+from common.daemon import awaited, connected, frame, listening, numbers, received
 from common.processes import mebibytes, processor_seconds
 from common.tokens import text_of, v2
 from measure.remembered import GRANTED, secret
@@ -78,8 +77,7 @@ def least_of_starts(*words):
 
 def lines_up(path):
     """How many lines of its list are up, as the daemon tells."""
-    told = subprocess.run([PROGRAM, "status", "--socket", path], capture_output=True, text=True, check=True).stdout
-    return int(next(line.split()[1] for line in told.splitlines() if line.startswith("revoked ")))
+    return int(numbers(path)["revoked"])
 
 
 def changed(revoked, count):

@@ -4,3 +4,4 @@ pub mod ReceivedLemmas
 pub mod JudgedLemmas
 pub mod InspectLemmas
 pub mod WireLemmas
+pub mod WarnedLemmas

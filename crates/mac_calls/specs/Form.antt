@@ -10,15 +10,15 @@ use Rattle.mac_calls.specs.declared.form.CallForm.TheVariants.{V1, V2, Json}
 
 -- the form that a word names
 abbrev pub form_named : List ℕ → Option CallForm
-form_named word = if bytes_eq word (codes "v1") then Some V1
-    else (if bytes_eq word (codes "v2") then Some V2
-    else (if bytes_eq word (codes "json") then Some Json else None))
+form_named word = if bytes_eq word (codes "v1-text") then Some V1
+    else (if bytes_eq word (codes "v2-text") then Some V2
+    else (if bytes_eq word (codes "v2-json") then Some Json else None))
 
 -- its name
 abbrev pub form_word : CallForm → List ℕ
-form_word V1 = codes "v1"
-form_word V2 = codes "v2"
-form_word Json = codes "json"
+form_word V1 = codes "v1-text"
+form_word V2 = codes "v2-text"
+form_word Json = codes "v2-json"
 
 -- what the wire is asked for
 abbrev pub wire_form : CallForm → TokenForm

@@ -17,21 +17,28 @@ use Rattle.mac_calls.specs.Form.{form_of_text, form_word}
 use Rattle.mac_calls.specs.Members.{has_identifier, token_in}
 use Rattle.mac_calls.specs.Received.{received}
 use Rattle.mac_calls.specs.Steps.{Step, ◌>>=◌}
+use Rattle.mac_calls.specs.Warned.{warnings_member}
 use Rattle.std.specs.Prelude.{Ok}
 
--- the text of a token, whose letters need no escape
-abbrev pub token_json : List ℕ → List ℕ
-token_json text = codes "{\"token\":\"" ++ (text ++ codes "\"}")
+-- the text of a token, whose letters need no escape, and what is told of its caveats, to the end of
+-- the object
+abbrev pub token_end : List ℕ → List ℕ → List ℕ
+token_end text warnings = text ++ (codes "\"" ++ (warnings_member warnings ++ codes "}"))
+
+-- an object of these
+abbrev pub token_json : List ℕ → List ℕ → List ℕ
+token_json text warnings = codes "{\"token\":\"" ++ token_end text warnings
 
 -- the same behind the identifier that was drawn for it, whose digits need none either
-abbrev pub drawn_json : List ℕ → List ℕ → List ℕ
-drawn_json identifier text = codes "{\"identifier\":\""
-    ++ (identifier ++ (codes "\",\"token\":\"" ++ (text ++ codes "\"}")))
+abbrev pub drawn_json : List ℕ → List ℕ → List ℕ → List ℕ
+drawn_json identifier text warnings = codes "{\"identifier\":\""
+    ++ (identifier ++ (codes "\",\"token\":\"" ++ token_end text warnings))
 
--- a token that was minted: its identifier is told where the object says none
-abbrev pub minted_json : Data → List ℕ × List ℕ → List ℕ
-minted_json d made =
-    if has_identifier d then token_json made.1 else drawn_json made.0 made.1
+-- a token that was minted, with what is told of its caveats: its identifier is told where the
+-- object says none
+abbrev pub minted_json : Data → List ℕ × (List ℕ × List ℕ) → List ℕ
+minted_json d made = if has_identifier d then token_json made.1.0 made.1.1
+    else drawn_json made.0 made.1.0 made.1.1
 
 -- a refusal: of a token with its number
 abbrev pub refusal_json : CallRefusal → List ℕ

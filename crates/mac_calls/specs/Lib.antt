@@ -11,4 +11,6 @@ pub mod Made
 pub mod Json
 pub mod Judged
 pub mod Names
+pub mod Fingerprint
+pub mod Warned
 pub mod Outcome

@@ -19,6 +19,7 @@ use Rattle.mac_calls.specs.Counted.{are_few}
 use Rattle.mac_calls.specs.Form.{form_of_text, wire_form}
 use Rattle.mac_calls.specs.Members.{caveats_in, form_in, identifier_in, location_in, token_in}
 use Rattle.mac_calls.specs.Steps.{Step, ◌>>=◌}
+use Rattle.mac_calls.specs.Warned.{all_warnings}
 
 -- the base64 text of a token's bytes, or Limit where it is longer than a token may be
 abbrev pub as_text : List ℕ → Step (List ℕ)
@@ -51,16 +52,16 @@ new_text keys form location identifier caveats =
     if are_few caveats then made_text form (mint_reply keys form location identifier caveats)
     else Err (Token refusal.Limit)
 
--- the token that an object asks for, in the form V2 where it asks for none: its identifier, and its
--- text
-abbrev pub minted : Keys → List ℕ → Data → Step (List ℕ × List ℕ)
-minted keys drawn d = do
+-- the token that an object asks for, in the form V2 where it asks for none: its identifier, its text,
+-- and what is told of its caveats at a moment
+abbrev pub minted : Keys → List ℕ → ℕ → Data → Step (List ℕ × (List ℕ × List ℕ))
+minted keys drawn moment d = do
   identifier ← identifier_in drawn d
   location ← location_in d
   caveats ← caveats_in d
   form ← form_in d
   text ← new_text keys (unwrap_or form V2) location identifier caveats
-  Ok (identifier, text)
+  Ok (identifier, (text, all_warnings caveats moment))
 
 -- the caveats, if there are any
 abbrev pub some_caveat : List (List ℕ) → Step (List (List ℕ))
@@ -79,11 +80,12 @@ narrowed form token caveats =
     else Err (Token refusal.Limit)
 
 -- an object's token with the object's caveats behind its own, in the form that is asked for, or else
--- in the one in which it came
-abbrev pub attenuated : Data → Step (List ℕ)
-attenuated d = do
+-- in the one in which it came, and what is told of these caveats at a moment
+abbrev pub attenuated : ℕ → Data → Step (List ℕ × List ℕ)
+attenuated moment d = do
   text ← token_in d
   listed ← caveats_in d
   form ← form_in d
   caveats ← some_caveat listed
-  narrowed (unwrap_or form (form_of_text text)) text caveats
+  made ← narrowed (unwrap_or form (form_of_text text)) text caveats
+  Ok (made, all_warnings caveats moment)

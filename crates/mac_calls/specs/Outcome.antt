@@ -14,21 +14,22 @@ use Rattle.mac_calls.specs.Made.{attenuated, minted}
 use Rattle.mac_calls.specs.Object.{object_in}
 use Rattle.mac_calls.specs.Steps.{Step, ◌>>=◌}
 
--- the JSON of a token's text
-abbrev pub with_token : Step (List ℕ) → Step (List ℕ)
-with_token text = text >>= λ t. Ok (token_json t)
-
--- the reply to a mint, by its body and what was drawn for it, and the token's identifier
-abbrev pub mint_answer : Keys → List ℕ → List ℕ → Step (List ℕ × List ℕ)
-mint_answer keys drawn body = do
+-- the reply to a mint, by its body, what was drawn for it and the moment at which its caveats are
+-- looked at, and the token's identifier
+abbrev pub mint_answer : Keys → List ℕ → ℕ → List ℕ → Step (List ℕ × List ℕ)
+mint_answer keys drawn moment body = do
   d ← object_in Mint body
-  made ← minted keys drawn d
+  made ← minted keys drawn moment d
   Ok (minted_json d made, made.0)
 
--- the reply to each other call, by its body
-abbrev pub attenuate_answer : List ℕ → Step (List ℕ)
-attenuate_answer body = with_token (object_in Attenuate body >>= attenuated)
+-- the reply to an attenuate, whose caveats are looked at at a moment
+abbrev pub attenuate_answer : ℕ → List ℕ → Step (List ℕ)
+attenuate_answer moment body = do
+  d ← object_in Attenuate body
+  made ← attenuated moment d
+  Ok (token_json made.0 made.1)
 
+-- the reply to each other call, by its body
 abbrev pub inspect_answer : List ℕ → Step (List ℕ)
 inspect_answer body = object_in Inspect body >>= inspected
 
@@ -49,9 +50,10 @@ minted_outcome (Ok told) = Minted told.0 told.1
 minted_outcome (Err why) = Refused (refusal_json why)
 
 -- what comes of a mint, if the name has keys
-abbrev pub mint_outcome : Option Keys → List ℕ → List ℕ → Outcome
-mint_outcome None drawn body = NoKey
-mint_outcome (Some keys) drawn body = minted_outcome (mint_answer keys drawn body)
+abbrev pub mint_outcome : Option Keys → List ℕ → ℕ → List ℕ → Outcome
+mint_outcome None drawn moment body = NoKey
+mint_outcome (Some keys) drawn moment body =
+    minted_outcome (mint_answer keys drawn moment body)
 
 -- the same of a verify
 abbrev pub verify_outcome : Table → List ℕ → Option Keys → List ℕ → Outcome
@@ -59,14 +61,15 @@ verify_outcome table name None body = NoKey
 verify_outcome table name (Some keys) body = told_outcome
     (verify_answer (record { keys = keys; name = name; revoked = table.revoked }) body)
 
--- what comes of a call with a body, under a table; a mint and a verify alone are about a name, and a
--- mint alone takes what was drawn
-abbrev pub outcome_of : Table → List ℕ → Call → List ℕ → List ℕ → Outcome
-outcome_of table name Mint drawn body = mint_outcome (map.get table.keys name) drawn body
-outcome_of table name Attenuate drawn body = told_outcome (attenuate_answer body)
-outcome_of table name Inspect drawn body = told_outcome (inspect_answer body)
-outcome_of table name Check drawn body = told_outcome (check_answer body)
-outcome_of table name Verify drawn body =
+-- what comes of a call with a body, under a table at a moment; a mint and a verify alone are about a
+-- name, and a mint alone takes what was drawn
+abbrev pub outcome_of : Table → ℕ → List ℕ → Call → List ℕ → List ℕ → Outcome
+outcome_of table moment name Mint drawn body =
+    mint_outcome (map.get table.keys name) drawn moment body
+outcome_of table moment name Attenuate drawn body = told_outcome (attenuate_answer moment body)
+outcome_of table moment name Inspect drawn body = told_outcome (inspect_answer body)
+outcome_of table moment name Check drawn body = told_outcome (check_answer body)
+outcome_of table moment name Verify drawn body =
     verify_outcome table name (map.get table.keys name) body
 
 -- the identifier of the token that an outcome brings, where that was minted

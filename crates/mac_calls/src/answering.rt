@@ -15,7 +15,7 @@ use crate::fault::{CallFault, CallRefusal};
 use crate::inspect::inspected;
 use crate::json::{drawn_json, refusal_json, token_json};
 use crate::judge::judged;
-use crate::make::{NewToken, attenuated_text, minted};
+use crate::make::{NewToken, attenuated, minted};
 use crate::members::has_identifier;
 use crate::object::object_in;
 use crate::verifier::Verifier;
@@ -67,11 +67,13 @@ pub struct Brought<'a> {
     pub body: &'a [u8],
     /// Random bytes, for the identifier of a token whose body says none.
     pub drawn: &'a [u8; 16],
+    /// The moment at which new caveats are looked at, in seconds since 1970-01-01T00:00:00Z.
+    pub moment: u64,
 }
 
 /// What comes of a call that brings this, under the table; a mint and a verify alone are about a
 /// name. Memory and time are linear in the body and in what is made of it, but that a check and a
-/// verify look each caveat up among the facts.
+/// verify look each caveat up among the facts, and a mint and an attenuate among those before it.
 pub fn answer(
     alloc: Global,
     table: &KeyTable,
@@ -80,7 +82,8 @@ pub fn answer(
     brought: Brought<'_>,
 ) -> Result<Outcome, AllocError>
     ensures { IfOk result (λ o. o
-        ≡ outcome_of table.now name.now call brought.entry.drawn.now brought.entry.body.now) }
+        ≡ outcome_of table.now brought.entry.moment name.now call brought.entry.drawn.now
+        brought.entry.body.now) }
 {
     let body = brought.body;
     match call {
@@ -88,7 +91,7 @@ pub fn answer(
             Some(keys) => minted_outcome(alloc, mint_answer(alloc, keys, brought)),
             None => Ok(Outcome::NoKey),
         },
-        Call::Attenuate => told_outcome(alloc, attenuate_answer(alloc, body)),
+        Call::Attenuate => told_outcome(alloc, attenuate_answer(alloc, brought.moment, body)),
         Call::Inspect => told_outcome(alloc, inspect_answer(alloc, body)),
         Call::Check => told_outcome(alloc, check_answer(alloc, body)),
         Call::Verify => match table.find(name) {
@@ -153,10 +156,11 @@ fn mint_answer(
     brought: Brought<'_>,
 ) -> Result<(Vec<u8>, Vec<u8>), CallFault>
     ensures { Gives (λ told. (told.0.items, told.1.items)) result
-        (mint_answer keys.now brought.entry.drawn.now brought.entry.body.now) }
+        (mint_answer keys.now brought.entry.drawn.now brought.entry.moment
+        brought.entry.body.now) }
 {
     let object = object_in(alloc, Call::Mint, brought.body)?;
-    let made = minted(alloc, keys, brought.drawn, &object)?;
+    let made = minted(alloc, keys, brought.drawn, brought.moment, &object)?;
     let json = minted_json(alloc, &object, &made)?;
     let NewToken { identifier, .. } = made;
     Ok((json, identifier))
@@ -165,22 +169,22 @@ fn mint_answer(
 /// A token that was minted, with its identifier where the object says none.
 fn minted_json(alloc: Global, object: &Value, made: &NewToken) -> Result<Vec<u8>, AllocError>
     ensures { IfOk result (λ json. json.items ≡ minted_json (view object.now)
-        (made.now.identifier.items, made.now.text.items)) }
+        (made.now.identifier.items, (made.now.text.items, made.now.warnings.items))) }
 {
     if has_identifier(object) {
-        token_json(alloc, &made.text)
+        token_json(alloc, &made.text, &made.warnings)
     } else {
-        drawn_json(alloc, &made.identifier, &made.text)
+        drawn_json(alloc, &made.identifier, &made.text, &made.warnings)
     }
 }
 
-/// The reply to an attenuate.
-fn attenuate_answer(alloc: Global, body: &[u8]) -> Result<Vec<u8>, CallFault>
-    ensures { Gives (λ json. json.items) result (attenuate_answer body.now) }
+/// The reply to an attenuate, at a moment.
+fn attenuate_answer(alloc: Global, moment: u64, body: &[u8]) -> Result<Vec<u8>, CallFault>
+    ensures { Gives (λ json. json.items) result (attenuate_answer moment body.now) }
 {
     let object = object_in(alloc, Call::Attenuate, body)?;
-    let text = attenuated_text(alloc, &object)?;
-    Ok(token_json(alloc, &text)?)
+    let (text, warnings) = attenuated(alloc, moment, &object)?;
+    Ok(token_json(alloc, &text, &warnings)?)
 }
 
 /// The reply to an inspect.

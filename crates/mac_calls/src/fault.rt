@@ -52,7 +52,7 @@ impl BodyFault {
             BodyFault::Location => "the location is no text",
             BodyFault::Caveats => "the caveats are no list of texts",
             BodyFault::NoCaveat => "there is no caveat to add",
-            BodyFault::Form => "the form is none of v1, v2 and json",
+            BodyFault::Form => "the form is none of v1-text, v2-text and v2-json",
             BodyFault::Token => "there is no text that is the token",
             BodyFault::Facts => "the facts are no list of texts",
             BodyFault::ManyFacts => "the facts are more or longer than a request may have",

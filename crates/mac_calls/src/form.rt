@@ -22,9 +22,9 @@ impl CallForm {
         ensures { result ≡ form_named word.now }
     {
         match word {
-            "v1" => Some(CallForm::V1),
-            "v2" => Some(CallForm::V2),
-            "json" => Some(CallForm::Json),
+            "v1-text" => Some(CallForm::V1),
+            "v2-text" => Some(CallForm::V2),
+            "v2-json" => Some(CallForm::Json),
             _ => None,
         }
     }
@@ -34,9 +34,9 @@ impl CallForm {
         ensures { result.now ≡ form_word self }
     {
         match self {
-            CallForm::V1 => "v1",
-            CallForm::V2 => "v2",
-            CallForm::Json => "json",
+            CallForm::V1 => "v1-text",
+            CallForm::V2 => "v2-text",
+            CallForm::Json => "v2-json",
         }
     }
 

@@ -15,6 +15,7 @@ use crate::fault::{BodyFault, CallFault};
 use crate::form::CallForm;
 use crate::members::{caveats_in, form_in, identifier_in, location_in, token_in};
 use crate::received::form_of_text;
+use crate::warned::list_warnings;
 use base64::engine::general_purpose::URL_SAFE_NO_PAD;
 use mac_keys::Keys;
 use mac_token::TOKEN_MAX;
@@ -29,25 +30,33 @@ pub(crate) struct NewToken {
     pub(crate) identifier: Vec<u8>,
     /// Its text.
     pub(crate) text: Vec<u8>,
+    /// What is told of its caveats.
+    pub(crate) warnings: Vec<u8>,
 }
 
-/// The token that an object asks for, under the first of the keys; in the form V2 where it asks for
-/// none.
+/// The token that an object asks for, under the first of the keys, and what is told of its caveats at
+/// a moment; in the form V2 where it asks for none.
 pub(crate) fn minted(
     alloc: Global,
     keys: &Keys,
     drawn: &[u8; 16],
+    moment: u64,
     object: &Value,
 ) -> Result<NewToken, CallFault>
-    ensures { Gives (λ made. (made.identifier.items, made.text.items)) result
-        (minted keys.now drawn.now (view object.now)) }
+    ensures { Gives (λ made. (made.identifier.items, (made.text.items, made.warnings.items))) result
+        (minted keys.now drawn.now moment (view object.now)) }
 {
     let identifier = identifier_in(alloc, drawn, object)?;
     let location = location_in(object)?;
     let caveats = caveats_in(alloc, object)?;
     let form = form_in(object)?.unwrap_or(CallForm::V2);
     let text = new_text(alloc, keys, form, location, &identifier, &caveats)?;
-    Ok(NewToken { identifier, text })
+    let warnings = list_warnings(alloc, &caveats, moment)?;
+    Ok(NewToken {
+        identifier,
+        text,
+        warnings,
+    })
 }
 
 /// The text of the token of these parts under the first of the keys, in a form.
@@ -95,10 +104,15 @@ fn new_counted(
     made_text(alloc, form, reply)
 }
 
-/// The text of an object's token with the object's caveats behind its own, in the form that is
-/// asked for, or else in the token's.
-pub(crate) fn attenuated_text(alloc: Global, object: &Value) -> Result<Vec<u8>, CallFault>
-    ensures { Gives (λ text. text.items) result (attenuated (view object.now)) }
+/// The text of an object's token with the object's caveats behind its own, in the form that is asked
+/// for, or else in the token's, and what is told of these caveats at a moment.
+pub(crate) fn attenuated(
+    alloc: Global,
+    moment: u64,
+    object: &Value,
+) -> Result<(Vec<u8>, Vec<u8>), CallFault>
+    ensures { Gives (λ made. (made.0.items, made.1.items)) result
+        (attenuated moment (view object.now)) }
 {
     let text = token_in(object)?;
     let caveats = caveats_in(alloc, object)?;
@@ -108,7 +122,9 @@ pub(crate) fn attenuated_text(alloc: Global, object: &Value) -> Result<Vec<u8>, 
         Some(form) => form,
         None => form_of_text(alloc, text.as_bytes())?,
     };
-    narrowed(alloc, form, text.as_bytes(), &caveats)
+    let text = narrowed(alloc, form, text.as_bytes(), &caveats)?;
+    let warnings = list_warnings(alloc, &caveats, moment)?;
+    Ok((text, warnings))
 }
 
 /// The caveats, if there are any.

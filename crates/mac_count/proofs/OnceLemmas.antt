@@ -26,6 +26,7 @@ number_once number.KeysReadAt = refl
 number_once number.KeysRefused = refl
 number_once number.ConnectionsHttp = refl
 number_once number.Revoked = refl
+number_once number.ConnectionsHeavy = refl
 
 request_once_of : (a : Asked) (t : Told) → count_by (λ (other : Request). request_place other == request_place (record { asked = a; told = t })) all_requests ≡ 1
 request_once_of asked.Mint told.Granted = refl

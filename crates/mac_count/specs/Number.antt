@@ -25,6 +25,7 @@ number_word number.KeysReadAt = codes "keys_read_seconds"
 number_word number.KeysRefused = codes "keys_refused"
 number_word number.ConnectionsHttp = codes "connections_http"
 number_word number.Revoked = codes "revoked"
+number_word number.ConnectionsHeavy = codes "connections_ended_for_memory_total"
 
 -- a counter only grows, a gauge goes both ways
 abbrev pub number_kind : Number → List ℕ
@@ -43,6 +44,7 @@ number_kind number.KeysReadAt = codes "gauge"
 number_kind number.KeysRefused = codes "gauge"
 number_kind number.ConnectionsHttp = codes "gauge"
 number_kind number.Revoked = codes "gauge"
+number_kind number.ConnectionsHeavy = codes "counter"
 
 -- the place of a number in a snapshot
 abbrev pub number_place : Number → ℕ
@@ -61,10 +63,11 @@ number_place number.KeysReadAt = 11
 number_place number.KeysRefused = 12
 number_place number.ConnectionsHttp = 13
 number_place number.Revoked = 14
+number_place number.ConnectionsHeavy = 15
 
 -- all numbers, in the order in which they are written
 abbrev pub all_numbers : List Number
-all_numbers = number.StartedAt ∷ number.Connections ∷ number.ConnectionsPlain ∷ number.ConnectionsWide ∷ number.ConnectionsTotal ∷ number.ConnectionsAtLimit ∷ number.ConnectionsFaulty ∷ number.RequestsWide ∷ number.BytesIn ∷ number.BytesOut ∷ number.KeyNames ∷ number.KeysReadAt ∷ number.KeysRefused ∷ number.ConnectionsHttp ∷ number.Revoked ∷ []
+all_numbers = number.StartedAt ∷ number.Connections ∷ number.ConnectionsPlain ∷ number.ConnectionsWide ∷ number.ConnectionsTotal ∷ number.ConnectionsAtLimit ∷ number.ConnectionsFaulty ∷ number.RequestsWide ∷ number.BytesIn ∷ number.BytesOut ∷ number.KeyNames ∷ number.KeysReadAt ∷ number.KeysRefused ∷ number.ConnectionsHttp ∷ number.Revoked ∷ number.ConnectionsHeavy ∷ []
 
 -- the word for what a request asks for
 abbrev pub asked_word : Asked → List ℕ

@@ -5,7 +5,7 @@ ghost use Rattle.mac_count.specs.Number.{asked_word, number_kind, number_place, 
 ghost use Rattle.mac_count.specs.Number.{request_place, told_word};
 
 /// How many numbers there are beside those of requests.
-pub const NUMBERS: usize = 15;
+pub const NUMBERS: usize = 16;
 
 /// How many numbers there are of requests: one for each thing asked and each answer.
 pub const REQUESTS: usize = 20;
@@ -43,6 +43,8 @@ pub enum Number {
     ConnectionsHttp,
     /// How many lines the list of tokens has that were taken back.
     Revoked,
+    /// How many connections were ended since they held most of the memory of all.
+    ConnectionsHeavy,
 }
 
 /// What a request asks for.
@@ -100,6 +102,7 @@ impl Number {
         Number::KeysRefused,
         Number::ConnectionsHttp,
         Number::Revoked,
+        Number::ConnectionsHeavy,
     ];
 
     /// Its name, as Prometheus's rules for names have it.
@@ -122,6 +125,7 @@ impl Number {
             Number::KeysRefused => "keys_refused",
             Number::ConnectionsHttp => "connections_http",
             Number::Revoked => "revoked",
+            Number::ConnectionsHeavy => "connections_ended_for_memory_total",
         }
     }
 
@@ -135,7 +139,8 @@ impl Number {
             | Number::ConnectionsFaulty
             | Number::RequestsWide
             | Number::BytesIn
-            | Number::BytesOut => "counter",
+            | Number::BytesOut
+            | Number::ConnectionsHeavy => "counter",
             Number::StartedAt
             | Number::Connections
             | Number::ConnectionsPlain

@@ -1,1 +1,4 @@
 pub mod Day
+pub mod Gift
+pub mod Memory
+pub mod Room

@@ -1,16 +1,18 @@
 //! The loop that accepts the connections of sockets: so many of them, or until it is shut.
-ghost use Rattle.std.specs.Prelude.{◌≡◌, IfOk};
+ghost use Rattle.std.specs.Prelude.{◌≡◌, ◌<◌, length, IfOk, IfSome, IsTrue, Some};
 ghost use Rattle.mac_daemon.specs.Day.{MeetsCount};
-ghost use Rattle.mac_sockets.specs.Entrance.{taken_of};
+ghost use Rattle.mac_daemon.specs.Gift.{GivesAt};
+ghost use Rattle.mac_host.specs.Badge.{socket_of_door};
+ghost use Rattle.mac_sockets.specs.Entrance.{doors_of, taken_of};
 
 use crate::door::Gift;
 use crate::fault::DaemonFault;
 use crate::notice::Notice;
 use crate::quay::Quay;
-use mac_host::{Badge, Life};
-use mac_loop::{Handover, Loops, SocketPort};
-use mac_sockets::{Arrived, Entrance, Stream};
-use mac_wire::Session;
+use crate::room::Entry;
+use mac_host::{Badge, Life, Socket};
+use mac_loop::{Handover, Loops};
+use mac_sockets::{Arrived, Entrance, Fresh};
 use std::alloc::Global;
 use std::io::ErrorKind;
 use std::sync::{Arc, Wait};
@@ -23,19 +25,10 @@ const PAUSE_MILLIS: u64 = 100;
 /// The loop that a connection begins in. From there it goes to others where that is busy.
 const FIRST_LOOP: usize = 0;
 
-/// What the connections of a socket are held to.
-#[derive(Clone, Copy)]
-pub struct Limits {
-    /// How many are accepted: without a number, one after another until the entrance is shut.
-    pub count: Option<u64>,
-    /// How many there are at a time.
-    pub connections: u64,
-}
-
-/// A connection that there is room for.
+/// A connection that came in.
 #[derive(Drop)]
 struct Newcomer {
-    stream: Stream,
+    stream: Fresh,
     // What its requests may do, where there is memory for that.
     rights: Option<Gift>,
     badge: Badge,
@@ -45,25 +38,25 @@ struct Newcomer {
 #[derive(Drop)]
 pub struct AsAsked(pub Option<u64>);
 
-/// Accepts as many connections as the limits say, and waits until all have ended. The number of
-/// those that were accepted is told. Without a count, connections are read no further than what has
-/// come once the entrance is shut.
+/// Accepts so many connections, where a count is given, and waits until all have ended. The number
+/// of those that were accepted is told. Without a count, connections are read no further than what
+/// has come once the entrance is shut.
 pub fn accept_to_end<R>(
     rt: &R,
     alloc: Global,
     entrance: &mut Entrance<Gift>,
     loops: &Loops,
     quay: &Quay,
-    limits: Limits,
+    count: Option<u64>,
 ) -> Result<u64, DaemonFault>
 where
     R: Wait + Clock,
-    ensures { IfOk result (λ served. MeetsCount limits.count served
+    ensures { IfOk result (λ served. MeetsCount count served
         × (served ≡ taken_of entrance.new)) }
 {
-    let served = accept_each(rt, alloc, entrance, loops, quay, limits);
+    let served = accept_each(rt, alloc, entrance, loops, quay, count);
     entrance.close();
-    if limits.count.is_none() {
+    if count.is_none() {
         quay.say_left(rt);
         loops.drain();
     }
@@ -71,48 +64,68 @@ where
     served
 }
 
-/// Accepts as many connections as the limits say, and hands each to a loop. Some may not have ended
-/// yet where it returns the number of those that were accepted. With a count, a socket that accepts
-/// nothing is an error; without one, it is asked again after a pause, until the entrance is shut
-/// and nobody waits there.
+/// Whether as many were served as are asked for.
+fn has_met(count: Option<u64>, served: u64) -> bool
+    ensures { IsTrue result → MeetsCount count served }
+{
+    match count {
+        Some(asked) => asked == served,
+        None => false,
+    }
+}
+
+/// Accepts so many connections, where a count is given, and hands each to a loop. Some may not have
+/// ended yet where it returns the number of those that were accepted. With a count, a socket that
+/// accepts nothing is an error; without one, it is asked again after a pause, until the entrance is
+/// shut and nobody waits there.
 fn accept_each<R>(
     rt: &R,
     alloc: Global,
     entrance: &mut Entrance<Gift>,
     loops: &Loops,
     quay: &Quay,
-    limits: Limits,
+    count: Option<u64>,
 ) -> Result<u64, DaemonFault>
 where
     R: Wait + Clock,
-    ensures { IfOk result (λ served. MeetsCount limits.count served
+    ensures { IfOk result (λ served. MeetsCount count served
         × (served ≡ taken_of entrance.new)) }
 {
     for _ in rt.forever() {
         let served = entrance.taken();
-        match limits.count {
-            Some(count) if count == served => return Ok(served),
-            _ => {}
+        if has_met(count, served) {
+            return Ok(served);
         }
+        loops.await_taken(rt, FIRST_LOOP);
         match entrance.accept(rt) {
             Some(Ok(arrived)) => {
-                let Arrived { stream, door } = arrived;
-                if quay.admit(rt, limits.connections) {
-                    let newcomer = Newcomer {
-                        stream,
-                        rights: Arc::try_clone(entrance.gift(door)).ok(),
-                        badge: quay.badge(rt, entrance.taken(), door),
-                    };
-                    begin(rt, alloc, newcomer, loops, quay);
-                }
+                let newcomer = receive(rt, entrance, arrived, quay);
+                enter(rt, alloc, newcomer, loops, quay);
             }
-            Some(Err(fault)) if limits.count.is_some() => return Err(DaemonFault::System(fault)),
+            Some(Err(fault)) if count.is_some() => return Err(DaemonFault::System(fault)),
             Some(Err(fault)) => pause(rt, alloc, fault, quay),
-            None if limits.count.is_none() => return Ok(served),
+            None if count.is_none() => return Ok(served),
             None => return Err(DaemonFault::System(ErrorKind::ConnectionAborted.into())),
         }
     }
     unreachable!()
+}
+
+/// A connection that came in, with what its door gives.
+fn receive<R: Clock>(rt: &R, entrance: &Entrance<Gift>, arrived: Arrived, quay: &Quay) -> Newcomer
+    requires { arrived.door < length (doors_of entrance.now) }
+    ensures badge { result.badge.socket ≡ socket_of_door arrived.door }
+    ensures rights { IfSome result.rights (λ gift.
+        GivesAt (doors_of entrance.now) arrived.door gift.value) }
+{
+    let Arrived { stream, door } = arrived;
+    let rights = Arc::try_clone(entrance.gift(door)).ok();
+    let badge = quay.badge(rt, entrance.taken(), Socket::of_door(door));
+    Newcomer {
+        stream,
+        rights,
+        badge,
+    }
 }
 
 /// Waits for a moment where the system gave no connection, and tells why.
@@ -123,31 +136,57 @@ fn pause<R: Wait + Clock>(rt: &R, alloc: Global, fault: io::Error, quay: &Quay) 
     thread::sleep(rt, Duration::from_millis(PAUSE_MILLIS));
 }
 
-/// Hands a connection to a loop. One for which there is no memory is closed, and that is told.
+/// Hands a connection to a loop, in the place of another one where there are as many as there may
+/// be.
+fn enter<R: Wait + Clock>(rt: &R, alloc: Global, newcomer: Newcomer, loops: &Loops, quay: &Quay) {
+    let badge = newcomer.badge;
+    let gives_way = match quay.enter(rt, badge.socket) {
+        Entry::Free => {
+            let mut newcomer = newcomer;
+            newcomer.badge = quay.listed(rt, badge);
+            begin(rt, alloc, newcomer, loops, quay);
+            return;
+        }
+        Entry::SideFull => Socket::Side,
+        Entry::Full(socket) => socket,
+    };
+    if let Ok(client) = meet(alloc, newcomer, quay) {
+        let _ = loops.hand_displacing(rt, gives_way, client);
+    }
+}
+
+/// Hands a connection that is counted to a loop. One for which there is no memory is closed, and
+/// that is told.
 fn begin<R: Wait + Clock>(rt: &R, alloc: Global, newcomer: Newcomer, loops: &Loops, quay: &Quay) {
+    let life = Life {
+        badge: newcomer.badge,
+        answered: 0,
+    };
+    let notice = match meet(alloc, newcomer, quay) {
+        Ok(client) => match loops.hand(rt, FIRST_LOOP, client) {
+            Ok(()) => return,
+            Err(_) => Notice::NoMemory,
+        },
+        Err(notice) => notice,
+    };
+    quay.refuse(rt, life, notice);
+}
+
+/// A connection as loops have it.
+fn meet(alloc: Global, newcomer: Newcomer, quay: &Quay) -> Result<Handover, Notice>
+    ensures rights { IfOk result (λ client. newcomer.rights ≡ Some client.rights) }
+    ensures badge { IfOk result (λ client. client.badge ≡ newcomer.badge) }
+{
     let Newcomer {
         stream,
         rights,
         badge,
     } = newcomer;
-    let life = Life { badge, answered: 0 };
-    let Ok(port) = SocketPort::new(stream, quay.transcript(alloc)) else {
-        quay.end(rt, life, Some(Notice::System));
-        return;
-    };
     let Some(rights) = rights else {
-        quay.end(rt, life, Some(Notice::NoMemory));
-        return;
+        return Err(Notice::NoMemory);
     };
-    let client = Handover {
-        port,
-        session: Session::new(alloc),
-        rights,
-        place: 0,
-        since: badge.accepted,
-        badge,
-    };
-    if loops.hand(rt, FIRST_LOOP, client).is_err() {
-        quay.end(rt, life, Some(Notice::NoMemory));
+    match Handover::begin(alloc, stream, quay.transcript(alloc), rights, badge) {
+        Ok(client) => Ok(client),
+        Err(_) => Err(Notice::System),
     }
 }

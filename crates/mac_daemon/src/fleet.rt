@@ -1,16 +1,17 @@
 //! The threads of a daemon: its loops, its workers, and who accepts.
-ghost use Rattle.std.specs.Prelude.{◌≡◌, IfOk};
+ghost use Rattle.std.specs.Prelude.{◌≡◌, ◌-◌, IfOk};
 ghost use Rattle.mac_daemon.specs.Day.{MeetsCount};
+ghost use Rattle.mac_daemon.specs.Memory.{tokens_memory};
 ghost use Rattle.mac_loop.specs.Asks.{home_of};
 
-use crate::accepting::{Limits, accept_to_end};
+use crate::accepting::accept_to_end;
 use crate::door::Gift;
 use crate::fault::DaemonFault;
 use crate::quay::Quay;
 use mac_board::{Follower, Followers, TimedTables};
 use mac_decide::{Macaroons, SeenTokens};
 use mac_host::Ending;
-use mac_loop::{Loop, Loops, make_loops};
+use mac_loop::{Loop, LoopTerms, Loops, make_loops};
 use mac_pool::{Desk, Pool};
 use mac_sockets::{Entrance, STACK, has_roomy_stacks};
 use mac_system::SystemMoments;
@@ -36,10 +37,45 @@ pub struct Shape {
     pub workers: usize,
     /// How many connections there are at a time.
     pub connections: u64,
+    /// How many of them at the second socket: without a number, as many.
+    pub side_connections: Option<u64>,
     /// The seconds after which a connection that makes no progress is ended.
     pub idle: Option<u64>,
     /// How many bytes tokens are remembered in that were found to be minted: none where it is 0.
     pub remembered: u64,
+    /// How many bytes of memory these and the connections may have together.
+    pub memory: u64,
+}
+
+impl Shape {
+    /// How many bytes tokens are remembered in: those that were asked for, and half of the memory
+    /// at most.
+    pub fn tokens_memory(self) -> u64
+        ensures { result ≡ tokens_memory self }
+    {
+        self.remembered.min(self.memory / 2)
+    }
+
+    /// How many bytes of memory the connections may have together: what those tokens leave.
+    pub fn connections_memory(self) -> u64
+        ensures { result ≡ self.memory - tokens_memory self }
+    {
+        self.memory.saturating_sub(self.tokens_memory())
+    }
+
+    /// What its loops are held to.
+    fn loop_terms(self, may_share: bool) -> LoopTerms
+        ensures memory { result.memory ≡ self.memory - tokens_memory self }
+        ensures count { result.count ≡ self.loops }
+        ensures idle { result.idle ≡ self.idle }
+    {
+        LoopTerms {
+            count: self.loops,
+            idle: self.idle,
+            may_share,
+            memory: self.connections_memory(),
+        }
+    }
 }
 
 /// What a daemon did.
@@ -66,8 +102,8 @@ impl Idlers {
         shape: Shape,
         seen: &SeenTokens,
     ) -> Result<Idlers, DaemonFault> {
-        let may_share = has_roomy_stacks();
-        let (loops, made) = make_loops(rt, alloc, shape.loops, shape.idle, seen, may_share)?;
+        let terms = shape.loop_terms(has_roomy_stacks());
+        let (loops, made) = make_loops(rt, alloc, terms, seen)?;
         Ok(Idlers { loops, made })
     }
 }
@@ -75,11 +111,12 @@ impl Idlers {
 /// The memory of tokens of a daemon of this shape, if the system gives random bytes and memory for
 /// it.
 fn make_memory<R: RandomSource>(rt: &R, alloc: Global, shape: Shape) -> Option<SeenTokens> {
-    if shape.remembered == 0 {
+    let remembered = shape.tokens_memory();
+    if remembered == 0 {
         return Some(SeenTokens::none());
     }
     let hashes = RandomState::new(rt).ok()?;
-    SeenTokens::new(alloc, hashes, shape.remembered as usize).ok()
+    SeenTokens::new(alloc, hashes, remembered as usize).ok()
 }
 
 /// The memory of tokens of a daemon. Where there is none for it that is told, and it computes each
@@ -105,8 +142,8 @@ pub struct FleetParts {
     pub idlers: Idlers,
     /// Where connections come in.
     pub entrance: Entrance<Gift>,
-    /// What they are held to.
-    pub limits: Limits,
+    /// How many of them are accepted: without a number, one after another until that is shut.
+    pub count: Option<u64>,
     /// What the threads tell one another.
     pub quay: Arc<Quay, Global>,
 }
@@ -118,7 +155,7 @@ struct Fleet<'a> {
     quay: &'a Arc<Quay, Global>,
     followers: &'a Followers,
     ending: &'a Ending,
-    limits: Limits,
+    count: Option<u64>,
 }
 
 /// A loop's desk comes back from its thread.
@@ -134,8 +171,8 @@ impl Promise<Desk<Macaroons>> for SameDesk {
 
 type LoopThread = PromisedHandle<Desk<Macaroons>, SameDesk>;
 
-/// Starts the workers and the loops, serves the connections that come in, as many as the limits say,
-/// and ends the threads once all connections have ended.
+/// Starts the workers and the loops, serves the connections that come in, so many where a count is
+/// given, and ends the threads once all connections have ended.
 pub fn run_fleet<R>(
     rt: &R,
     alloc: Global,
@@ -145,13 +182,13 @@ pub fn run_fleet<R>(
 ) -> Result<Day, DaemonFault>
 where
     R: Threads + Wait + Clock + Sync + Copy + Send + 'static,
-    ensures { IfOk result (λ day. MeetsCount parts.limits.count day.served) }
+    ensures { IfOk result (λ day. MeetsCount parts.count day.served) }
 {
     let FleetParts {
         workers,
         idlers,
         mut entrance,
-        limits,
+        count,
         quay,
     } = parts;
     let Idlers { loops, made } = idlers;
@@ -161,7 +198,7 @@ where
         quay: &quay,
         followers,
         ending,
-        limits,
+        count,
     };
     let served = run_loops(rt, alloc, &mut pool, made, &mut entrance, fleet);
     let _books = pool.stop(rt);
@@ -183,12 +220,12 @@ fn run_loops<R>(
 ) -> Result<u64, DaemonFault>
 where
     R: Threads + Wait + Clock + Sync + Copy + Send + 'static,
-    ensures served { IfOk result (λ served. MeetsCount fleet.entry.limits.count served) }
+    ensures served { IfOk result (λ served. MeetsCount fleet.entry.count served) }
     ensures queue { pool.new.queue ≡ pool.old.queue }
 {
     let Some(one) = made.pop() else {
         fleet.ending.begin(rt);
-        let served = accept_to_end(rt, alloc, entrance, fleet.loops, fleet.quay, fleet.limits);
+        let served = accept_to_end(rt, alloc, entrance, fleet.loops, fleet.quay, fleet.count);
         fleet.loops.close();
         return served;
     };

@@ -13,6 +13,7 @@ mod fleet;
 mod listening;
 mod notice;
 mod quay;
+mod room;
 mod stop;
 mod surroundings;
 

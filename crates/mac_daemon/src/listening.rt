@@ -3,16 +3,17 @@
 ghost use Rattle.std.specs.Prelude.{◌≡◌, IfOk};
 ghost use Rattle.mac_daemon.specs.Day.{MeetsCount, count_of};
 
-use crate::accepting::{AsAsked, Limits};
+use crate::accepting::AsAsked;
 use crate::descriptors::most_connections;
 use crate::door::Gift;
 use crate::fault::DaemonFault;
 use crate::fleet::{Day, FleetParts, Idlers, Shape, make_seen, run_fleet};
 use crate::quay::Quay;
+use crate::room::Most;
 use crate::stop::Stop;
 use crate::surroundings::{Surroundings, heed_signals};
-use mac_board::{Followers, ListNews, News};
-use mac_host::{Beginning, Call, Ending, Host, Logged, Notices, Numbers, Roster};
+use mac_board::Followers;
+use mac_host::{Beginning, Ending, Host, Logged, Notices, Numbers, Roster};
 use mac_sockets::{Doors, Entrance, Holdings, STACK};
 use mac_system::{NotifySocket, State};
 use std::alloc::{AllocError, Global};
@@ -98,13 +99,11 @@ where
     }
     let numbers = Numbers::begin(rt, alloc)?;
     numbers.set_keys(rt, terms.names);
-    let limits = Limits {
-        count: terms.accept,
-        connections: allow_connections(rt, terms, &notices),
-    };
-    let roster = Roster::new(rt, alloc, limits.connections, socket_paths(alloc, terms)?)?;
+    let most = allow_connections(rt, terms, &notices);
+    let roster = Roster::new(rt, alloc, most.all, socket_paths(alloc, terms)?)?;
     let quay = Quay::new(
         alloc,
+        most,
         notices.share()?,
         numbers.share()?,
         Arc::try_clone(&roster)?,
@@ -114,7 +113,7 @@ where
         workers: terms.shape.workers,
         idlers: Idlers::make(rt, alloc, terms.shape, &seen)?,
         entrance,
-        limits,
+        count: terms.accept,
         quay: Arc::try_clone(&quay)?,
     };
     let serving = start_serving(*rt, alloc, service, followers, &ending)?;
@@ -163,15 +162,9 @@ impl Daemon {
         self.stop.tell_replaced(rt, self.host.notices(), path);
     }
 
-    /// Waits until the daemon is told something, for so long at most.
-    pub fn await_call<R: Wait + Clock>(&self, rt: &R, patience: Duration) -> Call {
-        self.host.ending().await_call(rt, patience)
-    }
-
-    /// Tells what came of a look at its key file, if there is anything to be told.
-    pub fn tell_keys<R: Wait + Clock>(&self, rt: &R, file: &str, news: News) {
-        self.host.numbers().note_keys(rt, &news);
-        self.host.notices().tell_keys(rt, file, news);
+    /// Waits until the daemon is told to end, for so long at most. Whether it was.
+    pub fn await_ending<R: Wait + Clock>(&self, rt: &R, patience: Duration) -> bool {
+        self.host.ending().await_ending(rt, patience)
     }
 
     /// Notes how many lines its first list of tokens has that were taken back.
@@ -179,14 +172,8 @@ impl Daemon {
         self.host.numbers().set_revoked(lines);
     }
 
-    /// Tells what came of a look at its list of tokens that were taken back, if there is anything to
-    /// be told.
-    pub fn tell_revoked<R: Wait + Clock>(&self, rt: &R, file: &str, news: ListNews) {
-        self.host.numbers().note_revoked(&news);
-        self.host.notices().tell_revoked(rt, file, news);
-    }
-
-    /// What a further server has of it, whose connections are seen off with it.
+    /// What a further server has of it, whose connections are seen off with it, and who follows its
+    /// files.
     pub fn host(&self) -> Result<Host, AllocError> {
         self.host.share()
     }
@@ -199,7 +186,7 @@ impl Daemon {
         self.tell_manager(rt, State::Stopping);
         let ending = self.host.ending();
         let has_ended = ending.await_end(rt, self.drain);
-        let left = self.quay.live().saturating_add(ending.connections(rt));
+        let left = self.quay.live(rt).saturating_add(ending.connections(rt));
         let cut = if has_ended { 0 } else { left };
         self.host.notices().tell_end(rt, cut);
     }
@@ -257,12 +244,12 @@ fn start_serving<R>(
 ) -> Result<Serving, DaemonFault>
 where
     R: Threads + Wait + Clock + Sync + Copy + Send + 'static,
-    ensures { IfOk result (λ serving. serving.promise.0 ≡ service.limits.count) }
+    ensures { IfOk result (λ serving. serving.promise.0 ≡ service.count) }
 {
     let ending = Arc::try_clone(ending)?;
-    let count = service.limits.count;
+    let count = service.count;
     let work = move || -> Result<Day, DaemonFault>
-        ensures { IfOk result (λ day. MeetsCount service.limits.count day.served) }
+        ensures { IfOk result (λ day. MeetsCount service.count day.served) }
     {
         let outcome = run_fleet(&rt, alloc, service, &followers, &ending);
         ending.finish(&rt);
@@ -278,9 +265,16 @@ where
 }
 
 /// How many connections there may be at a time: as many as were asked for, or as the system's limit
-/// of descriptors allows beside those that are reserved, which is told then. A daemon that ends after
-/// so many looks at no limit: it ends where the system gives none.
-fn allow_connections<R: Wait + Clock>(rt: &R, terms: DaemonTerms<'_>, notices: &Notices) -> u64 {
+/// of descriptors allows beside those that are reserved, which is told then.
+fn allow_connections<R: Wait + Clock>(rt: &R, terms: DaemonTerms<'_>, notices: &Notices) -> Most {
+    let all = allow_all(rt, terms, notices);
+    let side = terms.shape.side_connections.unwrap_or(all).min(all);
+    Most { all, side }
+}
+
+/// The same of all sockets together. A daemon that ends after so many looks at no limit: it ends
+/// where the system gives none.
+fn allow_all<R: Wait + Clock>(rt: &R, terms: DaemonTerms<'_>, notices: &Notices) -> u64 {
     let DaemonTerms {
         shape,
         reserved,
@@ -303,6 +297,7 @@ fn beginning_of(terms: DaemonTerms<'_>) -> Beginning<'_> {
         side: terms.side,
         names: terms.names,
         workers: terms.shape.workers,
+        memory: terms.shape.memory,
     }
 }
 

@@ -24,6 +24,11 @@ impl Notice {
         self.kind() != Kind::ConnectionIdle
     }
 
+    /// Whether it was ended since it held most of the memory of all.
+    pub fn is_heavy(self) -> bool {
+        matches!(self, Notice::Plain(PlainFault::Heavy))
+    }
+
     /// The kind of the line that tells it.
     pub fn kind(self) -> Kind {
         match self {

@@ -1,21 +1,24 @@
 //! What the threads of a daemon tell one another of its connections: how many there are, and what is
 //! printed.
 
+ghost use Rattle.std.specs.Prelude.{◌≡◌};
+
 use crate::notice::Notice;
-use mac_host::{Badge, Exchange, Life, Notices, Numbers, Roster, microseconds};
-use mac_loop::{PlainFault, Transcript, Turn, Watch};
+use crate::room::{Entry, Most, Room};
+use mac_host::{Badge, Exchange, Life, Notices, Numbers, Roster, Socket, microseconds};
+use mac_loop::{EndedLife, Transcript, Turn, Watch};
 use mac_mail::Bell;
 use std::alloc::{AllocError, Global};
 use std::sync::atomic::AtomicU64;
 use std::sync::atomic::Ordering::SeqCst;
-use std::sync::{Arc, Wait};
+use std::sync::{Arc, Mutex, Wait};
 use std::time::Clock;
 
 /// What the threads of a daemon share.
 #[derive(Drop)]
 pub struct Quay {
-    /// How many connections there are.
-    live: AtomicU64,
+    /// How many connections there are, and may be.
+    room: Mutex<Room>,
     /// How many have ended in a fault, or were not served.
     faults: AtomicU64,
     /// Who waits until all have ended sleeps here.
@@ -26,15 +29,16 @@ pub struct Quay {
 }
 
 impl Quay {
-    /// A quay without connections.
+    /// A quay without connections, of which there may be so many.
     pub fn new(
         alloc: Global,
+        most: Most,
         notices: Notices,
         numbers: Numbers,
         roster: Arc<Roster, Global>,
     ) -> Result<Arc<Quay, Global>, AllocError> {
         let quay = Quay {
-            live: AtomicU64::new(0),
+            room: Mutex::new(Room::new(most)),
             faults: AtomicU64::new(0),
             ends: Bell::new(),
             notices,
@@ -44,29 +48,59 @@ impl Quay {
         Ok(Arc::new(alloc, quay)?)
     }
 
-    /// Counts one connection more. Where there are as many as there may be, that is told.
-    pub fn admit<R: Wait + Clock>(&self, rt: &R, most: u64) -> bool {
-        let is_room = self.live.load(SeqCst) < most;
-        self.numbers.count_accepted(is_room);
-        if is_room {
-            self.live.fetch_add(1, SeqCst);
-            return true;
+    /// What becomes of a connection that comes in at a socket. Where there are as many as there may
+    /// be, that is told.
+    pub fn enter<R: Wait + Clock>(&self, rt: &R, socket: Socket) -> Entry {
+        let mut room = self.room.lock(rt);
+        let own = &mut *room;
+        let (entry, most) = (own.enter(socket), own.most());
+        drop(room);
+        self.numbers.count_accepted(entry == Entry::Free);
+        match entry {
+            Entry::Free => return entry,
+            Entry::SideFull => self.notices.tell_full(rt, "verify-connections", most.side),
+            Entry::Full(_) => self.notices.tell_full(rt, "connections", most.all),
         }
         self.faults.fetch_add(1, SeqCst);
-        self.notices.tell_full(rt, most);
-        false
+        entry
     }
 
-    /// What the connection of this number is known by, which came in now through the door of that
-    /// number. It is listed until it ends.
-    pub fn badge<R: Wait + Clock>(&self, rt: &R, number: u64, door: usize) -> Badge {
-        let accepted = microseconds(rt);
-        let place = self.roster.enter(rt, number, accepted, door);
+    /// What the connection of this number is known by, which came in now at this socket. It has no
+    /// place in the list yet.
+    pub fn badge<R: Clock>(&self, rt: &R, number: u64, socket: Socket) -> Badge
+        ensures { result.socket ≡ socket }
+    {
         Badge {
             number,
-            accepted,
-            place,
+            socket,
+            accepted: microseconds(rt),
+            place: None,
         }
+    }
+
+    /// The same of a connection that is counted, listed until it ends.
+    pub fn listed<R: Wait>(&self, rt: &R, badge: Badge) -> Badge
+        ensures { result.socket ≡ badge.socket }
+    {
+        let Badge {
+            number,
+            socket,
+            accepted,
+            ..
+        } = badge;
+        let place = self.roster.enter(rt, number, accepted, socket);
+        Badge { place, ..badge }
+    }
+
+    /// Counts a connection out, where one has gone, and another one in, where there is room for it.
+    /// Whether that is so.
+    fn replace<R: Wait>(&self, rt: &R, gone: Option<Life>, comes: Socket) -> bool {
+        let mut room = self.room.lock(rt);
+        let own = &mut *room;
+        if let Some(life) = gone {
+            own.leave(life.badge.socket);
+        }
+        own.take(comes)
     }
 
     /// What a connection that begins is noted in, where requests or mints are logged.
@@ -93,16 +127,28 @@ impl Quay {
         self.notices.tell_refused(rt, fault);
     }
 
+    /// Notes that a connection is closed which no loop had: nothing was read from it, and nothing
+    /// written to it.
+    pub fn refuse<R: Wait + Clock>(&self, rt: &R, life: Life, notice: Notice) {
+        self.end(rt, life, Some(notice));
+    }
+
     /// Notes that a connection has ended, with what is to be told of that.
-    pub fn end<R: Wait + Clock>(&self, rt: &R, life: Life, notice: Option<Notice>) {
+    fn end<R: Wait + Clock>(&self, rt: &R, life: Life, notice: Option<Notice>) {
         self.roster.leave(rt, life);
         self.numbers
             .count_ended(notice.is_some_and(Notice::is_fault));
+        if notice.is_some_and(Notice::is_heavy) {
+            self.numbers.count_heavy();
+        }
         if let Some(notice) = notice {
             self.faults.fetch_add(1, SeqCst);
             self.notices.tell_parting(rt, life, notice.kind(), &notice);
         }
-        self.live.fetch_sub(1, SeqCst);
+        let mut room = self.room.lock(rt);
+        let own = &mut *room;
+        own.leave(life.badge.socket);
+        drop(room);
         self.ends.ring();
     }
 
@@ -115,7 +161,7 @@ impl Quay {
     pub fn await_end<R: Wait>(&self, rt: &R) {
         for _ in rt.forever() {
             let wait = self.ends.announce();
-            if self.live.load(SeqCst) == 0 {
+            if self.live(rt) == 0 {
                 self.ends.withdraw(wait);
                 return;
             }
@@ -124,13 +170,14 @@ impl Quay {
     }
 
     /// How many connections there are.
-    pub fn live(&self) -> u64 {
-        self.live.load(SeqCst)
+    pub fn live<R: Wait>(&self, rt: &R) -> u64 {
+        let room = self.room.lock(rt);
+        room.live()
     }
 
     /// Tells that the daemon was told to end, and how many connections there are.
     pub fn say_left<R: Wait + Clock>(&self, rt: &R) {
-        self.notices.tell_drain(rt, self.live());
+        self.notices.tell_drain(rt, self.live(rt));
     }
 
     /// How many connections have ended in a fault, or were not served.
@@ -140,8 +187,8 @@ impl Quay {
 }
 
 impl Watch for Quay {
-    fn end<R: Wait + Clock>(&self, rt: &R, life: Life, fault: Option<PlainFault>) {
-        Quay::end(self, rt, life, fault.map(Notice::Plain));
+    fn end<R: Wait + Clock>(&self, rt: &R, ended: EndedLife) {
+        Quay::end(self, rt, ended.life, ended.fault.map(Notice::Plain));
     }
 
     fn count(&self, turn: &Turn) {
@@ -154,6 +201,35 @@ impl Watch for Quay {
 
     fn see(&self, life: Life, unsent: usize) {
         self.roster.see(life, unsent);
+    }
+
+    fn gives_way<R: Wait>(&self, rt: &R, comes: Socket) -> Option<Socket> {
+        let room = self.room.lock(rt);
+        match room.entry(comes) {
+            Entry::Free => None,
+            Entry::SideFull => Some(Socket::Side),
+            Entry::Full(socket) => Some(socket),
+        }
+    }
+
+    fn displace<R: Wait + Clock>(
+        &self,
+        rt: &R,
+        gone: Option<EndedLife>,
+        comes: Badge,
+    ) -> Option<Badge> {
+        let gone = gone.map(|ended| ended.life);
+        if let Some(life) = gone {
+            self.roster.leave(rt, life);
+            self.numbers.count_ended(false);
+        }
+        let is_room = self.replace(rt, gone, comes.socket);
+        self.ends.ring();
+        if !is_room {
+            return None;
+        }
+        self.numbers.count_accepted(true);
+        Some(self.listed(rt, comes))
     }
 
     fn widen(&self, life: Life) {

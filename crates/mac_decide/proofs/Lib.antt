@@ -17,5 +17,7 @@ pub mod WorldLemmas
 pub mod VerifiedLemmas
 pub mod SigningLemmas
 pub mod PreparedLemmas
+pub mod DoubtLemmas
+pub mod LackLemmas
 pub mod DraftingLemmas
 pub mod SeenLemmas

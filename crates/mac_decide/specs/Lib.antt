@@ -1,7 +1,9 @@
 pub mod Answer
 pub mod Asking
 pub mod Calendar
+pub mod Doubt
 pub mod Folding
+pub mod Lack
 pub mod Minted
 pub mod Prepared
 pub mod Reading

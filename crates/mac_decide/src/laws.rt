@@ -1,6 +1,6 @@
 //! Laws of the definitions, as functions whose contracts state them.
 
-ghost use Rattle.std.specs.Prelude.{◌≡◌, ◌↔◌, ℕ, ◌≤◌, ℤ, List, [], ◌∷◌, ◌++◌, All, Contains, map as map_list, Some, None, true, false};
+ghost use Rattle.std.specs.Prelude.{◌≡◌, ◌↔◌, ℕ, ◌≤◌, ℤ, pos, ◌≤ℤ◌, ◌<ℤ◌, List, [], ◌∷◌, ◌++◌, All, Contains, map as map_list, Some, None, true, false};
 ghost use Rattle.std.specs.FinMap as map;
 ghost use Rattle.mac_order.specs.declared.event.Event as event;
 ghost use Rattle.mac_order.specs.History.{IsBeginningOf, Reaches};
@@ -25,11 +25,13 @@ ghost use Rattle.mac_decide.specs.World.{job_under};
 ghost use Rattle.mac_decide.specs.Answer.{reply_of, answer_of, answer_to, basis_of, keys_of, refused, with_owner, IsAttenuate, IsGranted};
 ghost use Rattle.mac_decide.specs.Revocation.{is_listed_read};
 ghost use Rattle.mac_decide.specs.Minted.{Signs, Minted, minted, add};
+ghost use Rattle.mac_decide.specs.Lack.{lack_of, nearest, shared};
 ghost use Rattle.mac_decide.specs.Reading.{limit_of, since_of, verdict_of};
 ghost use Rattle.mac_decide.specs.Terms.{Terms, with_all_names, without_list};
 ghost use Rattle.mac_decide.specs.Time.{IsTimeLimit, IsLowerBound};
 ghost use Rattle.mac_decide.specs.Verdict.{Satisfied, Accepts, IsVerdict};
 
+use crate::lacks::Lack;
 use crate::macaroons::Macaroons;
 use mac_order::Service;
 use mac_wire::{Arrival, Grant, Refusal, Reply};
@@ -305,4 +307,21 @@ pub fn verdict_is_read()
         → IsVerdict keys t x (verdict_of keys t x) }
     ensures one { (keys : List (List ℕ)) (t : TokenParts) (x : PlainContext) (v w : PlainVerdict)
         → IsVerdict keys t x v → IsVerdict keys t x w → v ≡ w }
+{}
+
+/// A caveat lacks nothing exactly where it is satisfied. One that ended is a time limit that the
+/// moment has reached, and one that is ahead is a lower bound that it hasn't.
+pub fn lacks_are_true()
+    ensures nothing { (caveat : List ℕ) (x : PlainContext)
+        → (lack_of caveat x ≡ None) ↔ Satisfied caveat x }
+    ensures ended { (caveat : List ℕ) (x : PlainContext) (v : ℤ)
+        → lack_of caveat x ≡ Some (Lack.Ended v) → IsTimeLimit caveat v × (v ≤ℤ pos x.moment) }
+    ensures ahead { (caveat : List ℕ) (x : PlainContext) (v : ℤ)
+        → lack_of caveat x ≡ Some (Lack.Ahead v) → IsLowerBound caveat v × (pos x.moment <ℤ v) }
+{}
+
+/// No fact shares more first bytes with a caveat than the nearest one does.
+pub fn none_is_nearer()
+    ensures { (caveat : List ℕ) (facts : List (List ℕ))
+        → All (λ fact. shared caveat fact ≤ shared caveat (nearest caveat [] facts)) facts }
 {}

@@ -8,11 +8,13 @@
 mod asking;
 mod choosing;
 mod context;
+mod doubts;
 mod drafting;
 mod folding;
 mod job;
 mod job_view;
 mod keyed;
+mod lacks;
 pub mod laws;
 mod looking;
 mod macaroons;
@@ -33,10 +35,13 @@ mod verifying;
 
 pub use asking::Asking;
 pub use context::{Context, satisfied};
+pub use doubts::{Doubt, begins_as_bound, find_doubt};
 pub use job::{Basis, Job, job_of};
 pub use job_view::{ArrivalView, JobView, job_view_of};
+pub use lacks::{Lack, find_lack, nearest_fact, shared};
 pub use macaroons::Macaroons;
 pub use one_by_one::{answer_one, answer_request};
+pub use remembering::{recall, remember_answer};
 pub use reply::{answer, refusal_of};
 pub use revocation::Revocation;
 pub use rights::{Names, Rights, Terms};

@@ -1,6 +1,6 @@
 //! What is known of a reply at first sight, before anything is hashed.
 
-ghost use Rattle.std.specs.Prelude.{◌≡◌, ◌+◌, ◌++◌, ◌≤◌, IfOk, OnOk, IfSome, length, map};
+ghost use Rattle.std.specs.Prelude.{◌≡◌, ◌+◌, ◌++◌, ◌≤◌, IfOk, OnOk, IfNone, IfSome, None, length, map};
 ghost use Rattle.mac_wire.specs.Reading.{request_of};
 ghost use Rattle.mac_decide.specs.Answer as answers;
 ghost use Rattle.mac_decide.specs.Asking.{asking_reply};
@@ -93,18 +93,29 @@ fn look_at_payload<'a>(
           is_revoked = asked_revoked job.now.revoked (request_of payload.now);
         })) }
 {
-    match parse_request(payload) {
-        Some(request) => {
-            let asking = Asking {
-                request,
-                keys: job.keys,
-                revoked: job.revoked,
-                may_mint: job.may_mint,
-                moment: job.moment,
-            };
-            look_at(seen, alloc, asking)
-        }
+    match asking_of(payload, job) {
+        Some(asking) => look_at(seen, alloc, asking),
         None => Ok(Sight::Told(refused(Refusal::BadRequest))),
+    }
+}
+
+/// What a payload asks on the basis of its job; nothing where it is no request.
+pub(crate) fn asking_of<'a>(payload: &'a [u8], job: &JobView<'a>) -> Option<Asking<'a>>
+    ensures asks { IfSome result (λ asking. asking_reply asking
+        ≡ answers.asked_reply (request_of payload.now) (record (viewed_basis job.now) {
+          is_revoked = asked_revoked job.now.revoked (request_of payload.now);
+        })) }
+    ensures nothing { IfNone result (request_of payload.now ≡ None) }
+{
+    match parse_request(payload) {
+        Some(request) => Some(Asking {
+            request,
+            keys: job.keys,
+            revoked: job.revoked,
+            may_mint: job.may_mint,
+            moment: job.moment,
+        }),
+        None => None,
     }
 }
 

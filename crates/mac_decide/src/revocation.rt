@@ -1,6 +1,7 @@
 //! Whether tokens were taken back, for who tells the reply to a verify.
 
 ghost use Rattle.std.specs.Prelude.{◌≡◌, IfOk};
+ghost use Rattle.mac_keys.specs.Filter.{hash_of};
 ghost use Rattle.mac_token.specs.Read.{read_of};
 ghost use Rattle.mac_wire.specs.Reading.{request_of};
 ghost use Rattle.mac_wire.specs.Request.{asked};
@@ -46,12 +47,36 @@ impl<'a> Telling<'a> {
         }
     }
 
+    /// The same, where the identifier's hash is known.
+    fn is_hashed_revoked(&self, identifier: &[u8], hash: u64) -> bool
+        requires { hash ≡ hash_of identifier.now }
+        ensures { result ≡ tells_revoked self.now.revoked self.now.name.now identifier.now }
+    {
+        match self.revoked {
+            Revocation::Known(known) => known,
+            Revocation::In(list) => list.has_hashed(self.name, identifier, hash),
+        }
+    }
+
     /// The reply to a verify of a token with this identifier, which may have been taken back.
     pub(crate) fn keep(&self, reply: Reply, identifier: &[u8]) -> Reply
         ensures { result ≡ unless_revoked
             (tells_revoked self.now.revoked self.now.name.now identifier.now) reply }
     {
         if tells_minted(&reply) && self.is_revoked(identifier) {
+            refused(Refusal::Revoked)
+        } else {
+            reply
+        }
+    }
+
+    /// The same, where the identifier's hash is known.
+    pub(crate) fn keep_hashed(&self, reply: Reply, identifier: &[u8], hash: u64) -> Reply
+        requires { hash ≡ hash_of identifier.now }
+        ensures { result ≡ unless_revoked
+            (tells_revoked self.now.revoked self.now.name.now identifier.now) reply }
+    {
+        if tells_minted(&reply) && self.is_hashed_revoked(identifier, hash) {
             refused(Refusal::Revoked)
         } else {
             reply

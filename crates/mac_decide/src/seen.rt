@@ -8,6 +8,7 @@
 //! that those that come once cost next to nothing and push out none.
 
 ghost use Rattle.std.specs.Prelude.{◌≡◌, IfOk, IfSome, IsTrue, Ok, true};
+ghost use Rattle.mac_keys.specs.Filter.{hash_of};
 ghost use Rattle.mac_keys.specs.Keys.{listed};
 ghost use Rattle.mac_token.specs.Read.{read_of};
 ghost use Rattle.mac_decide.specs.Reading.{is_minted, verdict_of};
@@ -19,7 +20,7 @@ use crate::reply::verdict_reply;
 use crate::revocation::Telling;
 use crate::verdict::{found_verdict, unsatisfied_of};
 use lru::LruCache;
-use mac_keys::Keys;
+use mac_keys::{Keys, hash_identifier};
 use mac_token::{Token, TokenFault, read};
 use mac_wire::{NoMemory, Reply};
 use std::alloc::Global;
@@ -58,10 +59,13 @@ struct SeenToken {
     keys: Keys,
     text: Vec<u8>,
     token: Token,
+    /// The hash of its identifier, by which a list is asked whether it was taken back.
+    hash: u64,
     /// Whether it was found since it last would have given way.
     is_used: AtomicBool,
     ghost spelled: { read_of text.items ≡ Ok token },
     ghost minted: { is_minted (listed keys) token ≡ true },
+    ghost hashed: { hash ≡ hash_of token.identifier },
 }
 
 impl SeenToken {
@@ -71,10 +75,12 @@ impl SeenToken {
     {
         let token = read(alloc, text)?;
         let text = Vec::from_slice(alloc, text)?;
+        let hash = hash_identifier(token.identifier());
         Ok(SeenToken {
             keys: *keys,
             text,
             token,
+            hash,
             is_used: AtomicBool::new(false),
         })
     }
@@ -130,13 +136,13 @@ impl Part {
     }
 
     /// The token of this text, if it was found under these keys. Its use is noted.
-    fn find(&self, mark: u64, keys: &Keys, text: &[u8]) -> Option<&Token>
-        ensures { IfSome result (λ token. IsFound keys.now text.now token.now) }
+    fn find(&self, mark: u64, keys: &Keys, text: &[u8]) -> Option<&SeenToken>
+        ensures { IfSome result (λ seen. IsFound keys.now text.now seen.now.token) }
     {
         match self.tokens.peek(&mark) {
             Some(seen) if seen.is(keys, text) => {
                 seen.note_use();
-                Some(&seen.token)
+                Some(seen)
             }
             _ => None,
         }
@@ -264,18 +270,19 @@ fn around_signature(text: &[u8]) -> &[u8] {
 fn reply_to(
     alloc: Global,
     keys: &Keys,
-    token: &Token,
+    seen: &SeenToken,
     telling: Telling<'_>,
     context: &Context<'_>,
 ) -> Result<Reply, NoMemory>
-    requires { is_minted (listed keys.now) token.now ≡ true }
-    ensures { IfOk result (λ r. r ≡ verdict_told telling.entry token.now
-        (verdict_of (listed keys.now) token.now context.now)) }
+    requires { is_minted (listed keys.now) seen.now.token ≡ true }
+    ensures { IfOk result (λ r. r ≡ verdict_told telling.entry seen.now.token
+        (verdict_of (listed keys.now) seen.now.token context.now)) }
 {
+    let token = &seen.token;
     let verdict = found_verdict(unsatisfied_of(token, context));
     let identifier = token.identifier();
     let reply = verdict_reply(alloc, telling.grant, identifier, token.location(), verdict)?;
-    Ok(telling.keep(reply, identifier))
+    Ok(telling.keep_hashed(reply, identifier, seen.hash))
 }
 
 /// A memory of tokens that were found to be minted, each with the keys under which it was; or none.
@@ -354,7 +361,7 @@ impl SeenTokens {
         };
         let part = &*guard;
         match part.find(mark, keys, text) {
-            Some(token) => Ok(Some(reply_to(alloc, keys, token, telling, context)?)),
+            Some(seen) => Ok(Some(reply_to(alloc, keys, seen, telling, context)?)),
             None => Ok(None),
         }
     }

@@ -5,10 +5,13 @@ ghost use Rattle.mac_gate.specs.Patience.{IsLeft};
 ghost use Rattle.mac_http.specs.Turn.{IsTurn};
 
 use crate::devices::{Heard, Spoken};
+use crate::gathering::Gathered;
+use crate::weight::Weight;
 use http_server::{Connection, Service};
 use mac_http::{Way, take_turn};
 use mac_sockets::{Readiness, Stream, Wakes};
 use mio::{Registry, Token};
+use std::alloc::Global;
 use std::io;
 use std::io::ErrorKind;
 use std::net::Shutdown;
@@ -27,10 +30,12 @@ const DROPPED_MICROS: u64 = 100_000;
 pub struct HttpConnection {
     stream: Stream,
     connection: Connection,
+    // What came of a request in small pieces, and wasn't looked at yet.
+    gathered: Gathered,
     // When something was written last, or it began, in microseconds.
     since: u64,
-    // Whether nothing has come since then.
-    is_idle: bool,
+    // What has come since then.
+    weight: Weight,
     // Whether the last read gave some bytes.
     has_come: bool,
     // Whether there may be something to be read, and room to write.
@@ -46,12 +51,13 @@ pub struct HttpConnection {
 
 impl HttpConnection {
     /// A connection that begins now.
-    pub fn new(stream: Stream, connection: Connection, now: u64) -> HttpConnection {
+    pub fn new(alloc: Global, stream: Stream, connection: Connection, now: u64) -> HttpConnection {
         HttpConnection {
             stream,
             connection,
+            gathered: Gathered::new(alloc),
             since: now,
-            is_idle: true,
+            weight: Weight::new(),
             has_come: false,
             has_more: true,
             has_room: true,
@@ -93,7 +99,7 @@ impl HttpConnection {
     /// Whether it may be owed something: a response, or to be read on in a request that has begun,
     /// or since its last read gave some bytes.
     pub fn is_owed(&self) -> bool {
-        self.connection.wants_write() || !self.is_idle || self.has_come
+        self.connection.wants_write() || !self.weight.is_idle() || self.has_come
     }
 
     /// Whether a turn may do something.
@@ -105,9 +111,14 @@ impl HttpConnection {
         }
     }
 
+    /// Whether a turn may answer a dear request.
+    pub fn is_dear(&self) -> bool {
+        self.parting.is_none() && self.weight.is_dear()
+    }
+
     /// Takes nothing more from the peer than what has come, where the connection is idle.
     pub fn end_if_idle(&mut self) {
-        if self.is_idle && !self.is_closing && self.parting.is_none() {
+        if self.weight.is_idle() && !self.is_closing && self.parting.is_none() {
             self.stream.shut(Shutdown::Read);
             self.is_closing = true;
             self.has_more = true;
@@ -123,6 +134,11 @@ impl HttpConnection {
         left_of(limit, now.saturating_sub(self.since))
     }
 
+    /// In how many microseconds what came in small pieces is looked at, where something is put off.
+    pub fn due_in(&self) -> Option<u64> {
+        self.gathered.due_in()
+    }
+
     /// Does what can be done without waiting, by this service; what is dropped is read into the
     /// piece. Whether the connection goes on.
     pub fn advance<S: Service>(&mut self, service: &mut S, now: u64, piece: &mut [u8]) -> bool {
@@ -134,21 +150,21 @@ impl HttpConnection {
 
     /// Takes a turn. A fault ends the connection.
     fn answer<S: Service>(&mut self, service: &mut S, now: u64) -> bool {
-        let mut heard = Heard::new(&self.stream, self.has_more);
+        let mut heard = Heard::new(&self.stream, &mut self.gathered, self.has_more, now);
         let mut spoken = Spoken::new(&self.stream, self.has_room);
         let turned = answer_turn(&mut self.connection, service, &mut heard, &mut spoken);
-        let (has_come, has_gone) = (heard.has_come, spoken.has_gone);
+        let (came, has_gone) = (heard.came, spoken.has_gone);
+        let has_come = came > 0;
         self.has_more = heard.has_more || (has_come && self.is_closing);
         self.has_room = spoken.has_room;
         if heard.was_read {
             self.has_come = has_come;
         }
-        if has_come {
-            self.is_idle = false;
-        }
+        self.weight.hear(came as u64);
         if has_gone {
-            self.is_idle = true;
+            self.weight.answer();
             self.since = now;
+            self.gathered.begin();
         }
         if !goes_on(&turned) {
             return false;

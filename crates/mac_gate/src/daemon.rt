@@ -1,6 +1,7 @@
 //! What a face over HTTP tells of its daemon, and tells it.
 
 use crate::draws::SystemDraws;
+use crate::key_lines::append_told_keys;
 use crate::noting::{exchange_of, request_of};
 use crate::shared::Shared;
 use http::StatusCode;
@@ -9,6 +10,7 @@ use mac_count::{Number, append_metrics, append_status, append_version};
 use mac_decide::SeenTokens;
 use mac_host::Host;
 use mac_http::{Monitor, Noted, Page, Told};
+use mac_keys::KeyTable;
 use std::alloc::{AllocError, Global};
 use std::random::RandomSource;
 use std::sync::Wait;
@@ -68,7 +70,12 @@ impl<'a, R: Wait + Clock + RandomSource> Monitor for OwnDaemon<'a, R> {
         self.server.host().seen()
     }
 
-    fn tell(&self, page: Page, text: &mut Vec<u8>) -> Result<Told, AllocError> {
+    fn tell(
+        &self,
+        page: Page,
+        keys: Option<&KeyTable>,
+        text: &mut Vec<u8>,
+    ) -> Result<Told, AllocError> {
         let numbers = self.host().numbers();
         match page {
             Page::Health => return self.tell_health(text),
@@ -79,6 +86,7 @@ impl<'a, R: Wait + Clock + RandomSource> Monitor for OwnDaemon<'a, R> {
             Page::Status => {
                 append_version(self.version, text)?;
                 append_status(self.alloc, &numbers.snapshot(), text)?;
+                append_told_keys(self.alloc, keys, text)?;
             }
             Page::Connections => self
                 .host()

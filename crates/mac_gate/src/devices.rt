@@ -1,28 +1,43 @@
 //! What is read of a stream in a turn, and what is written to it.
 
+use crate::gathering::Gathered;
 use mac_sockets::Stream;
 use std::io;
 use std::io::{Read, Write};
+
+/// How many bytes one read takes at most. So a turn answers one long request at most, and as many
+/// bytes behind it.
+const READ_MAX: usize = 8_192;
 
 /// What is read of a stream.
 #[derive(Drop)]
 pub struct Heard<'a> {
     stream: &'a Stream,
+    gathered: &'a mut Gathered,
+    now: u64,
     /// Whether it was read.
     pub was_read: bool,
-    /// Whether bytes came.
-    pub has_come: bool,
+    /// How many bytes came.
+    pub came: usize,
     /// Whether there may be more to be read.
     pub has_more: bool,
 }
 
 impl<'a> Heard<'a> {
-    /// A turn's reader, where there may be something to be read, or not.
-    pub fn new(stream: &'a Stream, has_more: bool) -> Heard<'a> {
+    /// A turn's reader, at this moment in microseconds, where there may be something to be read, or
+    /// not. Small pieces are gathered.
+    pub fn new(
+        stream: &'a Stream,
+        gathered: &'a mut Gathered,
+        has_more: bool,
+        now: u64,
+    ) -> Heard<'a> {
         Heard {
             stream,
+            gathered,
+            now,
             was_read: false,
-            has_come: false,
+            came: 0,
             has_more,
         }
     }
@@ -30,16 +45,23 @@ impl<'a> Heard<'a> {
 
 impl<'a> Read for Heard<'a> {
     fn read(&mut self, buf: &mut [u8]) -> io::Result<usize> {
-        let outcome = self.stream.read_past_signals(buf);
+        let room = buf.len().min(READ_MAX);
+        let outcome = self.stream.read_past_signals(&mut buf[..room]);
         self.was_read = true;
-        match &outcome {
+        match outcome {
             Ok(count) => {
-                self.has_come = *count > 0;
-                self.has_more = *count == buf.len();
+                self.came = count;
+                self.has_more = count == room;
+                let told = self.gathered.hear(buf, count, self.now)?;
+                // The end is read once more behind what was gathered.
+                self.has_more = self.has_more || told > count;
+                Ok(told)
             }
-            Err(_) => self.has_more = false,
+            Err(fault) => {
+                self.has_more = false;
+                self.gathered.resume(buf, fault, self.now)
+            }
         }
-        outcome
     }
 }
 

@@ -15,13 +15,18 @@ mod daemon;
 mod devices;
 mod door;
 mod draws;
+mod gathering;
+mod key_lines;
 mod limit;
 mod looping;
 mod noting;
+mod pace;
 mod server;
 mod shared;
 mod terms;
+mod turns;
 mod waiting;
+mod weight;
 
 pub use address::{Address, AddressFault, ListFault, Reach, read_address, read_addresses};
 pub use content::Content;

@@ -2,8 +2,7 @@
 
 use crate::connection::{DROPPED_PIECE, HttpConnection};
 use crate::content::{Answers, Content};
-use crate::shared::Shared;
-use crate::terms::Bounds;
+use crate::shared::{Newcomer, Shared};
 use crate::waiting::Waiting;
 use http_server::Connection;
 use mac_host::{microseconds, microseconds_of};
@@ -17,32 +16,31 @@ use std::net::Net;
 use std::random::RandomSource;
 use std::sync::{Arc, Wait};
 use std::thread::{Builder, Threads};
-use std::time::Clock;
+use std::time::{Clock, Duration};
 
 /// A loop that has no thread yet.
 #[derive(Drop)]
 pub struct HttpLoop {
     number: usize,
-    bounds: Bounds,
     connections: Waiting,
     // What is dropped is read into this.
     piece: Vec<u8>,
 }
 
 impl HttpLoop {
-    /// A loop of this number, whose connections are held to these bounds, with what ends its waits.
+    /// A loop of this number, whose connections' peers may each take so long, with what ends its
+    /// waits.
     pub fn new<R: Net>(
         rt: &R,
         alloc: Global,
         number: usize,
-        bounds: Bounds,
+        patience: Duration,
     ) -> io::Result<(HttpLoop, Waker)> {
-        let (connections, waker) = Waiting::new(rt, alloc, microseconds_of(bounds.patience))?;
+        let (connections, waker) = Waiting::new(rt, alloc, microseconds_of(patience))?;
         let mut piece = Vec::new(alloc);
         piece.resize(DROPPED_PIECE, 0)?;
         let own = HttpLoop {
             number,
-            bounds,
             connections,
             piece,
         };
@@ -97,21 +95,28 @@ impl HttpLoop {
         server: &Shared,
     ) {
         for _ in rt.forever() {
-            let Some(stream) = server.take(rt, self.number) else {
+            let Some(newcomer) = server.take(rt, self.number) else {
                 return;
             };
-            self.make_room(rt, server);
-            if !self.takes_in(rt, alloc, stream) {
-                server.leave(rt, self.number);
-            }
+            self.receive(rt, alloc, server, newcomer);
+            server.note_stalest(self.number, self.connections.stalest_since());
         }
     }
 
-    /// Where there are as many connections as there may be, and one gives way, lets that go to which
-    /// nothing was sent for longest.
-    fn make_room<R: Wait>(&mut self, rt: &R, server: &Shared) {
-        let is_full = self.connections.count() >= self.bounds.connections;
-        if self.bounds.gives_way && is_full && self.connections.drop_stalest() {
+    /// Takes a connection in that was handed over. Where one is to give way to it, that is the one
+    /// to which nothing was sent for longest; without any, it is closed itself.
+    fn receive<R: Wait + Clock + RandomSource>(
+        &mut self,
+        rt: &R,
+        alloc: Global,
+        server: &Shared,
+        newcomer: Newcomer,
+    ) {
+        let Newcomer { stream, displaces } = newcomer;
+        if displaces && !self.connections.drop_stalest() {
+            return;
+        }
+        if !self.takes_in(rt, alloc, stream) {
             server.leave(rt, self.number);
         }
     }
@@ -122,25 +127,40 @@ impl HttpLoop {
             return false;
         };
         let connection = Connection::new(alloc, secrets, CONFIG);
-        self.connections
-            .begin(HttpConnection::new(stream, connection, microseconds(rt)))
+        let one = HttpConnection::new(alloc, stream, connection, microseconds(rt));
+        self.connections.begin(one)
     }
 
-    /// Has those that are ready do what they can, once each.
+    /// Has those that are ready do what they can, once each; but of those with a dear request only the
+    /// next one, behind the others.
     fn advance_ready<R: Wait, S: Answers>(&mut self, rt: &R, server: &Shared, service: &mut S) {
-        let is_ending = server.is_ending();
-        if is_ending {
+        if server.is_ending() {
             self.connections.end_idle();
         }
         for _ in 0..self.connections.count_ready() {
-            let Some((slot, way)) = self.connections.next_ready() else {
-                continue;
-            };
-            service.come_by(way);
-            let piece = self.piece.as_mut_slice();
-            if self.connections.advance(slot, service, is_ending, piece) {
-                server.leave(rt, self.number);
+            if let Some((slot, way)) = self.connections.next_ready() {
+                service.come_by(way);
+                self.advance(rt, server, service, slot);
             }
+        }
+        if let Some((slot, way)) = self.connections.next_dear() {
+            service.come_by(way);
+            self.advance(rt, server, service, slot);
+        }
+    }
+
+    /// Has the connection of a slot do what it can.
+    fn advance<R: Wait, S: Answers>(
+        &mut self,
+        rt: &R,
+        server: &Shared,
+        service: &mut S,
+        slot: usize,
+    ) {
+        let is_ending = server.is_ending();
+        let piece = self.piece.as_mut_slice();
+        if self.connections.advance(slot, service, is_ending, piece) {
+            server.leave(rt, self.number);
         }
     }
 
@@ -155,5 +175,6 @@ impl HttpLoop {
                 server.leave(rt, self.number);
             }
         }
+        server.note_stalest(self.number, self.connections.stalest_since());
     }
 }

@@ -94,7 +94,7 @@ where
     let entrance = Entrance::open(rt, alloc, doors)?;
     let (mut made, mut wakers) = (Vec::new(alloc), Vec::new(alloc));
     for (number, content) in contents.into_iter().enumerate() {
-        let (own, waker) = HttpLoop::new(rt, alloc, number, bounds)?;
+        let (own, waker) = HttpLoop::new(rt, alloc, number, bounds.patience)?;
         made.push((own, content))?;
         wakers.push(waker)?;
     }

@@ -8,22 +8,40 @@ use mio::Waker;
 use std::alloc::{AllocError, Global};
 use std::io;
 use std::sync::atomic::Ordering::SeqCst;
-use std::sync::atomic::{AtomicBool, AtomicUsize};
+use std::sync::atomic::{AtomicBool, AtomicU64, AtomicUsize};
 use std::sync::{Arc, Mutex, Wait};
 use std::time::Clock;
+
+/// How many connections at most come into loops at a time in place of others.
+const DISPLACING_MAX: usize = 16;
+
+/// A connection that is handed to a loop.
+#[derive(Drop)]
+pub struct Newcomer {
+    pub stream: Stream,
+    /// Whether one of the loop's connections is to give way to it.
+    pub displaces: bool,
+}
 
 /// A loop, as others see it.
 #[derive(Drop)]
 struct LoopSide {
-    inbox: Inbox<Stream>,
+    inbox: Inbox<Newcomer>,
     // How many connections the loop has.
     count: AtomicUsize,
+    // When something was sent to the one of them that was sent nothing for longest, in microseconds,
+    // as far as the loop looked.
+    stalest: AtomicU64,
 }
 
 /// What the threads of a server share.
 #[derive(Drop)]
 pub struct Shared {
     limit: Mutex<Limit>,
+    // Those that come in place of others, until their loops have taken them.
+    displacing: Mutex<Limit>,
+    // Whether connections give way to further ones.
+    gives_way: bool,
     sides: Vec<LoopSide>,
     // It shuts where connections come in.
     shutter: Arc<Shutter, Global>,
@@ -36,7 +54,7 @@ pub struct Shared {
 
 impl Shared {
     /// That of a server with a loop for each of these wakers. Connections come in until the shutter
-    /// is shut, as many as its bounds say; one that others give way to always does.
+    /// is shut, as many at a time as its bounds say.
     pub fn new(
         alloc: Global,
         bounds: Bounds,
@@ -49,15 +67,13 @@ impl Shared {
             sides.push(LoopSide {
                 inbox: Inbox::new(alloc, waker)?,
                 count: AtomicUsize::new(0),
+                stalest: AtomicU64::new(u64::MAX),
             })?;
         }
-        let most = if bounds.gives_way {
-            usize::MAX
-        } else {
-            bounds.connections
-        };
         let shared = Shared {
-            limit: Mutex::new(Limit::new(most)),
+            limit: Mutex::new(Limit::new(bounds.connections)),
+            displacing: Mutex::new(Limit::new(DISPLACING_MAX)),
+            gives_way: bounds.gives_way,
             sides,
             shutter,
             is_closed: AtomicBool::new(false),
@@ -102,27 +118,51 @@ impl Shared {
         self.is_closed.load(SeqCst)
     }
 
-    /// Hands a connection to the loop that has the fewest. It is closed where there are as many as
-    /// there may be, or no memory.
+    /// Hands a connection to the loop that has the fewest. Where there are as many as there may be,
+    /// it is handed to the one whose connections include the stalest, which gives way; or it is
+    /// closed, where none does, and where there is no memory.
     pub fn enter<R: Wait>(&self, rt: &R, stream: Stream) {
-        let number = self.idlest();
-        let Some(side) = self.sides.get(number) else {
-            return;
-        };
-        if !self.admits(rt) {
-            return;
+        if self.admits(rt) {
+            let number = self.idlest();
+            if let Some(side) = self.sides.get(number) {
+                side.count.fetch_add(1, SeqCst);
+            }
+            let displaces = false;
+            if !self.hand(rt, number, Newcomer { stream, displaces }) {
+                self.leave(rt, number);
+            }
+        } else if self.gives_way && enters(rt, &self.displacing) {
+            let displaces = true;
+            if !self.hand(rt, self.stalest(), Newcomer { stream, displaces }) {
+                leaves(rt, &self.displacing);
+            }
         }
-        side.count.fetch_add(1, SeqCst);
-        if side.inbox.push(rt, stream).is_err() {
-            self.leave(rt, number);
+    }
+
+    /// Whether there was memory to hand a connection to a loop.
+    fn hand<R: Wait>(&self, rt: &R, number: usize, newcomer: Newcomer) -> bool {
+        match self.sides.get(number) {
+            Some(side) => side.inbox.push(rt, newcomer).is_ok(),
+            None => false,
         }
     }
 
     /// The next connection that was handed to a loop.
-    pub fn take<R: Wait>(&self, rt: &R, number: usize) -> Option<Stream> {
-        match self.sides.get(number) {
-            Some(side) => side.inbox.pop(rt),
-            None => None,
+    pub fn take<R: Wait>(&self, rt: &R, number: usize) -> Option<Newcomer> {
+        let newcomer = match self.sides.get(number) {
+            Some(side) => side.inbox.pop(rt)?,
+            None => return None,
+        };
+        if newcomer.displaces {
+            leaves(rt, &self.displacing);
+        }
+        Some(newcomer)
+    }
+
+    /// Notes when something was sent to the stalest connection of a loop, where it has any.
+    pub fn note_stalest(&self, number: usize, since: Option<u64>) {
+        if let Some(side) = self.sides.get(number) {
+            side.stalest.store(since.unwrap_or(u64::MAX), SeqCst);
         }
     }
 
@@ -131,9 +171,7 @@ impl Shared {
         if let Some(side) = self.sides.get(number) {
             side.count.fetch_sub(1, SeqCst);
         }
-        let mut limit = self.limit.lock(rt);
-        let limit = &mut *limit;
-        limit.leave();
+        leaves(rt, &self.limit);
         self.host.leave(rt);
     }
 
@@ -161,14 +199,38 @@ impl Shared {
         idlest
     }
 
+    /// The loop whose connections include the stalest.
+    fn stalest(&self) -> usize {
+        let (mut found, mut earliest) = (0, u64::MAX);
+        for (number, side) in self.sides.iter().enumerate() {
+            let since = side.stalest.load(SeqCst);
+            if since < earliest {
+                (found, earliest) = (number, since);
+            }
+        }
+        found
+    }
+
     /// Counts a connection in, where there may be one more. Whether that was so.
     fn admits<R: Wait>(&self, rt: &R) -> bool {
-        let mut limit = self.limit.lock(rt);
-        let limit = &mut *limit;
-        let is_admitted = limit.enter();
+        let is_admitted = enters(rt, &self.limit);
         if is_admitted {
             self.host.enter(rt);
         }
         is_admitted
     }
+}
+
+/// Counts one more, where there may be one. Whether that was so.
+fn enters<R: Wait>(rt: &R, limit: &Mutex<Limit>) -> bool {
+    let mut limit = limit.lock(rt);
+    let limit = &mut *limit;
+    limit.enter()
+}
+
+/// Counts one less.
+fn leaves<R: Wait>(rt: &R, limit: &Mutex<Limit>) {
+    let mut limit = limit.lock(rt);
+    let limit = &mut *limit;
+    limit.leave();
 }

@@ -32,8 +32,8 @@ pub struct Bounds {
     pub connections: usize,
     /// How long a peer may bring no whole request, and a write may wait.
     pub patience: Duration,
-    /// Whether one gives way to a further one: that to which nothing was sent for longest, of those
-    /// in its loop. Else the further one is closed.
+    /// Whether one gives way to a further one: that to which nothing was sent for longest, as far as
+    /// the loops looked. Else the further one is closed.
     pub gives_way: bool,
 }
 
@@ -43,7 +43,7 @@ impl HttpTerms {
         Bounds {
             connections: self.connections,
             patience: self.patience,
-            gives_way: false,
+            gives_way: true,
         }
     }
 

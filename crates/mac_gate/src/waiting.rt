@@ -1,10 +1,11 @@
 //! The connections of a loop, which of them are ready, and when one has taken too long.
 
 use crate::connection::HttpConnection;
+use crate::turns::Turns;
 use http_server::Service;
 use mac_host::microseconds_of;
 use mac_http::Way;
-use mac_sockets::{Connections, Readiness};
+use mac_sockets::{Connections, REST_MIN, Readiness};
 use mio::{Token, Waker};
 use std::alloc::Global;
 use std::io;
@@ -19,6 +20,8 @@ const OWED: u64 = 1_000_000;
 #[derive(Drop)]
 pub struct Waiting {
     connections: Connections<HttpConnection>,
+    // Those that are ready and have a dear request.
+    dear: Turns,
     // Both in microseconds.
     patience: u64,
     // Nobody has to be looked at before then of whom no event tells.
@@ -31,6 +34,7 @@ impl Waiting {
         let (connections, waker) = Connections::new(rt, alloc)?;
         let waiting = Waiting {
             connections,
+            dear: Turns::new(alloc),
             patience,
             due: None,
         };
@@ -52,10 +56,16 @@ impl Waiting {
         microseconds_of(self.connections.now())
     }
 
-    /// Waits until some are ready, and no longer than until one has to be looked at.
+    /// Waits until some are ready, and no longer than until one has to be looked at. Where it is the
+    /// turn of one with a dear request, it only looks.
     pub fn wait<R: Clock>(&mut self, rt: &R) {
         let now = self.now();
-        let patience = match self.due {
+        let due = if self.dear.is_empty() {
+            self.due
+        } else {
+            Some(now)
+        };
+        let patience = match due {
             Some(due) => Some(Duration::from_micros(due.saturating_sub(now))),
             None => None,
         };
@@ -97,8 +107,31 @@ impl Waiting {
         }
     }
 
-    /// Lets the connection go to which nothing was sent for longest. Whether there is one.
+    /// Lets the connection go to which nothing was sent for longest, where that is for long enough.
+    /// Whether there is one.
     pub fn drop_stalest(&mut self) -> bool {
+        match self.stalest() {
+            Some((slot, since)) if self.now().saturating_sub(since) >= REST_MIN => self.release(
+                slot,
+            ),
+            _ => false,
+        }
+    }
+
+    /// Lets the connection of a slot go. Whether there is one.
+    fn release(&mut self, slot: usize) -> bool {
+        self.dear.leave(slot);
+        self.connections.slots.release(slot).is_some()
+    }
+
+    /// When something was sent to that one, in microseconds.
+    pub fn stalest_since(&self) -> Option<u64> {
+        let (_, since) = self.stalest()?;
+        Some(since)
+    }
+
+    /// The slot of the connection to which nothing was sent for longest, and when something was.
+    fn stalest(&self) -> Option<(usize, u64)> {
         let mut stalest: Option<(usize, u64)> = None;
         for slot in 0..self.bound() {
             if let Some(one) = self.connections.slots.get(slot) {
@@ -108,10 +141,7 @@ impl Waiting {
                 }
             }
         }
-        match stalest {
-            Some((slot, _)) => self.connections.slots.release(slot).is_some(),
-            None => false,
-        }
+        stalest
     }
 
     /// Takes nothing more from those that are idle than what has come.
@@ -129,9 +159,21 @@ impl Waiting {
         self.list(slot);
     }
 
-    /// The next slot that is ready, with the way by which the peer of its connection comes.
+    /// The next slot that is ready, with the way by which the peer of its connection comes. None where
+    /// that has a dear request: it waits for its turn among those, but where there is no memory.
     pub fn next_ready(&mut self) -> Option<(usize, Way)> {
         let slot = self.connections.slots.next_ready()?;
+        let one = self.connections.slots.get(slot)?;
+        let (way, is_dear) = (one.way(), one.is_dear());
+        if is_dear && self.dear.put(slot).is_ok() {
+            return None;
+        }
+        Some((slot, way))
+    }
+
+    /// The same of the next one with a dear request.
+    pub fn next_dear(&mut self) -> Option<(usize, Way)> {
+        let slot = self.dear.next()?;
         let one = self.connections.slots.get(slot)?;
         Some((slot, one.way()))
     }
@@ -152,7 +194,7 @@ impl Waiting {
         let goes_on = one.advance(service, now, piece)
             && one.update(self.connections.registry(), Token(slot)).is_ok();
         if !goes_on {
-            let _ = self.connections.slots.release(slot);
+            let _ = self.release(slot);
             return true;
         }
         let _ = self.connections.slots.put(slot, one);
@@ -169,8 +211,12 @@ impl Waiting {
             return;
         };
         let (left, is_owed) = (one.left(self.patience, self.now()), one.is_owed());
+        let due_in = one.due_in();
         if let Some(left) = left {
             self.expect(left);
+        }
+        if let Some(micros) = due_in {
+            self.expect(micros);
         }
         if is_owed {
             self.expect(OWED);
@@ -202,7 +248,7 @@ impl Waiting {
         };
         let (left, is_owed) = (one.left(self.patience, self.now()), one.is_owed());
         if left.is_none() {
-            return self.connections.slots.release(slot).is_some();
+            return self.release(slot);
         }
         if is_owed {
             self.connections.wake(slot, Readiness::UNTOLD);

@@ -1,3 +1,4 @@
+pub mod Badge
 pub mod Exchange
 pub mod Minted
 pub mod Standing

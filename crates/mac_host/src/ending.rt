@@ -94,6 +94,17 @@ impl Ending {
         own.hear()
     }
 
+    /// Waits until the daemon is told to end, or has ended by itself, for so long at most. Whether
+    /// that is so. It hears of no look, which is for whoever awaits a call.
+    pub fn await_ending<R: Wait + Clock>(&self, rt: &R, patience: Duration) -> bool {
+        let standing = self.standing.lock(rt);
+        let waits = |standing: &mut Standing| !standing.is_ending();
+        let (standing, _) = self
+            .change
+            .wait_timeout_while(rt, standing, patience, waits);
+        standing.is_ending()
+    }
+
     /// Waits until the daemon has ended, and its further servers too, for so many seconds at most,
     /// and no longer than until it is told a second time. Whether all have ended.
     pub fn await_end<R: Wait + Clock>(&self, rt: &R, seconds: u64) -> bool {

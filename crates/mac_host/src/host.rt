@@ -4,6 +4,7 @@ use crate::ending::Ending;
 use crate::notices::Notices;
 use crate::numbers::Numbers;
 use crate::roster::Roster;
+use mac_board::{ListNews, News};
 use mac_decide::SeenTokens;
 use std::alloc::{AllocError, Global};
 use std::sync::{Arc, Wait};
@@ -83,6 +84,19 @@ impl Host {
     /// The memory of tokens.
     pub fn seen(&self) -> &SeenTokens {
         &self.seen
+    }
+
+    /// Tells what came of a look at the key file, if there is anything to be told.
+    pub fn tell_keys<R: Wait + Clock>(&self, rt: &R, file: &str, news: News) {
+        self.numbers.note_keys(rt, &news);
+        self.notices.tell_keys(rt, file, news);
+    }
+
+    /// Tells what came of a look at the list of tokens that were taken back, if there is anything
+    /// to be told.
+    pub fn tell_revoked<R: Wait + Clock>(&self, rt: &R, file: &str, news: ListNews) {
+        self.numbers.note_revoked(&news);
+        self.notices.tell_revoked(rt, file, news);
     }
 
     /// Counts a further server. The end waits until it takes no connections any more, and has none.

@@ -17,7 +17,7 @@ mod roster;
 mod standing;
 mod traffic;
 
-pub use badge::{Badge, Life};
+pub use badge::{Badge, Life, Socket};
 pub use clock::{microseconds, microseconds_of};
 pub use ending::Ending;
 pub use exchange::{Exchange, Logged, copy_told_identifier, copy_told_name};

@@ -29,6 +29,8 @@ pub struct Beginning<'a> {
     pub names: usize,
     /// How many workers it has.
     pub workers: usize,
+    /// How many bytes of memory its connections and the tokens that it remembers may have together.
+    pub memory: u64,
 }
 
 /// The log of a daemon. Who tells something waits for nobody.
@@ -149,9 +151,9 @@ impl Notices {
         self.post(rt, kind, fields);
     }
 
-    /// Tells that a connection was closed, since there are as many as there may be.
-    pub fn tell_full<R: Wait + Clock>(&self, rt: &R, most: u64) {
-        let fields = limit_fields(self.alloc, "connections", most);
+    /// Tells that a connection was closed, since there are as many as this limit allows.
+    pub fn tell_full<R: Wait + Clock>(&self, rt: &R, limit: &str, most: u64) {
+        let fields = limit_fields(self.alloc, limit, most);
         self.post(rt, Kind::LimitReached, fields);
     }
 
@@ -229,7 +231,8 @@ fn beginning_fields(alloc: Global, beginning: Beginning<'_>) -> Result<Fields, N
     }
     fields
         .with_number(alloc, Key::Names, beginning.names as u64)?
-        .with_number(alloc, Key::Workers, beginning.workers as u64)
+        .with_number(alloc, Key::Workers, beginning.workers as u64)?
+        .with_number(alloc, Key::Memory, beginning.memory)
 }
 
 /// Which connection it was, how long it was there, what it was answered, and why it ended.

@@ -53,6 +53,11 @@ impl Numbers {
         }
     }
 
+    /// A connection was ended since it held most of the memory of all.
+    pub fn count_heavy(&self) {
+        self.counters.add(Number::ConnectionsHeavy, 1);
+    }
+
     /// A turn of a loop has ended, in which so many requests were answered, each kind at its place,
     /// and this came and went.
     pub fn count_turn(&self, requests: &[u64; REQUESTS], traffic: Traffic) {

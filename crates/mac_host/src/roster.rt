@@ -1,6 +1,6 @@
 //! The list of connections that a daemon has, for who asks. No contract speaks of it.
 
-use crate::badge::Life;
+use crate::badge::{Life, Socket};
 use crate::clock::microseconds;
 use crossbeam_queue::ArrayQueue;
 use mac_log::{Fields, Key};
@@ -75,11 +75,17 @@ impl Roster {
     }
 
     /// Gives a connection a place, if there is one.
-    pub fn enter<R: Wait>(&self, rt: &R, number: u64, accepted: u64, door: usize) -> Option<usize> {
+    pub fn enter<R: Wait>(
+        &self,
+        rt: &R,
+        number: u64,
+        accepted: u64,
+        socket: Socket,
+    ) -> Option<usize> {
         let place = self.free.pop(rt)?;
         let row = self.rows.get(place)?;
         row.accepted.store(accepted, SeqCst);
-        row.door.store(door as u64, SeqCst);
+        row.door.store(socket.door() as u64, SeqCst);
         row.is_wide.store(false, SeqCst);
         row.answered.store(0, SeqCst);
         row.unsent.store(0, SeqCst);

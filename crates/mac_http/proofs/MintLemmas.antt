@@ -16,7 +16,7 @@ use Rattle.mac_http.specs.declared.rules.Rules.{Rules}
 use Rattle.mac_http.specs.declared.rules.Way.{Way}
 use Rattle.mac_http.specs.declared.rules.Way.TheVariants.{Socket, Port}
 use Rattle.mac_http.specs.Browsing.{is_of_json, is_of_page, refusal_of}
-use Rattle.mac_http.specs.Calling.{RespondsToCall, TellsCall, TellsUnlessRefused, allowed_calls, allowed_outcome, call_in, mint_in}
+use Rattle.mac_http.specs.Calling.{RespondsToCall, TellsCall, TellsUnlessRefused, allowed_calls, allowed_outcome, call_in, mint_in, told_moment}
 use Rattle.mac_http.specs.Faced.{IsAnswer, IsAnswerTo, IsAnswerToCall}
 use Rattle.mac_http.specs.Found.{found_in, terms_of}
 use Rattle.mac_http.specs.Page.{page_in}
@@ -89,10 +89,10 @@ answer_not_done true table rules moment request name response other path answer 
     let is_post = bytes_eq (head_of request).method (codes "POST") in
     ⊎_elim
     (λ (t : (drawn : List ℕ) × (length drawn ≡ 16)
-    × TellsUnlessRefused (refusal_of rules.way (head_of request)) is_post (allowed_outcome rules table (Mint, name) drawn (body_of request)) response).
+    × TellsUnlessRefused (refusal_of rules.way (head_of request)) is_post (allowed_outcome rules table moment (Mint, name) drawn (body_of request)) response).
     way_refuses rules.way request is_post response
     (subst (λ b. TellsUnlessRefused (refusal_of rules.way (head_of request)) is_post
-    (if b then outcome_of table name Mint t.0 (body_of request) else NoKey) response) other t.2) ok)
+    (if b then outcome_of table (told_moment moment) name Mint t.0 (body_of request) else NoKey) response) other t.2) ok)
     (λ t. overloaded_not_done response t ok)
     answer
 
@@ -105,15 +105,15 @@ not_under_another table rules moment request name response other path answer =
 
 -- ---- pages
 
-pub page_refused : (table : Table) (rules : Rules) (request : Request (List ℕ)) (asked : Call × List ℕ) (response : Response)
-    → rules.way ≡ Port → is_of_page (head_of request).headers ≡ true → RespondsToCall table rules asked request response
+pub page_refused : (table : Table) (rules : Rules) (moment : Option ℕ) (request : Request (List ℕ)) (asked : Call × List ℕ) (response : Response)
+    → rules.way ≡ Port → is_of_page (head_of request).headers ≡ true → RespondsToCall table rules moment asked request response
     → IsResponse 403 [] [] response ⊎ IsOverloaded response
-page_refused table rules request asked response port page answer =
+page_refused table rules moment request asked response port page answer =
     let is_post = bytes_eq (head_of request).method (codes "POST") in
     let refused : refusal_of rules.way (head_of request) ≡ Some 403 = rw (port, page) refl in
     ⊎_elim
     (λ (t : (drawn : List ℕ) × (length drawn ≡ 16)
-    × TellsUnlessRefused (refusal_of rules.way (head_of request)) is_post (allowed_outcome rules table asked drawn (body_of request)) response).
-    inl (subst (λ r. TellsUnlessRefused r is_post (allowed_outcome rules table asked t.0 (body_of request)) response) refused t.2))
+    × TellsUnlessRefused (refusal_of rules.way (head_of request)) is_post (allowed_outcome rules table moment asked drawn (body_of request)) response).
+    inl (subst (λ r. TellsUnlessRefused r is_post (allowed_outcome rules table moment asked t.0 (body_of request)) response) refused t.2))
     (λ t. inr t)
     answer

@@ -1,5 +1,5 @@
 -- Calls that bring JSON, and the responses to them (this project's own).
-use Rattle.std.specs.Prelude.{ℕ, ◌≡◌, ◌⊎◌, length, Bool, true, false, not, ◌&&◌, if◌then◌else◌, List, [], ◌∷◌, codes, bytes_eq, Option, Some, None, option_map}
+use Rattle.std.specs.Prelude.{ℕ, ◌≡◌, ◌⊎◌, length, Bool, true, false, not, ◌&&◌, if◌then◌else◌, List, [], ◌∷◌, codes, bytes_eq, Option, Some, None, option_map, unwrap_or}
 use Rattle.http.specs.Request.{head_of, body_of}
 use Rattle.http.specs.declared.request.Request.{Request}
 use Rattle.http1.specs.Fields.{Header}
@@ -31,12 +31,17 @@ abbrev pub may_use : Option (List (List ℕ)) → Call → List ℕ → Bool
 may_use names Mint name = is_allowed names name
 may_use names call name = true
 
+-- the moment at which new caveats are looked at: where no clock tells one, no time limit since 1970
+-- has passed
+abbrev pub told_moment : Option ℕ → ℕ
+told_moment moment = unwrap_or moment 0
+
 -- what comes of a call with these random bytes: a mint under a name that may not be used is one of a
 -- name without keys
-abbrev pub allowed_outcome : Rules → Table → Call × List ℕ → List ℕ → List ℕ → Outcome
-allowed_outcome rules table asked drawn body =
+abbrev pub allowed_outcome : Rules → Table → Option ℕ → Call × List ℕ → List ℕ → List ℕ → Outcome
+allowed_outcome rules table moment asked drawn body =
     if may_use rules.rights.now.names asked.0 asked.1
-    then outcome_of table asked.1 asked.0 drawn body else NoKey
+    then outcome_of table (told_moment moment) asked.1 asked.0 drawn body else NoKey
 
 -- the name of a key in a path that asks for a mint
 abbrev pub mint_in : List ℕ → Option (Call × List ℕ)
@@ -76,19 +81,21 @@ TellsUnlessRefused (Some status) is_post o = IsResponse status [] []
 TellsUnlessRefused None is_post o = TellsCall is_post o
 
 -- the response to a request for this call with these random bytes, want of memory aside
-abbrev pub RespondsWith : List ℕ → Table → Rules → Call × List ℕ → Request (List ℕ) → Response
-    → Type 0
-RespondsWith drawn table rules asked request response =
+abbrev pub RespondsWith : List ℕ → Table → Rules → Option ℕ → Call × List ℕ → Request (List ℕ)
+    → Response → Type 0
+RespondsWith drawn table rules moment asked request response =
     TellsUnlessRefused (refusal_of rules.way (head_of request))
     (bytes_eq (head_of request).method (codes "POST"))
-    (allowed_outcome rules table asked drawn (body_of request)) response ⊎ IsOverloaded response
+    (allowed_outcome rules table moment asked drawn (body_of request)) response
+    ⊎ IsOverloaded response
 
 -- the same with some 16 random bytes
-abbrev pub RespondsToCall : Table → Rules → Call × List ℕ → Request (List ℕ) → Response → Type 0
-RespondsToCall table rules asked request response = ((drawn : List ℕ) × (length drawn ≡ 16)
+abbrev pub RespondsToCall : Table → Rules → Option ℕ → Call × List ℕ → Request (List ℕ) → Response
+    → Type 0
+RespondsToCall table rules moment asked request response = ((drawn : List ℕ) × (length drawn ≡ 16)
     × TellsUnlessRefused (refusal_of rules.way (head_of request))
     (bytes_eq (head_of request).method (codes "POST"))
-    (allowed_outcome rules table asked drawn (body_of request)) response)
+    (allowed_outcome rules table moment asked drawn (body_of request)) response)
     ⊎ IsOverloaded response
 
 -- the identifier of the token that a response brings, if the method is POST
@@ -102,10 +109,10 @@ minted_unless_refused (Some status) is_post o = None
 minted_unless_refused None is_post o = minted_by_post is_post o
 
 -- the identifier is that of the token that the response brings, where it brings one that was minted
-abbrev pub IsMintedFor : List ℕ → Table → Rules → Call × List ℕ → Request (List ℕ) → Response
-    → Option (List ℕ) → Type 0
-IsMintedFor drawn table rules asked request response minted =
+abbrev pub IsMintedFor : List ℕ → Table → Rules → Option ℕ → Call × List ℕ → Request (List ℕ)
+    → Response → Option (List ℕ) → Type 0
+IsMintedFor drawn table rules moment asked request response minted =
     (minted ≡ minted_unless_refused (refusal_of rules.way (head_of request))
     (bytes_eq (head_of request).method (codes "POST"))
-    (allowed_outcome rules table asked drawn (body_of request)))
+    (allowed_outcome rules table moment asked drawn (body_of request)))
     ⊎ ((minted ≡ None) × IsOverloaded response)

@@ -24,7 +24,7 @@ use Rattle.mac_http.specs.Saying.{Responds}
 abbrev pub IsAnswerToCall : Option (Call × List ℕ) → Table → Rules → Option ℕ
     → Request (List ℕ) → Response → Type 0
 IsAnswerToCall (Some asked) table rules moment request response =
-    RespondsToCall table rules asked request response
+    RespondsToCall table rules moment asked request response
 IsAnswerToCall None table rules moment request response =
     Responds rules.granted (found_of table rules moment (head_of request)) response
 

@@ -5,8 +5,11 @@ use Rattle.http_server.specs.declared.response.Response.{Response}
 use Rattle.http_server.specs.Response.{IsResponse}
 use Rattle.mac_http.specs.declared.page.Page.{Page}
 use Rattle.mac_http.specs.declared.page.Page.TheVariants.{Connections, Health, Numbers, Status}
+use Rattle.mac_keys.specs.KeyTable.{Table}
 use Rattle.mac_http.specs.declared.rules.Pages.{Pages}
 use Rattle.mac_http.specs.declared.rules.Pages.TheVariants as pages
+use Rattle.mac_http.specs.declared.rules.Way.{Way}
+use Rattle.mac_http.specs.declared.rules.Way.TheVariants as way
 use Rattle.mac_http.specs.Saying.{IsOverloaded}
 
 -- the page that a path names
@@ -28,6 +31,11 @@ has_page pages.Public Numbers = true
 has_page pages.Public Status = false
 has_page pages.Public Connections = false
 has_page pages.All page = true
+
+-- the table of whose keys a page may tell: at a port, where every user of the machine may ask, none
+abbrev pub told_keys : Way → Table → Option Table
+told_keys way.Socket table = Some table
+told_keys way.Port table = None
 
 -- the response is the text of a page, of a daemon that is well or, of its health alone, of one that
 -- is not

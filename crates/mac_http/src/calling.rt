@@ -89,11 +89,12 @@ pub(crate) fn respond_to_call(
 ) -> Option<Identifier>
     requires { IsBlank response.old }
     ensures told { RespondsWith called.entry.drawn.now footing.entry.keys.now footing.entry.rules
-        (called.entry.asked.call, called.entry.asked.name.now) called.entry.request.now
-        response.new }
+        footing.entry.moment (called.entry.asked.call, called.entry.asked.name.now)
+        called.entry.request.now response.new }
     ensures minted { IsMintedFor called.entry.drawn.now footing.entry.keys.now
-        footing.entry.rules (called.entry.asked.call, called.entry.asked.name.now)
-        called.entry.request.now response.new result }
+        footing.entry.rules footing.entry.moment
+        (called.entry.asked.call, called.entry.asked.name.now) called.entry.request.now
+        response.new result }
 {
     match fill(alloc, footing, called, response) {
         Ok(minted) => minted,
@@ -115,13 +116,13 @@ fn fill(
     ensures told { OnOk result (TellsUnlessRefused
         (refusal_of footing.entry.rules.way (head_of called.entry.request.now))
         (bytes_eq (head_of called.entry.request.now).method (codes "POST"))
-        (allowed_outcome footing.entry.rules footing.entry.keys.now
+        (allowed_outcome footing.entry.rules footing.entry.keys.now footing.entry.moment
         (called.entry.asked.call, called.entry.asked.name.now) called.entry.drawn.now
         (body_of called.entry.request.now)) response.new) }
     ensures minted { IfOk result (λ minted. minted ≡ minted_unless_refused
         (refusal_of footing.entry.rules.way (head_of called.entry.request.now))
         (bytes_eq (head_of called.entry.request.now).method (codes "POST"))
-        (allowed_outcome footing.entry.rules footing.entry.keys.now
+        (allowed_outcome footing.entry.rules footing.entry.keys.now footing.entry.moment
         (called.entry.asked.call, called.entry.asked.name.now) called.entry.drawn.now
         (body_of called.entry.request.now))) }
 {
@@ -144,12 +145,12 @@ fn fill_unrefused(
     requires { IsBlank response.old }
     ensures told { OnOk result (TellsCall
         (bytes_eq (head_of called.entry.request.now).method (codes "POST"))
-        (allowed_outcome footing.entry.rules footing.entry.keys.now
+        (allowed_outcome footing.entry.rules footing.entry.keys.now footing.entry.moment
         (called.entry.asked.call, called.entry.asked.name.now) called.entry.drawn.now
         (body_of called.entry.request.now)) response.new) }
     ensures minted { IfOk result (λ minted. minted ≡ minted_by_post
         (bytes_eq (head_of called.entry.request.now).method (codes "POST"))
-        (allowed_outcome footing.entry.rules footing.entry.keys.now
+        (allowed_outcome footing.entry.rules footing.entry.keys.now footing.entry.moment
         (called.entry.asked.call, called.entry.asked.name.now) called.entry.drawn.now
         (body_of called.entry.request.now))) }
 {
@@ -169,7 +170,8 @@ fn answer_allowed(
     called: Called<'_>,
 ) -> Result<Outcome, AllocError>
     ensures { IfOk result (λ o. o ≡ allowed_outcome footing.entry.rules footing.entry.keys.now
-        (called.entry.asked.call, called.entry.asked.name.now) called.entry.drawn.now
+        footing.entry.moment (called.entry.asked.call, called.entry.asked.name.now)
+        called.entry.drawn.now
         (body_of called.entry.request.now)) }
 {
     let asked = called.asked;
@@ -177,6 +179,7 @@ fn answer_allowed(
         let brought = Brought {
             body: called.request.body(),
             drawn: called.drawn,
+            moment: footing.moment.unwrap_or(0),
         };
         answer(alloc, footing.keys, asked.name, asked.call, brought)
     } else {

@@ -100,7 +100,7 @@ fn answer<S: Monitor>(
         request.now response.new }
 {
     match page_in(request.uri().path().as_bytes()) {
-        Some(page) => tell_page(alloc, monitor, footing.rules.pages, page, response),
+        Some(page) => tell_page(alloc, footing, monitor, page, response),
         None => answer_plain(alloc, footing, monitor, request, response),
     }
 }
@@ -142,7 +142,7 @@ fn answer_call<S: Monitor>(
     response: &mut Response,
 )
     requires { IsBlank response.old }
-    ensures { RespondsToCall footing.entry.keys.now footing.entry.rules
+    ensures { RespondsToCall footing.entry.keys.now footing.entry.rules footing.entry.moment
         (asked.entry.call, asked.entry.name.now) request.now response.new }
 {
     let Some(drawn) = drawn_for(monitor, asked.call) else {

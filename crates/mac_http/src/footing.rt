@@ -1,10 +1,11 @@
 //! What a request is answered on.
 
-ghost use Rattle.std.specs.Prelude.{◌≡◌};
+ghost use Rattle.std.specs.Prelude.{◌≡◌, option_copied};
 ghost use Rattle.mac_decide.specs.Terms.{lent_terms};
 ghost use Rattle.mac_http.specs.Found.{terms_of};
+ghost use Rattle.mac_http.specs.Page.{told_keys};
 
-use crate::rules::Rules;
+use crate::rules::{Rules, Way};
 use mac_decide::{SeenTokens, Terms};
 use mac_keys::KeyTable;
 
@@ -28,6 +29,16 @@ impl<'a> Footing<'a> {
             table: self.keys,
             rights: self.rules.rights,
             moment: self.moment,
+        }
+    }
+
+    /// The key table, where a page may tell of it.
+    pub(crate) fn told_keys(self) -> Option<&'a KeyTable>
+        ensures { option_copied result ≡ told_keys self.entry.rules.way self.entry.keys.now }
+    {
+        match self.rules.way {
+            Way::Socket => Some(self.keys),
+            Way::Port => None,
         }
     }
 }

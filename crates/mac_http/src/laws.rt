@@ -111,10 +111,10 @@ pub fn no_token_is_minted_under_another_name()
 /// A call that comes by a port and that a page in a browser may have had sent is refused with 403,
 /// whatever it asks for; or the response tells that there was no memory.
 pub fn pages_have_nothing_done()
-    ensures { (table : Table) (rules : PlainRules) (request : PlainRequest (List ℕ))
-        (asked : Call × List ℕ) (response : Response) → rules.way ≡ Way.Port
-        → is_of_page (head_of request).headers ≡ true
-        → RespondsToCall table rules asked request response
+    ensures { (table : Table) (rules : PlainRules) (moment : Option ℕ)
+        (request : PlainRequest (List ℕ)) (asked : Call × List ℕ) (response : Response)
+        → rules.way ≡ Way.Port → is_of_page (head_of request).headers ≡ true
+        → RespondsToCall table rules moment asked request response
         → IsResponse 403 [] [] response ⊎ IsOverloaded response }
 {}
 

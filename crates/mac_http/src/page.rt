@@ -5,14 +5,15 @@ ghost use Rattle.http_server.specs.Response.{IsBlank, IsResponse};
 ghost use Rattle.mac_http.specs.Faced.{MayClose};
 ghost use Rattle.mac_http.specs.Page.{IsText, TellsPage, is_text, page_in};
 
+use crate::footing::Footing;
 use crate::noted::Noted;
-use crate::rules::Pages;
 use bytes::BufMut;
 use http::StatusCode;
 use http::header::{CONNECTION, CONTENT_TYPE, HeaderValue};
 use http_server::Response;
 use mac_calls::Draws;
 use mac_decide::SeenTokens;
+use mac_keys::KeyTable;
 use std::alloc::{AllocError, Global};
 
 /// The paths of the pages.
@@ -54,8 +55,13 @@ pub trait Monitor: Draws {
     /// The memory of tokens of the daemon.
     fn seen(&self) -> &SeenTokens;
 
-    /// Appends the text of a page.
-    fn tell(&self, page: Page, text: &mut Vec<u8>) -> Result<Told, AllocError>
+    /// Appends the text of a page, which may tell of these keys, if there are any.
+    fn tell(
+        &self,
+        page: Page,
+        keys: Option<&KeyTable>,
+        text: &mut Vec<u8>,
+    ) -> Result<Told, AllocError>
         ensures { result ≡ Ok Told.Unwell → page ≡ Page.Health };
 
     /// A request for anything but a page was answered with this status.
@@ -79,22 +85,22 @@ pub(crate) fn page_in(path: &[u8]) -> Option<Page>
     }
 }
 
-/// Fills a blank response with a page, if it is one of these.
+/// Fills a blank response with a page, if the face has it.
 pub(crate) fn tell_page<S: Monitor>(
     alloc: Global,
+    footing: Footing<'_>,
     monitor: &S,
-    pages: Pages,
     page: Page,
     response: &mut Response,
 )
     requires { IsBlank response.old }
-    ensures { TellsPage pages page response.new }
+    ensures { TellsPage footing.entry.rules.pages page response.new }
 {
-    if !pages.has(page) {
+    if !footing.rules.pages.has(page) {
         response.status = StatusCode::NOT_FOUND;
         return;
     }
-    if fill_page(alloc, monitor, page, response).is_err() {
+    if fill_page(alloc, monitor, page, footing.told_keys(), response).is_err() {
         response.clear();
         response.status = StatusCode::SERVICE_UNAVAILABLE;
     }
@@ -104,13 +110,14 @@ fn fill_page<S: Monitor>(
     alloc: Global,
     monitor: &S,
     page: Page,
+    keys: Option<&KeyTable>,
     response: &mut Response,
 ) -> Result<(), AllocError>
     requires { IsBlank response.old }
     ensures { OnOk result (IsText page response.new) }
 {
     let mut text = Vec::new(alloc);
-    let status = match monitor.tell(page, &mut text)? {
+    let status = match monitor.tell(page, keys, &mut text)? {
         Told::Well => StatusCode::OK,
         Told::Unwell => StatusCode::SERVICE_UNAVAILABLE,
     };

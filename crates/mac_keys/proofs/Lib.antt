@@ -3,6 +3,7 @@ pub mod Bounded
 pub mod ChangeLemmas
 pub mod FaultLemmas
 pub mod FileMeaning
+pub mod FilterLemmas
 pub mod KeyMeaning
 pub mod LineByLine
 pub mod Lines

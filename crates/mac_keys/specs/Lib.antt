@@ -1,6 +1,7 @@
 pub mod Answers
 pub mod Change
 pub mod Fault
+pub mod Filter
 pub mod Found
 pub mod KeyTable
 pub mod Keys

@@ -10,6 +10,7 @@
 
 mod change;
 mod fault;
+mod filter;
 mod key_map;
 mod key_table;
 mod keys;
@@ -22,6 +23,7 @@ mod wiping;
 
 pub use change::{ChangeFault, add_above, add_below, drop_lower, drop_upper, raise_lower};
 pub use fault::{KeyFault, LineFault};
+pub use filter::hash_identifier;
 pub use key_map::{KeyMap, NAMES_MAX};
 pub use key_table::KeyTable;
 pub use keys::{KeyName, Keys};

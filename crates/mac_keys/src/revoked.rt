@@ -8,10 +8,12 @@ ghost use Rattle.std.specs.Prelude.{◌≡◌, ◌↔◌, ◌⊎◌, ◌+◌, �
 ghost use Rattle.std.specs.FinMap as map;
 ghost use Rattle.std.specs.FinSet as set;
 ghost use Rattle.mac_keys.specs.Table.{lines_of};
+ghost use Rattle.mac_keys.specs.Filter.{AdmitsAll, hash_of};
 ghost use Rattle.mac_keys.specs.Revoked.{after_line, count_said, identifiers_of, is_listed};
 ghost use Rattle.mac_keys.specs.Revoked.{means_none, nothing, revoked_fields, revoked_of, with_said};
 ghost use Rattle.mac_keys.specs.declared.revoked_fault.RevokedFault.TheVariants.{Memory};
 
+use crate::filter::{Filter, hash_identifier};
 use crate::line::{is_ignored, is_name, parted};
 use crate::revoked_fault::{RevokedFault, RevokedLineFault};
 use hex::FromHexError;
@@ -130,9 +132,34 @@ impl Lists {
         }
     }
 
-    /// Takes in what the line of this number says.
-    fn take_line(&mut self, alloc: Global, number: u64, line: &[u8]) -> Result<(), RevokedFault>
+    /// The same, and notes it in a filter.
+    fn add_noted(
+        &mut self,
+        alloc: Global,
+        filter: &mut Filter,
+        name: &[u8],
+        identifier: Vec<u8>,
+    ) -> Result<(), AllocError>
+        ensures said { OnOk result (self.new ≡ with_said self.old
+            (Some (record { name = name.now; identifier = identifier.items }))) }
+        ensures noted { OnOk result
+            (AdmitsAll self.old filter.old → AdmitsAll self.new filter.new) }
+    {
+        filter.add(hash_identifier(identifier.as_slice()));
+        self.add(alloc, name, identifier)
+    }
+
+    /// Takes in what the line of this number says, and notes it in a filter.
+    fn take_line(
+        &mut self,
+        alloc: Global,
+        filter: &mut Filter,
+        number: u64,
+        line: &[u8],
+    ) -> Result<(), RevokedFault>
         ensures ok { OnOk result (after_line number self.old line.now ≡ Ok self.new) }
+        ensures noted { OnOk result
+            (AdmitsAll self.old filter.old → AdmitsAll self.new filter.new) }
         ensures fault { IfErr result (λ fault.
             (fault ≡ Memory) ⊎ (after_line number self.old line.now ≡ Err fault)) }
     {
@@ -146,7 +173,7 @@ impl Lists {
             return Err(fault_at(number, RevokedLineFault::BadName));
         }
         match hex::decode(alloc, digits) {
-            Ok(identifier) => Ok(self.add(alloc, name, identifier)?),
+            Ok(identifier) => Ok(self.add_noted(alloc, filter, name, identifier)?),
             Err(FromHexError::OutOfMemory) => Err(RevokedFault::Memory),
             Err(_) => Err(fault_at(number, RevokedLineFault::BadHex)),
         }
@@ -167,11 +194,52 @@ fn fields(line: &[u8]) -> Option<(&[u8], &[u8])>
     parted(line.strip_prefix(b"revoked ")?)
 }
 
+/// Names with identifiers, and a filter that lets each of these pass.
+#[derive(Drop)]
+pub(crate) struct Filtered {
+    lists: Lists,
+    filter: Filter,
+}
+
+impl Model for Filtered {
+    ghost use Rattle.std.specs.Coded.{coded_list, coded_ℕ};
+    ghost use Rattle.std.specs.FinMap as map;
+    ghost use Rattle.std.specs.FinSet as set;
+    ghost use Rattle.mac_keys.specs.Filter.{AdmitsAll};
+    ghost use Rattle.mac_keys.specs.Revoked.{Revoked};
+
+    ghost Value = { Revoked };
+
+    ghost coded = { map.code (coded_list coded_ℕ) (set.code (coded_list coded_ℕ)) };
+
+    ghost view = { λ filtered. filtered.lists };
+
+    ghost invariant = { λ filtered. AdmitsAll filtered.lists filtered.filter };
+}
+
+impl Filtered {
+    /// Whether the name has the identifier, whose hash this is. Few that it hasn't are looked up.
+    fn has(&self, name: &[u8], identifier: &[u8], hash: u64) -> bool
+        requires { hash ≡ hash_of identifier.now }
+        ensures { result ≡ is_listed self.now name.now identifier.now }
+    {
+        self.filter.may_have(hash) && self.lists.has(name, identifier)
+    }
+
+    /// Whether the name has none.
+    fn is_without(&self, name: &[u8]) -> bool
+        ensures { IsTrue result → (identifier : List ℕ)
+            → is_listed self.now name.now identifier ≡ false }
+    {
+        self.lists.is_without(name)
+    }
+}
+
 /// A list of tokens that were taken back: names, each with identifiers of its tokens. It is shared
 /// by all who have it, and never changes.
 #[derive(Drop)]
 pub struct RevokedList {
-    held: Option<Arc<Lists, Global>>,
+    held: Option<Arc<Filtered, Global>>,
     /// How many lines it was made of.
     lines: usize,
 }
@@ -215,10 +283,11 @@ impl RevokedList {
         ensures fault { IfErr result (λ fault.
             (fault ≡ Memory) ⊎ (revoked_of text.now ≡ Err fault)) }
     {
-        let lists = read_lists(alloc, text)?;
+        let lines = count_lines(text);
+        let filtered = read_filtered(alloc, text, lines)?;
         Ok(RevokedList {
-            held: Some(Arc::new(alloc, lists)?),
-            lines: count_lines(text),
+            held: Some(Arc::new(alloc, filtered)?),
+            lines,
         })
     }
 
@@ -247,8 +316,17 @@ impl RevokedList {
     pub fn has(&self, name: &[u8], identifier: &[u8]) -> bool
         ensures { result ≡ is_listed self.now name.now identifier.now }
     {
+        self.has_hashed(name, identifier, hash_identifier(identifier))
+    }
+
+    /// The same where the identifier's hash is known, by which most that were never taken back are
+    /// told at a look.
+    pub fn has_hashed(&self, name: &[u8], identifier: &[u8], hash: u64) -> bool
+        requires { hash ≡ hash_of identifier.now }
+        ensures { result ≡ is_listed self.now name.now identifier.now }
+    {
         match &self.held {
-            Some(lists) => lists.has(name, identifier),
+            Some(filtered) => filtered.has(name, identifier, hash),
             None => false,
         }
     }
@@ -259,7 +337,7 @@ impl RevokedList {
             → is_listed self.now name.now identifier ≡ false }
     {
         match &self.held {
-            Some(lists) => lists.is_without(name),
+            Some(filtered) => filtered.is_without(name),
             None => true,
         }
     }
@@ -283,16 +361,17 @@ pub fn says_none(text: &[u8]) -> bool
         .any(|line| line == b"# none".as_slice())
 }
 
-/// What the lines of a text take back.
-fn read_lists(alloc: Global, text: &[u8]) -> Result<Lists, RevokedFault>
+/// What the lines of a text take back, about so many.
+fn read_filtered(alloc: Global, text: &[u8], lines: usize) -> Result<Filtered, RevokedFault>
     ensures list { IfOk result (λ list. revoked_of text.now ≡ Ok list) }
     ensures fault { IfErr result (λ fault. (fault ≡ Memory) ⊎ (revoked_of text.now ≡ Err fault)) }
 {
     let mut lists = Lists::new(alloc);
+    let mut filter = Filter::new(alloc, lines)?;
     for (index, line) in text.split(|byte| *byte == b'\n').enumerate() {
-        if let Err(fault) = lists.take_line(alloc, index as u64 + 1, line) {
+        if let Err(fault) = lists.take_line(alloc, &mut filter, index as u64 + 1, line) {
             return Err(fault);
         }
     }
-    Ok(lists)
+    Ok(Filtered { lists, filter })
 }

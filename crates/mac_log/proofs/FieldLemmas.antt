@@ -131,6 +131,7 @@ key-short key.Verdict = omega arith
 key-short key.Code = omega arith
 key-short key.Unsent = omega arith
 key-short key.Form = omega arith
+key-short key.Memory = omega arith
 
 -- a field that fits stays within the room of all
 pub whole-short : (text : List ℕ) (k : Key) (value : List ℕ) → 0 < value_room text k → fitting (value_room text k) value ≡ length value → length (text ++ field_text k value) ≤ FIELDS_ROOM

@@ -112,6 +112,7 @@ safe-key key.Verdict = refl
 safe-key key.Code = refl
 safe-key key.Unsent = refl
 safe-key key.Form = refl
+safe-key key.Memory = refl
 
 pub printed-kind_bytes : (k : Kind) → ArePrinted (kind_text k)
 printed-kind_bytes kind.Start = refl

@@ -54,6 +54,8 @@ pub enum Key {
     Unsent,
     /// Which of several ways something has.
     Form,
+    /// How many bytes of memory there may be.
+    Memory,
 }
 
 impl Key {
@@ -86,6 +88,7 @@ impl Key {
             Key::Code => "code",
             Key::Unsent => "unsent",
             Key::Form => "form",
+            Key::Memory => "memory",
         }
     }
 }

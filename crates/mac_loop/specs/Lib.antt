@@ -1,2 +1,4 @@
+pub mod Alive
 pub mod Asks
 pub mod Minted
+pub mod Resting

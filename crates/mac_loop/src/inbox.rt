@@ -2,24 +2,90 @@
 
 use crate::handover::Handover;
 use crate::meter::{Meter, Shares};
+use mac_host::Socket;
 use mac_plain::UNSENT_MAX;
-use mac_sockets::Inbox;
+use mac_sockets::{Inbox, REST_MIN};
 use std::alloc::{AllocError, Global};
 use std::sync::Wait;
 use std::sync::atomic::Ordering::SeqCst;
 use std::sync::atomic::{AtomicBool, AtomicU64, AtomicUsize};
+use std::thread;
+use std::time::{Clock, Duration};
 
 /// How many bytes may be unsent on all clients before each may have less.
 const UNSENT_ALL: u64 = 67_108_864;
 
+/// They are no more than one part of so many of the memory that clients have.
+const UNSENT_PART: u64 = 4;
+
 /// How much may be unsent on a client then.
 const UNSENT_LITTLE: usize = 65_536;
+
+/// How many clients a loop takes in between two turns. Where more wait for it, no further one is to
+/// be accepted.
+pub const NEWCOMERS_MAX: usize = 64;
+
+/// How many milliseconds pass until it is looked again whether fewer wait.
+const PAUSE_MILLIS: u64 = 1;
+
+/// How many clients of a socket at most come into loops at a time in place of others.
+const DISPLACING_MAX: usize = 16;
+
+/// Since when the client of a loop has rested that rests longest of those that came in at a socket,
+/// as far as the loop looked; the greatest number where there is none.
+#[derive(Drop)]
+struct Stalest {
+    main: AtomicU64,
+    side: AtomicU64,
+}
+
+/// How many clients of each socket are on their way that others are to give way to.
+#[derive(Drop)]
+struct Displacing {
+    main: AtomicUsize,
+    side: AtomicUsize,
+}
 
 /// A loop, as others see it.
 #[derive(Drop)]
 struct LoopSide {
     inbox: Inbox<Handover>,
+    // How many clients wait in it.
+    waiting: AtomicUsize,
     meter: Meter,
+    stalest: Stalest,
+}
+
+impl Stalest {
+    fn new() -> Stalest {
+        Stalest {
+            main: AtomicU64::new(u64::MAX),
+            side: AtomicU64::new(u64::MAX),
+        }
+    }
+
+    fn at(&self, socket: Socket) -> &AtomicU64 {
+        match socket {
+            Socket::Main => &self.main,
+            Socket::Side => &self.side,
+        }
+    }
+}
+
+impl Displacing {
+    fn none() -> Displacing {
+        Displacing {
+            main: AtomicUsize::new(0),
+            side: AtomicUsize::new(0),
+        }
+    }
+
+    fn at(&self, socket: Socket) -> &AtomicUsize {
+        match socket {
+            Socket::Main => &self.main,
+            Socket::Side => &self.side,
+        }
+    }
 }
 
 /// The loops of a daemon, as others see them.
@@ -30,19 +96,25 @@ pub struct Loops {
     may_share: bool,
     // How many loops are in a turn.
     busy: AtomicUsize,
+    displacing: Displacing,
     unsent: AtomicU64,
+    // How many bytes may be unsent on all clients before each may have less.
+    unsent_all: u64,
     is_draining: AtomicBool,
     is_closed: AtomicBool,
 }
 
 impl Loops {
-    /// No loops yet, whose turns may be answered by several threads, or not.
-    pub fn new(alloc: Global, may_share: bool) -> Loops {
+    /// No loops yet, whose turns may be answered by several threads, or not, and whose clients have
+    /// so many bytes of memory together.
+    pub fn new(alloc: Global, may_share: bool, memory: u64) -> Loops {
         Loops {
             sides: Vec::new(alloc),
             may_share,
             busy: AtomicUsize::new(0),
+            displacing: Displacing::none(),
             unsent: AtomicU64::new(0),
+            unsent_all: UNSENT_ALL.min(memory / UNSENT_PART),
             is_draining: AtomicBool::new(false),
             is_closed: AtomicBool::new(false),
         }
@@ -52,7 +124,9 @@ impl Loops {
     pub fn push(&mut self, inbox: Inbox<Handover>) -> Result<(), AllocError> {
         self.sides.push(LoopSide {
             inbox,
+            waiting: AtomicUsize::new(0),
             meter: Meter::new(),
+            stalest: Stalest::new(),
         })?;
         Ok(())
     }
@@ -64,18 +138,106 @@ impl Loops {
 
     /// Hands a client to a loop. Without memory it comes back.
     pub fn hand<R: Wait>(&self, rt: &R, number: usize, client: Handover) -> Result<(), Handover> {
-        match self.sides.get(number) {
-            Some(side) => side.inbox.push(rt, client),
-            None => Err(client),
+        let Some(side) = self.sides.get(number) else {
+            return Err(client);
+        };
+        side.waiting.fetch_add(1, SeqCst);
+        let handed = side.inbox.push(rt, client);
+        if handed.is_err() {
+            side.waiting.fetch_sub(1, SeqCst);
         }
+        handed
+    }
+
+    /// Waits while more clients wait for a loop than it takes in between two turns.
+    pub fn await_taken<R: Wait + Clock>(&self, rt: &R, number: usize) {
+        for _ in rt.forever() {
+            match self.sides.get(number) {
+                Some(side) if side.waiting.load(SeqCst) >= NEWCOMERS_MAX => {
+                    thread::sleep(rt, Duration::from_millis(PAUSE_MILLIS));
+                }
+                _ => return,
+            }
+        }
+    }
+
+    /// Hands a client to the loop of which one of a socket is to give way to it. It comes back
+    /// without memory, where none of its own socket has rested for long enough to give way to it, and
+    /// where as many of its socket are on their way so as may be.
+    pub fn hand_displacing<R: Wait>(
+        &self,
+        rt: &R,
+        socket: Socket,
+        client: Handover,
+    ) -> Result<(), Handover> {
+        let (number, since) = self.stalest(socket);
+        let is_own = client.badge.socket == socket;
+        if is_own && client.since.saturating_sub(since) < REST_MIN {
+            return Err(client);
+        }
+        let displacing = self.displacing.at(client.badge.socket);
+        if displacing.fetch_add(1, SeqCst) >= DISPLACING_MAX {
+            displacing.fetch_sub(1, SeqCst);
+            return Err(client);
+        }
+        let mut client = client;
+        client.displaces = Some(socket);
+        let handed = self.hand(rt, number, client);
+        if handed.is_err() {
+            displacing.fetch_sub(1, SeqCst);
+        }
+        handed
     }
 
     /// The next client that was handed to a loop.
     pub fn take<R: Wait>(&self, rt: &R, number: usize) -> Option<Handover> {
-        match self.sides.get(number) {
-            Some(side) => side.inbox.pop(rt),
-            None => None,
+        let side = self.sides.get(number)?;
+        let client = side.inbox.pop(rt)?;
+        side.waiting.fetch_sub(1, SeqCst);
+        if client.displaces.is_some() {
+            self.displacing.at(client.badge.socket).fetch_sub(1, SeqCst);
         }
+        Some(client)
+    }
+
+    /// Has a loop look once more for what was handed to it.
+    pub fn wake(&self, number: usize) {
+        if let Some(side) = self.sides.get(number) {
+            side.inbox.wake();
+        }
+    }
+
+    /// A loop notes since when the client has rested that rests longest of those of a socket, where
+    /// it has any.
+    pub fn note_stalest(&self, number: usize, socket: Socket, since: Option<u64>) {
+        if let Some(side) = self.sides.get(number) {
+            side.stalest
+                .at(socket)
+                .store(since.unwrap_or(u64::MAX), SeqCst);
+        }
+    }
+
+    /// A loop notes since when one more of a socket has rested.
+    pub fn note_rest(&self, number: usize, socket: Socket, since: u64) {
+        if let Some(side) = self.sides.get(number) {
+            let stalest = side.stalest.at(socket);
+            if since < stalest.load(SeqCst) {
+                stalest.store(since, SeqCst);
+            }
+        }
+    }
+
+    /// The loop whose clients include the one that has rested longest of those of a socket, and since
+    /// when that has.
+    fn stalest(&self, socket: Socket) -> (usize, u64) {
+        let (mut found, mut earliest) = (0, u64::MAX);
+        for (number, side) in self.sides.iter().enumerate() {
+            let since = side.stalest.at(socket).load(SeqCst);
+            if since < earliest {
+                (found, earliest) = (number, since);
+            }
+        }
+        (found, earliest)
     }
 
     /// A loop begins a turn. How many threads it may answer with: those of loops that rest are
@@ -111,7 +273,7 @@ impl Loops {
 
     /// How many bytes may be unsent on a client that is read: less, once much is unsent on all.
     pub fn unsent_max(&self) -> usize {
-        if self.unsent.load(SeqCst) < UNSENT_ALL {
+        if self.unsent.load(SeqCst) < self.unsent_all {
             UNSENT_MAX
         } else {
             UNSENT_LITTLE
@@ -145,7 +307,8 @@ impl Loops {
         self.wake_all();
     }
 
-    fn wake_all(&self) {
+    /// Has each loop look.
+    pub fn wake_all(&self) {
         for side in self.sides.iter() {
             side.inbox.wake();
         }

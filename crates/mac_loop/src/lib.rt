@@ -5,21 +5,28 @@
 //! once, answers all their requests together, and writes to each; which bytes that are is
 //! `mac_plain`'s. Clients come by a loop's inbox among the [`Loops`], from whoever accepts them and
 //! from other loops: few clients share a loop for as long as it keeps up.
+//!
+//! A client's value carries its life: a [`Handover`], what the slots and the turns of a loop hold,
+//! and the [`EndedLife`] that a [`Watch`] is told each have a fact on what came and went so far.
 #![tactic(auto)]
 
 mod asks;
+mod batch;
+mod ended;
 mod handover;
 mod inbox;
 mod looping;
 mod members;
 mod meter;
 mod port;
+mod resting;
 mod transcript;
 mod watch;
 
+pub use ended::EndedLife;
 pub use handover::Handover;
 pub use inbox::Loops;
-pub use looping::{Loop, make_loops};
+pub use looping::{Loop, LoopTerms, make_loops};
 pub use port::SocketPort;
 pub use transcript::Transcript;
 pub use watch::{PlainFault, Turn, Watch};

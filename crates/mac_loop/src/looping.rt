@@ -5,22 +5,25 @@ ghost use Rattle.mac_loop.specs.Asks.{home_of};
 ghost use Rattle.mac_plain.specs.Client.{may_move};
 
 mod asking;
+mod holding;
 mod sharing;
 mod sweeping;
+mod yielding;
 
 use crate::asks::Asks;
+use crate::batch::Batch;
+use crate::ended::EndedLife;
 use crate::handover::Handover;
-use crate::inbox::Loops;
-use crate::members::{Lent, Member};
+use crate::inbox::{Loops, NEWCOMERS_MAX};
+use crate::members::Member;
 use crate::meter::Shares;
-use crate::port::SocketPort;
 use crate::watch::{PlainFault, Turn, Watch};
 use mac_board::Outlook;
 use mac_decide::{Macaroons, SeenTokens};
 use mac_host::{Traffic, microseconds, microseconds_of};
 use mac_plain::{Came, Client, Round};
 use mac_queue::Desk;
-use mac_sockets::{Connections, Inbox, WaitFault};
+use mac_sockets::{Account, Connections, Inbox, WaitFault};
 use mio::{Token, Waker};
 use std::alloc::Global;
 use std::net::Net;
@@ -51,12 +54,14 @@ pub struct Loop {
     members: Connections<Member>,
     // What ends its waits once workers have answered.
     waker: Option<Waker>,
-    // The slots and the clients of a turn.
-    turn: Vec<Lent>,
-    batch: Vec<Client<SocketPort>>,
+    // The clients of a turn.
+    batch: Batch,
     round: Round,
     parts: usize,
     shares: Shares,
+    // What its clients have of the memory of all, and how many bytes they hold.
+    account: Account,
+    held: u64,
     // How many bytes may be unsent in this turn on a client that is read.
     unsent_max: usize,
     // How many looks at all loops there were.
@@ -75,19 +80,36 @@ pub struct Loop {
     now: u64,
 }
 
-/// As many loops as are asked for, which end a client that makes no progress for so many seconds.
-/// Where none are asked for, they end one that has sent nothing whole for five minutes. They share
-/// a memory of tokens, and turns where they may: threads that begin for one have the stack that the
-/// process was started under.
+/// What loops are held to.
+#[derive(Clone, Copy)]
+pub struct LoopTerms {
+    /// How many there are.
+    pub count: usize,
+    /// The seconds after which a client that makes no progress is ended. Where none are asked for,
+    /// one is that has sent nothing whole for five minutes.
+    pub idle: Option<u64>,
+    /// Whether they share turns: threads that begin for one have the stack that the process was
+    /// started under.
+    pub may_share: bool,
+    /// How many bytes of memory their clients may hold together.
+    pub memory: u64,
+}
+
+/// The loops of these terms, which share a memory of tokens.
 pub fn make_loops<R: Net>(
     rt: &R,
     alloc: Global,
-    count: usize,
-    idle: Option<u64>,
+    terms: LoopTerms,
     seen: &SeenTokens,
-    may_share: bool,
 ) -> Result<(Arc<Loops, Global>, Vec<Loop>), WaitFault> {
-    let mut loops = Loops::new(alloc, may_share);
+    let LoopTerms {
+        count,
+        idle,
+        may_share,
+        memory,
+    } = terms;
+    let account = Account::open(alloc, memory)?;
+    let mut loops = Loops::new(alloc, may_share, memory);
     let mut made = Vec::with_capacity(alloc, count)?;
     for number in 0..count {
         let (members, waker) = Connections::new(rt, alloc)?;
@@ -97,11 +119,12 @@ pub fn make_loops<R: Net>(
             alloc,
             waker: Some(members.waker()?),
             members,
-            turn: Vec::with_capacity(alloc, PARTS_MAX)?,
-            batch: Vec::with_capacity(alloc, PARTS_MAX)?,
+            batch: Batch::with_capacity(alloc, PARTS_MAX)?,
             round: Round::new(alloc, seen.share()?)?,
             parts: PARTS_MAX,
             shares: Shares::new(alloc, count)?,
+            account: account.share()?,
+            held: 0,
             unsent_max: 0,
             looks: 0,
             late: 0,
@@ -181,7 +204,8 @@ impl Loop {
         Some(Duration::from_micros(self.sweep_span()))
     }
 
-    /// Takes in the clients that were handed over.
+    /// Takes in the clients that were handed over: so many between two turns at most, and then it looks
+    /// again. So a flood of newcomers keeps none of its clients from a turn.
     fn take_in_all<R: Wait + Clock, K: Outlook, W: Watch>(
         &mut self,
         rt: &R,
@@ -189,11 +213,23 @@ impl Loop {
         outlook: &mut K,
         watch: &W,
     ) {
+        let (mut came, mut displaces) = (0usize, false);
         for _ in rt.forever() {
+            if came >= NEWCOMERS_MAX {
+                loops.wake(self.number);
+                break;
+            }
             let Some(client) = loops.take(rt, self.number) else {
-                return;
+                break;
             };
-            self.receive(rt, client, loops, outlook, watch);
+            came = came.saturating_add(1);
+            displaces = displaces || client.displaces.is_some();
+            if let Some(client) = self.admit(rt, client, loops, watch) {
+                self.receive(rt, client, loops, outlook, watch);
+            }
+        }
+        if displaces {
+            self.tell_stalest(loops);
         }
     }
 
@@ -207,13 +243,16 @@ impl Loop {
         outlook: &mut K,
         watch: &W,
     ) {
-        let life = client.life();
-        if outlook.reach(client.place) {
-            if self.take_in(client, loops, outlook) {
-                return;
-            }
+        let place = client.place;
+        let left = if outlook.reach(place) {
+            self.take_in(client, loops, outlook)
+        } else {
+            Err(client)
+        };
+        if let Err(client) = left {
+            let ended = EndedLife::on_the_way(client, PlainFault::NoMemory);
+            watch.end(rt, ended);
         }
-        watch.end(rt, life, Some(PlainFault::NoMemory));
     }
 
     /// Once the loops are draining, takes nothing more from its clients than what has come.
@@ -235,10 +274,23 @@ impl Loop {
         self.members.slots.list(slot);
     }
 
-    /// Whether there was memory to take a client in.
-    fn take_in<K: Outlook>(&mut self, client: Handover, loops: &Loops, outlook: &K) -> bool
+    /// Takes a client in. Without memory it comes back.
+    fn take_in<K: Outlook>(
+        &mut self,
+        client: Handover,
+        loops: &Loops,
+        outlook: &K,
+    ) -> Result<(), Handover>
         requires { client.place ≤ (K.known outlook.now).tables.place }
     {
+        let Ok(slot) = self.members.slots.reserve() else {
+            return Err(client);
+        };
+        let registry = self.members.registry();
+        if client.port.stream().join(registry, Token(slot)).is_err() {
+            let _ = self.members.slots.release(slot);
+            return Err(client);
+        }
         let Handover {
             port,
             session,
@@ -246,27 +298,20 @@ impl Loop {
             place: _,
             since,
             badge,
+            displaces: _,
         } = client;
-        let Ok(slot) = self.members.slots.reserve() else {
-            return false;
-        };
-        let registry = self.members.registry();
-        if port.stream().join(registry, Token(slot)).is_err() {
-            let _ = self.members.slots.release(slot);
-            return false;
-        }
         let client = Client::new(port, session, rights);
         loops.count_unsent(0, client.unsent());
-        let _ = self
-            .members
-            .slots
-            .put(slot, Member::new(client, since, badge, self.looks));
+        loops.note_rest(self.number, badge.socket, since);
+        let mut member = Member::new(client, since, badge, self.looks);
+        self.count_held(&mut member);
+        let _ = self.members.slots.put(slot, member);
         if self.is_draining {
             self.end_reading(slot);
         } else {
             self.members.slots.list(slot);
         }
-        true
+        Ok(())
     }
 
     /// Answers what clients that are ready have sent.
@@ -280,23 +325,39 @@ impl Loop {
     )
         ensures { asks.new ≡ asks.old }
     {
-        self.pick(rt, loops);
         self.unsent_max = loops.unsent_max();
+        let growth = self.pick(rt, loops);
+        let is_room = self.has_room(rt, growth);
+        let unsent_max = if is_room { self.unsent_max } else { 0 };
         let spare = loops.begin_turn();
         // What makes turns long is read in small pieces.
         let threads = if self.parts < PARTS_MAX { 1 } else { spare };
-        let batch = self.batch.as_mut_slice();
-        self.round
-            .serve(rt, threads, outlook, batch, self.unsent_max);
+        self.batch
+            .serve(rt, &mut self.round, threads, outlook, unsent_max);
         loops.end_turn();
+        self.finish_turn(rt, loops, outlook, asks, watch);
+        self.settle(rt, loops, watch, is_room, growth);
+    }
+
+    /// Does what the clients of a turn have left to do, and tells what the turn came to.
+    fn finish_turn<R: Wait + Clock, K: Outlook, W: Watch>(
+        &mut self,
+        rt: &R,
+        loops: &Loops,
+        outlook: &K,
+        asks: &mut Asks,
+        watch: &W,
+    )
+        ensures { asks.new ≡ asks.old }
+    {
         let mut traffic = Traffic::NONE;
         for _ in rt.forever() {
-            let (Some(client), Some(Lent { slot, note })) = (self.batch.pop(), self.turn.pop())
-            else {
+            let Some((slot, mut member)) = self.batch.pop() else {
                 break;
             };
-            loops.count_unsent(0, client.unsent());
-            let mut member = Member { client, note };
+            // What isn't told here a worker answers.
+            member.recall(&mut self.round, outlook.current());
+            loops.count_unsent(0, member.client.unsent());
             traffic = traffic.plus(member.count_traffic());
             self.look_after(rt, slot, member, loops, outlook, asks, watch);
         }
@@ -306,35 +367,32 @@ impl Loop {
         });
     }
 
-    /// Takes the clients of a turn out of their slots.
-    fn pick<R: Wait>(&mut self, rt: &R, loops: &Loops) {
-        let mut parts = 0usize;
+    /// Takes the clients of a turn out of their slots. How many bytes those hold that may be read.
+    fn pick<R: Wait>(&mut self, rt: &R, loops: &Loops) -> u64 {
+        let (mut parts, mut growth) = (0usize, 0u64);
         for _ in rt.forever() {
             if parts >= self.parts {
-                return;
+                return growth;
             }
             let Some(slot) = self.members.slots.next_ready() else {
-                return;
+                return growth;
             };
             if let Some(mut member) = self.members.slots.take(slot) {
                 parts = parts.saturating_add(member.begin_turn(DEEP, self.looks));
+                if member.client.unsent() < self.unsent_max {
+                    growth = growth.saturating_add(member.note.held);
+                }
                 loops.count_unsent(member.client.unsent(), 0);
                 self.add(slot, member);
             }
         }
+        unreachable!()
     }
 
     /// Adds a client to a turn.
     fn add(&mut self, slot: usize, member: Member) {
-        let Member { client, note } = member;
-        if self.turn.push(Lent { slot, note }).is_err() {
-            let _ = self.members.slots.put(slot, Member { client, note });
-            return;
-        }
-        if let Err(refused) = self.batch.push(client) {
-            let client = refused.value;
-            let _ = self.members.slots.put(slot, Member { client, note });
-            let _ = self.turn.pop();
+        if let Err(member) = self.batch.push(slot, member) {
+            let _ = self.members.slots.put(slot, member);
         }
     }
 
@@ -357,12 +415,14 @@ impl Loop {
         }
         if member.client.is_over() && !self.drops_rest(slot, &mut member) {
             loops.count_unsent(member.client.unsent(), 0);
+            self.count_left(&member);
             let _ = self.members.slots.release(slot);
-            end_member(rt, watch, &member, PlainFault::of(&member.client));
+            end_member(rt, watch, member, None);
             return;
         }
         watch.see(member.life(), member.client.unsent());
         self.note_turn(slot, &mut member);
+        self.count_held(&mut member);
         let _ = self.members.slots.put(slot, member);
     }
 
@@ -406,19 +466,22 @@ impl Loop {
             place: outlook.place(),
             since,
             badge: note.badge,
+            displaces: None,
         }
     }
 
     /// Notes what a client waits for after its turn.
     fn note_turn(&mut self, slot: usize, member: &mut Member) {
-        let client = &mut member.client;
-        let awaits = client.unsent() > 0;
+        let _ = member.note_progress(self.now);
         // A read that ends within a request may have left some of it.
-        let may_have_left = client.has_begun() && client.port().has_read();
-        let may_have_more = member.note.is_closing || may_have_left || client.port().is_put_off();
-        if may_have_more && !client.port().is_full() {
-            client.wake_reading();
+        let port = member.client.port();
+        let may_have_left = member.client.has_begun() && port.has_read();
+        let may_have_more = member.note.is_closing || may_have_left || port.is_put_off();
+        if may_have_more && !port.is_full() {
+            member.wake_reading();
         }
+        let client = &member.client;
+        let awaits = client.unsent() > 0;
         member.note.is_deep = client.is_busy(self.unsent_max);
         if awaits != member.note.awaits_room {
             member.note.awaits_room = awaits;
@@ -456,15 +519,20 @@ impl Loop {
     }
 }
 
-/// Tells that a client has ended, which may have waited for a worker's answer.
+/// Tells that a client has ended, by a fault or as it stands. It may have waited for a worker's
+/// answer.
 fn end_member<R: Wait + Clock, W: Watch>(
     rt: &R,
     watch: &W,
-    member: &Member,
+    member: Member,
     fault: Option<PlainFault>,
 ) {
     if member.client.is_waiting() {
         watch.narrow(member.life(), false);
     }
-    watch.end(rt, member.life(), fault);
+    let ended = match fault {
+        Some(fault) => EndedLife::by(member, fault),
+        None => EndedLife::of(member),
+    };
+    watch.end(rt, ended);
 }

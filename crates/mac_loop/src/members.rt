@@ -1,12 +1,18 @@
 //! A client of a loop, and what the loop knows of it.
 
-ghost use Rattle.std.specs.Prelude.{◌≡◌};
+ghost use Rattle.std.specs.Prelude.{◌≡◌, IsTrue};
+ghost use Rattle.mac_plain.specs.declared.course.Course.TheVariants as course;
+ghost use Rattle.mac_loop.specs.Alive.{IsAlive};
 
 use crate::port::SocketPort;
 use crate::watch::Watch;
+use mac_board::Current;
+use mac_decide::{Job, Macaroons};
 use mac_host::{Badge, Life, Traffic};
-use mac_plain::{Came, Client, Course};
+use mac_order::Answer;
+use mac_plain::{Came, Client, Course, Round};
 use mac_sockets::{Readiness, Wakes};
+use std::alloc::Global;
 use std::sync::Wait;
 use std::time::Clock;
 
@@ -39,26 +45,25 @@ pub struct Note {
     pub traffic: Traffic,
     /// How many reads have dropped what came behind a frame that was too long.
     pub dropped: usize,
+    /// How many bytes of memory it held when that was last counted.
+    pub held: u64,
 }
 
 /// How many such reads there are at most.
 const DROPPED_READS: usize = 64;
 
+/// How many bytes each of them drops at most.
+const DROPPED_PIECE: usize = 16_384;
+
 /// How many microseconds the peer has to end after the last of them.
 const DROPPED_MICROS: u64 = 100_000;
 
-/// What a slot of a loop holds.
+/// What a slot of a loop holds: a client, of whom all that came and went on its socket is known.
 #[derive(Drop)]
 pub struct Member {
     pub client: Client<SocketPort>,
     pub note: Note,
-}
-
-/// What a loop keeps of a slot whose client is in a turn.
-#[derive(Clone, Copy)]
-pub struct Lent {
-    pub slot: usize,
-    pub note: Note,
+    pub ghost lives: { IsAlive client },
 }
 
 impl Progress {
@@ -75,7 +80,9 @@ impl Progress {
 impl Member {
     /// A client that begins behind so many looks at how busy loops are, and made its last progress
     /// then.
-    pub fn new(client: Client<SocketPort>, since: u64, badge: Badge, look: u64) -> Member {
+    pub fn new(client: Client<SocketPort>, since: u64, badge: Badge, look: u64) -> Member
+        requires { IsAlive client }
+    {
         let note = Note {
             is_closing: false,
             awaits_room: false,
@@ -86,6 +93,7 @@ impl Member {
             badge,
             traffic: client.port().traffic(),
             dropped: 0,
+            held: 0,
         };
         Member { client, note }
     }
@@ -106,6 +114,18 @@ impl Member {
         counted
     }
 
+    /// Counts how many bytes of memory it holds: so many before, and so many now. Where its requests
+    /// are noted, what has begun to come is there a second time.
+    pub fn count_held(&mut self) -> (u64, u64)
+        ensures { self.new.client ≡ self.old.client }
+    {
+        let before = self.note.held;
+        let held = self.client.held();
+        let noted = self.client.port().held(held);
+        self.note.held = held.saturating_add(noted) as u64;
+        (before, self.note.held)
+    }
+
     /// Notes how it stands now. When it was last seen to make progress, in microseconds.
     pub fn note_progress(&mut self, now: u64) -> u64
         ensures { self.new.client ≡ self.old.client }
@@ -118,6 +138,15 @@ impl Member {
         self.note.since
     }
 
+    /// Notes whether it rests: one doesn't that made progress, or waits for a worker's answer. Since
+    /// when it has rested, in microseconds.
+    pub fn note_rest(&mut self, now: u64) -> u64 {
+        if self.client.is_waiting() {
+            self.note.since = now;
+        }
+        self.note_progress(now)
+    }
+
     /// Whether it may be owed something: replies, or to be read on in a request that has begun, or
     /// since its last read gave some bytes.
     pub fn is_owed(&self) -> bool {
@@ -125,13 +154,17 @@ impl Member {
     }
 
     /// Whether its frame that was too long is refused, and what still comes is to be dropped.
-    pub fn is_parting(&self) -> bool {
+    pub fn is_parting(&self) -> bool
+        ensures { IsTrue result → self.now.client.course ≡ course.TooLong }
+    {
         self.client.course() == Course::TooLong && self.client.unsent() == 0
     }
 
     /// Drops what has come behind a frame that was too long, so that the peer reads an end and no
     /// reset. What may come further: none once enough was dropped.
-    pub fn drop_piece(&mut self, now: u64) -> Came {
+    pub fn drop_piece(&mut self, now: u64) -> Came
+        requires { self.old.client.course ≡ course.TooLong }
+    {
         if self.note.dropped == 0 {
             self.client.port().end_writing();
         }
@@ -140,12 +173,38 @@ impl Member {
         }
         self.note.dropped += 1;
         self.note.since = now;
-        self.client.port().drop_piece()
+        let mut piece = [0u8; DROPPED_PIECE];
+        self.client.drop_piece(&mut piece)
     }
 
     /// Whether its peer has had the time to end behind the last piece that was dropped.
     pub fn has_parted(&self, now: u64) -> bool {
         self.note.dropped > 0 && now.saturating_sub(self.note.since) >= DROPPED_MICROS
+    }
+
+    /// The job for a worker, where it asks for what a loop must not answer: from then on it waits.
+    pub fn ask(&mut self, alloc: Global, current: Current<'_>) -> Option<Job> {
+        self.client.ask(alloc, current)
+    }
+
+    /// Is answered at once what it would ask a worker, where the memory of tokens tells that.
+    pub fn recall(&mut self, round: &mut Round, current: Current<'_>) {
+        let _ = round.recall(&mut self.client, current);
+    }
+
+    /// Gives it a worker's answer, which is another's where it doesn't wait for that.
+    pub fn take_answer(&mut self, round: &mut Round, answer: Answer<Macaroons>) {
+        round.deliver(&mut self.client, answer);
+    }
+
+    /// There is no answer for it, for want of memory.
+    pub fn lose_answer(&mut self) {
+        self.client.lose_answer();
+    }
+
+    /// Something may be left to be read.
+    pub fn wake_reading(&mut self) {
+        self.client.wake_reading();
     }
 
     /// Takes nothing more from it than what has come.

@@ -1,20 +1,18 @@
 //! A connection's socket as a loop has it: reads and writes don't wait.
 
-ghost use Rattle.std.specs.Prelude.{length};
+ghost use Rattle.std.specs.Prelude.{◌≡◌, ◌++◌, [], IfOk, length};
 ghost use Rattle.mac_plain.specs.Port.{FitsCame, FitsWent};
 
 use crate::transcript::Transcript;
 use mac_host::{Exchange, Traffic};
+use mac_mail::History;
 use mac_plain::{Came, Port, Went};
-use mac_sockets::Stream;
+use mac_sockets::{Fresh, Stream};
 use std::alloc::AllocError;
 use std::cell::RefCell;
 use std::io;
 use std::io::ErrorKind;
 use std::net::Shutdown;
-
-/// How many bytes one read behind a frame that is too long drops at most.
-const DROPPED_PIECE: usize = 16_384;
 
 /// A socket that a loop reads and writes.
 #[derive(Drop)]
@@ -25,20 +23,28 @@ pub struct SocketPort {
     // Whether the last read was put off, since too many requests wait for their replies.
     is_put_off: bool,
     traffic: Traffic,
+    // All bytes that reads gave, and that writes took. For contracts: they take no room.
+    pub(crate) came: History<u8>,
+    pub(crate) went: History<u8>,
     // What comes and goes on it, where that is logged: apart, since most have none.
     transcript: Option<Box<RefCell<Transcript>>>,
 }
 
 impl SocketPort {
-    /// A port at a stream, whose reads and writes wait no more, and which goes on with a transcript
-    /// where there is one.
-    pub fn new(stream: Stream, transcript: Option<Transcript>) -> io::Result<SocketPort> {
+    /// A port at a stream on which nothing has come or gone. Its reads and writes wait no more, and
+    /// what comes and goes is noted in a transcript where there is one.
+    pub(crate) fn new(stream: Fresh, transcript: Option<Transcript>) -> io::Result<SocketPort>
+        ensures { IfOk result (λ port. (port.came ≡ []) × (port.went ≡ [])) }
+    {
+        let stream = stream.into_stream();
         stream.hurry()?;
         Ok(SocketPort {
             stream,
             has_read: false,
             is_put_off: false,
             traffic: Traffic::NONE,
+            came: History::new(),
+            went: History::new(),
             transcript: transcript.and_then(|transcript| transcript.apart()),
         })
     }
@@ -60,6 +66,17 @@ impl SocketPort {
         match transcript.try_borrow() {
             Ok(transcript) => transcript.is_full(),
             Err(_) => false,
+        }
+    }
+
+    /// How many bytes of memory its notes hold at most, whose client holds so many.
+    pub fn held(&self, client: usize) -> usize {
+        let Some(transcript) = &self.transcript else {
+            return 0;
+        };
+        match transcript.try_borrow() {
+            Ok(transcript) => transcript.held().saturating_add(client),
+            Err(_) => client,
         }
     }
 
@@ -99,12 +116,6 @@ impl SocketPort {
         self.stream.shut(Shutdown::Write);
     }
 
-    /// Reads what has come, once, and drops it.
-    pub fn drop_piece(&self) -> Came {
-        let mut piece = [0u8; DROPPED_PIECE];
-        read(&self.stream, &mut piece)
-    }
-
     /// Its stream.
     pub fn stream(&self) -> &Stream {
         &self.stream
@@ -112,13 +123,13 @@ impl SocketPort {
 }
 
 impl Port for SocketPort {
-    ghost use Rattle.std.specs.Prelude.{[], false};
+    ghost use Rattle.std.specs.Prelude.{true};
 
-    ghost tells = { false };
+    ghost tells = { true };
 
-    ghost taken = { λ _. [] };
+    ghost taken = { λ port. port.came };
 
-    ghost written = { λ _. [] };
+    ghost written = { λ port. port.went };
 
     fn read(&mut self, buf: &mut [u8]) -> Came {
         self.is_put_off = self.is_full();
@@ -131,6 +142,7 @@ impl Port for SocketPort {
         if let Came::Bytes(count) = came {
             self.traffic.came = self.traffic.came.saturating_add(count as u64);
             let bytes = &buf[..count];
+            add_all(&mut self.came, bytes);
             self.note(bytes, &[]);
         }
         came
@@ -141,9 +153,19 @@ impl Port for SocketPort {
         if let Went::Bytes(count) = went {
             self.traffic.went = self.traffic.went.saturating_add(count as u64);
             let bytes = &buf[..count];
+            add_all(&mut self.went, bytes);
             self.note(&[], bytes);
         }
         went
+    }
+}
+
+/// So many entries more, in their order.
+fn add_all(history: &mut History<u8>, bytes: &[u8])
+    ensures { history.new ≡ history.old ++ bytes.now }
+{
+    for byte in bytes {
+        history.add(byte);
     }
 }
 

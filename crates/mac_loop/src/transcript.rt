@@ -19,6 +19,9 @@ use std::mem;
 /// still read. What one read brings may pass it.
 pub const NOTES_MAX: usize = 4_096;
 
+/// How many bytes a note takes at most beside its texts.
+const ASKED_ROOM: usize = 160;
+
 /// A request that has come, and waits for its reply.
 #[derive(Drop)]
 struct Asked {
@@ -26,6 +29,15 @@ struct Asked {
     name: Vec<u8>,
     // Of the token that it is to mint.
     identifier: Option<Vec<u8>>,
+}
+
+impl Asked {
+    /// How many bytes its name and its identifier have.
+    fn texts(&self) -> usize {
+        let identifier = self.identifier.as_ref();
+        let length = identifier.map_or(0, |identifier| identifier.capacity());
+        self.name.capacity().saturating_add(length)
+    }
 }
 
 /// What comes and goes on a connection, in requests and their replies. Once memory is refused to
@@ -38,6 +50,8 @@ pub struct Transcript {
     // What has gone of a reply's frame that isn't whole.
     begun: Vec<u8>,
     exchanges: VecDeque<Exchange>,
+    // How many bytes the names and identifiers of those that were asked have.
+    texts: usize,
     is_broken: bool,
     // Whether that is told.
     is_told: bool,
@@ -52,6 +66,7 @@ impl Transcript {
             asked: VecDeque::new(alloc),
             begun: Vec::new(alloc),
             exchanges: VecDeque::new(alloc),
+            texts: 0,
             is_broken: false,
             is_told: false,
         }
@@ -66,6 +81,16 @@ impl Transcript {
     /// until some have gone out.
     pub fn is_full(&self) -> bool {
         !self.is_broken && self.asked.len() >= NOTES_MAX
+    }
+
+    /// How many bytes of memory its notes hold at most, but for a request that isn't whole.
+    pub fn held(&self) -> usize {
+        let asked = self.asked.capacity().saturating_mul(ASKED_ROOM);
+        let told = self.exchanges.capacity().saturating_mul(ASKED_ROOM);
+        asked
+            .saturating_add(told)
+            .saturating_add(self.texts)
+            .saturating_add(self.begun.capacity())
     }
 
     /// Takes note of bytes that came.
@@ -103,6 +128,7 @@ impl Transcript {
         };
         for arrival in arrivals {
             let asked = asked_by(self.alloc, &arrival)?;
+            self.texts = self.texts.saturating_add(asked.texts());
             self.asked.push_back(asked)?;
         }
         Ok(())
@@ -135,6 +161,9 @@ impl Transcript {
             };
             rest = behind;
             let (asked, told) = (self.asked.pop_front(), reply_kind(version, payload));
+            if let Some(asked) = &asked {
+                self.texts = self.texts.saturating_sub(asked.texts());
+            }
             if let (Some(asked), Some(told)) = (asked, told) {
                 self.exchanges.push_back(answered(asked, told))?;
             }

@@ -1,8 +1,12 @@
 //! What loops ask of the daemon around them.
 
+ghost use Rattle.std.specs.Prelude.{◌≡◌, None};
+ghost use Rattle.mac_loop.specs.Alive.{EndsWell};
+
+use crate::ended::EndedLife;
 use crate::port::SocketPort;
 use mac_count::REQUESTS;
-use mac_host::{Badge, Exchange, Life, Traffic};
+use mac_host::{Badge, Exchange, Life, Socket, Traffic};
 use mac_plain::{Client, Course, Ended, Fall};
 use std::alloc::AllocError;
 use std::sync::Wait;
@@ -30,11 +34,19 @@ pub enum PlainFault {
     /// It made no progress for as long as it may.
     #[error("it made no progress")]
     Idle,
+    /// There were as many as there may be, and a further one came.
+    #[error("another connection came in its place")]
+    GaveWay,
+    /// It held more than others of the memory that all have together, and there was no more.
+    #[error("it held most of the memory that connections have together, which is used up")]
+    Heavy,
 }
 
 impl PlainFault {
     /// The fault that a client ended in, on which nothing more is to be done.
-    pub fn of(client: &Client<SocketPort>) -> Option<PlainFault> {
+    pub fn of(client: &Client<SocketPort>) -> Option<PlainFault>
+        ensures { result ≡ None → EndsWell client.now }
+    {
         match client.course() {
             Course::Open | Course::Held | Course::Wide | Course::Awaiting(_) => {
                 Some(PlainFault::Write)
@@ -63,7 +75,7 @@ pub struct Turn {
 /// Who is told what becomes of the clients of loops.
 pub trait Watch: Send + Sync {
     /// A client has ended, well or in a fault.
-    fn end<R: Wait + Clock>(&self, rt: &R, life: Life, fault: Option<PlainFault>);
+    fn end<R: Wait + Clock>(&self, rt: &R, ended: EndedLife);
 
     /// A turn has ended.
     fn count(&self, turn: &Turn);
@@ -77,6 +89,19 @@ pub trait Watch: Send + Sync {
 
     /// A client asks for what a loop must not answer, and waits for a worker.
     fn widen(&self, life: Life);
+
+    /// The socket of which a client is to give way to one that comes in at this one, where there is
+    /// no room for that.
+    fn gives_way<R: Wait>(&self, rt: &R, comes: Socket) -> Option<Socket>;
+
+    /// A client comes in the place of one that has gone, or of nobody. What it is known by, where
+    /// there is room for it.
+    fn displace<R: Wait + Clock>(
+        &self,
+        rt: &R,
+        gone: Option<EndedLife>,
+        comes: Badge,
+    ) -> Option<Badge>;
 
     /// A client waits for a worker no more. Whether it has the answer.
     fn narrow(&self, life: Life, is_answered: bool);

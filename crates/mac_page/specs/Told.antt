@@ -37,12 +37,12 @@ abbrev pub told_names : Site → Told
 told_names site = if site.has_keys then Names (names_json site.keys) else Unknown
 
 -- what a path that names no file is told: what comes of a call with these random bytes, or there is
--- nothing
+-- nothing; which time limits have passed the page tells itself
 abbrev pub told_call : Site → List ℕ → Request (List ℕ) → Option (Call × List ℕ) → Told
 told_call site drawn request None = Unknown
 told_call site drawn request (Some asked) =
     where_taken (is_post request)
-    (Called (outcome_of site.keys asked.1 asked.0 drawn (body_of request))) NoPost
+    (Called (outcome_of site.keys 0 asked.1 asked.0 drawn (body_of request))) NoPost
 
 -- what a request is told that asks who answers
 abbrev pub told_here : Request (List ℕ) → Told

@@ -149,6 +149,8 @@ fn told_call(
             let brought = Brought {
                 body: request.body(),
                 drawn,
+                // Which time limits have passed the page tells itself.
+                moment: 0,
             };
             let outcome = answer(alloc, &site.keys, asked.name, asked.call, brought)?;
             Ok(Told::Called(outcome))

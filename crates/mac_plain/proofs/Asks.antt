@@ -1,5 +1,5 @@
 -- A request that a loop must not answer, and its answer.
-use Rattle.std.proofs.Common.{◌≡◌, ℕ, ◌+◌, ◌≤◌, ◌<◌, List, [], ◌∷◌, ◌++◌, length, take, drop, refl, sym, ap, subst, ◌∙◌, inl, inr, cond, lt-ltb, arith}
+use Rattle.std.proofs.Common.{◌≡◌, ℕ, ◌+◌, ◌<◌, List, [], ◌∷◌, ◌++◌, length, take, drop, refl, sym, ap, subst, ◌∙◌, inl, inr, cond, lt-ltb, arith}
 use Rattle.std.specs.Prelude.{Bool, true, false, Option, Some, None, nat_lt}
 use Rattle.std.proofs.lemmas.Bool.{false≢true}
 use Rattle.std.proofs.lemmas.List.{append-nil, length-drop, length-map, map-append}
@@ -11,11 +11,10 @@ use Rattle.mac_wire.specs.declared.reply.Reply.{Reply}
 use Rattle.mac_wire.specs.declared.session.Session.{Session}
 use Rattle.mac_wire.specs.declared.version.Version.{Version}
 use Rattle.mac_wire.specs.Cut.{IsFront}
-use Rattle.mac_wire.specs.Frame.{Frames, frames_of, told_length}
+use Rattle.mac_wire.specs.Frame.{Frames, told_length}
 use Rattle.mac_wire.specs.Partial.{IsTooLong}
-use Rattle.mac_wire.specs.Reply.{reply_text}
 use Rattle.mac_wire.specs.Session.{HasCome, Stands}
-use Rattle.mac_wire.specs.Stream.{Arrivals, arrivals_of, version_or_one}
+use Rattle.mac_wire.specs.Stream.{Arrivals, arrivals_of}
 use Rattle.mac_wire.proofs.Frames.{frames_of-too_long}
 use Rattle.mac_wire.proofs.Sessions.{come_cut, come_fronts, front_arrives}
 use Rattle.mac_decide.specs.Prepared.{reply_to_job}

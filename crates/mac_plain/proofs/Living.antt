@@ -20,9 +20,11 @@ use Rattle.mac_decide.specs.declared.job.Job.{Job}
 use Rattle.mac_decide.specs.declared.rights.Rights.{Rights}
 use Rattle.mac_decide.specs.Terms.{Terms}
 use Rattle.mac_decide.specs.World.{job_under}
-use Rattle.mac_plain.specs.Client.{Serves, StandsSo, arrivals, jobs_of, may_move, replies, terms_for}
+use Rattle.mac_plain.specs.Asking.{IsAsked}
+use Rattle.mac_plain.specs.Client.{Answers, Serves, StandsSo, arrivals, asked_job, jobs_of, may_move, replies, terms_for}
+use Rattle.mac_plain.specs.Dear.{front_of}
 use Rattle.mac_plain.specs.Lives.{IsUnder, Lives, Rests, Said, SaidAll}
-use Rattle.mac_plain.proofs.Promises.{promised}
+use Rattle.mac_plain.proofs.Promises.{promised, standing, told_version}
 use Rattle.mac_plain.specs.declared.client.Client.{Client}
 use Rattle.mac_plain.specs.declared.course.Course.{Course}
 use Rattle.mac_plain.specs.declared.course.Ended.{Ended}
@@ -36,21 +38,40 @@ asked_under rights current (p ∷ ps) =
     let terms : Terms = record { table = current.table; rights = rights; moment = current.moment } in
     All-cons (IsUnder rights) (job_under terms (arrival.Payload p)) (jobs_of terms ps) (current, refl) (asked_under rights current ps)
 
+-- a step that leaves the rights, and answers only what was asked under them, keeps a life
+pub keeps-step : {P : Type 0} (tells : Bool) (taken written : P → List ℕ) (before after : Client P) (jobs : List Job) → IsTrue tells
+    → after.rights ≡ before.rights → All (IsUnder before.rights.value) jobs → Answers tells taken written before after jobs
+    → Lives before.rights.value (taken before.port) (written before.port) before.course before.session
+    → Lives after.rights.value (taken after.port) (written after.port) after.course after.session
+keeps-step {P} tells taken written before after jobs told same under a l =
+    let kept : after.rights.value ≡ before.rights.value = ap (λ rights. arc_value rights) same in
+    let goes = a.goes_on (taken before.port) (written before.port) l.done l.stands in
+    record {
+      done = l.done ++ jobs;
+      under = subst (λ (r : Rights). All (IsUnder r) (l.done ++ jobs)) (sym kept) (All-append (IsUnder before.rights.value) l.done jobs l.under under);
+      stands = subst (λ (c : List ℕ). StandsSo after.course after.session c (written after.port) (l.done ++ jobs)) (sym (a.took told))
+          (subst (λ (w : List ℕ). StandsSo after.course after.session (taken before.port ++ a.came) w (l.done ++ jobs)) (sym (a.wrote told)) goes);
+    }
+
 pub keeps-lives : {P : Type 0} (tells : Bool) (taken written : P → List ℕ) (current : Current) (before after : Client P) → IsTrue tells
     → Serves tells taken written current before after
     → Lives before.rights.value (taken before.port) (written before.port) before.course before.session
     → Lives after.rights.value (taken after.port) (written after.port) after.course after.session
 keeps-lives {P} tells taken written current before after told s l =
-    let more : List Job = jobs_of (terms_for current before) s.payloads in
-    let kept : after.rights.value ≡ before.rights.value = ap (λ rights. arc_value rights) s.rights_kept in
-    let goes = s.answers.goes_on (taken before.port) (written before.port) l.done l.stands in
-    record {
-      done = l.done ++ more;
-      under = subst (λ (r : Rights). All (IsUnder r) (l.done ++ more)) (sym kept)
-          (All-append (IsUnder before.rights.value) l.done more l.under (asked_under before.rights.value current s.payloads));
-      stands = subst (λ (c : List ℕ). StandsSo after.course after.session c (written after.port) (l.done ++ more)) (sym (s.answers.took told))
-          (subst (λ (w : List ℕ). StandsSo after.course after.session (taken before.port ++ s.answers.came) w (l.done ++ more)) (sym (s.answers.wrote told)) goes);
-    }
+    keeps-step tells taken written before after (jobs_of (terms_for current before) s.payloads) told s.rights_kept (asked_under before.rights.value current s.payloads) s.answers l
+
+-- what a worker is asked is asked under the client's rights
+pub asked-under : {P : Type 0} (current : Current) (before after : Client P) (job : Job) (came went : List ℕ) → IsAsked current before after job
+    → Lives before.rights.value came went before.course before.session → IsUnder before.rights.value job
+asked-under {P} current before after job came went a l =
+    let wide = subst (λ (k : Course). StandsSo k before.session came went l.done) a.was_wide l.stands in
+    let terms : Terms = terms_for current before in
+    let is : job ≡ job_under terms (front_of before.session.carried.items) = a.job_is wide.1 in
+    (current, is ∙ ap (λ (x : Arrival). job_under terms x) (sym (ap (λ (j : Job). j.arrival) is)))
+
+-- so is what the memory of tokens tells the reply to
+pub recalled-under : {P : Type 0} (current : Current) (client : Client P) → IsUnder client.rights.value (asked_job current client)
+recalled-under current client = (current, refl)
 
 pub moves-resting : (rights : Rights) (came went : List ℕ) (goes : Course) (session : Session) → IsTrue (may_move goes) → Lives rights came went goes session → Rests rights came went session
 moves-resting rights came went course.Open session may l = record { done = l.done; under = l.under; stands = l.stands.0 }
@@ -63,6 +84,9 @@ moves-resting rights came went (course.Fallen why) session may l = absurd (false
 
 pub says : (rights : Rights) (came went : List ℕ) (goes : Course) (session : Session) → Lives rights came went goes session → Said rights came went
 says rights came went goes session l = record { done = l.done; under = l.under; promised = promised goes session came went l.done l.stands }
+
+pub rests-said : (rights : Rights) (came went : List ℕ) (session : Session) → Rests rights came went session → Said rights came went
+rests-said rights came went session r = record { done = r.done; under = r.under; promised = standing session came went r.done r.stands }
 
 -- Where nothing is left of what came, these are its arrivals.
 come_all : (v : Option Version) (read rest : List ℕ) (arrived : List Arrival) → HasCome v read arrived rest → rest ≡ []
@@ -80,7 +104,7 @@ no_frames = refl
 
 -- Who was sent all that was unsent, and of whom nothing is carried, has all.
 pub says-all : (rights : Rights) (came went : List ℕ) (why : Ended) (session : Session) → session.unsent ≡ [] → session.carried.items ≡ []
-    → Lives rights came went (course.Ended why) session → SaidAll rights came went
+    → Lives rights came went (course.Ended why) session → SaidAll rights came went ending.Clean
 says-all rights came went why session sent used l =
     let stands = l.stands.0 in
     let v : Version = version_or_one session.version in
@@ -92,4 +116,16 @@ says-all rights came went why session sent used l =
       arrived = ap (λ (a : Arrivals). a.arrived) all ∙ append-nil (arrivals l.done);
       ended = ap (λ (a : Arrivals). a.ending) all;
       all = sym (append-nil went) ∙ ap (λ (l : List ℕ). went ++ l) (sym sent) ∙ stands.went ∙ ap (λ (w : Version). reply_text w (replies l.done)) (sym (ap (λ (a : Arrivals). a.version) all));
+    }
+
+-- Who was sent all that was unsent, and ends in a frame that is too long, has all.
+pub says-too-long : (rights : Rights) (came went : List ℕ) (session : Session) → session.unsent ≡ [] → Lives rights came went course.TooLong session → SaidAll rights came went ending.Oversize
+says-too-long rights came went session sent l =
+    record {
+      done = l.done;
+      under = l.under;
+      arrived = l.stands.came;
+      ended = l.stands.ends;
+      all = sym (append-nil went) ∙ ap (λ (l : List ℕ). went ++ l) (sym sent) ∙ l.stands.went
+          ∙ ap (λ (w : Version). reply_text w (replies l.done)) (told_version session.version came l.stands.told);
     }

@@ -53,10 +53,10 @@ keeps-tables {P} tells taken written (t ∷ tables) a b (now, served, rest) =
           (subst (λ (rights : Rights). Answers tells taken written now b (jobs_under rights h.rounds)) (ap (λ rights. arc_value rights) served.rights_kept) h.answers);
     }
 
-told_version : (v : Option Version) (read : List ℕ) → v ≡ version_told read → version_or_one v ≡ (arrivals_of read).version
+pub told_version : (v : Option Version) (read : List ℕ) → v ≡ version_told read → version_or_one v ≡ (arrivals_of read).version
 told_version v read told = ap version_or_one told ∙ told_is read
 
-standing : (session : Session) (read written : List ℕ) (jobs : List Job) → Stands session read written (arrivals jobs) (replies jobs) → IsPromised read written jobs
+pub standing : (session : Session) (read written : List ℕ) (jobs : List Job) → Stands session read written (arrivals jobs) (replies jobs) → IsPromised read written jobs
 standing session read written jobs s =
     let f = come_fronts session.version read session.carried.items (arrivals jobs) []
     (subst (λ (l : List Arrival). HasCome session.version read l session.carried.items) (sym (append-nil (arrivals jobs))) s.came) in

@@ -3,6 +3,7 @@ use Rattle.std.specs.Prelude.{◌≡◌, ◌⊎◌, ◌+◌, ℕ, Bool, true, fa
 use Rattle.mac_board.specs.Noticed.{Current}
 use Rattle.mac_wire.specs.Frame.{told_length}
 use Rattle.mac_wire.specs.declared.arrival.TheConstants.{FRAME_MAX}
+use Rattle.mac_wire.specs.declared.reply.Reply.{Reply}
 use Rattle.mac_decide.specs.Prepared.{reply_to_job}
 use Rattle.mac_decide.specs.declared.job.Job.{Job}
 use Rattle.mac_plain.specs.Client.{asked_job}
@@ -36,6 +37,22 @@ IsPassedSo false before after goes =
 abbrev pub IsPassed : List ℕ → List ℕ → Course → Type 0
 IsPassed before after goes =
     IsPassedSo (nat_lt FRAME_MAX (told_length before)) before after goes
+
+-- A reply was put behind what is unsent of a client, and what stood in front of what it carries was
+-- let go. Nothing else of the client changes.
+pub record IsLetGo {P : Type 0} (reply : Reply) (before after : Client P) : Type 0 where
+  pub after_is : after ≡ record before {
+    session = record (after_reply before.session reply) { carried = after.session.carried };
+    course = after.course;
+  }
+  pub passed : GoesWide before.session.carried.items
+      → IsPassed before.session.carried.items after.session.carried.items after.course
+
+-- the same, or the client fell
+abbrev pub PassesWith : {P : Type 0} → Reply → Client P → Client P → Type 0
+PassesWith reply before after =
+    IsLetGo reply before after
+    ⊎ ((why : Fall) × (after ≡ record before { course = course.Fallen why }))
 
 -- The reply to a job was put behind what is unsent of a client, and what it carries was passed; or
 -- the client fell.

@@ -1,20 +1,23 @@
 //! What a loop must not answer: a worker is asked for the answer, and the client waits for that.
 
-ghost use Rattle.std.specs.Prelude.{◌≡◌, ◌≢◌, ◌≤◌, [], None, IfOk, IfSome, IfNone, IsTrue, IsFalse, option_to_list};
+ghost use Rattle.std.specs.Prelude.{◌≡◌, ◌≢◌, ◌≤◌, [], ◌∷◌, None, IfOk, IfSome, IfNone, IsTrue, IsFalse, option_to_list};
 ghost use Rattle.mac_board.specs.Noticed.{lent_current};
 ghost use Rattle.mac_decide.specs.Prepared.{reply_to_job};
 ghost use Rattle.mac_decide.specs.declared.job.Basis.{Basis as Seen};
-ghost use Rattle.mac_plain.specs.Asking.{IsAsked, IsGivenUp, IsPassed, Takes};
-ghost use Rattle.mac_plain.specs.Client.{Answers, IsAwaited};
+ghost use Rattle.mac_wire.specs.Reply.{IsReply};
+ghost use Rattle.mac_wire.specs.declared.arrival.Arrival.TheVariants as arrival;
+ghost use Rattle.mac_plain.specs.Asking.{IsAsked, IsGivenUp, IsPassed, PassesWith, Takes};
+ghost use Rattle.mac_plain.specs.Client.{Answers, IsAwaited, asked_job};
 ghost use Rattle.mac_plain.specs.Dear.{GoesWide, front_of};
 ghost use Rattle.mac_plain.specs.declared.course.Course.TheVariants as course;
 
 use crate::NoMemory;
+use crate::answering::Bench;
 use crate::client::Client;
 use crate::course::{Course, Fall};
 use crate::port::Port;
 use mac_board::Current;
-use mac_decide::{Basis, Job, Terms, job_of};
+use mac_decide::{Basis, Job, Terms, job_of, job_view_of, recall};
 use mac_wire::{Arrival, Bytes, Cut, FRAME_MAX, Reply, next_frame};
 use std::alloc::Global;
 
@@ -26,6 +29,7 @@ impl<P: Port> Client<P> {
         ensures idle { self.old.course ≢ course.Wide → (result ≡ None) × (self.new ≡ self.old) }
         ensures asked { IfSome result (IsAsked (lent_current current.entry) self.old self.new) }
         ensures fallen { self.old.course ≡ course.Wide → IfNone result (IsGivenUp self.old self.new) }
+        ensures rights { self.new.rights ≡ self.old.rights }
         ensures answers { Answers P.tells P.taken P.written self.old self.new
             (option_to_list result) }
     {
@@ -58,6 +62,7 @@ impl<P: Port> Client<P> {
             × (GoesWide self.old.session.carried.items → IsAwaited job.now self.old) }
         ensures another { IsFalse result → (self.new ≡ self.old)
             × (GoesWide self.old.session.carried.items → ¬ IsAwaited job.now self.old) }
+        ensures rights { self.new.rights ≡ self.old.rights }
         ensures answers { Answers P.tells P.taken P.written self.old self.new [] }
     {
         let Course::Awaiting(basis) = self.course else {
@@ -74,12 +79,70 @@ impl<P: Port> Client<P> {
         true
     }
 
+    /// Answers at once what the client goes on wide for, where the reply is known with nothing hashed
+    /// or read as a token: under this table, at this moment and under the client's rights. From then
+    /// on it waits for no worker. Whether it was known.
+    pub(crate) fn recall(&mut self, bench: &mut Bench, alloc: Global, current: Current<'_>) -> bool
+        ensures takes { IsTrue result
+            → Takes (asked_job (lent_current current.entry) self.old) self.old self.new }
+        ensures answers { IsTrue result → Answers P.tells P.taken P.written self.old self.new
+            (asked_job (lent_current current.entry) self.old ∷ []) }
+        ensures unknown { IsFalse result → self.new ≡ self.old }
+        ensures rights { self.new.rights ≡ self.old.rights }
+    {
+        match self.known_reply(bench, alloc, current) {
+            Some(reply) => {
+                self.pass_with(&reply);
+                true
+            }
+            None => false,
+        }
+    }
+
+    /// The reply to what the client goes on wide for, which is counted where it is known.
+    fn known_reply(&self, bench: &mut Bench, alloc: Global, current: Current<'_>) -> Option<Reply>
+        ensures wide { IfSome result (λ _. self.now.course ≡ course.Wide) }
+        ensures reply { IfSome result (λ reply.
+            reply ≡ reply_to_job (asked_job (lent_current current.entry) self.now)) }
+    {
+        if !matches!(self.course, Course::Wide) {
+            return None;
+        }
+        let Some(payload) = front_payload(self.session.carried.as_slice()) else {
+            return None;
+        };
+        let terms = Terms {
+            table: current.table,
+            rights: &self.rights,
+            moment: current.moment,
+        };
+        let job = job_view_of(terms, payload);
+        let Ok(Some(reply)) = recall(&bench.seen, alloc, &job) else {
+            return None;
+        };
+        bench.tally.count(&job, &reply);
+        Some(reply)
+    }
+
+    /// Puts the reply to what stands in front of what is carried behind what is unsent, and lets go
+    /// of that. Where there is no memory for the reply it has fallen.
+    fn pass_with(&mut self, reply: &Reply)
+        requires { IsReply reply.now }
+        ensures { PassesWith reply.now self.old self.new }
+    {
+        match self.put(reply) {
+            Ok(()) => self.course = pass_front(&mut self.session.carried),
+            Err(fall) => self.course = Course::Fallen(fall),
+        }
+    }
+
     /// Where it waits for an answer, there is none for want of memory, and it has fallen.
     pub fn lose_answer(&mut self)
         ensures lost { (basis : Seen) → self.old.course ≡ course.Awaiting basis
             → IsGivenUp self.old self.new }
         ensures idle { ((basis : Seen) → self.old.course ≢ course.Awaiting basis)
             → self.new ≡ self.old }
+        ensures rights { self.new.rights ≡ self.old.rights }
         ensures answers { Answers P.tells P.taken P.written self.old self.new [] }
     {
         if let Course::Awaiting(_) = self.course {
@@ -97,6 +160,16 @@ fn front_arrival(alloc: Global, bytes: &[u8]) -> Result<Arrival, NoMemory>
             alloc, payload,
         )?))),
         Cut::TooLong(_) | Cut::Unfinished => Ok(Arrival::Oversize),
+    }
+}
+
+/// The payload of the whole frame in front of these bytes, where it lies.
+fn front_payload(bytes: &[u8]) -> Option<&[u8]>
+    ensures { IfSome result (λ payload. arrival.Payload payload.now ≡ front_of bytes.now) }
+{
+    match next_frame(bytes, FRAME_MAX) {
+        Cut::Whole(payload, _) => Some(payload),
+        Cut::TooLong(_) | Cut::Unfinished => None,
     }
 }
 

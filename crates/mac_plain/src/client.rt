@@ -1,17 +1,18 @@
 //! A plain connection.
 
-ghost use Rattle.std.specs.Prelude.{◌≡◌, ◌⊎◌, ◌↔◌, ℕ, List, [], ◌∷◌, ◌<◌, length, IsTrue, IfSome, OnOk, OnErr};
+ghost use Rattle.std.specs.Prelude.{◌≡◌, ◌⊎◌, ◌↔◌, true, ℕ, List, [], ◌∷◌, ◌<◌, ◌==◌, length, not, IsTrue, IfSome, OnOk, OnErr};
 ghost use Rattle.mac_board.specs.Noticed.{Current};
 ghost use Rattle.mac_wire.specs.declared.arrival.Arrival.TheVariants as arrival;
 ghost use Rattle.mac_wire.specs.Reply.{IsReply};
 ghost use Rattle.mac_wire.specs.Session.{Stands};
 ghost use Rattle.mac_decide.specs.declared.job.Job.{Job};
-ghost use Rattle.mac_plain.specs.Client.{HasAnswered, answer_under, arrivals, may_move, replies, terms_for};
+ghost use Rattle.mac_plain.specs.Client.{Answers, HasAnswered, answer_under, arrivals, may_move, replies, terms_for};
 ghost use Rattle.mac_plain.specs.Goes.{Goes, after_reply};
+ghost use Rattle.mac_plain.specs.declared.course.Course.TheVariants as course;
 ghost use Rattle.mac_wire.specs.Stream.{version_or_one as version_so_far};
 
 use crate::course::{Course, Fall};
-use crate::port::{Port, Went};
+use crate::port::{Came, Port, Went};
 use mac_decide::Rights;
 use mac_wire::{Cut, FRAME_MAX, Reply, Session, Version, next_frame};
 use std::alloc::Global;
@@ -42,6 +43,7 @@ impl<P: Port> Client<P> {
     /// of a request is carried, that is answered first.
     pub fn new(port: P, session: Session, rights: Arc<Rights, Global>) -> Client<P>
         ensures rights { result.rights ≡ rights }
+        ensures port { result.port ≡ port }
         ensures stands { (read written : List ℕ) (done : List Job)
             → Stands session read written (arrivals done) (replies done)
             → HasAnswered result read written done }
@@ -88,6 +90,22 @@ impl<P: Port> Client<P> {
         (port, session, rights)
     }
 
+    /// The device and the rights of a connection that is served no more.
+    pub fn end(self) -> (P, Arc<Rights, Global>)
+        ensures { result ≡ (self.port, self.rights) }
+    {
+        let Client {
+            port,
+            session: _,
+            course: _,
+            is_readable: _,
+            is_writable: _,
+            is_mute: _,
+            rights,
+        } = self;
+        (port, rights)
+    }
+
     /// The device.
     pub fn port(&self) -> &P {
         &self.port
@@ -101,12 +119,25 @@ impl<P: Port> Client<P> {
     }
 
     /// How many bytes of replies are unsent.
-    pub fn unsent(&self) -> usize {
+    pub fn unsent(&self) -> usize
+        ensures { result ≡ length self.now.session.unsent }
+    {
         self.session.unsent.len()
     }
 
+    /// How many bytes of memory it has for what came and for what goes out; what a worker answers
+    /// was copied.
+    pub fn held(&self) -> usize {
+        let came = self.session.carried.capacity();
+        let copied = if self.is_waiting() { came } else { 0 };
+        let gone = self.session.unsent.capacity();
+        came.saturating_add(copied).saturating_add(gone)
+    }
+
     /// Whether a request has begun to come, and isn't whole.
-    pub fn has_begun(&self) -> bool {
+    pub fn has_begun(&self) -> bool
+        ensures { result ≡ not (length self.now.session.carried.items == 0) }
+    {
         !self.session.carried.is_empty()
     }
 
@@ -116,13 +147,27 @@ impl<P: Port> Client<P> {
     }
 
     /// The device says that something may be read.
-    pub fn wake_reading(&mut self) {
+    pub fn wake_reading(&mut self)
+        ensures { self.new ≡ record self.old { is_readable = true } }
+    {
         self.is_readable = true;
     }
 
     /// The device says that something may be written.
-    pub fn wake_writing(&mut self) {
+    pub fn wake_writing(&mut self)
+        ensures { self.new ≡ record self.old { is_writable = true } }
+    {
         self.is_writable = true;
+    }
+
+    /// Reads what has come behind a frame that is too long, once, and drops it: nothing there is a
+    /// request.
+    pub fn drop_piece(&mut self, piece: &mut [u8]) -> Came
+        requires { self.old.course ≡ course.TooLong }
+        ensures same { self.new ≡ record self.old { port = self.new.port } }
+        ensures answers { Answers P.tells P.taken P.written self.old self.new [] }
+    {
+        self.port.read(piece)
     }
 
     /// Whether a next round does something on it, though the device says nothing new.

@@ -1,9 +1,11 @@
 //! A round of a loop: what has come on many connections is answered together.
 
-ghost use Rattle.std.specs.Prelude.{◌≡◌, ◌≢◌, ◌≤◌, [], length, vec_len};
-ghost use Rattle.mac_board.specs.Noticed.{Current, Notices};
+ghost use Rattle.std.specs.Prelude.{◌≡◌, ◌≢◌, ◌≤◌, [], ◌∷◌, length, vec_len, IsFalse, IsTrue};
+ghost use Rattle.mac_board.specs.Noticed.{Current as PlainCurrent, Notices, lent_current};
+ghost use Rattle.mac_decide.specs.Prepared.{reply_to_job};
+ghost use Rattle.mac_decide.specs.Viewed.{viewed};
 ghost use Rattle.mac_plain.specs.Asking.{Takes};
-ghost use Rattle.mac_plain.specs.Client.{Answers, IsAwaited};
+ghost use Rattle.mac_plain.specs.Client.{Answers, IsAwaited, asked_job};
 ghost use Rattle.mac_plain.specs.Dear.{GoesWide};
 ghost use Rattle.mac_plain.specs.Rounds.{ServesEach};
 ghost use Rattle.mac_plain.specs.Goes.{AreAnswered, AreRead};
@@ -17,10 +19,11 @@ use crate::port::Port;
 use crate::receiving::receive;
 use crate::request::Request;
 use crate::tally::Tally;
-use mac_board::Outlook;
+use mac_board::{Current, Outlook};
 use mac_count::REQUESTS;
-use mac_decide::{JobView, Macaroons, Rooms, SeenTokens};
+use mac_decide::{ArrivalView, JobView, Macaroons, Rooms, SEEN_MAX, SeenTokens, remember_answer};
 use mac_order::Answer;
+use mac_wire::Reply;
 use std::alloc::Global;
 use std::thread::Threads;
 
@@ -30,6 +33,10 @@ pub const PIECE: usize = 16_384;
 /// How many bytes a round reads from all clients together: past them the others wait for the next.
 pub const ROUND_MAX: usize = 131_072;
 
+/// From how many bytes on nothing more is remembered of what workers answered until the next round:
+/// a token is read once more for that, which in JSON may take a millisecond.
+const LEARNED_MAX: usize = 16_384;
+
 /// What a loop keeps from round to round: room for what it reads, and for what answering asks for.
 #[derive(Drop)]
 pub struct Round {
@@ -38,6 +45,8 @@ pub struct Round {
     arena: Vec<u8>,
     requests: Vec<Request>,
     bench: Bench,
+    // How many bytes tokens that workers verified have been remembered from since the last round.
+    learned: usize,
 }
 
 impl Round {
@@ -55,6 +64,7 @@ impl Round {
                 seen,
                 tally: Tally::new(),
             },
+            learned: 0,
         })
     }
 
@@ -76,6 +86,7 @@ impl Round {
     {
         self.arena.clear();
         self.requests.clear();
+        self.learned = 0;
         let size = piece_size(threads, clients.len()).min(self.piece.len());
         receive_all(
             &mut self.piece[..size],
@@ -98,19 +109,53 @@ impl Round {
         flush_all(clients);
     }
 
+    /// Answers what a client goes on wide for without a worker, where a memory of tokens tells the
+    /// reply, under this table and at this moment. It is counted, and written as far as that goes
+    /// now. Whether it was told.
+    pub fn recall<P: Port>(&mut self, client: &mut Client<P>, current: Current<'_>) -> bool
+        ensures answers { IsTrue result → Answers P.tells P.taken P.written client.old client.new
+            (asked_job (lent_current current.entry) client.old ∷ []) }
+        ensures untold { IsFalse result → client.new ≡ client.old }
+        ensures rights { client.new.rights ≡ client.old.rights }
+    {
+        if !client.recall(&mut self.bench, self.alloc, current) {
+            return false;
+        }
+        client.flush();
+        true
+    }
+
     /// Has a client take a worker's answer, and counts it where it is the one that the client waits
-    /// for.
+    /// for. The token of a verify that it grants is remembered.
     pub fn deliver<P: Port>(&mut self, client: &mut Client<P>, answer: Answer<Macaroons>)
         ensures takes { client.new ≢ client.old → Takes answer client.old client.new }
         ensures own { GoesWide client.old.session.carried.items → IsAwaited answer client.old
             → Takes answer client.old client.new }
         ensures another { GoesWide client.old.session.carried.items → ¬ IsAwaited answer client.old
             → client.new ≡ client.old }
+        ensures rights { client.new.rights ≡ client.old.rights }
         ensures answers { Answers P.tells P.taken P.written client.old client.new [] }
     {
         let (job, reply) = answer.into_parts();
+        let view = JobView::of(&job);
         if client.take_answer(&job, &reply) {
-            self.bench.tally.count(&JobView::of(&job), &reply);
+            self.bench.tally.count(&view, &reply);
+        }
+        self.remember(&view, &reply);
+    }
+
+    /// Remembers the token of a verify that a worker has granted, unless much was remembered so since
+    /// the last round.
+    fn remember(&mut self, job: &JobView<'_>, reply: &Reply)
+        requires { reply.now ≡ reply_to_job (viewed job.now) }
+    {
+        let ArrivalView::Payload(payload) = job.arrival else {
+            return;
+        };
+        if self.learned < LEARNED_MAX {
+            let bytes = payload.len().min(SEEN_MAX);
+            self.learned = self.learned.saturating_add(bytes);
+            remember_answer(&self.bench.seen, self.alloc, job, reply);
         }
     }
 
@@ -140,7 +185,7 @@ fn receive_all<P: Port>(
 )
     requires { requests.old.items ≡ [] }
     ensures within { AreWithin (length arena.new.items) requests.new.items }
-    ensures read { (current : Current) → AreRead P.tells P.taken P.written current
+    ensures read { (current : PlainCurrent) → AreRead P.tells P.taken P.written current
         (λ k. asked_of k arena.new.items requests.new.items) clients.old clients.new }
 {
     for index in 0..clients.len() {
@@ -165,7 +210,7 @@ fn visit<P: Port>(
     unsent_max: usize,
 )
     requires { AreWithin (length arena.old.items) requests.old.items }
-    ensures receives { (current : Current) → Receives P.tells P.taken P.written current
+    ensures receives { (current : PlainCurrent) → Receives P.tells P.taken P.written current
         owner client.old client.new arena.old.items arena.new.items
         requests.old.items requests.new.items }
     ensures within { AreWithin (length arena.new.items) requests.new.items }
@@ -182,7 +227,7 @@ fn visit<P: Port>(
 
 /// Writes to each client that has something unsent.
 fn flush_all<P: Port>(clients: &mut [Client<P>])
-    ensures { (current : Current) → AreRead P.tells P.taken P.written current
+    ensures { (current : PlainCurrent) → AreRead P.tells P.taken P.written current
         (λ _. []) clients.old clients.new }
 {
     for index in 0..clients.len() {

@@ -1,5 +1,5 @@
 -- The doors of an entrance, and which of them a connection came in through.
-use Rattle.std.specs.Prelude.{◌≡◌, ◌+◌, ◌-◌, ◌^◌, ◌<◌, ◌≤◌, ℕ, Bool, false, List, Option, Some, None, Result, Ok, Err, MatchOption, length, min, slice_get}
+use Rattle.std.specs.Prelude.{◌≡◌, ◌+◌, ◌-◌, ◌^◌, ◌<◌, ◌≤◌, ℕ, Bool, false, List, Option, Some, None, Result, Ok, Err, MatchOption, length, map, min, slice_get}
 use Rattle.mac_sockets.specs.declared.door.Door.{Door}
 use Rattle.mac_sockets.specs.declared.doors.Doors.{Doors}
 use Rattle.mac_sockets.specs.declared.entrance.Arrived.{Arrived}
@@ -17,6 +17,10 @@ module _ {G : Type 0} where
   -- the doors that were opened, in order
   abbrev pub opened : Doors G → List (Door G)
   opened doors = doors.doors.items
+
+  -- what the connections of each of them are given
+  abbrev pub gifts_of : Doors G → List G
+  gifts_of doors = map gift_of (opened doors)
 
   -- the doors of an entrance, in the order of their numbers
   abbrev pub doors_of : Entrance G → List (Door G)

@@ -3,7 +3,7 @@
 ghost use Rattle.std.specs.Prelude.{◌≡◌, false, IfOk};
 ghost use Rattle.mac_sockets.specs.Entrance.{gift_of, shared_of};
 
-use crate::stream::Stream;
+use crate::stream::{Fresh, Stream};
 use std::io;
 use std::io::ErrorKind;
 use std::net::TcpListener;
@@ -77,7 +77,7 @@ impl<G: Drop> Door<G> {
     }
 
     /// The next connection that waits here, or why the system gives none.
-    pub fn accept<R: Wait>(&self, rt: &R) -> Option<io::Result<Stream>> {
+    pub fn accept<R: Wait>(&self, rt: &R) -> Option<io::Result<Fresh>> {
         for _ in rt.forever() {
             match self.listener.accept() {
                 Ok(stream) => return Some(Ok(stream)),
@@ -91,15 +91,15 @@ impl<G: Drop> Door<G> {
 }
 
 impl Listener {
-    fn accept(&self) -> io::Result<Stream> {
+    fn accept(&self) -> io::Result<Fresh> {
         match self {
             Listener::Unix(listener) => {
                 let (stream, _) = listener.accept()?;
-                Ok(Stream::Unix(stream))
+                Ok(Fresh::new(Stream::Unix(stream)))
             }
             Listener::Tcp(listener) => {
                 let (stream, _) = listener.accept()?;
-                Ok(Stream::Tcp(stream))
+                Ok(Fresh::new(Stream::Tcp(stream)))
             }
         }
     }

@@ -17,7 +17,7 @@ pub struct Doors<G> {
 
 impl<G: Drop> Doors<G> {
     ghost use Rattle.std.specs.Prelude.{◌≡◌, ◌++◌, ◌∷◌, [], OnOk};
-    ghost use Rattle.mac_sockets.specs.Entrance.{opened};
+    ghost use Rattle.mac_sockets.specs.Entrance.{gift_of, gifts_of, opened};
 
     /// No door yet.
     pub fn new(alloc: Global) -> Doors<G>
@@ -45,6 +45,7 @@ impl<G: Drop> Doors<G> {
     ) -> Result<(), PlaceFault>
     where
         R: Files<File = File> + Net + Clock + Wait,
+        ensures { OnOk result (gifts_of self.new ≡ gifts_of self.old ++ gift ∷ []) }
     {
         let listener = holdings.bind(rt, path, permissions)?;
         self.add(Door::unix(listener, gift, false)?)
@@ -52,7 +53,8 @@ impl<G: Drop> Doors<G> {
 
     /// Adds a door.
     pub fn add(&mut self, door: Door<G>) -> Result<(), PlaceFault>
-        ensures { OnOk result (opened self.new ≡ opened self.old ++ door ∷ []) }
+        ensures opened { OnOk result (opened self.new ≡ opened self.old ++ door ∷ []) }
+        ensures gifts { OnOk result (gifts_of self.new ≡ gifts_of self.old ++ gift_of door ∷ []) }
     {
         match self.doors.push(door) {
             Ok(()) => Ok(()),

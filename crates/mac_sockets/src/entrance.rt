@@ -7,7 +7,7 @@ ghost use Rattle.mac_sockets.specs.Entrance.{IsThroughOwn, opened, taken_of};
 use crate::door::Door;
 use crate::doors::Doors;
 use crate::fault::WaitFault;
-use crate::stream::Stream;
+use crate::stream::Fresh;
 use mio::unix::SourceFd;
 use mio::{Events, Interest, Poll, Token, Waker};
 use std::alloc::Global;
@@ -53,7 +53,7 @@ pub struct Shutter {
 /// A connection that has come in. It can't be dropped, only taken apart.
 pub struct Arrived {
     /// Its stream.
-    pub stream: Stream,
+    pub stream: Fresh,
     /// The number of its door.
     pub door: usize,
 }

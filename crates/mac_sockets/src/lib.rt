@@ -8,6 +8,7 @@
 //! ready. Nothing here knows what is said on a stream.
 #![tactic(auto)]
 
+mod budget;
 mod connections;
 mod door;
 mod doors;
@@ -20,7 +21,8 @@ mod place;
 mod stacks;
 mod stream;
 
-pub use connections::{Connections, Readiness, Wakes};
+pub use budget::{Account, Budget};
+pub use connections::{Connections, REST_MIN, Readiness, Wakes};
 pub use door::Door;
 pub use doors::Doors;
 pub use entrance::{Accepted, Arrived, Entrance, Shutter};
@@ -30,4 +32,4 @@ pub use inbox::Inbox;
 pub use lock::PathClaim;
 pub use place::{PlaceFault, bind_new};
 pub use stacks::{STACK, has_roomy_stacks};
-pub use stream::Stream;
+pub use stream::{Fresh, Stream};

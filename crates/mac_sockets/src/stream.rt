@@ -19,6 +19,25 @@ pub enum Stream {
     Tcp(TcpStream),
 }
 
+/// A stream that was accepted just now: nothing was read of it, and nothing written to it. Only
+/// a door makes one.
+#[derive(Drop)]
+pub struct Fresh {
+    stream: Stream,
+}
+
+impl Fresh {
+    pub(crate) fn new(stream: Stream) -> Fresh {
+        Fresh { stream }
+    }
+
+    /// The stream, which is read and written from now on.
+    pub fn into_stream(self) -> Stream {
+        let Fresh { stream } = self;
+        stream
+    }
+}
+
 impl Stream {
     /// Has reads and writes wait for nothing, and each write go out at once, whatever it holds.
     pub fn hurry(&self) -> io::Result<()> {

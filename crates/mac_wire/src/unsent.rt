@@ -54,6 +54,13 @@ impl Unsent {
         self.bytes.len() - self.start
     }
 
+    /// How many bytes of memory they have.
+    pub fn capacity(&self) -> usize
+        ensures { length self.now ≤ result }
+    {
+        self.bytes.capacity()
+    }
+
     /// Whether none waits.
     pub fn is_empty(&self) -> bool
         ensures { IsTrue result ↔ (length self.now ≡ 0) }

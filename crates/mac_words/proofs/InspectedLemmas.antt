@@ -5,7 +5,7 @@ use Rattle.std.proofs.lemmas.Option.{slice_get_read}
 use Rattle.mac_decide.specs.Time.{IsTimeLimit, IsLowerBound}
 use Rattle.mac_token.specs.RawToken.{CaveatParts, RawParts}
 use Rattle.mac_words.specs.Escaped.{escaped}
-use Rattle.mac_words.specs.NearBound.{IsNoBound, no_bound_words}
+use Rattle.mac_words.specs.Warned.{IsNoBound, no_bound_words}
 use Rattle.mac_words.proofs.Appends.{two, three}
 use Rattle.mac_words.specs.Inspected.{AreBareWords, AreBoundWords, AreLines, AreWords, IsCaveatLine, IsInspected, caveat_front, head_text, limit_words, place_words, since_words, tail_text, third_party}
 

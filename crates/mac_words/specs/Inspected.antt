@@ -11,7 +11,7 @@ use Rattle.mac_token.specs.declared.fault.TokenFault.{TokenFault}
 use Rattle.mac_token.specs.declared.fault.TokenFault.TheVariants as fault
 use Rattle.mac_words.specs.Escaped.{escaped}
 use Rattle.mac_words.specs.declared.inspected.Whose.{Whose}
-use Rattle.mac_words.specs.NearBound.{IsNoBound, no_bound_words}
+use Rattle.mac_words.specs.Warned.{IsNoBound, no_bound_words}
 use Rattle.mac_words.specs.Spelling.{spelling_name, spelling_of}
 
 -- words with a second

@@ -3,10 +3,11 @@ pub mod TokenText
 pub mod Spelling
 pub mod Moment
 pub mod NameList
-pub mod NearBound
+pub mod Warned
 pub mod Escaped
 pub mod ReplyText
 pub mod Inspected
+pub mod Explained
 pub mod KeyLine
 pub mod Revoked
 pub mod Said

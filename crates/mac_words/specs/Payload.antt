@@ -5,7 +5,7 @@ use Rattle.std.specs.Option.{option_or}
 use Rattle.std.specs.declared.alloc.Global.{Global}
 use Rattle.std.specs.declared.string.String.{String}
 use Rattle.std.specs.declared.vec.Vec.{Vec}
-use Rattle.mac_wire.specs.Request.{Asked, Asks, mint, attenuate, verify, verify_now, payload_of}
+use Rattle.mac_wire.specs.Request.{Asked, Asks, counted_fields, mint, attenuate, verify, verify_now, payload_of}
 use Rattle.mac_wire.specs.declared.arrival.TheConstants.{FRAME_MAX}
 use Rattle.mac_wire.specs.declared.request.TheConstants.{FACTS_MAX}
 use Rattle.mac_words.specs.declared.fault.FieldFault.{FieldFault}
@@ -29,6 +29,10 @@ abbrev pub list_fault : ℕ → FieldFault → List (List ℕ) → Option FieldF
 list_fault most too_many texts = if nat_lt most (length texts) then Some too_many
     else if list_any (λ text. nat_lt TEXT_MAX (length text)) texts then Some fault.LongText else None
 
+-- what is wrong with facts
+abbrev pub facts_fault : List (List ℕ) → Option FieldFault
+facts_fault facts = list_fault FACTS_MAX fault.ManyFacts facts
+
 -- the first field that a request can't carry
 abbrev pub field_fault : Asked → Option FieldFault
 field_fault (mint form key location identifier caveats) = option_or (name_fault key)
@@ -37,9 +41,9 @@ field_fault (mint form key location identifier caveats) = option_or (name_fault 
 field_fault (attenuate form token caveats) =
     option_or (text_fault token) (list_fault CAVEATS_TOLD_MAX fault.ManyCaveats caveats)
 field_fault (verify key token moment facts) = option_or (name_fault key)
-    (option_or (text_fault token) (list_fault FACTS_MAX fault.ManyFacts facts))
+    (option_or (text_fault token) (facts_fault facts))
 field_fault (verify_now grant key token facts) = option_or (name_fault key)
-    (option_or (text_fault token) (list_fault FACTS_MAX fault.ManyFacts facts))
+    (option_or (text_fault token) (facts_fault facts))
 
 -- why there is no payload: a field, or the whole is longer than a frame carries
 abbrev pub first_fault : Asked → Option FieldFault
@@ -51,6 +55,12 @@ abbrev pub GivesPayload : Asked → Result (Vec ℕ Global) FieldFault → Type 
 GivesPayload request (Ok payload) =
     (first_fault request ≡ None) × Asks payload.items request
 GivesPayload request (Err why) = (why ≡ fault.Memory) ⊎ (first_fault request ≡ Some why)
+
+-- the facts as a request carries them, or the first fault of them, or memory ran out
+abbrev pub GivesCounted : List (List ℕ) → Result (Vec ℕ Global) FieldFault → Type 0
+GivesCounted facts (Ok counted) =
+    (facts_fault facts ≡ None) × (counted.items ≡ counted_fields facts)
+GivesCounted facts (Err why) = (why ≡ fault.Memory) ⊎ (facts_fault facts ≡ Some why)
 
 -- ---- for proofs
 

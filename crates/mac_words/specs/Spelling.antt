@@ -36,8 +36,8 @@ spelling_name spelled.BinaryText = codes "base64 text of version 2 binary"
 
 -- the form that a word names
 abbrev pub form_named : List ℕ → Option TokenForm
-form_named word = if bytes_eq word (codes "v1") then Some form.V1Text
-    else if bytes_eq word (codes "v2") then Some form.V2Binary
-    else if bytes_eq word (codes "json") then Some form.V2Json
+form_named word = if bytes_eq word (codes "v1-text") then Some form.V1Text
+    else if bytes_eq word (codes "v2-binary") then Some form.V2Binary
+    else if bytes_eq word (codes "v2-json") then Some form.V2Json
     else if bytes_eq word (codes "v2-text") then Some form.V2Text
     else None

@@ -8,7 +8,7 @@ ghost use Rattle.mac_words.specs.Inspected.{place_words, third_party};
 ghost use Rattle.mac_token.specs.RawToken.{bytes_of, text_of};
 
 use crate::escaped::append_escaped;
-use crate::near_bounds::append_no_bound;
+use crate::warned::append_no_bound;
 use mac_decide::{time_limit, time_since};
 use mac_token::RawCaveat;
 use mac_wire::NoMemory;
@@ -49,7 +49,7 @@ fn append_line(
 
 /// Appends how the line begins: the place, counted from 0.
 #[tactic(auto, unfolding(crate::specs::Inspected::caveat_front))]
-fn append_front(alloc: Global, place: usize, out: &mut Vec<u8>) -> Result<(), NoMemory>
+pub(crate) fn append_front(alloc: Global, place: usize, out: &mut Vec<u8>) -> Result<(), NoMemory>
     ensures { OnOk result (out.new.items ≡ out.old.items ++ caveat_front place) }
 {
     let number = format!(in alloc; "{place}")?;

@@ -8,12 +8,12 @@
 
 mod caveat_lines;
 mod escaped;
+mod explained;
 mod fault;
 mod inspected;
 mod key_lines;
 mod moments;
 mod name_list;
-mod near_bounds;
 mod payload;
 mod refusal;
 mod reply_text;
@@ -21,14 +21,15 @@ mod revoked;
 mod saying;
 mod spelled;
 mod token_text;
+mod warned;
 
 pub use escaped::append_escaped;
+pub use explained::explain;
 pub use fault::{FieldFault, TextFault};
 pub use inspected::{Whose, find_whose, inspect};
 pub use key_lines::{NameFault, key_line};
 pub use moments::moment;
 pub use name_list::list_names;
-pub use near_bounds::warnings;
 pub use payload::{
     CAVEATS_TOLD_MAX, KEY_NAME_MAX, TEXT_MAX, attenuate_payload, mint_payload, reply_to,
     verify_payload,
@@ -39,3 +40,4 @@ pub use revoked::{put_behind, revoked_line, told_lines, without_revoked};
 pub use saying::{Said, say_attenuate, say_inspect, say_inspect_under, say_mint, say_verify};
 pub use spelled::{Spelling, form_named};
 pub use token_text::{append_token_text, token_bytes};
+pub use warned::warnings;

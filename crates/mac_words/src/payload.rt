@@ -8,7 +8,7 @@ ghost use Rattle.mac_wire.specs.Request.{AreFields, IsRequest, mint, attenuate, 
 ghost use Rattle.mac_wire.specs.Request.{short_field, long_field, counted_fields, payload_of};
 ghost use Rattle.mac_wire.specs.declared.request.TokenForm.{TokenForm};
 ghost use Rattle.mac_words.specs.Payload.{GivesPayload, texts_of, name_fault, text_fault};
-ghost use Rattle.mac_words.specs.Payload.{list_fault, field_fault, IsFramed};
+ghost use Rattle.mac_words.specs.Payload.{list_fault, facts_fault, field_fault, GivesCounted, IsFramed};
 
 use crate::fault::FieldFault;
 use mac_decide::{Rights, Terms, answer, job_of};
@@ -217,7 +217,7 @@ fn caveats_fault(caveats: &[String]) -> Option<FieldFault>
 
 /// What is wrong with facts: first their number.
 fn facts_fault(facts: &[String]) -> Option<FieldFault>
-    ensures { result ≡ list_fault FACTS_MAX FieldFault.ManyFacts (texts_of facts.now) }
+    ensures { result ≡ facts_fault (texts_of facts.now) }
 {
     if facts.len() > FACTS_MAX as usize {
         return Some(FieldFault::ManyFacts);
@@ -275,6 +275,27 @@ fn put_long_field(payload: &mut Vec<u8>, bytes: &[u8]) -> Result<(), NoMemory>
     let length = bytes.len() as u16;
     payload.extend_from_slice(&length.to_be_bytes())?;
     payload.extend_from_slice(bytes)
+}
+
+/// Facts as a request carries them, if one does.
+pub(crate) fn counted_facts(alloc: Global, facts: &[String]) -> Result<Vec<u8>, FieldFault>
+    ensures { GivesCounted (texts_of facts.now) result }
+{
+    match facts_fault(facts) {
+        Some(fault) => Err(fault),
+        None => Ok(counted_fields(alloc, facts)?),
+    }
+}
+
+/// A count of one byte, and that many texts behind lengths of two bytes.
+fn counted_fields(alloc: Global, texts: &[String]) -> Result<Vec<u8>, NoMemory>
+    requires count { length (texts_of texts.now) < 2 ^ 8 }
+    requires each { AreFields (texts_of texts.now) }
+    ensures { IfOk result (λ counted. counted.items ≡ counted_fields (texts_of texts.now)) }
+{
+    let mut counted = Vec::new(alloc);
+    put_counted_fields(&mut counted, texts)?;
+    Ok(counted)
 }
 
 /// Appends a count of one byte, and that many texts behind lengths of two bytes.

@@ -69,9 +69,9 @@ pub fn form_named(word: &str) -> Option<TokenForm>
     ensures { result ≡ form_named word.now }
 {
     match word {
-        "v1" => Some(TokenForm::V1Text),
-        "v2" => Some(TokenForm::V2Binary),
-        "json" => Some(TokenForm::V2Json),
+        "v1-text" => Some(TokenForm::V1Text),
+        "v2-binary" => Some(TokenForm::V2Binary),
+        "v2-json" => Some(TokenForm::V2Json),
         "v2-text" => Some(TokenForm::V2Text),
         _ => None,
     }

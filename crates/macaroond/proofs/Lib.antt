@@ -1,12 +1,1 @@
-pub mod CommandLineLemmas
-pub mod DoingLemmas
 pub mod HttpLemmas
-pub mod KeyText
-pub mod LineLemmas
-pub mod OptionLemmas
-pub mod OptionReads
-pub mod OptionWalk
-pub mod OutputLemmas
-pub mod PipeLemmas
-pub mod PlainWords
-pub mod SubcommandLemmas

@@ -19,9 +19,9 @@ use Rattle.mac_http.specs.declared.rules.Calls.{Calls}
 use Rattle.mac_http.specs.declared.rules.Granted.{Granted}
 use Rattle.mac_http.specs.declared.rules.Granted.TheVariants as granted
 use Rattle.mac_http.specs.declared.rules.Sources.{Sources}
-use Rattle.macaroond.specs.CommandLine.{permissions}
-use Rattle.macaroond.specs.Rights.{IsRights, is_comma}
-use Rattle.macaroond.specs.declared.choices.HttpOptions.{HttpOptions}
+use Rattle.mac_commands.specs.CommandLine.{permissions}
+use Rattle.macaroond.specs.Rights.{AreNone, IsRights, is_comma}
+use Rattle.mac_commands.specs.declared.choices.HttpOptions.{HttpOptions}
 use Rattle.macaroond.specs.declared.http.HttpFault.{HttpFault}
 use Rattle.macaroond.specs.declared.http.HttpFault.TheVariants as fault
 use Rattle.macaroond.specs.declared.http.HttpPlan.{HttpPlan}
@@ -127,7 +127,8 @@ pub record AreTerms (options : HttpOptions) (terms : HttpTerms) : Type 0 where
   pub pages : terms.pages ≡ pages_beside options.admin
 
 -- Of the gateways' addresses those of this machine stand before the others; no call is answered
--- there, and nothing may be minted. Calls have addresses of this machine alone.
+-- there, and nothing may be minted. Calls have addresses of this machine alone. To operators
+-- nothing is allowed: no token is granted.
 pub record IsPlan (options : HttpOptions) (plan : HttpPlan) : Type 0 where
   pub not_moved : options.allow ≡ None
   pub here : List Address
@@ -137,7 +138,7 @@ pub record IsPlan (options : HttpOptions) (plan : HttpPlan) : Type 0 where
   pub are_anywhere : AreNamed Anywhere options.anywhere anywhere
   pub are_admin : AreNamed Loopback options.admin plan.operators.addresses.items
   pub admin_mode : plan.operators.permissions ≡ permissions options.mode
-  pub admin_rights : IsRights false None plan.operators.rights
+  pub admin_rights : AreNone plan.operators.rights
   pub are_calls : AreNamed Loopback options.calls plan.callers.addresses.items
   pub mode : plan.gateways.permissions ≡ permissions options.mode
   pub calls_mode : plan.callers.permissions ≡ permissions options.calls_mode

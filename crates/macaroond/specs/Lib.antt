@@ -1,17 +1,5 @@
-pub mod Arguments
-pub mod Arrived
-pub mod CommandLine
-pub mod Doing
 pub mod Http
-pub mod Inner
-pub mod Lines
 pub mod Logging
-pub mod Options
-pub mod Output
-pub mod People
-pub mod Pipe
-pub mod PipeText
-pub mod ReplyLine
 pub mod Rights
 pub mod Shape
 pub mod Status

@@ -21,3 +21,9 @@ drain_of (Some asked) = asked
 abbrev pub remember_of : Option ℕ → ℕ
 remember_of None = 16777216
 remember_of (Some asked) = asked
+
+-- the bytes of memory that connections and these tokens may have: so many were found, where no other
+-- number is asked for
+abbrev pub memory_of : ℕ → Option ℕ → ℕ
+memory_of found None = found
+memory_of found (Some asked) = asked

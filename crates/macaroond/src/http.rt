@@ -9,10 +9,9 @@ ghost use Rattle.macaroond.specs.Http.{AreTerms};
 ghost use Rattle.mac_gate.specs.declared.address.Reach.TheVariants.{Loopback};
 ghost use Rattle.macaroond.specs.Rights.{is_comma};
 
-use crate::choices::HttpOptions;
-use crate::commands::VERSION;
 use crate::operating::{OPERATORS_LOOPS, OPERATORS_MAX};
-use crate::rights::read_rights;
+use crate::rights::{no_rights, read_rights};
+use mac_commands::{HttpOptions, VERSION};
 use mac_decide::Rights;
 use mac_gate::{Address, AddressFault, HttpTerms, ListFault, Reach, read_addresses};
 use mac_http::{Calls, Granted, Pages, Sources};
@@ -176,7 +175,7 @@ pub fn plan_http<'a>(alloc: Global, options: &'a HttpOptions) -> Result<HttpPlan
     let operators = AddressGroup {
         addresses: admin,
         permissions: options.mode.permissions(),
-        rights: read_rights(alloc, false, &None)?,
+        rights: no_rights(alloc),
     };
     Ok(HttpPlan {
         gateways,

@@ -1,21 +1,20 @@
 //! The daemon whose keys follow its key file.
-ghost use Rattle.macaroond.specs.Watching.{Watches, WatchesList};
 
-use crate::commands::LOOPS_MAX;
+ghost use Rattle.std.specs.Prelude.{IfOk};
+ghost use Rattle.macaroond.specs.Rights.{GiveInOrder};
+
 use crate::doors::{OpenDoors, open_doors};
 use crate::http::HttpPlan;
-use crate::key_store::{FirstKeys, KeyPlace, look_at};
-use crate::list_store::{FirstList, ListPlace, look_at_list};
-use crate::operating::{
-    OperatorsServer, open_status, operators_terms, start_operators, warn_of_no_status,
-};
+use crate::operating::{OPERATORS_LOOPS, open_status, operators_terms, warn_of_no_status};
+use crate::watching::{Followed, look_once};
 use mac_board::Editor;
+use mac_commands::{FirstKeys, FirstList, LOOPS_MAX};
 use mac_daemon::{
     Daemon, DaemonFault, DaemonTerms, FOLLOWERS_MAX, Gift, SideSocket, Surroundings, give, listen,
 };
 use mac_decide::Rights;
 use mac_gate::{Address, DoorFault, HttpServer, ServerFault};
-use mac_host::Call;
+use mac_host::{Call, Host};
 use mac_sockets::{Door, Doors, Holdings, PathClaim, PlaceFault};
 use mac_system::handed_listener;
 use std::alloc::{Alloc, AllocError, Global};
@@ -30,10 +29,10 @@ use std::thread::Threads;
 use std::time::{Clock, Duration};
 
 /// How many followers of the key tables there are at most: the daemon's own, and one for each loop
-/// of gateways and of callers.
-const FOLLOWERS: usize = FOLLOWERS_MAX + 2 * LOOPS_MAX as usize;
+/// of gateways, of callers and of operators.
+const FOLLOWERS: usize = FOLLOWERS_MAX + 2 * LOOPS_MAX as usize + OPERATORS_LOOPS;
 
-/// How many milliseconds pass between two looks at the key file.
+/// How many milliseconds pass between two looks at the files.
 const PAUSE_MILLIS: u64 = 500;
 
 /// What `listen` listens at, beside the socket of its terms.
@@ -76,16 +75,7 @@ impl<'a> From<ServerFault> for ListenFault<'a> {
     }
 }
 
-/// The files that a daemon follows.
-#[derive(Clone, Copy)]
-pub(crate) struct Followed<'a> {
-    /// Its key file.
-    pub(crate) keys: KeyPlace<'a>,
-    /// Its list of tokens that were taken back, where it has one.
-    pub(crate) list: Option<ListPlace<'a>>,
-}
-
-/// What they gave first.
+/// What the files that a daemon follows gave first.
 #[derive(Drop)]
 pub(crate) struct Found {
     /// The key file.
@@ -95,7 +85,7 @@ pub(crate) struct Found {
 }
 
 /// Listens until it is told to end, under the table that the key file at a path has at each moment.
-/// Other threads serve, and this one watches the file. What it made of its sockets and didn't put
+/// Other threads serve, and this one watches the files. What it made of its sockets and didn't put
 /// in their places is removed.
 pub(crate) fn listen_and_watch<'a, R>(
     rt: &R,
@@ -158,10 +148,12 @@ where
     }
     let started = start_all(rt, terms, sockets, &editor, handed, holdings)?;
     started.daemon.tell_list_lines(lines);
+    let host = started.daemon.host()?;
     started.daemon.open(rt, terms, holdings)?;
     let watched = Watched {
         followed,
         socket: terms.path,
+        host: &host,
     };
     let _kept_up = watch(rt, watched, editor, &started.daemon, holdings);
     end_all(rt, started);
@@ -170,11 +162,11 @@ where
 
 /// A daemon with its servers over HTTP.
 #[derive(Drop)]
-struct Started<R: Wait + Drop> {
+struct Started {
     daemon: Daemon,
     gateways: Option<HttpServer>,
     callers: Option<HttpServer>,
-    operators: Option<OperatorsServer<R>>,
+    operators: Option<HttpServer>,
 }
 
 /// Makes the sockets of a daemon and starts the threads that serve them. Nobody can reach a Unix
@@ -186,7 +178,7 @@ fn start_all<'a, R>(
     editor: &Editor<R>,
     handed: Option<UnixListener>,
     holdings: &mut Holdings,
-) -> Result<Started<R>, ListenFault<'a>>
+) -> Result<Started, ListenFault<'a>>
 where
     R: Env + Alloc<A = Global> + Eprint + Files<File = File> + Clock + RandomSource,
     R: Net<Listener = TcpListener, Stream = TcpStream>,
@@ -215,7 +207,7 @@ where
     let loops = terms.shape.loops;
     let gateways = start_faces(rt, gateways, editor, &daemon, loops)?;
     let callers = start_faces(rt, callers, editor, &daemon, loops)?;
-    let operators = start_operators(rt, operators, &daemon)?;
+    let operators = start_faces(rt, operators, editor, &daemon, OPERATORS_LOOPS)?;
     Ok(Started {
         daemon,
         gateways,
@@ -236,6 +228,7 @@ fn open_own<R>(
 ) -> Result<Doors<Gift>, DaemonFault>
 where
     R: Alloc<A = Global> + Files<File = File> + Net + Clock + Wait,
+    ensures { IfOk result (GiveInOrder rights side.entry) }
 {
     let mut doors = Doors::new(rt.alloc());
     let gift = give(rt.alloc(), rights)?;
@@ -262,7 +255,7 @@ where
 }
 
 /// Sees a daemon off with its servers over HTTP.
-fn end_all<R: Wait + Clock + Drop>(rt: &R, started: Started<R>) {
+fn end_all<R: Wait + Clock>(rt: &R, started: Started) {
     let Started {
         daemon,
         gateways,
@@ -306,10 +299,11 @@ where
 struct Watched<'a> {
     followed: Followed<'a>,
     socket: &'a str,
+    host: &'a Host,
 }
 
-/// Watches a key file until the daemon is told to end, or another one's socket is in its place. At
-/// a call to look there are two looks, so that a file that rests between them is taken.
+/// Watches a daemon's files until it is told to end, or another one's socket is in its place. At a
+/// call to look there are two looks, so that a file that rests between them is taken.
 fn watch<R>(
     rt: &R,
     watched: Watched<'_>,
@@ -320,62 +314,23 @@ fn watch<R>(
 where
     R: Alloc<A = Global> + Files<File = File> + Clock + Wait + Drop,
 {
+    let Watched {
+        followed,
+        socket,
+        host,
+    } = watched;
+    let pause = Duration::from_millis(PAUSE_MILLIS);
     let mut editor = editor;
     for _ in rt.forever() {
-        match daemon.await_call(rt, Duration::from_millis(PAUSE_MILLIS)) {
+        match host.ending().await_call(rt, pause) {
             Call::End => return editor,
-            Call::Look => editor = look_once(rt, watched.followed, editor, daemon),
+            Call::Look => editor = look_once(rt, followed, editor, host),
             Call::Nothing => {}
         }
-        if let Some(path) = holdings.look(rt, watched.socket) {
+        if let Some(path) = holdings.look(rt, socket) {
             daemon.end_replaced(rt, path);
         }
-        editor = look_once(rt, watched.followed, editor, daemon);
+        editor = look_once(rt, followed, editor, host);
     }
     unreachable!()
-}
-
-/// Looks at the key file and at the list once: a table that is to be taken is put up, and what came
-/// of it is told. Where memory runs out, the next look finds the same.
-fn look_once<R>(rt: &R, followed: Followed<'_>, editor: Editor<R>, daemon: &Daemon) -> Editor<R>
-where
-    R: Alloc<A = Global> + Files<File = File> + Clock + Wait + Drop,
-{
-    let editor = look_at_keys(rt, followed.keys, editor, daemon);
-    match followed.list {
-        Some(place) => look_at_revoked(rt, place, editor, daemon),
-        None => editor,
-    }
-}
-
-/// The same of the key file alone.
-fn look_at_keys<R>(rt: &R, keys: KeyPlace<'_>, editor: Editor<R>, daemon: &Daemon) -> Editor<R>
-where
-    R: Alloc<A = Global> + Files<File = File> + Clock + Wait + Drop,
-    ensures { Watches editor result }
-{
-    let Ok(sight) = look_at(rt, keys, &editor) else {
-        return editor;
-    };
-    let (editor, told) = editor.look(rt.alloc(), sight);
-    if let Ok(news) = told {
-        daemon.tell_keys(rt, keys.path, news);
-    }
-    editor
-}
-
-/// The same of the list alone.
-fn look_at_revoked<R>(rt: &R, place: ListPlace<'_>, editor: Editor<R>, daemon: &Daemon) -> Editor<R>
-where
-    R: Alloc<A = Global> + Files<File = File> + Clock + Wait + Drop,
-    ensures { WatchesList editor result }
-{
-    let Ok(sight) = look_at_list(rt, place, &editor) else {
-        return editor;
-    };
-    let (editor, told) = editor.look_at_list(rt.alloc(), place.may_empty, &sight);
-    if let Ok(news) = told {
-        daemon.tell_revoked(rt, place.path, news);
-    }
-    editor
 }

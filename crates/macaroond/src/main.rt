@@ -7,60 +7,34 @@
 ghost use Rattle.std.specs.Prelude.{◌≡◌, ◌≤◌, if◌then◌else◌, IfErr, IfOk, IfSome, None};
 ghost use Rattle.std.specs.Option.{is_some};
 ghost use Rattle.mac_pool.specs.declared.pool.TheConstants.{WORKERS_MAX};
-ghost use Rattle.macaroond.specs.CommandLine.{permissions};
-ghost use Rattle.macaroond.specs.Doing.{IsKeyTable, IsList};
-ghost use Rattle.macaroond.specs.Shape.{HasCount, connections_of, drain_of, remember_of};
-ghost use Rattle.macaroond.specs.Status.{IsShown};
-ghost use Rattle.macaroond.specs.declared.commands.TheConstants.{LOOPS_MAX};
+ghost use Rattle.mac_commands.specs.CommandLine.{permissions};
+ghost use Rattle.mac_commands.specs.Doing.{IsKeyTable, IsList};
+ghost use Rattle.mac_commands.specs.Status.{IsShown};
+ghost use Rattle.macaroond.specs.Shape.{HasCount, connections_of, drain_of, memory_of, remember_of};
+ghost use Rattle.mac_commands.specs.declared.commands.TheConstants.{LOOPS_MAX};
 
-mod arrived;
-mod choices;
-mod command_line;
-mod commands;
 mod descriptors;
 mod doors;
-mod fault;
-mod help;
 mod http;
-mod input;
-mod key_fault;
-mod key_file;
-mod key_store;
 mod key_watch;
-pub mod laws;
-mod lines;
-mod list_store;
 mod logging;
 mod operating;
-mod options;
 mod page;
 mod page_texts;
-mod parts;
-mod people;
-mod piping;
-mod reply_line;
 mod rights;
 mod serving;
-mod status;
 mod telling;
+mod watching;
 
-pub use choices::{
-    Choice, Chosen, HttpOptions, ListenOptions, Mode, PageOptions, PipeOptions, ServeOptions,
-};
-pub use command_line::{choose, read_words};
-use commands::VERSION;
-pub use commands::{
-    ACCEPT_MAX, CONNECTIONS_MAX, DRAIN_MAX, HTTP_CONNECTIONS_MAX, HTTP_PATIENCE_MAX, IDLE_MAX,
-    LOOPS_MAX, REMEMBER_MAX,
-};
 use descriptors::open_standard;
-pub use fault::PipeFault;
 use http::plan_http;
-pub use input::INPUT_MAX;
-use key_store::{KeyPlace, read_first};
-use key_watch::{Followed, Found, Sockets, listen_and_watch};
-use list_store::{ListPlace, find_first_list, find_list};
+use key_watch::{Found, Sockets, listen_and_watch};
 use logging::read_log;
+use mac_commands::{
+    Choice, Chosen, KeyPlace, LOOPS_MAX, ListPlace, ListenOptions, PipeOptions, Status, VERSION,
+    admit_keys, choose, find_first_list, find_list, find_memory, pipe, read_first, read_words,
+    run_task, show, tell_ending, tell_fault, tell_key_file, warn_of_readers,
+};
 use mac_daemon::{DaemonTerms, Shape};
 use mac_host::Logged;
 use mac_pool::WORKERS_MAX;
@@ -68,12 +42,8 @@ use mac_sockets::PathClaim;
 use mac_system::SystemMoments;
 use mac_wire::{ReaderSource, WriterSink};
 use page::run_page;
-use people::{admit_keys, run_task, warn_of_readers};
-pub use people::{PersonFault, Task};
-pub use piping::pipe;
 use rights::read_sockets;
 use serving::run_serve;
-pub use status::Status;
 use std::alloc::{Alloc, Global};
 use std::env::Env;
 use std::fs::{File, Files};
@@ -84,10 +54,8 @@ use std::sync::Wait;
 use std::thread::Threads;
 use std::time::Clock;
 use std::{io, thread};
-use telling::{
-    show, tell_ending, tell_fault, tell_http, tell_key_file, tell_listen, tell_log, tell_nowhere,
-    warn_of_minting,
-};
+use telling::{tell_http, tell_listen, tell_log, tell_nowhere, warn_of_minting};
+use watching::Followed;
 
 /// How many connections there are at a time, where nothing else is asked for.
 const CONNECTIONS: u64 = 10_000;
@@ -212,7 +180,7 @@ where
     warn_of_minting(rt, http.minting_port());
     let names = found.first.read.table.len();
     let reserved = http.descriptors(count_loops(rt, options.loops));
-    let terms = name_terms(rt, options, names, reserved, logged);
+    let terms = name_terms(rt, options, names, reserved, logged, find_memory(rt));
     let Ok((rights, side)) = read_sockets(rt.alloc(), options) else {
         return tell_fault(rt, Status::NoMemory);
     };
@@ -272,19 +240,22 @@ fn claim_of(is_replacing: bool) -> PathClaim
     }
 }
 
-/// The terms that the options of `listen` name.
+/// The terms that the options of `listen` name, where so much memory was found.
 fn name_terms<'a, R: Threads>(
     rt: &R,
     options: &'a ListenOptions,
     names: usize,
     reserved: u64,
     logged: Logged,
+    memory: u64,
 ) -> DaemonTerms<'a>
     ensures mode { result.permissions ≡ permissions options.now.mode }
     ensures idle { result.shape.idle ≡ options.now.idle }
     ensures drain { result.drain ≡ drain_of options.now.drain }
     ensures connections { result.shape.connections ≡ connections_of options.now.connections }
+    ensures side_connections { result.shape.side_connections ≡ options.now.verify_connections }
     ensures remembered { result.shape.remembered ≡ remember_of options.now.remember }
+    ensures memory { result.shape.memory ≡ memory_of memory options.now.memory }
     ensures loops { HasCount LOOPS_MAX options.now.loops result.shape.loops }
     ensures workers { HasCount WORKERS_MAX options.now.workers result.shape.workers }
     ensures logged { result.logged ≡ logged }
@@ -300,8 +271,10 @@ fn name_terms<'a, R: Threads>(
             loops: count_loops(rt, options.loops),
             workers: count_workers(rt, options.workers),
             connections: options.connections.unwrap_or(CONNECTIONS),
+            side_connections: options.verify_connections,
             idle: options.idle,
             remembered: options.remember.unwrap_or(REMEMBER),
+            memory: options.memory.unwrap_or(memory),
         },
         drain: options.drain.unwrap_or(DRAIN),
         reserved,

@@ -1,17 +1,14 @@
 //! The page that a browser on this machine is shown.
 ghost use Rattle.std.specs.Prelude.{◌≡◌, IfOk};
 ghost use Rattle.std.specs.Option.{is_some};
-ghost use Rattle.macaroond.specs.Doing.{IsKeyTable};
+ghost use Rattle.mac_commands.specs.Doing.{IsKeyTable};
 
-use crate::choices::PageOptions;
 use crate::descriptors::open_standard;
-use crate::key_file::read_keys;
-use crate::list_store::{ListPlace, take_list};
 use crate::page_texts::{DOCUMENT, SCRIPT, STYLE};
-use crate::people::{warn_of_no_keys, warn_of_readers};
-use crate::status::Status;
-use crate::telling::{
-    tell_door, tell_fault, tell_key_file, tell_nowhere, tell_page_address, tell_server,
+use crate::telling::{tell_door, tell_nowhere, tell_page_address, tell_server};
+use mac_commands::{
+    ListPlace, PageOptions, Status, read_keys, take_list, tell_fault, tell_key_file,
+    warn_of_no_keys, warn_of_readers,
 };
 use mac_gate::{
     Address, AddressFault, Bounds, Content, HttpServer, Reach, ServerFault, open_port,

@@ -102,7 +102,7 @@ where it is one of them, letter by letter.</p>
 <label for="mint-caveats">Caveats, one a line</label>
 <textarea id="mint-caveats" rows="3" dir="ltr" spellcheck="false" autocapitalize="off"></textarea>
 <label for="mint-form-of">Form</label>
-<select id="mint-form-of"><option value="v2">V2</option><option value="v1">V1</option><option value="json">V2
+<select id="mint-form-of"><option value="v2-text">V2</option><option value="v1-text">V1</option><option value="v2-json">V2
 JSON</option></select>
 <button>Mint</button>
 </form>
@@ -581,7 +581,7 @@ async function look() {
 }
 
 function showParts() {
-  const form = { v1: "V1 packets", v2: "V2 binary", json: "V2 JSON" }[said.form];
+  const form = { "v1-text": "V1 packets", "v2-text": "V2 binary", "v2-json": "V2 JSON" }[said.form];
   const rows = [
     ["Form", form + (isBare(pasted.token) ? " as it is" : " in base64")],
     ["Location", shown(said.location)],
@@ -953,20 +953,27 @@ function showChips() {
   }
 }
 
-const FORMS = [["v1", "V1, base64"], ["v2", "V2, base64"], ["json", "V2 JSON, base64url"]];
+// What is told of new caveats that can hardly hold: what the daemon says, and which time limits have passed.
+function doubtsOf(told, caveats) {
+  const passed = caveats.map(boundOf).flatMap((it, caveat) => !it || !it.isEnd || it.at > now() ? []
+    : [{ caveat, reason: "a caveat is a time limit that has passed, and holds only as a fact" }]);
+  return [...(told.warnings || []), ...passed]
+    .map((it) => "A" + it.reason.slice(1) + ": " + printed(utf8(caveats[it.caveat])));
+}
+
+const FORMS = [["v1-text", "V1, base64"], ["v2-text", "V2, base64"], ["v2-json", "V2 JSON, base64url"]];
 
 async function narrow() {
   if (!said) return;
   const turn = ++turns.narrow;
   $("follow").disabled = true;
-  const wrong = added.find(seemsBound);
-  $("caveat-warning").textContent = wrong === undefined ? ""
-    : "A caveat is no bound of time, and holds only as a fact: " + printed(utf8(wrong));
   const caveats = [...added];
   const replies = caveats.length === 0 ? []
     : await Promise.all(FORMS.map(([form]) => ask("/attenuate", { token: pasted.token, caveats, form })));
   if (turn !== turns.narrow) return;
   made = null;
+  const first = replies.find((reply) => reply.status === 200);
+  $("caveat-warning").textContent = first ? doubtsOf(first.told, caveats).join(" ") : "";
   const rows = replies.map((reply, at) => {
     if (reply.status !== 200) {
       return make("li", "", make("span", "soft", FORMS[at][1]), make("code", "", refusal(reply)));
@@ -1065,7 +1072,8 @@ async function mint() {
   const reply = await ask("/mint/" + encodeURIComponent($("mint-name").value), body);
   if (reply.status !== 200) return $("minted").replaceChildren(told(refusal(reply)));
   const { token } = reply.told;
-  $("minted").replaceChildren(make("ul", "copies", copied("The token that was minted", token)),
+  const doubts = doubtsOf(reply.told, body.caveats).map((it) => make("p", "warning", it));
+  $("minted").replaceChildren(...doubts, make("ul", "copies", copied("The token that was minted", token)),
     make("p", "row", button("Look at it", "", () => paste(token))));
 }
 

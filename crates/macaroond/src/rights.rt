@@ -2,9 +2,9 @@
 
 ghost use Rattle.std.specs.Prelude.{◌≡◌, IfOk, true};
 ghost use Rattle.std.specs.List.{slice_split};
-ghost use Rattle.macaroond.specs.Rights.{IsRights, IsSideSocket, is_comma};
+ghost use Rattle.macaroond.specs.Rights.{AreNone, IsRights, IsSideSocket, is_comma};
 
-use crate::choices::ListenOptions;
+use mac_commands::ListenOptions;
 use mac_daemon::SideSocket;
 use mac_decide::{Names, Rights};
 use mac_wire::Bytes;
@@ -45,6 +45,16 @@ pub fn read_rights(
         None => None,
     };
     Ok(Rights { may_mint, names })
+}
+
+/// Nothing at all. It takes no memory.
+pub fn no_rights(alloc: Global) -> Rights
+    ensures { AreNone result }
+{
+    Rights {
+        may_mint: false,
+        names: Some(Names::new(Vec::new(alloc))),
+    }
 }
 
 /// The names of a list, between its commas.

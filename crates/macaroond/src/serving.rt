@@ -5,16 +5,14 @@ ghost use Rattle.std.specs.Option.{is_some};
 ghost use Rattle.mac_pool.specs.declared.pool.TheConstants.{WORKERS_MAX};
 ghost use Rattle.macaroond.specs.Shape.{HasCount};
 
-use crate::choices::ServeOptions;
-use crate::commands::{ACCEPT_MAX, VERSION};
 use crate::descriptors::open_standard;
-use crate::key_file::read_key_file;
-use crate::list_store::{ListPlace, take_list};
-use crate::people::admit_keys;
-use crate::status::Status;
 use crate::telling::{tell_daemon, tell_nowhere, tell_served_keys};
 use crate::{DRAIN, REMEMBER, count_loops, count_workers};
 use mac_board::Publisher;
+use mac_commands::{
+    ACCEPT_MAX, ListPlace, MEMORY_MAX, ServeOptions, Status, VERSION, admit_keys, read_key_file,
+    take_list,
+};
 use mac_daemon::{DaemonFault, DaemonTerms, Day, FOLLOWERS_MAX, Shape, Surroundings, give, listen};
 use mac_decide::Rights;
 use mac_host::Logged;
@@ -118,8 +116,10 @@ fn counted_terms<'a, R: Threads>(rt: &R, options: &'a ServeOptions, names: usize
             loops: count_loops(rt, None),
             workers: count_workers(rt, Some(options.workers)),
             connections: ACCEPT_MAX,
+            side_connections: None,
             idle: None,
             remembered: REMEMBER,
+            memory: MEMORY_MAX,
         },
         drain: DRAIN,
         reserved: 0,

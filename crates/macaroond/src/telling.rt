@@ -1,18 +1,14 @@
 //! What is said of a run that didn't go well, and how it ends.
 
 ghost use Rattle.std.specs.Prelude.{◌≡◌};
-ghost use Rattle.macaroond.specs.Status.{IsShown, daemon_status, door_status, http_status};
-ghost use Rattle.macaroond.specs.Status.{list_status, listen_status, pipe_status, run_status};
-ghost use Rattle.macaroond.specs.Status.{server_status};
+ghost use Rattle.macaroond.specs.Status.{daemon_status, door_status, http_status};
+ghost use Rattle.macaroond.specs.Status.{listen_status, server_status};
+ghost use Rattle.mac_commands.specs.Status.{pipe_status};
 
-use crate::choices::ListenOptions;
 use crate::descriptors::NOWHERE;
-use crate::fault::PipeFault;
 use crate::http::HttpFault;
-use crate::key_fault::say_key_fault;
 use crate::key_watch::ListenFault;
-use crate::status::Status;
-use mac_board::ListRefusal;
+use mac_commands::{ListenOptions, PipeFault, Status, tell_ending, tell_fault, tell_key_file};
 use mac_daemon::DaemonFault;
 use mac_gate::{Address, DoorFault, ServerFault};
 use std::fs::Files;
@@ -138,14 +134,6 @@ fn faulty_path<'a>(options: &'a ListenOptions, fault: &DaemonFault) -> &'a str {
     }
 }
 
-/// Says in words why the key file at a path gives no table, and how the run ends.
-pub fn tell_key_file<R: Eprint + Files>(rt: &R, path: &str, fault: PipeFault) -> Status
-    ensures { result ≡ pipe_status fault }
-{
-    say_key_fault(rt, path, fault);
-    fault.status()
-}
-
 /// The same for `serve`, which names a faulty line by numbers, as scripts read it.
 pub fn tell_served_keys<R: Eprint + Files>(rt: &R, path: &str, fault: PipeFault) -> Status
     ensures { result ≡ pipe_status fault }
@@ -186,53 +174,5 @@ fn status_of_daemon(fault: &DaemonFault) -> Status
         DaemonFault::Place(_) | DaemonFault::Side(_) => Status::DeviceFault,
         DaemonFault::System(_) | DaemonFault::Handed(_) => Status::DeviceFault,
         DaemonFault::Output => Status::DeviceFault,
-    }
-}
-
-/// Names the fault that a run ended with on standard error, and says how the run ended.
-pub fn tell_ending<R: Eprint>(rt: &R, ending: Result<(), PipeFault>) -> Status
-    ensures { result ≡ run_status ending }
-{
-    match ending {
-        Ok(()) => Status::Done,
-        Err(fault) => {
-            let _ = eprintln!(rt; "{fault}");
-            fault.status()
-        }
-    }
-}
-
-/// Shows what came of a line that asks for no work, and says how the run ended.
-pub fn show<R: Print + Eprint>(rt: &R, status: Status, text: &str) -> Status
-    ensures { IsShown status result }
-{
-    match status {
-        Status::Done if print!(rt; "{text}").is_err() => tell_fault(rt, Status::DeviceFault),
-        Status::Done => Status::Done,
-        Status::NoMemory => tell_fault(rt, Status::NoMemory),
-        _ => {
-            let _ = eprint!(rt; "{text}");
-            status
-        }
-    }
-}
-
-/// Names the number of a status on standard error, where there is no more to say.
-pub fn tell_fault<R: Eprint>(rt: &R, status: Status) -> Status
-    ensures { result ≡ status }
-{
-    let number = status.code();
-    let _ = eprintln!(rt; "fault {number}");
-    status
-}
-
-/// Says on standard error why a list of tokens that were taken back isn't taken.
-pub(crate) fn tell_list<R: Eprint>(rt: &R, path: &str, why: ListRefusal) -> Status
-    ensures { result ≡ list_status why }
-{
-    let _ = eprintln!(rt; "error: {path}: {why}");
-    match why {
-        ListRefusal::Faulty { .. } => Status::BadKeys,
-        _ => Status::DeviceFault,
     }
 }

@@ -9,8 +9,9 @@ use crate::token::{say_parts, token_of};
 use crate::verdicts::say_verdicts;
 use arrayvec::ArrayVec;
 use mac_decide::{
-    Context, RUN, Rights, Rooms, SeenTokens, Terms, answer, answer_all, answer_run, job_of,
-    job_view_of, satisfied, time_limit, time_since,
+    Context, Lack, RUN, Rights, Rooms, SeenTokens, Terms, answer, answer_all, answer_run,
+    find_doubt, find_lack, job_of, job_view_of, nearest_fact, satisfied, shared, time_limit,
+    time_since,
 };
 use mac_hmac::{RootKey, root_key};
 use mac_keys::Keys;
@@ -26,6 +27,8 @@ pub(crate) fn tells(case: &mut Case<'_>, kind: &str) -> bool {
     match kind {
         "time" => bound(case),
         "satisfied" => is_satisfied(case),
+        "doubt" => doubt(case),
+        "lack" => lack(case),
         "add" => narrowed(case),
         "token" => agreement(case),
         "length" => written_length(case),
@@ -62,6 +65,40 @@ fn is_satisfied(case: &mut Case<'_>) {
     } else {
         "unsatisfied"
     });
+}
+
+/// Why a caveat can hardly hold at a moment, or `none`.
+fn doubt(case: &mut Case<'_>) {
+    let caveat = case.bytes();
+    let moment = case.number();
+    let is_repeated = case.number() == 1;
+    match find_doubt(&caveat, is_repeated, moment) {
+        Some(doubt) => case.say(doubt.words()),
+        None => case.say("none"),
+    }
+}
+
+/// Why a caveat isn't satisfied at a moment, with these facts; or that it is.
+fn lack(case: &mut Case<'_>) {
+    let caveat = case.bytes();
+    let moment = case.number();
+    let facts = case.lists();
+    let facts = case.counted_lists(&facts);
+    let Some(facts) = FieldList::read(&facts) else {
+        return case.fail(CaseFault::NoCase);
+    };
+    let context = Context { moment, facts };
+    match find_lack(&caveat, &context) {
+        None => case.say("satisfied"),
+        Some(Lack::Ended(second)) => case.tell(format!(in case.alloc; "ended {second}")),
+        Some(Lack::Ahead(second)) => case.tell(format!(in case.alloc; "ahead {second}")),
+        Some(Lack::Doubted(doubt)) => case.say(doubt.words()),
+        Some(Lack::NoPath) => case.say("no path"),
+        Some(Lack::NoFact) => {
+            let count = shared(&caveat, nearest_fact(&caveat, &context.facts));
+            case.tell(format!(in case.alloc; "shares {count}"));
+        }
+    }
 }
 
 /// A token with caveats added; or the refusal.

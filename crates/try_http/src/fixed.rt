@@ -6,6 +6,7 @@ use mac_board::Moments;
 use mac_calls::Draws;
 use mac_decide::SeenTokens;
 use mac_http::{Monitor, Noted, Page, Told};
+use mac_keys::KeyTable;
 use std::alloc::AllocError;
 
 /// The moment of each request: 2023-11-14T22:13:20Z.
@@ -66,7 +67,12 @@ impl Monitor for FixedMonitor {
         &self.seen
     }
 
-    fn tell(&self, page: Page, text: &mut Vec<u8>) -> Result<Told, AllocError> {
+    fn tell(
+        &self,
+        page: Page,
+        _keys: Option<&KeyTable>,
+        text: &mut Vec<u8>,
+    ) -> Result<Told, AllocError> {
         match page {
             Page::Numbers | Page::Status | Page::Connections => {
                 text.extend_from_slice(b"told\n")?;

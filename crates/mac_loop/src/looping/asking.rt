@@ -24,13 +24,13 @@ impl Loop {
     ) -> bool
         ensures { asks.new ≡ asks.old }
     {
-        let Some(job) = member.client.ask(self.alloc, outlook.current()) else {
+        let Some(job) = member.ask(self.alloc, outlook.current()) else {
             return false;
         };
         let number = member.note.badge.number;
         let is_asked = asks.ask(rt, Asker { slot, number }, job);
         if !is_asked {
-            member.client.lose_answer();
+            member.lose_answer();
         }
         is_asked
     }
@@ -65,13 +65,15 @@ impl Loop {
         }
         let unsent = member.client.unsent();
         match answer {
-            Some(answer) => self.round.deliver(&mut member.client, answer),
-            None => member.client.lose_answer(),
+            Some(answer) => member.take_answer(&mut self.round, answer),
+            None => member.lose_answer(),
         }
         if !member.client.is_waiting() {
             watch.narrow(member.life(), member.client.unsent() > unsent);
         }
         loops.count_unsent(unsent, member.client.unsent());
+        let (before, now) = member.count_held();
+        self.held = self.held.saturating_sub(before).saturating_add(now);
         self.members.slots.list(asker.slot);
     }
 }

@@ -103,6 +103,7 @@ impl Loop {
             return;
         }
         loops.count_unsent(member.client.unsent(), 0);
+        self.count_left(&member);
         let client = self.part(slot, member, outlook);
         if let Err(client) = loops.hand(rt, number, client) {
             self.receive(rt, client, loops, outlook, watch);

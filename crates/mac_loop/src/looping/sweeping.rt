@@ -41,10 +41,11 @@ impl Loop {
                 self.members.wake(slot, Readiness::UNTOLD);
             }
         }
+        self.tell_stalest(loops);
     }
 
-    /// Ends the client of a slot.
-    fn end<R: Wait + Clock, W: Watch>(
+    /// Ends the client of a slot, by a fault or as it stands.
+    pub(super) fn end<R: Wait + Clock, W: Watch>(
         &mut self,
         rt: &R,
         loops: &Loops,
@@ -54,7 +55,8 @@ impl Loop {
     ) {
         if let Some(member) = self.members.slots.release(slot) {
             loops.count_unsent(member.client.unsent(), 0);
-            end_member(rt, watch, &member, fault);
+            self.count_left(&member);
+            end_member(rt, watch, member, fault);
         }
     }
 
@@ -98,10 +100,7 @@ impl Loop {
         let Some(member) = self.members.slots.get_mut(slot) else {
             return false;
         };
-        if member.client.is_waiting() {
-            member.note.since = self.now;
-        }
-        let waited = self.now.saturating_sub(member.note_progress(self.now));
+        let waited = self.now.saturating_sub(member.note_rest(self.now));
         let progress = member.note.progress;
         let is_due = is_listed && !progress.has_begun;
         !is_due

@@ -1,0 +1,11 @@
+pub mod CommandLineLemmas
+pub mod DoingLemmas
+pub mod KeyText
+pub mod LineLemmas
+pub mod OptionLemmas
+pub mod OptionReads
+pub mod OptionWalk
+pub mod OutputLemmas
+pub mod PipeLemmas
+pub mod PlainWords
+pub mod SubcommandLemmas

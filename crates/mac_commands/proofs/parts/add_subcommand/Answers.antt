@@ -1,0 +1,13 @@
+use Rattle.std.proofs.Common.{◌≡◌, ◌&&◌, Bool, false, not, refl, true}
+use Rattle.std.proofs.lemmas.Result.{IfOk-weaker}
+use Rattle.mac_commands.proofs.parts.add_subcommand.Goals as goal
+
+-- of four tests that all pass the third does
+third_passes : (a b g r : Bool) → (a && (b && (not g && r))) ≡ true → g ≡ false
+third_passes true true false r e = refl
+third_passes true true true r e = cc
+third_passes true false g r e = cc
+third_passes false b g r e = cc
+
+pub returns : goal.returns
+returns c = IfOk-weaker c.subcommand.result _ _ (λ whole added. added.shape (third_passes _ _ _ _ c.requires)) c.subcommand.ensures

@@ -1,0 +1,14 @@
+pub mod Arguments
+pub mod Arrived
+pub mod CommandLine
+pub mod Doing
+pub mod Inner
+pub mod Lines
+pub mod Memory
+pub mod Options
+pub mod Output
+pub mod People
+pub mod Pipe
+pub mod PipeText
+pub mod ReplyLine
+pub mod Status

@@ -1,7 +1,0 @@
-use Rattle.std.proofs.Common.{length}
-use Rattle.mac_keys.specs.Table.{lines_of}
-use Rattle.mac_keys.proofs.RevokedLemmas.{LeadsOn}
-use Rattle.mac_keys.proofs.revoked.read_lists.Given as goal
-
-abbrev pub invariant-loop-index : goal.invariant-loop-index
-invariant-loop-index l = LeadsOn (lines_of l.text) (length l.yielded) l.lists

@@ -1,9 +1,0 @@
-use Rattle.std.proofs.Common.{◌≤◌, ◌-◌, length}
-use Rattle.macaroond.proofs.KeyText.{Divides}
-use Rattle.macaroond.proofs.lines.divide.Given as goal
-
-abbrev pub invariant-loop-end : goal.invariant-loop-end
-invariant-loop-end l = (l.start ≤ length l.input) × Divides l.input l.start
-
-abbrev pub decreases-loop-end : goal.decreases-loop-end
-decreases-loop-end l = length l.input - l.start

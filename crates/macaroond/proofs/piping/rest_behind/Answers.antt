@@ -1,8 +1,0 @@
-use Rattle.std.proofs.Common.{sym}
-use Rattle.std.proofs.lemmas.List.{append-nil}
-use Rattle.macaroond.proofs.LineLemmas.{lines-behind}
-use Rattle.macaroond.proofs.piping.rest_behind.Goals as goal
-
-pub returns-in-Oversize-clause-rest : goal.returns-in-Oversize-clause-rest
-returns-in-Oversize-clause-rest c reply =
-    rw (c.in-Oversize.is, lines-behind c.args.behind.now) (sym (append-nil _))
