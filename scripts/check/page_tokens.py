@@ -250,7 +250,8 @@ def without_keys(page):
     page.paste(v2("a"))
     yield "no choice of a key", page.is_hidden("#choice"), True
     yield "no mint", page.is_hidden("#mint"), True
-    yield "what would help", "--keys FILE" in page.text("#verdict-words"), True
+    is_told = "document.getElementById('verdict-words').innerText.includes('--keys FILE')"
+    yield "what would help", page.tab.until(is_told, True), True
 
 
 def with_keys(page):

@@ -28,9 +28,10 @@ MINTING, MINTED = frame(MINT), frame(b"\x01" + TOKEN)
 
 
 def lines(run):
-    """How a run ended, and what it said but for its start."""
+    """How a run ended, and what it said but for its start. A daemon may see first that its status socket is another's."""
     status, _, said = ended(run)
-    return status, said
+    return status, [(what, {**fields, "socket": fields["socket"].removesuffix(".status")} if what == "replaced" else fields)
+                    for what, fields in said]
 
 
 def replaced(path, left, cut=0):

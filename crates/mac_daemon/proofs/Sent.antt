@@ -1,18 +1,22 @@
 -- What the threads of a daemon are handed, type by type: a search through all of it at once gives up.
-use mathlib.Core.List.{[], ◌∷◌}
-use mir.Syntax.{Sym}
-use denote.RattleType.{RattleType}
 use denote.Param.Send.{IsSend, sendable}
-use denote.Param.SendFields.{as_row_send, declared_send}
-use denote.Struct.Field.{row_field}
-use denote.Struct.Tuple.{TupleAt, type_at}
 use Rattle.std.proofs.Crossing.{crosses}
 use Rattle.mac_daemon.proofs.quay.Quay.TheSendSync as quay
 use Rattle.mac_daemon.specs.contracts.fleet.FleetParts as FleetParts
 use Rattle.mac_daemon.specs.contracts.fleet.Idlers as Idlers
+use Rattle.mac_decide.proofs.job.Job.TheSendSync as job
 use Rattle.mac_decide.proofs.rights.Rights.TheSendSync as rights
+use Rattle.mac_decide.specs.contracts.job.Job as Job
+use Rattle.mac_decide.specs.contracts.job.JobEq.TheImpl as job_eq
+use Rattle.mac_decide.specs.contracts.job.JobPartialEq.TheImpl as job_partial_eq
+use Rattle.mac_decide.specs.contracts.macaroons.Macaroons as Macaroons
+use Rattle.mac_decide.specs.contracts.macaroons.MacaroonsService.TheImpl as service
 use Rattle.mac_loop.proofs.Sent.{loop_sent, loops_sent, loops_shared}
+use Rattle.mac_queue.proofs.desk.Desk.TheSendSync as desk
+use Rattle.mac_queue.specs.contracts.desk.Desk as Desk
 use Rattle.mac_sockets.proofs.entrance.Entrance.TheSendSync as entrance
+use Rattle.mac_wire.proofs.reply.Reply.TheSendSync as reply
+use Rattle.mac_wire.specs.contracts.reply.Reply as Reply
 
 pub idlers_field_sent : IsSend (Idlers.the_field).row
 idlers_field_sent = search (sendable, crosses, loop_sent, loops_sent, loops_shared) depth 20
@@ -20,9 +24,5 @@ idlers_field_sent = search (sendable, crosses, loop_sent, loops_sent, loops_shar
 pub parts_sent : IsSend FleetParts.the_row
 parts_sent = search (sendable, crosses, idlers_field_sent, entrance.the_field_send, rights.the_send, rights.the_sync, quay.the_send, quay.the_sync) depth 20
 
--- what a thread captured: five values, or six
-pub five_sent : (ν : Sym) (A B C D E : RattleType) → IsSend A → IsSend B → IsSend C → IsSend D → IsSend E → IsSend (TupleAt ν (A ∷ B ∷ C ∷ D ∷ E ∷ []))
-five_sent ν A B C D E a b c d e = declared_send (type_at ν (A ∷ B ∷ C ∷ D ∷ E ∷ [])) (as_row_send (row_field A) a, (as_row_send (row_field B) b, (as_row_send (row_field C) c, (as_row_send (row_field D) d, (as_row_send (row_field E) e, tt)))))
-
-pub six_sent : (ν : Sym) (A B C D E F : RattleType) → IsSend A → IsSend B → IsSend C → IsSend D → IsSend E → IsSend F → IsSend (TupleAt ν (A ∷ B ∷ C ∷ D ∷ E ∷ F ∷ []))
-six_sent ν A B C D E F a b c d e f = declared_send (type_at ν (A ∷ B ∷ C ∷ D ∷ E ∷ F ∷ [])) (as_row_send (row_field A) a, (as_row_send (row_field B) b, (as_row_send (row_field C) c, (as_row_send (row_field D) d, (as_row_send (row_field E) e, (as_row_send (row_field F) f, tt))))))
+pub desk_sent : IsSend (Desk.the_row Macaroons.the_row Job.the_row Reply.the_row service.ghosts job_eq.ghosts job_partial_eq.ghosts)
+desk_sent = desk.the_send Macaroons.the_row Job.the_row Reply.the_row service.ghosts job_eq.ghosts job_partial_eq.ghosts job.the_send reply.the_send

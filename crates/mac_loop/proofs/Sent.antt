@@ -60,10 +60,3 @@ loop_field_sent = search (sendable, crosses, member_sent, batch_field_sent, conn
 
 pub loop_sent : IsSend Loop.the_row
 loop_sent = recorded_send (Loop.the_field).row _ _ (Loop.the_type).to_one loop_field_sent
-
--- the same as fields of others
-pub loops_field_sent : IsSend (Loops.the_field).row
-loops_field_sent = search (sendable, crosses, side_sent) depth 20
-
-pub loops_field_shared : IsSync (Loops.the_field).row
-loops_field_shared = search (sendable, crosses, side_shared) depth 20

@@ -228,7 +228,7 @@ fn open_own<R>(
 ) -> Result<Doors<Gift>, DaemonFault>
 where
     R: Alloc<A = Global> + Files<File = File> + Net + Clock + Wait,
-    ensures { IfOk result (GiveInOrder rights side) }
+    ensures { IfOk result (GiveInOrder rights side.entry) }
 {
     let mut doors = Doors::new(rt.alloc());
     let gift = give(rt.alloc(), rights)?;

@@ -1,7 +1,8 @@
 use denote.Exit.{no}
 use denote.Param.Send.{arg_send, copied_send, param_send}
 use Rattle.std.proofs.Crossing.{Arc-send, send}
-use Rattle.mac_gate.proofs.Sent.{content_sent, five_sent}
+use Rattle.mac_gate.proofs.Sent.{content_sent}
+use Rattle.mac_sockets.proofs.Sent.{five_sent}
 use Rattle.mac_gate.proofs.looping.HttpLoop.TheSendSync as own
 use Rattle.mac_gate.proofs.shared.Shared.TheSendSync as shared
 use Rattle.mac_gate.proofs.looping.HttpLoop.start.Goals as goal
