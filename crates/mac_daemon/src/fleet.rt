@@ -67,10 +67,12 @@ impl Shape {
     fn loop_terms(self, may_share: bool) -> LoopTerms
         ensures memory { result.memory ≡ self.memory - tokens_memory self }
         ensures count { result.count ≡ self.loops }
+        ensures workers { result.workers ≡ self.workers }
         ensures idle { result.idle ≡ self.idle }
     {
         LoopTerms {
             count: self.loops,
+            workers: self.workers,
             idle: self.idle,
             may_share,
             memory: self.connections_memory(),

@@ -6,3 +6,4 @@ pub mod Pace
 pub mod Turns
 pub mod Weight
 pub mod Load
+pub mod Health

@@ -2,8 +2,8 @@
 use Rattle.std.specs.Prelude.{◌≡◌, ℕ, ◌+◌, ◌<◌, ◌^◌, ◌==◌, if◌then◌else◌, List, slice_index_or, slice_set, Option, Some}
 use Rattle.std.specs.List.{sum_by}
 use Rattle.mac_log.specs.declared.books.Books.{Books}
-use Rattle.mac_log.specs.declared.books.PrintedLine.{PrintedLine}
-use Rattle.mac_log.specs.declared.books.PrintedLine.TheVariants.{Posted, LeftOut}
+use Rattle.mac_log.specs.declared.books.KindLines.{KindLines}
+use Rattle.mac_log.specs.declared.books.KindLines.TheVariants.{Posted, LeftOut}
 use Rattle.mac_log.specs.declared.kind.Kind.{Kind}
 use Rattle.mac_log.specs.declared.quota.Quota.{Quota}
 use Rattle.mac_log.specs.Kind.{is_bounded, kind_place}
@@ -27,15 +27,15 @@ admitted_of quotas kind now =
 abbrev pub count_for : Kind → ℕ → Kind → ℕ
 count_for of count kind = if kind_place of == kind_place kind then count else 0
 
--- how many lines of a kind a printed one tells of
-abbrev pub told_by : Kind → PrintedLine → ℕ
-told_by kind (Posted of) = count_for of 1 kind
-told_by kind (LeftOut of count) = count_for of count kind
+-- how many of these lines are of a kind
+abbrev pub lines_of : Kind → KindLines → ℕ
+lines_of kind (Posted of) = count_for of 1 kind
+lines_of kind (LeftOut of count) = count_for of count kind
 
 -- The lines of a kind that are accounted for: printed, told to be left out, or left out and to be
 -- told.
 abbrev pub accounted : Books → Kind → ℕ
-accounted books kind = sum_by (told_by kind) books.printed + (quota_of books.quotas kind).left_out
+accounted books kind = sum_by (lines_of kind) books.printed + (quota_of books.quotas kind).left_out
 
 -- so many lines more of one kind are accounted for, and none of another, as far as 64 bits count them
 abbrev pub Gains : Books → Books → Kind → ℕ → Type 0
@@ -46,3 +46,8 @@ Gains before after of count = (kind : Kind) → accounted before kind + count_fo
 abbrev pub Owes : Books → Books → Kind → ℕ → Type 0
 Owes before after of count = (kind : Kind)
     → accounted after kind + count_for of count kind ≡ accounted before kind
+
+-- each line that was taken is accounted for, kind by kind, as far as 64 bits count them
+abbrev pub AreAccounted : List KindLines → Books → Type 0
+AreAccounted taken books = (kind : Kind) → sum_by (lines_of kind) taken < 2 ^ 64
+    → accounted books kind ≡ sum_by (lines_of kind) taken

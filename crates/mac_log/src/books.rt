@@ -1,19 +1,19 @@
 //! What a printer did with the lines that it took.
 
 ghost use Rattle.std.specs.Prelude.{◌≡◌, ◌<◌, ◌+◌, ◌^◌, ℕ, IfNone, IfSome, IfOk};
-ghost use Rattle.mac_log.specs.Books.{Gains, Owes, accounted, admitted_of, quota_of, told_by};
+ghost use Rattle.mac_log.specs.Books.{Gains, Owes, accounted, admitted_of, lines_of, quota_of};
 ghost use Rattle.mac_log.specs.Quota.{is_owing};
 
 use crate::kind::{KINDS, Kind};
 use crate::quota::Quota;
 use mac_mail::History;
 
-/// A line that was printed.
+/// Lines of a kind, as they were taken or printed.
 #[derive(Clone, Copy, Debug, PartialEq, Eq)]
-pub enum PrintedLine {
+pub enum KindLines {
     /// One of this kind that was posted.
     Posted(Kind),
-    /// One that tells how many lines of this kind were left out.
+    /// So many of this kind that were left out, of which one line tells.
     LeftOut(Kind, u64),
 }
 
@@ -21,7 +21,7 @@ pub enum PrintedLine {
 #[derive(Drop)]
 pub struct Books {
     quotas: [Quota; KINDS],
-    printed: History<PrintedLine>,
+    printed: History<KindLines>,
 }
 
 impl Books {
@@ -77,11 +77,11 @@ impl Books {
         self.quotas[kind.place()].is_owing()
     }
 
-    /// Notes a line that was printed.
-    pub fn note(&mut self, line: PrintedLine)
+    /// Notes what a line was printed for.
+    pub fn note(&mut self, lines: KindLines)
         ensures { (kind : Kind)
-            → accounted self.new kind ≡ accounted self.old kind + told_by kind line }
+            → accounted self.new kind ≡ accounted self.old kind + lines_of kind lines }
     {
-        self.printed.add(&line);
+        self.printed.add(&lines);
     }
 }

@@ -21,6 +21,7 @@ mod moment;
 mod name;
 mod printer;
 mod quota;
+mod taken;
 mod value;
 
 pub use fields::{FIELDS_MAX, FIELDS_ROOM, Fields};

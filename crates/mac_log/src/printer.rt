@@ -1,16 +1,18 @@
 //! The thread that prints lines.
 
 ghost use Rattle.std.specs.Prelude.{◌≡◌};
-ghost use Rattle.mac_log.specs.Books.{Gains};
+ghost use Rattle.mac_log.specs.Books.{AreAccounted, Gains, accounted};
+ghost use Rattle.mac_log.specs.declared.kind.Kind.{Kind};
 
 use crate::NoMemory;
-use crate::books::{Books, PrintedLine};
+use crate::books::{Books, KindLines};
 use crate::clock::{millis_now, millis_of};
 use crate::fields::Fields;
 use crate::key::Key;
 use crate::kind::Kind;
 use crate::line::Line;
 use crate::log::Log;
+use crate::taken::TakenLines;
 use std::alloc::Global;
 use std::sync::{Arc, Wait};
 use std::thread;
@@ -23,40 +25,95 @@ use std::time::{Clock, Instant};
 struct Printer {
     alloc: Global,
     has_priority: bool,
-    begun: Option<Instant>,
     books: Books,
     text: Vec<u8>,
 }
 
-impl Printer {
-    fn new<R: Clock>(rt: &R, alloc: Global, has_priority: bool) -> Printer {
-        Printer {
-            alloc,
-            has_priority,
+/// A printer with the lines that it takes: each of them is accounted for.
+#[derive(Drop)]
+struct Printing {
+    taken: TakenLines,
+    printer: Printer,
+    begun: Option<Instant>,
+    ghost accounted: { AreAccounted taken.history printer.books },
+}
+
+impl Printing {
+    fn new<R: Clock>(rt: &R, alloc: Global, log: Arc<Log, Global>, has_priority: bool) -> Printing {
+        Printing {
+            taken: TakenLines::new(log),
+            printer: Printer::new(alloc, has_priority),
             begun: Instant::now(rt).ok(),
-            books: Books::new(),
-            text: Vec::new(alloc),
         }
     }
 
     /// Prints lines without end.
-    fn print_each<R: Wait + Clock + Eprint>(mut self, rt: &R, log: &Log) {
+    fn print_each<R: Wait + Clock + Eprint>(mut self, rt: &R) {
         for _ in rt.forever() {
             let now = self.millis(rt);
-            self.print_waiting(rt, log, now);
-            let is_owing = self.tell_left_out(rt, log, now);
-            log.await_line(rt, is_owing);
+            self.print_waiting(rt, now);
+            let is_owing = self.tell_left_out(rt, now);
+            self.taken.await_line(rt, is_owing);
         }
     }
 
     /// Prints what waits, as far as the quotas go.
-    fn print_waiting<R: Wait + Clock + Eprint>(&mut self, rt: &R, log: &Log, now: u64) {
+    fn print_waiting<R: Wait + Clock + Eprint>(&mut self, rt: &R, now: u64) {
         for _ in rt.forever() {
-            let Some(line) = log.next(rt) else {
+            if !self.print_next(rt, now) {
                 return;
-            };
-            self.deal_with(rt, &line, now);
-            log.settle_one();
+            }
+        }
+    }
+
+    /// Deals with the next line that waits. Whether there was one.
+    fn print_next<R: Wait + Eprint>(&mut self, rt: &R, now: u64) -> bool {
+        let Some(line) = self.taken.next(rt) else {
+            return false;
+        };
+        self.printer.deal_with(rt, &line, now);
+        self.taken.settle_one();
+        true
+    }
+
+    /// Tells of each kind how many lines were left out, where that is due. Whether there are others
+    /// of which it is not.
+    fn tell_left_out<R: Wait + Clock + Eprint>(&mut self, rt: &R, now: u64) -> bool {
+        let mut is_owing = false;
+        for kind in Kind::ALL {
+            self.settle(rt, kind, now);
+            is_owing = is_owing || self.printer.books.is_owing(kind);
+        }
+        is_owing
+    }
+
+    /// Takes in how many lines of a kind were left out, and tells that where it is due.
+    fn settle<R: Clock + Eprint>(&mut self, rt: &R, kind: Kind, now: u64) {
+        let lost = self.taken.take_left_out(kind);
+        self.printer.settle(rt, kind, lost, now);
+    }
+
+    /// Milliseconds since the thread began, or 0 where the clock can't be read.
+    fn millis<R: Clock>(&self, rt: &R) -> u64 {
+        let Some(begun) = self.begun else {
+            return 0;
+        };
+        match begun.elapsed(rt) {
+            Ok(since) => millis_of(since),
+            Err(_) => 0,
+        }
+    }
+}
+
+impl Printer {
+    fn new(alloc: Global, has_priority: bool) -> Printer
+        ensures { (kind : Kind) → accounted result.books kind ≡ 0 }
+    {
+        Printer {
+            alloc,
+            has_priority,
+            books: Books::new(),
+            text: Vec::new(alloc),
         }
     }
 
@@ -75,22 +132,10 @@ impl Printer {
         ensures { Gains self.old.books self.new.books line.now.kind 1 }
     {
         if self.print(rt, line) {
-            self.books.note(PrintedLine::Posted(line.kind));
+            self.books.note(KindLines::Posted(line.kind));
         } else {
             self.books.leave_out(line.kind, 1);
         }
-    }
-
-    /// Tells of each kind how many lines were left out, where that is due. Whether there are others
-    /// of which it is not.
-    fn tell_left_out<R: Wait + Clock + Eprint>(&mut self, rt: &R, log: &Log, now: u64) -> bool {
-        let mut is_owing = false;
-        for kind in Kind::ALL {
-            let lost = log.take_left_out(kind);
-            self.settle(rt, kind, lost, now);
-            is_owing = is_owing || self.books.is_owing(kind);
-        }
-        is_owing
     }
 
     /// Takes in how many lines of a kind were left out, and tells how many there are of them all,
@@ -126,7 +171,7 @@ impl Printer {
             Err(_) => false,
         };
         if is_printed {
-            self.books.note(PrintedLine::LeftOut(kind, count));
+            self.books.note(KindLines::LeftOut(kind, count));
         } else {
             self.books.leave_out(kind, count);
         }
@@ -145,17 +190,6 @@ impl Printer {
         }
         true
     }
-
-    /// Milliseconds since the thread began, or 0 where the clock can't be read.
-    fn millis<R: Clock>(&self, rt: &R) -> u64 {
-        let Some(begun) = self.begun else {
-            return 0;
-        };
-        match begun.elapsed(rt) {
-            Ok(since) => millis_of(since),
-            Err(_) => 0,
-        }
-    }
 }
 
 /// The fields of a line that tells how many lines of a kind were left out.
@@ -173,7 +207,7 @@ where
 {
     let log = Arc::new(alloc, Log::new(alloc).ok()?).ok()?;
     let printed = Arc::try_clone(&log).ok()?;
-    let printer = Printer::new(&rt, alloc, has_priority);
-    thread::spawn(&rt, move || printer.print_each(&rt, &printed)).ok()?;
+    let printing = Printing::new(&rt, alloc, printed, has_priority);
+    thread::spawn(&rt, move || printing.print_each(&rt)).ok()?;
     Some(log)
 }

@@ -3,3 +3,4 @@ pub mod Asks
 pub mod Minted
 pub mod Reason
 pub mod Resting
+pub mod SocketQueues

@@ -52,8 +52,9 @@ pub struct Loop {
     number: usize,
     alloc: Global,
     members: Connections<Member>,
-    // What ends its waits once workers have answered.
+    // What ends its waits once workers have answered, of whom there are so many.
     waker: Option<Waker>,
+    workers: usize,
     // The clients of a turn.
     batch: Batch,
     round: Round,
@@ -84,6 +85,8 @@ pub struct Loop {
 pub struct LoopTerms {
     /// How many there are.
     pub count: usize,
+    /// How many workers answer what they must not.
+    pub workers: usize,
     /// The seconds after which a client that makes no progress is ended. Where none are asked for,
     /// one is that has sent nothing whole for five minutes.
     pub idle: Option<u64>,
@@ -104,6 +107,7 @@ pub fn make_loops<R: Net + Wait>(
 ) -> Result<(Arc<Loops, Global>, Vec<Loop>), WaitFault> {
     let LoopTerms {
         count,
+        workers,
         idle,
         may_share,
         memory,
@@ -117,6 +121,7 @@ pub fn make_loops<R: Net + Wait>(
             number,
             alloc,
             waker: Some(members.waker()?),
+            workers,
             account: Account::open(rt, budget, members.waker()?)?,
             members,
             batch: Batch::with_capacity(alloc, PARTS_MAX)?,
@@ -154,7 +159,7 @@ impl Loop {
         W: Watch,
         ensures { home_of result ≡ home_of desk }
     {
-        let mut asks = Asks::new(self.alloc, desk, self.waker.take());
+        let mut asks = Asks::new(self.alloc, desk, self.workers, self.waker.take());
         self.take_turns(rt, loops, outlook, &mut asks, watch);
         asks.into_desk()
     }
