@@ -39,9 +39,9 @@ where
     ensures { IfOk result (λ first. IsKeyTable first.read.table) }
 {
     let mut file = ObservedFile::new(keys.path, keys.of_others);
-    let before = file.state(rt, None);
+    let before = file.find(rt);
     let read = read_key_file(rt, keys.path)?;
-    let after = file.state(rt, None);
+    let after = file.find(rt);
     Ok(FirstKeys {
         read,
         before,

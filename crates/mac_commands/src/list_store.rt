@@ -98,7 +98,7 @@ where
     ensures { IfOk result (λ read. IfOk read (λ first. IsList first.list)) }
 {
     let mut file = ObservedFile::new(place.path, place.of_others);
-    let found = file.state(rt, None);
+    let found = file.find(rt);
     let sight = read_sight(rt, &mut file, found, Held::List)?;
     let Sight::Read {
         before,

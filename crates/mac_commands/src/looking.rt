@@ -21,7 +21,7 @@ where
     ensures seen { IfOk result (λ sight.
         IsSeen editor.now.watchers.keys file.old sight file.new) }
 {
-    let found = file.state(rt, None);
+    let found = file.find(rt);
     match found {
         FileState::Marked(_) if editor.wants(found) => read_sight(rt, file, found, Held::Keys),
         _ => Ok(Sight::Glance(found)),
@@ -41,7 +41,7 @@ where
     ensures seen { IfOk result (λ sight.
         IsSeen editor.now.watchers.list file.old sight file.new) }
 {
-    let found = file.state(rt, None);
+    let found = file.find(rt);
     match found {
         FileState::Marked(_) if editor.wants_list(found) => read_sight(rt, file, found, Held::List),
         _ => Ok(Sight::Glance(found)),
@@ -60,14 +60,18 @@ where
     ensures goes_on { GoesOn file.old.told file.new.told }
     ensures read { IfOk result (λ sight. IsRead found file.old.told sight file.new.told) }
 {
-    let opened = file.open(rt);
-    let opened = opened.as_ref();
-    let before = match opened {
-        Some(_) => file.state(rt, opened),
-        None => found,
+    let Some(opened) = file.open(rt) else {
+        let text = file.text(rt.alloc(), None, held)?;
+        let after = file.find(rt);
+        return Ok(Sight::Read {
+            before: found,
+            text,
+            after,
+        });
     };
-    let text = file.text(rt.alloc(), opened, held)?;
-    let after = file.state(rt, opened);
+    let before = file.state(&opened);
+    let text = file.text(rt.alloc(), Some(&opened), held)?;
+    let after = file.state(&opened);
     Ok(Sight::Read {
         before,
         text,

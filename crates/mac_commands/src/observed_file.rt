@@ -1,7 +1,7 @@
 //! What the system tells of a file that is followed.
 ghost use Rattle.std.specs.Prelude.{◌≡◌, ◌++◌, ◌∷◌, [], IfNone, IfOk, MatchResult, Ok, Err};
 ghost use Rattle.mac_board.specs.declared.sight.ReadFault.TheVariants.{Unreadable};
-ghost use Rattle.mac_commands.specs.declared.observed_file.FileAnswer.TheVariants.{State, Text};
+ghost use Rattle.mac_commands.specs.declared.observed_file.FileAnswer.TheVariants.{Found, State, Text};
 
 use crate::key_file::access_of;
 use crate::key_store::read_text;
@@ -27,7 +27,9 @@ pub(crate) enum Held {
 /// What the system tells of a file when it is asked once.
 #[derive(Drop)]
 pub enum FileAnswer {
-    /// Its state.
+    /// How the file at its path is found.
+    Found(FileState),
+    /// The state of the file that was opened.
     State(FileState),
     /// Its text, or why there is none.
     Text(Result<Vec<u8>, ReadFault>),
@@ -62,14 +64,20 @@ impl<'a> ObservedFile<'a> {
         File::open(rt, self.path).ok()
     }
 
-    /// The state of the file that was opened, or where none was, of the one at the path.
-    pub(crate) fn state<R: Files>(&mut self, rt: &R, opened: Option<&File>) -> FileState
+    /// How the file at the path is found.
+    pub(crate) fn find<R: Files>(&mut self, rt: &R) -> FileState
+        ensures { self.new.told ≡ self.old.told ++ Found result ∷ [] }
+    {
+        let state = state_of(fs::metadata(rt, self.path));
+        self.told.add(&FileAnswer::Found(state));
+        state
+    }
+
+    /// The state of the file that was opened.
+    pub(crate) fn state(&mut self, opened: &File) -> FileState
         ensures { self.new.told ≡ self.old.told ++ State result ∷ [] }
     {
-        let found = match opened {
-            Some(file) => file.metadata(),
-            None => fs::metadata(rt, self.path),
-        };
+        let found = opened.metadata();
         self.exposure = exposure_told(&found);
         let state = state_of(found);
         self.told.add(&FileAnswer::State(state));
