@@ -39,15 +39,15 @@ pub enum FileAnswer {
 #[derive(Drop)]
 pub struct ObservedFile<'a> {
     path: &'a str,
+    // Whether others may use it, and why they may, as the system told with the last state.
     of_others: bool,
-    // Why others may use the one that was opened, as the system told with its state.
     exposure: Option<Exposure>,
     // All that the system told, in order.
     told: History<FileAnswer>,
 }
 
 impl<'a> ObservedFile<'a> {
-    /// The file at a path, which others may use or not. The system has told nothing of it yet.
+    /// The file at a path, which others may use or not. The system hasn't told anything of it yet.
     pub fn new(path: &'a str, of_others: bool) -> ObservedFile<'a>
         ensures { result.told ≡ [] }
     {
