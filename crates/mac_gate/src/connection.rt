@@ -32,8 +32,10 @@ const DROPPED_MICROS: u64 = 100_000;
 pub struct HttpConnection {
     stream: Stream,
     connection: Connection,
-    // What came of a request in small pieces, and wasn't looked at yet.
+    // What came of a request in small pieces, and wasn't looked at yet; and whether its loop has noted
+    // when it is to look at that.
     gathered: Gathered,
+    is_put_off: bool,
     // When something was written last, or it began, in microseconds.
     since: u64,
     // What has come since then.
@@ -60,6 +62,7 @@ impl HttpConnection {
             stream,
             connection,
             gathered: Gathered::new(alloc),
+            is_put_off: false,
             since: now,
             weight: Weight::new(),
             load: Load::new(),
@@ -134,9 +137,20 @@ impl HttpConnection {
         left_of(limit, now.saturating_sub(self.since))
     }
 
-    /// In how many microseconds what came in small pieces is looked at, where something is put off.
-    pub fn due_in(&self) -> Option<u64> {
-        self.gathered.due_in()
+    /// In how many microseconds what came in small pieces is looked at, where something is put off and
+    /// no look at it is noted. From then on one is.
+    pub fn put_off(&mut self) -> Option<u64> {
+        if self.is_put_off {
+            return None;
+        }
+        let due_in = self.gathered.due_in()?;
+        self.is_put_off = true;
+        Some(due_in)
+    }
+
+    /// The look comes that was noted.
+    pub fn take_up(&mut self) {
+        self.is_put_off = false;
     }
 
     /// Does what can be done without waiting, by this service; what is dropped is read into the

@@ -41,7 +41,7 @@ pub struct Waiting {
     patience: u64,
     // Nobody has to be looked at before then of whom no event tells, but for those below.
     due: Option<u64>,
-    // Those of whom something came that was put off, the first one that is due in front.
+    // Those of whom something came that was put off, each once, the first one that is due in front.
     put_off: VecDeque<PutOff>,
 }
 
@@ -116,9 +116,17 @@ impl Waiting {
                 _ => return,
             }
             if let Some(first) = self.put_off.pop_front() {
-                self.connections.wake(first.slot, Readiness::UNTOLD);
+                self.take_up(first.slot);
             }
         }
+    }
+
+    /// Lists a slot whose connection has something that was put off.
+    fn take_up(&mut self, slot: usize) {
+        if let Some(one) = self.connections.slots.get_mut(slot) {
+            one.take_up();
+        }
+        self.connections.wake(slot, Readiness::UNTOLD);
     }
 
     /// Has the connection of a slot looked at so long from now; or all, where there is no memory to
@@ -309,11 +317,12 @@ impl Waiting {
 
     /// Notes until when one that goes on has to be looked at.
     fn stay(&mut self, slot: usize) {
-        let Some(one) = self.connections.slots.get(slot) else {
+        let now = self.now();
+        let Some(one) = self.connections.slots.get_mut(slot) else {
             return;
         };
-        let (left, is_owed) = (one.left(self.patience, self.now()), one.is_owed());
-        let due_in = one.due_in();
+        let (left, is_owed) = (one.left(self.patience, now), one.is_owed());
+        let due_in = one.put_off();
         if let Some(left) = left {
             self.expect(left);
         }
