@@ -368,11 +368,12 @@ def rate(clients, path, run):
     return count / (time.monotonic() - begin), (processor_seconds(run.pid) - used) / count
 
 
-def rates(clients, daemons):
-    """The same of each daemon in turn, anew where the machine's host took processors meanwhile."""
+def rates(clients, daemons, first):
+    """The same of each daemon in turn, from this one on, anew where the machine's host took processors meanwhile."""
+    places = [(first + turn) % len(daemons) for turn in range(len(daemons))]
     for _ in range(TRIES):
         before = stolen()
-        found = [rate(clients, path, run) for path, run in daemons]
+        found = {place: rate(clients, *daemons[place]) for place in places}
         if stolen_since(before) <= STOLEN_MAX:
             break
     return found
@@ -387,8 +388,8 @@ def medians(clients, lists, rounds, words):
     with contextlib.ExitStack() as stack:
         ways = [[], *[["--revoked", path] for path in lists.values()]]
         daemons = [stack.enter_context(listening(*way, *words)) for way in ways]
-        rates(clients, daemons)
-        found = [rates(clients, daemons) for _ in range(rounds)]
+        rates(clients, daemons, 0)
+        found = [rates(clients, daemons, number) for number in range(rounds)]
     ratios = {
         count: [median([one[place][kind] / one[0][kind] for one in found]) for kind in range(2)]
         for place, count in enumerate(lists, start=1)
