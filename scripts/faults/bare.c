@@ -1,5 +1,5 @@
-/* The least that a byte costs which comes alone: a loop that waits at a Unix socket, looks at the clock and reads, for
-   one client, to its end. Nothing is kept or answered. PATH is where it listens. */
+/* The least that a byte costs which comes alone: a loop that waits at a Unix socket for some milliseconds, as whoever has
+   to look after others does, looks at the clock and reads, for one client, to its end. Nothing is kept or answered. PATH is where it listens. */
 #define _GNU_SOURCE
 #include <string.h>
 #include <sys/epoll.h>
@@ -8,7 +8,7 @@
 #include <time.h>
 #include <unistd.h>
 
-enum { EVENTS = 256, PIECE = 8192 };
+enum { EVENTS = 256, PIECE = 8192, PATIENCE = 5 };
 
 int main(int count, char **words) {
     struct sockaddr_un at = {.sun_family = AF_UNIX};
@@ -22,7 +22,7 @@ int main(int count, char **words) {
     for (ssize_t came = 1; came != 0;) {
         char piece[PIECE];
         struct timespec now;
-        int events = epoll_wait(poll, told, EVENTS, -1);
+        int events = epoll_wait(poll, told, EVENTS, PATIENCE);
         clock_gettime(CLOCK_MONOTONIC, &now);
         if (events > 0) came = read(stream, piece, sizeof piece);
     }
