@@ -1,5 +1,6 @@
-/* The least that a byte costs which comes alone: a loop that waits at a Unix socket for some milliseconds, as whoever has
-   to look after others does, looks at the clock and reads, for one client, to its end. Nothing is kept or answered. PATH is where it listens. */
+/* The least that a byte costs which comes alone: a loop that waits at a Unix socket for some milliseconds, as one does
+   that has others to look after, looks at the clock and reads, for one client, to its end. Nothing is kept or answered.
+   PATH is where it listens. */
 #define _GNU_SOURCE
 #include <string.h>
 #include <sys/epoll.h>

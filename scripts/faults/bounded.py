@@ -270,7 +270,7 @@ def dripped():
     print(f"bounded: a byte of a head that comes alone costs {told} us, part by part; in a bare loop {of_bare:.1f}")
     late = max(statistics.median(costs), statistics.median(costs[-LAST:]))
     if late > max(BYTE_MAX, BARE_TIMES * of_bare):
-        yield f"a byte of a head that comes alone costs {late:.1f} us of the processor, and in a bare loop {of_bare:.1f}"
+        yield f"a byte of a head that comes alone costs {late:.1f} us of the processor, in a bare loop {of_bare:.1f}"
     if status != b"200":
         yield f"a head that came so was answered {status.decode()}"
 
