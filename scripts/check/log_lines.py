@@ -13,6 +13,7 @@ from check.daemon_rows import HELLO, MINT, NO_REQUEST, SLOW_TOKEN, TOKEN, placed
 from common import KEYS, TOP, daemon, logged
 from common.daemon import REST, awaited, connected, frame, put_keys, received, reply_to
 from common.rows import in_folders, judged
+from common.tokens import text_of, v2
 
 import request
 
@@ -117,7 +118,7 @@ def few_descriptors(folder):
     log = Log(folder)
     limited = lambda: resource.setrlimit(resource.RLIMIT_NOFILE, (128, 4096))
     with listening(log, "--loops", "1", preexec_fn=limited) as (path, run):
-        yield "limit_low", told(log.first("limit_low"), "limit", "connections"), ("warning", "descriptors", "70")
+        yield "limit_low", told(log.first("limit_low"), "limit", "connections"), ("warning", "descriptors", "68")
         held = len(os.listdir(f"/proc/{run.pid}/fd"))
         resource.prlimit(run.pid, resource.RLIMIT_NOFILE, (held, 4096))
         with connected(path) as stream:
@@ -193,27 +194,35 @@ def naming(name):
     return told[:1] + bytes([len(name)]) + name + told[3:]
 
 
-# Requests, the reply to each, and what its line says: what it asks for, which name, and what it was told.
+# The secret of `bank` in the key file, and caveats of which the last isn't satisfied.
+SECRET = bytes.fromhex(KEYS.read_text().split("key bank ")[1].split()[0])
+HELD = [b"time < 9999-01-01T00:00"] * 100 + [b"x"]
+# Requests, the reply to each, and what its line says: what it asks for, which name, what it was told, and why.
 REQUESTS = (
     (MINT, b"\x01" + TOKEN, ("mint", "bank", "token", None)),
     (request.verify("bank", TOKEN.decode(), 0), b"\x00", ("verify", "bank", "granted", None)),
-    (request.verify("shop", TOKEN.decode()), bytes([23]), ("verify", "shop", "refused", "23")),
-    (request.verify("nobody", TOKEN.decode(), 0), bytes([18]), ("verify", "nobody", "refused", "18")),
+    (request.verify("shop", TOKEN.decode()), bytes([23]), ("verify", "shop", "refused", "code=23")),
+    (request.verify("nobody", TOKEN.decode(), 0), bytes([18]), ("verify", "nobody", "refused", "code=18")),
     # Tokens that stand where a name is to stand: that of README, and one of few letters, in V2 binary.
-    (naming(TOKEN), bytes([18]), ("verify", None, "refused", "18")),
-    (naming(b"AgIBYQAABiAA" + b"A" * 42), bytes([18]), ("verify", None, "refused", "18")),
-    (b"", bytes([16]), ("nothing", None, "refused", "16")),
+    (naming(TOKEN), bytes([18]), ("verify", None, "refused", "code=18")),
+    (naming(b"AgIBYQAABiAA" + b"A" * 42), bytes([18]), ("verify", None, "refused", "code=18")),
+    (b"", bytes([16]), ("nothing", None, "refused", "code=16")),
+    (request.verify("bank", text_of(v2(SECRET, b"x", HELD)), 0), bytes([24, 0, 100]), ("verify", "bank", "unsatisfied", "caveat=100")),
     # A dear one, which a worker answers while its connection waits.
-    (request.verify("bank", SLOW_TOKEN, 0), bytes([20]), ("verify", "bank", "refused", "20")),
+    (request.verify("bank", SLOW_TOKEN, 0), bytes([20]), ("verify", "bank", "refused", "code=20")),
     (MINT, b"\x01" + TOKEN, ("mint", "bank", "token", None)),
 )
 
 
 def said_of(lines, connection):
     """What lines say of the requests of a connection."""
-    keys = ("asks", "name", "verdict", "code")
     of = [it.fields for it in lines if it.what == "request" and it.fields.get("connection") == connection]
-    return [tuple(map(fields.get, keys)) for fields in of]
+    return [(*map(fields.get, ("asks", "name", "verdict")), reason_in(fields)) for fields in of]
+
+
+def reason_in(fields):
+    """Why a request wasn't done, as its line says: one field at most."""
+    return " ".join(f"{key}={fields[key]}" for key in ("code", "caveat", "status") if key in fields) or None
 
 
 def await_said(log, connection, count):
@@ -309,15 +318,18 @@ def requests_over_http(folder):
     posts = lambda path, body: b"POST %b HTTP/1.1\r\nHost: x\r\nContent-Length: %d\r\n\r\n%b" % (path, len(body), body)
     asked = (
         (b"GET /verify/bank HTTP/1.1\r\nHost: x\r\n" + bearing + b"\r\n", ("verify", "bank", "granted", None)),
-        (b"GET /verify/shop HTTP/1.1\r\nHost: x\r\n" + bearing + b"\r\n", ("verify", "shop", "refused", "401")),
+        (b"GET /verify/shop HTTP/1.1\r\nHost: x\r\n" + bearing + b"\r\n", ("verify", "shop", "refused", "code=23")),
         (
             b"GET /verify/bank HTTP/1.1\r\nHost: x\r\nX-Forwarded-Uri: //x\r\n" + bearing + b"\r\n",
-            ("verify", "bank", "unsatisfied", None),
+            ("verify", "bank", "unsatisfied", "status=403"),
         ),
+        (b"GET /verify/bank HTTP/1.1\r\nHost: x\r\n\r\n", ("verify", "bank", "refused", "status=401")),
         (posts(b"/mint/bank", b'{"identifier":"x"}'), ("mint", "bank", "token", None)),
-        (posts(b"/mint/bank", b"[]"), ("mint", "bank", "refused", "400")),
+        (posts(b"/mint/bank", b"[]"), ("mint", "bank", "refused", "status=400")),
+        (posts(b"/mint/none", b"{}"), ("mint", "none", "refused", "code=18")),
+        (posts(b"/inspect", b'{"token":"AAAA"}'), ("inspect", None, "refused", "code=20")),
         (posts(b"/inspect", b'{"token":"' + TOKEN + b'"}'), ("inspect", None, "told", None)),
-        (posts(b"/attenuate", b"{}"), ("verify", None, "refused", "404")),
+        (posts(b"/attenuate", b"{}"), ("verify", None, "refused", "status=404")),
         (b"GET /healthz HTTP/1.1\r\nHost: x\r\nConnection: close\r\n\r\n", None),
     )
     due = [told for _, told in asked if told]

@@ -1,9 +1,11 @@
 #!/usr/bin/env python3
-"""Twelve reasons for which a verify is refused, as each face tells them.
+"""Twelve reasons for which a request is refused, as each face tells them, and as the log does.
 
-Frames tell the number of a reason, and the place of a caveat. HTTP tells a status and `Macaroon-Reason`, a line of
-the log the verdict and its code, and `macaroond verify --explain` the number, and what the token lacks in words.
+Frames tell the number of a reason, and the place of a caveat. HTTP tells a status and `Macaroon-Reason`, a call the
+number in JSON, and `macaroond verify --explain` the number, and what the token lacks in words. Whichever face was
+asked, the line of the log alone tells which of the twelve it was.
 """
+import json
 import pathlib
 import subprocess
 import sys
@@ -19,6 +21,7 @@ from common.tokens import field, signed, text_of, v2
 import request
 
 SECRET, OTHER, HOLDER, GONE = b"a secret of the bank's own", b"a secret of somebody else", b"alice", b"alice:1"
+SATISFIED = b"time < 9999-01-01T00:00"
 ENDED, AHEAD, METHOD, UNDER = b"time < 2020-01-01T00:00", b"time >= 9999-01-01T00:00", b"method = GET", b"path under /a"
 # What HTTP tells of a request: the fields of its facts, and where its path is told.
 FACT, PATH = "Macaroon-Fact", "X-Forwarded-Uri"
@@ -45,25 +48,33 @@ class Reason(typing.NamedTuple):
     lacks: str = ""
     name: str = "bank"
     facts: typing.Sequence[str] = ()
-    # What HTTP tells behind the status, where it tells a reason, and of which path it is asked.
-    reason: str = ""
+    # The index of the caveat that isn't satisfied.
+    caveat: typing.Optional[int] = None
+    # Of which path HTTP is asked, where that is no plain one.
     path: str = ""
 
-    def is_unsatisfied(self):
-        return self.code == 24
-
     def frame_reply(self):
-        """The payload of the reply: a place behind the number, where a caveat isn't satisfied."""
-        return bytes([self.code, 0, 0] if self.is_unsatisfied() else [self.code])
+        """The payload of the reply: an index behind the number, where a caveat isn't satisfied."""
+        return bytes([self.code] if self.caveat is None else [self.code, 0, self.caveat])
 
     def http_reply(self):
-        return (403, self.reason or "24 0") if self.is_unsatisfied() else (401, None)
+        if self.caveat is None:
+            return 401, None
+        return 403, "path" if self.path else f"24 {self.caveat}"
+
+    def line(self):
+        """What a line of the log has of it: the verdict, and why."""
+        return ("refused", f"code={self.code}") if self.caveat is None else ("unsatisfied", f"caveat={self.caveat}")
+
+    def http_line(self):
+        return ("unsatisfied", "status=403") if self.path else self.line()
 
 
-def of_caveat(what, caveat, why, *facts, **more):
-    """A caveat that isn't satisfied, and why."""
-    lacks = f"caveat 0: {caveat.decode()}\n  {why}"
-    return Reason(what, 24, text_of(v2(SECRET, HOLDER, [caveat])), lacks, facts=facts, **more)
+def of_caveat(what, index, caveat, why, *facts, **more):
+    """A caveat that isn't satisfied, behind so many that are, and why."""
+    lacks = f"caveat {index}: {caveat.decode()}\n  {why}"
+    token = text_of(v2(SECRET, HOLDER, [*[SATISFIED] * index, caveat]))
+    return Reason(what, 24, token, lacks, facts=facts, caveat=index, **more)
 
 
 GOOD = text_of(v2(SECRET, HOLDER))
@@ -75,28 +86,32 @@ REASONS = [
     Reason("a third-party caveat", 21, text_of(third_party())),
     Reason("a limit", 22, text_of(v2(SECRET, HOLDER, [b"a" * 5_000]))),
     Reason("another key", 23, text_of(v2(OTHER, HOLDER))),
-    of_caveat("an end", ENDED, "it ended at second 1577836800 since 1970, "),
-    of_caveat("a beginning", AHEAD, "it begins at second 253370764800 since 1970, "),
-    of_caveat("another fact", METHOD, "it differs behind its first 9 bytes from the nearest fact: method = POST", "method = POST"),
-    of_caveat("a path that isn't plain", UNDER, "no fact tells what the path is under: ", reason="path", path="/a//b"),
+    of_caveat("an end", 0, ENDED, "it ended at second 1577836800 since 1970, "),
+    of_caveat("a beginning", 1, AHEAD, "it begins at second 253370764800 since 1970, "),
+    of_caveat("another fact", 2, METHOD, "it differs behind its first 9 bytes from the nearest fact: method = POST", "method = POST"),
+    of_caveat("a path that isn't plain", 3, UNDER, "no fact tells what the path is under: ", path="/a//b"),
     Reason("a caveat's location", 26, text_of(placed())),
     Reason(TAKEN_BACK, 29, text_of(v2(SECRET, GONE))),
 ]
+# Those for which a mint or an attenuate is refused too, asked by a call.
+CALLED = [it for it in REASONS if it.code in (18, 19, 20, 21, 22, 26)]
 
 
 class Refusing(Daemon):
     """A daemon that logs each request, with a list of tokens that were taken back."""
 
     def __init__(self, folder):
-        self.http, revoked = f"{folder}/http", pathlib.Path(folder, "revoked")
+        self.http, self.calls, revoked = f"{folder}/http", f"{folder}/calls", pathlib.Path(folder, "revoked")
         put_keys(revoked, f"revoked bank {GONE.hex()}\n")
         web = ["--http", f"unix:{self.http}", "--http-facts", "header,forwarded"]
+        web += ["--http-calls", f"unix:{self.calls}", "--http-calls-allow", "mint,attenuate"]
         super().__init__(folder, f"key bank {SECRET.hex()}\n", "--revoked", str(revoked), "--log", "requests", *web)
 
     def requests(self):
-        """The verdict and the code of each request's line."""
+        """The verdict of each request's line, and why."""
         told = [line.fields for line in self.lines() if line.what == "request"]
-        return [(it["verdict"], it.get("code")) for it in told]
+        why = [[f"{key}={it[key]}" for key in ("code", "caveat", "status") if key in it] for it in told]
+        return [(it["verdict"], " ".join(keys)) for it, keys in zip(told, why)]
 
 
 def asked(path, sent, is_whole):
@@ -125,6 +140,20 @@ def by_http(path, reason):
     return int(head.split(" ")[1]), told.get("macaroon-reason")
 
 
+def by_call(path, reason):
+    """The status of a mint or of an attenuate, and the number that it tells."""
+    where = "/attenuate" if reason.name == "bank" else f"/mint/{reason.name}"
+    body = json.dumps({"token": reason.token, "caveats": ["a = b"]} if reason.name == "bank" else {})
+    sent = f"POST {where} HTTP/1.1\r\nHost: here\r\nConnection: close\r\nContent-Length: {len(body)}\r\n\r\n{body}"
+    head, _, told = asked(path, sent.encode(), lambda data: False).partition(b"\r\n\r\n")
+    return int(head.split(b" ")[1]), json.loads(told)["code"] if told else None
+
+
+def named(line, lines):
+    """Which reasons have this line, by what each of them has."""
+    return [it.what for it, due in zip(REASONS, lines) if due == line]
+
+
 def by_words(keys, reason):
     """How the command line ends, how what it prints begins, and what it says of the caveats."""
     facts = [word for fact in reason.facts for word in ("--fact", fact)]
@@ -133,6 +162,16 @@ def by_words(keys, reason):
         [daemon.PROGRAM, *words], input=reason.token, capture_output=True, text=True, check=False, timeout=daemon.PATIENCE,
     )
     return run.returncode, run.stdout.split(":")[0].strip(), run.stderr[: len(reason.lacks)], run.stderr.count("\n")
+
+
+def told_by_log(told):
+    """Which reason each line of the log tells, by that line alone."""
+    framed, over_http = [it.line() for it in REASONS], [it.http_line() for it in REASONS]
+    faces = (("frames", framed, REASONS), ("HTTP", over_http, REASONS), ("calls", framed, CALLED))
+    for face, lines, reasons in faces:
+        mine, told = told[: len(reasons)], told[len(reasons) :]
+        yield f"the log of {face}", [named(line, lines) for line in mine], [[it.what] for it in reasons]
+    yield "no further line", told, []
 
 
 def told_by_each():
@@ -144,10 +183,13 @@ def told_by_each():
                 yield f"a frame of {reason.what}", by_frame(one.path, reason), reason.frame_reply()
             for reason in REASONS:
                 yield f"HTTP of {reason.what}", by_http(one.http, reason), reason.http_reply()
-            awaited(lambda: len(one.requests()) >= 2 * len(REASONS))
-            framed = [("unsatisfied", None) if it.is_unsatisfied() else ("refused", str(it.code)) for it in REASONS]
-            over_http = [("unsatisfied", None) if it.is_unsatisfied() else ("refused", "401") for it in REASONS]
-            yield "the log", one.requests(), framed + over_http
+            for reason in CALLED:
+                due = (404, None) if reason.name != "bank" else (400, reason.code)
+                yield f"a call of {reason.what}", by_call(one.calls, reason), due
+            awaited(lambda: len(one.requests()) >= 2 * len(REASONS) + len(CALLED))
+            yield from told_by_log(one.requests())
+            text = "\n".join(line for line in one.errors.read_text().splitlines() if " info request " in line)
+            yield "no token in the log", [it.what for it in REASONS if len(it.token) > 4 and it.token in text], []
         finally:
             one.close()
         for reason in REASONS:

@@ -6,24 +6,26 @@
 One that never reads its replies sends requests that are refused, as many as the daemon takes, with
 `--log requests` and without: the daemon holds no more than HELD_MAX MiB for it, and has a line for
 each request once its replies are read. One over HTTP sends a head a byte at a time, as long as it may
-be: each byte costs BYTE_MAX microseconds of the processor at most, in each part of the head; or half as
-much again as a byte of a frame that comes so, where the machine takes longer to wake a thread at all.
+be: in the middle of its parts, and in the middle of the last three, a byte costs BYTE_MAX microseconds of the
+processor at most. A machine may take longer than that for a loop that only waits for some milliseconds, looks at
+the clock and reads (bare.c, run beside it): then a byte costs BARE_TIMES what it costs there, at most. Both are told.
 
-A crowd of CROWD clients sends frames that aren't whole, or never reads: with `--memory MEMORY` the daemon
-holds no more than that and BESIDE_MAX MiB, ends some of them, counts those, and answers one that behaves.
-Once the crowd has gone it has none of their connections, and BESIDE_MAX MiB more than before at most. With a
-number the crowd has so many clients (10,000 take 20,100 descriptors):
+A crowd of CROWD clients sends frames that aren't whole, or never reads, and one of HTTP_CROWD does so over
+HTTP: with `--memory MEMORY` the daemon holds no more than that and BESIDE_MAX MiB, ends some of them, counts
+those, and answers one that behaves. Once the crowd has gone it has none of their connections, and BESIDE_MAX
+MiB more than before at most. With a number the crowd of frames has so many clients (10,000 take 20,100
+descriptors):
 
     bounded.py [CROWD]
 
-As many clients over HTTP as there may be send the dearest tokens in JSON without end: the same bounds hold,
-though connections over HTTP aren't within that memory.
+As many clients over HTTP as there may be send the dearest tokens in JSON without end: the same bounds hold.
 
-Asks for bin/macaroond, or the program that MACAROOND names.
+Asks for a C compiler `cc`, and for bin/macaroond or the program that MACAROOND names.
 """
 import contextlib
 import fcntl
 import pathlib
+import statistics
 import struct
 import subprocess
 import sys
@@ -34,7 +36,7 @@ import time
 sys.path.insert(0, str(pathlib.Path(__file__).resolve().parents[1]))
 from common import daemon, programs
 from common.daemon import awaited, come_to, connected, frame, numbers, received
-from common.processes import allow_descriptors, mebibytes
+from common.processes import allow_descriptors, mebibytes, timed_calmly
 from faults.hostile import dearest_token, over_http, sends_dear
 
 import request
@@ -43,19 +45,26 @@ import request
 SENT_MAX, HELD_MAX = 64 << 20, 48
 # A verify without a token under a name of 255 bytes, which is refused.
 REFUSED = frame(b"\x03\xff" + b"n" * 255)
-# How many bytes a head has that come alone, in how many parts they are timed, how many microseconds of the
-# processor each of them may cost in any part, and how many of a frame they are compared with.
-HEAD, PARTS, BYTE_MAX, FRAME_BYTES = 49_152, 8, 3.0, 4_000
+# How many bytes a head has that come alone, in how many parts they are timed, how many of those are the last ones, how
+# many microseconds of the processor each byte may cost; or how many times what one costs in a bare loop.
+HEAD, PARTS, LAST, BYTE_MAX, BARE_TIMES = 49_152, 8, 3, 3.0, 2.0
+# The source of that loop, and how many bytes it is timed with, before each part.
+BARE, BARE_BYTES = pathlib.Path(__file__).with_name("bare.c"), 1_000
 # What all clients may have together, how many MiB the daemon may hold beside that, and how many clients of a
-# crowd come that hold some 80 or 170 KiB each.
-MEMORY, BESIDE_MAX, CROWD = 64 << 20, 40, 1_200
+# crowd come that hold some 80 or 170 KiB each; and over HTTP.
+MEMORY, BESIDE_MAX, CROWD, HTTP_CROWD = 64 << 20, 40, 1_200, 600
 # How many clients over HTTP send the dearest tokens, and for how many seconds.
-HTTP_CROWD, HTTP_SECONDS = 256, 3
+DEAR_CROWD, DEAR_SECONDS = 256, 3
 # How many seconds the daemon may take to let go of what a crowd held.
 SETTLING = 10
 # A frame of which a byte is lacking, and mints whose replies are more than a socket takes.
 TORN = frame(bytes(65_000))[:-1]
 MINTS = frame(request.mint("v1-text", "bank", "", "")) * 2_500
+# A request over HTTP with the longest head and nearly all of the longest body; and requests whose responses
+# are more than a socket takes.
+TORN_HTTP = b"POST /verify/bank HTTP/1.1\r\nHost: a\r\nContent-Length: 65536\r\nX: ".ljust(49_000, b"a") + b"\r\n\r\n"
+TORN_HTTP += bytes(65_000)
+PAGES = b"GET /metrics HTTP/1.1\r\nHost: a\r\n\r\n" * 2_000
 # How many seconds the daemon takes nothing in before that counts as all.
 SILENCE = 10
 # How many requests are sent at once whose lines are counted, and how long that may take.
@@ -110,8 +119,8 @@ def past_bounds(who, held, left):
         yield f"{left:.0f} MiB were left {SETTLING} seconds behind {who}"
 
 
-def crowded(what, bytes_sent, count, words):
-    """What is held for a crowd that sends this and reads nothing, beside one that asks on, and what is left of it."""
+def crowded(what, bytes_sent, count, words, where=None):
+    """What is held for a crowd that sends this and reads nothing, at the socket or where else, and left behind it."""
     who = " ".join([f"{count} clients with {what}", *words])
     with daemon.listening("--memory", str(MEMORY), "--remember", "0", *words) as (path, run):
         with connected(path, patience=PATIENCE) as beside:
@@ -119,8 +128,9 @@ def crowded(what, bytes_sent, count, words):
                 beside.sendall(frame(b""))
                 answered = [received(beside, 5)]
                 before = mebibytes(run.pid)
+                awaited(pathlib.Path(where or path).exists)
                 for number in range(count):
-                    comes(crowd, path, bytes_sent)
+                    comes(crowd, where or path, bytes_sent)
                     if number % 100 == 0:
                         beside.sendall(frame(b""))
                         answered.append(received(beside, 5))
@@ -143,18 +153,18 @@ def crowded(what, bytes_sent, count, words):
 
 def dear_over_http():
     """What is held for as many clients over HTTP as there may be, with the dearest tokens, and what is left of them."""
-    who = f"{HTTP_CROWD} clients over HTTP with the dearest tokens"
+    who = f"{DEAR_CROWD} clients over HTTP with the dearest tokens"
     with tempfile.TemporaryDirectory() as folder:
         http = f"{folder}/http"
         with daemon.listening("--memory", str(MEMORY), "--remember", "0", "--http", f"unix:{http}") as (path, run):
             awaited(pathlib.Path(http).exists)
             before = mebibytes(run.pid)
-            sends_dear(http, over_http(dearest_token()), HTTP_CROWD, time.monotonic() + HTTP_SECONDS)
+            sends_dear(http, over_http(dearest_token()), DEAR_CROWD, time.monotonic() + DEAR_SECONDS)
             held, left = mebibytes(run.pid, "VmHWM") - before, left_of(run.pid, before)
             answered = int(numbers(path)["requests verify refused"])
     print(f"bounded: {held:.0f} MiB held for {who}, {answered} requests answered, {left:.0f} left behind them")
     yield from past_bounds(who, held, left)
-    if answered < HTTP_CROWD:
+    if answered < DEAR_CROWD:
         yield f"{answered} requests of {who} were answered"
 
 
@@ -164,6 +174,11 @@ def all_together(count):
     yield from crowded("partial frames", TORN, count, ())
     yield from crowded("replies not read", MINTS, count, ())
     yield from crowded("replies not read", MINTS, count, ("--log", "requests"))
+    with tempfile.TemporaryDirectory() as folder:
+        http = f"{folder}/http"
+        words = ("--http", f"unix:{http}", "--http-connections", "1024", "--http-patience", "60")
+        yield from crowded("partial requests", TORN_HTTP, HTTP_CROWD, words, http)
+        yield from crowded("responses not read", PAGES, HTTP_CROWD, words, http)
 
 
 def told_once_read():
@@ -217,6 +232,17 @@ def taken(stream):
     awaited(lambda: struct.unpack("i", fcntl.ioctl(stream, termios.TIOCOUTQ, bytes(4)))[0] == 0, 5, pause=0)
 
 
+@contextlib.contextmanager
+def bare_loop(folder):
+    """A stream to a bare loop that runs in a folder, and its process."""
+    program, path = f"{folder}/bare", f"{folder}/bare.socket"
+    subprocess.run(["cc", "-O2", "-o", program, BARE], check=True)
+    with subprocess.Popen([program, path]) as run:
+        awaited(pathlib.Path(path).exists)
+        with connected(path, patience=PATIENCE) as stream:
+            yield stream, run
+
+
 def drips(pid, stream, part):
     """Microseconds of the processor for each of these bytes, which come alone."""
     before = processor_micros(pid)
@@ -231,20 +257,20 @@ def dripped():
     """A head whose bytes come alone, and is answered at its end."""
     with tempfile.TemporaryDirectory() as folder:
         http = f"{folder}/http"
-        with daemon.listening("--http", f"unix:{http}", "--http-patience", "60") as (path, run):
-            with connected(path, patience=PATIENCE) as stream:
-                stream.sendall(TORN[:4])
-                of_frame = drips(run.pid, stream, TORN[4 : 4 + FRAME_BYTES])
+        words = ("--http", f"unix:{http}", "--http-patience", "60")
+        with bare_loop(folder) as (bare, least), daemon.listening(*words) as (_, run):
             awaited(pathlib.Path(http).exists)
             with connected(http, patience=PATIENCE) as stream:
                 head = b"GET /healthz HTTP/1.1\r\nHost: a\r\nX: ".ljust(HEAD - 4, b"a") + b"\r\n\r\n"
                 parts = [head[part * HEAD // PARTS : (part + 1) * HEAD // PARTS] for part in range(PARTS)]
-                costs = [drips(run.pid, stream, part) for part in parts]
+                each = [(drips(least.pid, bare, bytes(BARE_BYTES)), drips(run.pid, stream, part)) for part in parts]
                 status = stream.recv(1_000).split(b" ")[1]
+    of_bare, costs = statistics.median(one[0] for one in each), [one[1] for one in each]
     told = " ".join(f"{cost:.1f}" for cost in costs)
-    print(f"bounded: a byte of a head that comes alone costs {told} us, part by part; one of a frame {of_frame:.1f}")
-    if max(costs) > max(BYTE_MAX, 1.5 * of_frame):
-        yield f"a byte of a head that comes alone costs {max(costs):.1f} us of the processor"
+    print(f"bounded: a byte of a head that comes alone costs {told} us, part by part; in a bare loop {of_bare:.1f}")
+    late = max(statistics.median(costs), statistics.median(costs[-LAST:]))
+    if late > max(BYTE_MAX, BARE_TIMES * of_bare):
+        yield f"a byte of a head that comes alone costs {late:.1f} us of the processor, in a bare loop {of_bare:.1f}"
     if status != b"200":
         yield f"a head that came so was answered {status.decode()}"
 
@@ -252,7 +278,7 @@ def dripped():
 def faults(count=CROWD):
     """What costs more than it may, beside what it prints."""
     found = [*unread(()), *unread(("--log", "requests")), *all_together(count), *dear_over_http()]
-    found += [*told_once_read(), *dripped()]
+    found += [*told_once_read(), *timed_calmly(lambda: [*dripped()], bool)]
     return [f"bounded: {fault}" for fault in found]
 
 

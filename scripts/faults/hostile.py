@@ -14,7 +14,7 @@ and of the C library's arenas keeps some of what it once held.
 
 Then 8 and 60 clients send the dearest requests without end, tokens in JSON of 32 KiB, and another's
 small verify is timed beside them: its median, its 99th percentile and its longest wait are told. The
-same is done over HTTP.
+same is done over HTTP. And 600 send them at the second socket, beside one who sends them at the first.
 
 Then 64 and 640 clients send requests of 5 KiB whose replies have 30, and read them slowly, some 36 KB in
 ten seconds; once what they sent first is answered, a verify of 8 KiB is timed beside them.
@@ -55,8 +55,10 @@ SIZE_MAX, GROWTH_MAX, SETTLING = 40, 12, 10
 SILENT, PEAK_MAX = 63, 450
 # How many clients send dear requests at a time, for how many seconds another is timed beside them, and
 # how many seconds of its waits the 99th percentile may be, on a machine that does other work too; and
-# over HTTP, where a loop answers what is dear, on one that does no other.
+# over HTTP, where a loop answers what is dear, on one that does no other. And how many send them at the second
+# socket, and how many seconds such a request at the first one may wait.
 CROWDS, DEAR_SECONDS, DEAR_WAIT_MAX, HTTP_WAIT_MAX = (8, 60), 3, 0.5, 0.01
+SIDE_CROWDS, SIDE_WAIT_MAX = (600,), 0.15
 # How many clients read slowly, how many bytes each of them a second, and what each of them sends at most. For how
 # many seconds another is timed beside them, in how many waits in a row what they sent first is known to be answered,
 # within how many seconds that has to be, and how many seconds of its waits the 99th percentile may be.
@@ -237,8 +239,8 @@ def sends_dear(path, text, count, until):
             rest[one] = rest[one][one.send(rest[one]) :] or memoryview(texts)
 
 
-def waits_beside(grants, path, text, count):
-    """The seconds that small verifies waited beside so many clients with this dear request, sorted."""
+def waits_beside(answers, path, text, count):
+    """The seconds that requests waited beside so many clients with this dear request, sorted."""
     until = time.monotonic() + DEAR_SECONDS
     crowd = multiprocessing.Process(target=sends_dear, args=(path, text, count, until), daemon=True)
     waits = []
@@ -246,8 +248,8 @@ def waits_beside(grants, path, text, count):
     time.sleep(0.3)
     while time.monotonic() < until:
         begin = time.monotonic()
-        if not grants():
-            raise SystemExit("hostile: a small verify was not granted")
+        if not answers():
+            raise SystemExit("hostile: a request had another reply than it is due")
         waits.append(time.monotonic() - begin)
         time.sleep(0.001)
     crowd.join(timeout=30)
@@ -265,13 +267,13 @@ def told_of(waits):
     return f"{len(waits)} times: p50 {median:.2f} ms, p99 {late:.1f} ms, the longest {longest:.0f} ms"
 
 
-def late_beside(where, most, *asked):
-    """What is wrong with the waits of a client beside others with dear requests there, if anything."""
-    for count in CROWDS:
+def late_beside(what, most, *asked, crowds=CROWDS):
+    """What is wrong with the waits of who asks this beside others with dear requests there, if anything."""
+    for count in crowds:
         waits = timed_calmly(lambda: waits_beside(*asked, count), lambda waits: late_of(waits) > most)
-        print(f"hostile: a small verify {where} beside {count} clients with dear requests, {told_of(waits)}")
+        print(f"hostile: {what} beside {count} clients with dear requests, {told_of(waits)}")
         if late_of(waits) > most:
-            yield f"{where} beside {count} clients with dear requests a small verify waited {late_of(waits):.3f} s (p99)"
+            yield f"beside {count} clients with dear requests {what} waited {late_of(waits):.3f} s (p99)"
 
 
 def beside_dear(path, http):
@@ -279,7 +281,8 @@ def beside_dear(path, http):
     with client.Client(path) as asked:
         token = asked.ask(request.mint("v2-binary", "bank", "", "a", "a = 1", "b = 2", "c = 3"))[1:]
         small = request.verify("bank", "hex:" + token.hex(), 0, "a = 1", "b = 2", "c = 3")
-        yield from late_beside("in frames", DEAR_WAIT_MAX, lambda: asked.ask(small) == b"\x00", path, dearest_request())
+        frames = lambda: asked.ask(small) == b"\x00"
+        yield from late_beside("a small verify in frames", DEAR_WAIT_MAX, frames, path, dearest_request())
         plain = asked.ask(request.mint("v2-binary", "bank", "", "a"))[1:]
     text = over_http(base64.urlsafe_b64encode(plain).rstrip(b"=").decode())
     awaited(pathlib.Path(http).exists)
@@ -289,7 +292,17 @@ def beside_dear(path, http):
             stream.sendall(text)
             return stream.recv(65_536).startswith(b"HTTP/1.1 200 ")
 
-        yield from late_beside("over HTTP", HTTP_WAIT_MAX, grants, http, over_http(dearest_token()))
+        dear = over_http(dearest_token())
+        yield from late_beside("a small verify over HTTP", HTTP_WAIT_MAX, grants, http, dear)
+
+
+def beside_side(path, side):
+    """The same of dear requests at the first socket beside those at the second one, which are taken in turn."""
+    dear = dearest_request()
+    with client.Client(path, timeout=SLOW_SETTLING) as asked:
+        due = asked.ask(dear[4:])
+        answers = lambda: asked.ask(dear[4:]) == due
+        yield from late_beside("a dear verify at the other socket", SIDE_WAIT_MAX, answers, side, dear, crowds=SIDE_CROWDS)
 
 
 def largest_reply(path):
@@ -401,6 +414,8 @@ def faults(seconds):
         found = [*soak(path, run.pid, seconds)]
     with tempfile.TemporaryDirectory() as folder, listening("--http", f"unix:{folder}/http") as (path, _):
         found += beside_dear(path, f"{folder}/http")
+    with tempfile.TemporaryDirectory() as folder, listening("--verify-socket", f"{folder}/side") as (path, _):
+        found += beside_side(path, f"{folder}/side")
     with listening() as (path, _):
         found += beside_slow(path)
     with listening() as (path, run):

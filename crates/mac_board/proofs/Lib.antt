@@ -3,3 +3,4 @@ pub mod Taking
 pub mod Editing
 pub mod Watching
 pub mod Judging
+pub mod Sent

@@ -1,10 +1,12 @@
 -- The list of the tables that were up on a board, and what each step of its handles tells.
-use Rattle.std.specs.Prelude.{◌≡◌, ℕ, ◌+◌, List, [], ◌∷◌, ◌++◌, length, slice_get, Option, Some, None}
+use Rattle.std.specs.Prelude.{◌≡◌, ℕ, ◌+◌, List, [], ◌∷◌, ◌++◌, length, slice_get, option_map, unwrap_or, Option, Some, None}
 use Rattle.std.specs.Arc.{arc_value}
 use mathlib.Core.Option.{some}
 use lib.ListN.{get_elem?}
+use Rattle.left_right.specs.Sides.{view}
 use Rattle.mac_keys.specs.KeyTable.{Table}
 use Rattle.mac_board.specs.declared.issue.Issue.{Issue}
+use Rattle.mac_board.specs.declared.lookout.Lookout.{Lookout}
 use Rattle.mac_board.specs.Follows.{Begins, Known}
 
 -- the list ends in the table of this issue, which has its last place as its number
@@ -37,11 +39,16 @@ Puts view before after seen =
 abbrev pub Stays : List Table → Issue → Issue → List Table → Type 0
 Stays view before after seen = seen ≡ view
 
--- what a reader that is there has seen
-abbrev pub seen_by : Option (List Table) → List Table
-seen_by None = []
-seen_by (Some seen) = seen
+-- what a lookout has seen, by its reader
+abbrev pub seen_by : Lookout → List Table
+seen_by lookout = unwrap_or (option_map (λ r. view r.place) lookout.reader) []
 
--- what is known to who has such a reader, and the table of this number
-abbrev pub known_by : Option (List Table) → ℕ → Known
-known_by seen number = record { published = seen_by seen; place = number; looks = [] }
+-- the number of what was found, or where nothing was the one that is had
+abbrev pub number_of : Option Issue → ℕ → ℕ
+number_of None had = had
+number_of (Some issue) had = issue.number
+
+-- what is known to who has the table of this number
+abbrev pub known_by : Lookout → ℕ → Known
+known_by lookout number =
+    record { published = seen_by lookout; place = number; looks = lookout.came_to }

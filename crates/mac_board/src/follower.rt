@@ -1,19 +1,18 @@
 //! Who takes the table that is up.
 
-ghost use Rattle.std.specs.Prelude.{◌≡◌, slice_get, Some, option_map, false};
+ghost use Rattle.std.specs.Prelude.{◌≡◌, slice_get, Some, true};
 ghost use Rattle.std.specs.Arc.{arc_value};
-ghost use Rattle.left_right.specs.Sides.{view};
 ghost use Rattle.mac_board.specs.Board.{known_by, seen_by};
 ghost use Rattle.mac_board.specs.Follows.{Advances};
 
-use crate::issue::{Issue, Posted, See, Seen};
+use crate::issue::{Issue, Posted, Seen};
+use crate::lookout::Lookout;
 use crate::tables::Tables;
-use left_right::reader::{Factory, Reader};
+use left_right::reader::Factory;
 use mac_keys::KeyTable;
 use std::alloc::{AllocError, Global};
 use std::sync::Arc;
 use std::sync::atomic::AtomicU64;
-use std::sync::atomic::Ordering::SeqCst;
 
 /// What makes followers of a board, for a thread or a connection that begins. Threads may share it.
 #[derive(Drop)]
@@ -36,80 +35,57 @@ impl Followers {
     pub fn follower(&self) -> Result<Follower, AllocError> {
         let reader = self.factory.reader()?;
         let last = Arc::try_clone(&self.last)?;
-        Follower::new(reader, last)
+        Follower::new(Lookout::new(reader, last))
     }
 }
 
 /// Has the table that was up when it looked last.
 #[derive(Drop)]
 pub struct Follower {
-    // It is lent out while it reads.
-    reader: Option<Reader<Issue, Seen, Posted>>,
-    // The number of the table that is put up last: of one that is up, or of the next.
-    last: Arc<AtomicU64, Global>,
+    lookout: Lookout,
     table: Arc<KeyTable, Global>,
     number: u64,
-    ghost known: { slice_get (seen_by (option_map (λ r. view r.place) reader)) number
-        ≡ Some (arc_value table) },
+    ghost known: { slice_get (seen_by lookout) number ≡ Some (arc_value table) },
 }
 
 impl Follower {
     /// A follower that has looked once.
-    fn new(
-        reader: Reader<Issue, Seen, Posted>,
-        last: Arc<AtomicU64, Global>,
-    ) -> Result<Follower, AllocError> {
-        let Ok(reading) = reader.enter_as::<See>() else {
+    fn new(mut lookout: Lookout) -> Result<Follower, AllocError> {
+        let Some(found) = lookout.enter() else {
             return Err(AllocError);
         };
-        let issue = reading.get();
-        let number = issue.number;
-        let table = Arc::try_clone(&issue.table);
-        let reader = Some(reading.leave());
+        let Issue { table, number } = found;
         Ok(Follower {
-            reader,
-            last,
-            table: table?,
+            lookout,
+            table,
             number,
         })
     }
 
-    /// Takes the table that is up, unless it is older than the one that it has.
+    /// Takes the table that is up, if it can be had.
     fn take_up(&mut self)
-        ensures { Advances
-            (known_by (option_map (λ r. view r.place) self.old.reader) self.old.number)
-            (known_by (option_map (λ r. view r.place) self.new.reader) self.new.number) }
+        ensures { Advances (known_by self.old.lookout self.old.number)
+            (known_by self.new.lookout self.new.number) }
     {
-        let Some(reader) = self.reader.take() else {
-            return;
-        };
-        match reader.enter_as::<See>() {
-            Err(reader) => self.reader = Some(reader),
-            Ok(reading) => {
-                let issue = reading.get();
-                let number = issue.number;
-                let table = Arc::try_clone(&issue.table);
-                self.reader = Some(reading.leave());
-                if let Ok(table) = table
-                    && self.number <= number
-                {
-                    self.table = table;
-                    self.number = number;
-                }
-            }
+        if let Some(found) = self.lookout.enter() {
+            let Issue { table, number } = found;
+            self.table = table;
+            self.number = number;
         }
     }
 }
 
 impl Tables for Follower {
-    ghost tells = { false };
+    ghost tells = { true };
 
-    ghost known = { λ f. known_by (option_map (λ r. view r.place) f.reader) f.number };
+    ghost known = { λ f. known_by f.lookout f.number };
 
     /// One load where no newer table is up.
     fn look(&mut self) {
-        if self.last.load(SeqCst) != self.number {
-            self.take_up();
+        if let Some(found) = self.lookout.look(self.number) {
+            let Issue { table, number } = found;
+            self.table = table;
+            self.number = number;
         }
     }
 

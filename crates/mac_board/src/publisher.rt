@@ -8,10 +8,9 @@ ghost use Rattle.mac_board.specs.Board.{history};
 mod steps;
 
 use crate::issue::{Issue, Posted, Seen};
+use crate::last_number::LastNumber;
 use left_right::writer::Writer;
-use std::alloc::Global;
-use std::sync::atomic::AtomicU64;
-use std::sync::{Arc, Wait};
+use std::sync::Wait;
 use thiserror::Error;
 
 /// Why a table was not put up.
@@ -29,11 +28,12 @@ pub enum PublishFault {
 /// keep the table that they have.
 pub struct Publisher<R: Wait + Drop> {
     writer: Writer<Issue, Issue, Seen, Posted>,
-    last: Arc<AtomicU64, Global>,
+    last: LastNumber,
     rt: R,
     ghost counted: { length
         (history (view writer.desk.place) (arc_value writer.desk.shown.value.table))
         ≡ writer.desk.shown.value.number + 1 },
+    ghost told: { last.told.value ≡ writer.desk.shown.value.number },
 }
 
 impl<R: Wait + Drop> Drop for Publisher<R> {

@@ -3,10 +3,13 @@ use Rattle.std.specs.Prelude.{ℕ, List, Option, Some, None, Result, Ok, Err}
 use Rattle.std.specs.FinMap as map
 use Rattle.mac_keys.specs.KeyTable.{Table}
 use Rattle.mac_keys.specs.declared.keys.Keys.{Keys}
+use Rattle.mac_wire.specs.declared.reply.Refusal.{Refusal}
+use Rattle.mac_wire.specs.declared.reply.Refusal.TheVariants as refusal
 use Rattle.mac_calls.specs.Asking.{Verifier}
 use Rattle.mac_calls.specs.declared.answering.Outcome.{Outcome}
 use Rattle.mac_calls.specs.declared.answering.Outcome.TheVariants.{NoKey, Minted, Reply, Refused}
 use Rattle.mac_calls.specs.declared.call.Call.{Call}
+use Rattle.mac_calls.specs.declared.fault.CallRefusal.TheVariants.{Body, Token}
 use Rattle.mac_calls.specs.declared.call.Call.TheVariants.{Mint, Attenuate, Inspect, Check, Verify}
 use Rattle.mac_calls.specs.Json.{inspected, minted_json, refusal_json, token_json}
 use Rattle.mac_calls.specs.Judged.{judged}
@@ -42,12 +45,12 @@ verify_answer v body = object_in Verify body >>= judged (Some v)
 -- the reply or the refusal
 abbrev pub told_outcome : Step (List ℕ) → Outcome
 told_outcome (Ok json) = Reply json
-told_outcome (Err why) = Refused (refusal_json why)
+told_outcome (Err why) = Refused (refusal_json why) why
 
 -- the same of a mint
 abbrev pub minted_outcome : Step (List ℕ × List ℕ) → Outcome
 minted_outcome (Ok told) = Minted told.0 told.1
-minted_outcome (Err why) = Refused (refusal_json why)
+minted_outcome (Err why) = Refused (refusal_json why) why
 
 -- what comes of a mint, if the name has keys
 abbrev pub mint_outcome : Option Keys → List ℕ → ℕ → List ℕ → Outcome
@@ -76,3 +79,11 @@ outcome_of table moment name Verify drawn body =
 abbrev pub minted_identifier : Outcome → Option (List ℕ)
 minted_identifier (Minted json identifier) = Some identifier
 minted_identifier _ = None
+
+-- the refusal of the wire that an outcome is, if it is one: that a body is none of its call isn't
+abbrev pub wire_refusal : Outcome → Option Refusal
+wire_refusal NoKey = Some refusal.UnknownKey
+wire_refusal (Minted json identifier) = None
+wire_refusal (Reply json) = None
+wire_refusal (Refused json (Body why)) = None
+wire_refusal (Refused json (Token why)) = Some why

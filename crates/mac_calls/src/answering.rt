@@ -1,13 +1,13 @@
 //! What a call is answered.
 
-ghost use Rattle.std.specs.Prelude.{◌≡◌, IfOk, List, ℕ};
+ghost use Rattle.std.specs.Prelude.{◌≡◌, IfOk, List, ℕ, option_copied};
 ghost use Rattle.serde_json.specs.View.{view};
 ghost use Rattle.mac_calls.specs.Asking.{lent_verifier};
 ghost use Rattle.mac_calls.specs.Gives.{Gives};
 ghost use Rattle.mac_calls.specs.Outcome.{attenuate_answer, check_answer, inspect_answer};
 ghost use Rattle.mac_calls.specs.Json.{minted_json};
 ghost use Rattle.mac_calls.specs.Outcome.{mint_answer, minted_identifier, minted_outcome};
-ghost use Rattle.mac_calls.specs.Outcome.{outcome_of, told_outcome, verify_answer};
+ghost use Rattle.mac_calls.specs.Outcome.{outcome_of, told_outcome, verify_answer, wire_refusal};
 ghost use Rattle.mac_calls.specs.Steps.{Step};
 
 use crate::call::Call;
@@ -20,7 +20,7 @@ use crate::members::has_identifier;
 use crate::object::object_in;
 use crate::verifier::Verifier;
 use mac_keys::{KeyTable, Keys};
-use mac_wire::Bytes;
+use mac_wire::{Bytes, Refusal};
 use serde_json::Value;
 use std::alloc::{AllocError, Global};
 
@@ -38,18 +38,37 @@ pub enum Outcome {
     },
     /// The JSON text of another reply.
     Reply(Bytes),
-    /// The JSON text of a refusal.
-    Refused(Bytes),
+    /// A refusal.
+    Refused {
+        /// Its JSON text.
+        json: Bytes,
+        /// Why the call is refused.
+        why: CallRefusal,
+    },
 }
 
 impl Outcome {
     /// The identifier of the token that was minted, if one was.
-    pub fn into_identifier(self) -> Option<Bytes>
-        ensures { result ≡ minted_identifier self }
+    pub fn identifier(&self) -> Option<&[u8]>
+        ensures { option_copied result ≡ minted_identifier self.now }
     {
         match self {
-            Outcome::Minted { identifier, .. } => Some(identifier),
-            Outcome::NoKey | Outcome::Reply(_) | Outcome::Refused(_) => None,
+            Outcome::Minted { identifier, .. } => Some(identifier.as_slice()),
+            Outcome::NoKey | Outcome::Reply(_) | Outcome::Refused { .. } => None,
+        }
+    }
+
+    /// The refusal of the wire that it is, if it is one: that the body is none of the call's isn't.
+    pub fn refusal(&self) -> Option<Refusal>
+        ensures { result ≡ wire_refusal self.now }
+    {
+        match self {
+            Outcome::NoKey => Some(Refusal::UnknownKey),
+            Outcome::Refused {
+                why: CallRefusal::Token(why),
+                ..
+            } => Some(*why),
+            Outcome::Minted { .. } | Outcome::Reply(_) | Outcome::Refused { .. } => None,
         }
     }
 }
@@ -146,7 +165,10 @@ fn refused(alloc: Global, why: CallRefusal) -> Result<Outcome, AllocError>
     ensures minted { IfOk result (λ o. o ≡ minted_outcome (Err why)) }
 {
     let json = refusal_json(alloc, why)?;
-    Ok(Outcome::Refused(Bytes::new(json)))
+    Ok(Outcome::Refused {
+        json: Bytes::new(json),
+        why,
+    })
 }
 
 /// The reply to a mint under these keys, and the token's identifier.

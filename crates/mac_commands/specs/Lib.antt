@@ -5,6 +5,7 @@ pub mod Doing
 pub mod Inner
 pub mod Lines
 pub mod Memory
+pub mod Observed
 pub mod Options
 pub mod Output
 pub mod People

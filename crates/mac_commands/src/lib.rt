@@ -19,7 +19,9 @@ mod key_store;
 pub mod laws;
 mod lines;
 mod list_store;
+mod looking;
 mod memory;
+mod observed_file;
 mod options;
 mod parts;
 mod people;
@@ -39,9 +41,11 @@ pub use commands::{
 pub use fault::PipeFault;
 pub use input::INPUT_MAX;
 pub use key_file::{KeysRead, read_key_file, read_keys};
-pub use key_store::{FirstKeys, KeyPlace, look_at, read_first};
-pub use list_store::{FirstList, ListPlace, find_first_list, find_list, look_at_list, take_list};
+pub use key_store::{FirstKeys, KeyPlace, read_first};
+pub use list_store::{FirstList, ListPlace, find_first_list, find_list, take_list};
+pub use looking::{look_at, look_at_list};
 pub use memory::find_memory;
+pub use observed_file::{FileAnswer, ObservedFile};
 pub use people::{
     PersonFault, Task, admit_keys, run_task, status_path, warn_of_no_keys, warn_of_readers,
 };

@@ -2,15 +2,15 @@
 ghost use Rattle.std.specs.Prelude.{IfOk, OnOk};
 ghost use Rattle.mac_commands.specs.Doing.{IsList, IsListOf, TakesList};
 
-use crate::key_store::{exposure_told, find_state, state_of};
+use crate::looking::read_sight;
+use crate::observed_file::{Held, ObservedFile};
 use crate::status::Status;
 use crate::telling::{tell_fault, tell_list};
-use mac_board::{Editor, FileState, ListRefusal, ReadFault, Sight};
+use mac_board::{FileState, ListRefusal, ReadFault, Sight};
 use mac_keys::{KeyTable, RevokedFault, RevokedList};
 use std::alloc::{Alloc, AllocError, Global};
 use std::fs::{File, Files};
 use std::io::{ErrorKind, Read};
-use std::sync::Wait;
 
 /// The greatest number of bytes in a list.
 const LIST_MAX: usize = 268_435_456;
@@ -97,8 +97,9 @@ where
     R: Files<File = File> + Alloc<A = Global>,
     ensures { IfOk result (λ read. IfOk read (λ first. IsList first.list)) }
 {
-    let found = find_state(rt, place.path);
-    let sight = read_list_sight(rt, place, found)?;
+    let mut file = ObservedFile::new(place.path, place.of_others);
+    let found = file.find(rt);
+    let sight = read_sight(rt, &mut file, found, Held::List)?;
     let Sight::Read {
         before,
         text,
@@ -130,49 +131,6 @@ fn unread(found: FileState) -> ListRefusal {
         FileState::Missing => ListRefusal::Missing,
         _ => ListRefusal::Unreadable,
     }
-}
-
-/// Looks at a list, and reads it where its editor wants that.
-pub fn look_at_list<R, K>(
-    rt: &R,
-    place: ListPlace<'_>,
-    editor: &Editor<K>,
-) -> Result<Sight, AllocError>
-where
-    R: Files<File = File> + Alloc<A = Global>,
-    K: Wait + Drop,
-{
-    let found = find_state(rt, place.path);
-    match found {
-        FileState::Marked(_) if editor.wants_list(found) => read_list_sight(rt, place, found),
-        _ => Ok(Sight::Glance(found)),
-    }
-}
-
-/// Reads a list that was found in a state, between two looks at the very file that is read.
-fn read_list_sight<R>(rt: &R, place: ListPlace<'_>, found: FileState) -> Result<Sight, AllocError>
-where
-    R: Files<File = File> + Alloc<A = Global>,
-{
-    let Ok(file) = File::open(rt, place.path) else {
-        return Ok(Sight::Read {
-            before: found,
-            text: Err(ReadFault::Unreadable),
-            after: find_state(rt, place.path),
-        });
-    };
-    let told = file.metadata();
-    let text = match exposure_told(&told) {
-        Some(why) if !place.of_others => Err(ReadFault::Exposed(why)),
-        _ => read_list_text(rt.alloc(), &file)?,
-    };
-    let before = state_of(told);
-    let after = state_of(file.metadata());
-    Ok(Sight::Read {
-        before,
-        text,
-        after,
-    })
 }
 
 /// The text of a list, if it can be read and isn't too long.

@@ -1,5 +1,5 @@
 -- What is counted, and how it is named.
-use Rattle.std.specs.Prelude.{ℕ, ◌+◌, ◌*◌, List, [], ◌∷◌, codes}
+use Rattle.std.specs.Prelude.{◌≡◌, ℕ, ◌+◌, ◌*◌, List, [], ◌∷◌, codes}
 use Rattle.mac_count.specs.declared.number.Number.{Number}
 use Rattle.mac_count.specs.declared.number.Number.TheVariants as number
 use Rattle.mac_count.specs.declared.number.Asked.{Asked}
@@ -45,6 +45,10 @@ number_kind number.KeysRefused = codes "gauge"
 number_kind number.ConnectionsHttp = codes "gauge"
 number_kind number.Revoked = codes "gauge"
 number_kind number.ConnectionsHeavy = codes "counter"
+
+-- a number that may fall: one that `/metrics` doesn't call a counter
+abbrev pub IsGauge : Number → Type 0
+IsGauge number = number_kind number ≡ codes "gauge"
 
 -- the place of a number in a snapshot
 abbrev pub number_place : Number → ℕ

@@ -1,5 +1,7 @@
 //! Counters that all threads share.
 
+ghost use Rattle.mac_count.specs.Number.{IsGauge};
+
 use crate::number::{NUMBERS, Number, REQUESTS, Request};
 use crate::snapshot::Snapshot;
 use std::array;
@@ -28,13 +30,17 @@ impl Counters {
         self.numbers[number.place()].fetch_add(count, SeqCst);
     }
 
-    /// Takes from a number that was added to before.
-    pub fn take(&self, number: Number, count: u64) {
+    /// Takes from a number that was added to before. It is one that goes both ways.
+    pub fn take(&self, number: Number, count: u64)
+        requires { IsGauge number }
+    {
         self.numbers[number.place()].fetch_sub(count, SeqCst);
     }
 
-    /// Sets a number.
-    pub fn set(&self, number: Number, value: u64) {
+    /// Sets a number. It is one that goes both ways.
+    pub fn set(&self, number: Number, value: u64)
+        requires { IsGauge number }
+    {
         self.numbers[number.place()].store(value, SeqCst);
     }
 

@@ -1,7 +1,9 @@
 //! Laws of the definitions, as functions whose contracts state them.
-ghost use Rattle.std.specs.Prelude.{◌≡◌, ◌==◌, count_by};
+ghost use Rattle.std.specs.Prelude.{◌≡◌, ℕ, ◌+◌, ◌<◌, ◌^◌, ◌==◌, List, length, count_by};
 ghost use Rattle.mac_count.specs.declared.number.Number.{Number};
 ghost use Rattle.mac_count.specs.declared.number.Request.{Request};
+ghost use Rattle.mac_count.specs.declared.number.TheConstants.{REQUESTS};
+ghost use Rattle.mac_count.specs.RequestCounts.{count_of, counted, with_all_counted};
 ghost use Rattle.mac_count.specs.Number.{all_numbers, all_requests, number_place, request_place};
 
 /// Each number and each kind of request is written once, from a place that no other has.
@@ -10,4 +12,12 @@ pub fn each_is_written_once()
         count_by (λ other. number_place other == number_place number) all_numbers ≡ 1 }
     ensures requests { (request : Request) →
         count_by (λ other. request_place other == request_place request) all_requests ≡ 1 }
+{}
+
+/// Of requests that are counted one after the other, each is counted once, under its own kind.
+pub fn each_request_is_counted_once()
+    ensures { (counts : List ℕ) (kind : Request) (requests : List Request)
+        → length counts ≡ REQUESTS → counted counts kind + length requests < 2 ^ 64
+        → counted (with_all_counted counts requests) kind
+        ≡ counted counts kind + count_of kind requests }
 {}

@@ -1,18 +1,21 @@
 //! Numbers of a daemon: counted without a lock, and written for people and for Prometheus.
 //!
-//! [`Counters`] are shared by all threads. A [`Snapshot`] is what they show at a moment, and
-//! [`append_status`] and [`append_metrics`] write each of its numbers once.
+//! [`Counters`] are shared by all threads; [`RequestCounts`] are one thread's own, until it adds
+//! them there. A [`Snapshot`] is what the counters show at a moment, and [`append_status`] and
+//! [`append_metrics`] write each of its numbers once.
 #![tactic(auto)]
 
 mod counters;
 pub mod laws;
 mod number;
+mod request_counts;
 mod snapshot;
 mod texts;
 mod version;
 
 pub use counters::Counters;
 pub use number::{Asked, NUMBERS, Number, REQUESTS, Request, Told};
+pub use request_counts::RequestCounts;
 pub use snapshot::Snapshot;
 pub use std::alloc::AllocError as NoMemory;
 pub use texts::{append_metrics, append_status};

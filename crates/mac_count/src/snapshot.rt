@@ -22,14 +22,6 @@ impl Snapshot {
         self.numbers[number.place()]
     }
 
-    /// Sets the value of a number.
-    pub fn set(&mut self, number: Number, value: u64)
-        ensures { number_value self.new number ≡ value }
-    {
-        let place = number.place();
-        self.numbers[place] = value;
-    }
-
     /// How many requests there were of a kind.
     pub fn requests(&self, request: Request) -> u64
         ensures { result ≡ request_value self.now request }

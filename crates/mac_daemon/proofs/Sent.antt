@@ -1,11 +1,5 @@
 -- What the threads of a daemon are handed, type by type: a search through all of it at once gives up.
-use mathlib.Core.List.{[], ◌∷◌}
-use mir.Syntax.{Sym}
-use denote.RattleType.{RattleType}
 use denote.Param.Send.{IsSend, sendable}
-use denote.Param.SendFields.{as_row_send, declared_send}
-use denote.Struct.Field.{row_field}
-use denote.Struct.Tuple.{TupleAt, type_at}
 use Rattle.std.proofs.Crossing.{crosses}
 use Rattle.mac_daemon.proofs.quay.Quay.TheSendSync as quay
 use Rattle.mac_daemon.specs.contracts.fleet.FleetParts as FleetParts
@@ -32,10 +26,3 @@ parts_sent = search (sendable, crosses, idlers_field_sent, entrance.the_field_se
 
 pub desk_sent : IsSend (Desk.the_row Macaroons.the_row Job.the_row Reply.the_row service.ghosts job_eq.ghosts job_partial_eq.ghosts)
 desk_sent = desk.the_send Macaroons.the_row Job.the_row Reply.the_row service.ghosts job_eq.ghosts job_partial_eq.ghosts job.the_send reply.the_send
-
--- what a thread captured: five values, or six
-pub five_sent : (ν : Sym) (A B C D E : RattleType) → IsSend A → IsSend B → IsSend C → IsSend D → IsSend E → IsSend (TupleAt ν (A ∷ B ∷ C ∷ D ∷ E ∷ []))
-five_sent ν A B C D E a b c d e = declared_send (type_at ν (A ∷ B ∷ C ∷ D ∷ E ∷ [])) (as_row_send (row_field A) a, (as_row_send (row_field B) b, (as_row_send (row_field C) c, (as_row_send (row_field D) d, (as_row_send (row_field E) e, tt)))))
-
-pub six_sent : (ν : Sym) (A B C D E F : RattleType) → IsSend A → IsSend B → IsSend C → IsSend D → IsSend E → IsSend F → IsSend (TupleAt ν (A ∷ B ∷ C ∷ D ∷ E ∷ F ∷ []))
-six_sent ν A B C D E F a b c d e f = declared_send (type_at ν (A ∷ B ∷ C ∷ D ∷ E ∷ F ∷ [])) (as_row_send (row_field A) a, (as_row_send (row_field B) b, (as_row_send (row_field C) c, (as_row_send (row_field D) d, (as_row_send (row_field E) e, (as_row_send (row_field F) f, tt))))))

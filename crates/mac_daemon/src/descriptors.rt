@@ -6,9 +6,9 @@ use libc::{RLIMIT_NOFILE, getrlimit};
 /// How many descriptors are kept for the rest of the process.
 const KEPT: u64 = 32;
 
-/// How many descriptors a loop waits by: its poll's, and those which wake it for clients and for
-/// workers' answers.
-const EACH_LOOP: u64 = 3;
+/// How many descriptors a loop waits by: its poll's, and those which wake it for clients, for
+/// workers' answers, and where others lack memory.
+const EACH_LOOP: u64 = 4;
 
 /// The most connections for which there are descriptors beside what so many loops wait by, and
 /// those that others have.

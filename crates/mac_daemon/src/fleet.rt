@@ -13,7 +13,7 @@ use mac_decide::{Macaroons, SeenTokens};
 use mac_host::Ending;
 use mac_loop::{Loop, LoopTerms, Loops, make_loops};
 use mac_pool::{Desk, Pool};
-use mac_sockets::{Entrance, STACK, has_roomy_stacks};
+use mac_sockets::{Entrance, STACK, SharedBudget, has_roomy_stacks};
 use mac_system::SystemMoments;
 use std::alloc::Global;
 use std::hash::RandomState;
@@ -67,10 +67,12 @@ impl Shape {
     fn loop_terms(self, may_share: bool) -> LoopTerms
         ensures memory { result.memory ≡ self.memory - tokens_memory self }
         ensures count { result.count ≡ self.loops }
+        ensures workers { result.workers ≡ self.workers }
         ensures idle { result.idle ≡ self.idle }
     {
         LoopTerms {
             count: self.loops,
+            workers: self.workers,
             idle: self.idle,
             may_share,
             memory: self.connections_memory(),
@@ -95,15 +97,17 @@ pub struct Idlers {
 }
 
 impl Idlers {
-    /// As many loops as a daemon of this shape has, which share a memory of tokens.
-    pub fn make<R: Net>(
+    /// As many loops as a daemon of this shape has, which share a memory of tokens, and the budget of
+    /// what their clients hold.
+    pub fn make<R: Net + Wait>(
         rt: &R,
         alloc: Global,
         shape: Shape,
         seen: &SeenTokens,
+        budget: &Arc<SharedBudget, Global>,
     ) -> Result<Idlers, DaemonFault> {
         let terms = shape.loop_terms(has_roomy_stacks());
-        let (loops, made) = make_loops(rt, alloc, terms, seen)?;
+        let (loops, made) = make_loops(rt, alloc, terms, seen, budget)?;
         Ok(Idlers { loops, made })
     }
 }

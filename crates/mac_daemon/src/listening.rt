@@ -14,7 +14,7 @@ use crate::stop::Stop;
 use crate::surroundings::{Surroundings, heed_signals};
 use mac_board::Followers;
 use mac_host::{Beginning, Ending, Host, Logged, Notices, Numbers, Roster};
-use mac_sockets::{Doors, Entrance, Holdings, STACK};
+use mac_sockets::{Doors, Entrance, Holdings, STACK, SharedBudget};
 use mac_system::{NotifySocket, State};
 use std::alloc::{AllocError, Global};
 use std::fs::Files;
@@ -22,7 +22,7 @@ use std::net::Net;
 use std::random::RandomSource;
 use std::sync::{Arc, Wait};
 use std::thread::{Builder, Promise, PromisedHandle, Threads};
-use std::time::{Clock, Duration};
+use std::time::Clock;
 
 /// What a daemon is told of what it serves.
 #[derive(Clone, Copy)]
@@ -109,9 +109,10 @@ where
         Arc::try_clone(&roster)?,
     )?;
     let seen = make_seen(rt, alloc, terms.shape);
+    let budget = SharedBudget::new(alloc, terms.shape.connections_memory())?;
     let service = FleetParts {
         workers: terms.shape.workers,
-        idlers: Idlers::make(rt, alloc, terms.shape, &seen)?,
+        idlers: Idlers::make(rt, alloc, terms.shape, &seen, &budget)?,
         entrance,
         count: terms.accept,
         quay: Arc::try_clone(&quay)?,
@@ -122,7 +123,7 @@ where
         return Err(fault.unwrap_or(DaemonFault::NoThread));
     }
     Ok(Daemon {
-        host: Host::new(ending, notices, numbers, roster, seen),
+        host: Host::new(ending, notices, numbers, roster, seen, budget),
         stop,
         quay,
         manager,
@@ -160,11 +161,6 @@ impl Daemon {
     /// Tells a daemon to end, at one of whose paths there is another one's socket.
     pub fn end_replaced<R: Wait + Clock>(&self, rt: &R, path: &str) {
         self.stop.tell_replaced(rt, self.host.notices(), path);
-    }
-
-    /// Waits until the daemon is told to end, for so long at most. Whether it was.
-    pub fn await_ending<R: Wait + Clock>(&self, rt: &R, patience: Duration) -> bool {
-        self.host.ending().await_ending(rt, patience)
     }
 
     /// Notes how many lines its first list of tokens has that were taken back.

@@ -1,10 +1,11 @@
 //! How many connections there are at the sockets of a daemon, and who gives way to a further one.
 
-ghost use Rattle.std.specs.Prelude.{◌≡◌, ◌+◌, ◌-◌, ◌^◌, if◌then◌else◌, min};
+ghost use Rattle.std.specs.Prelude.{◌≡◌, ◌+◌, if◌then◌else◌};
 ghost use Rattle.mac_daemon.specs.Room.{entry_at, full_at, has_room, IsWithin, no_connections};
 ghost use Rattle.mac_daemon.specs.Room.{with_entry, with_one, without_one};
 
 use mac_host::Socket;
+use std::marker::Model;
 
 /// How many connections there may be at a time.
 #[derive(Clone, Copy, Debug, PartialEq, Eq)]
@@ -26,19 +27,29 @@ pub enum Entry {
     Full(Socket),
 }
 
-/// How many connections there are at each socket, and how many there may be.
-#[derive(Clone, Copy)]
+/// How many connections there are at each socket, and how many there may be: never more.
+#[derive(Drop)]
 pub struct Room {
     most: Most,
     main: u64,
     side: u64,
 }
 
+impl Model for Room {
+    ghost use Rattle.std.specs.Prelude.{◌+◌, ◌≤◌};
+    ghost use Rattle.mac_daemon.specs.Room.{Places};
+
+    ghost Value = { Places };
+
+    ghost view = { λ r. record { most = r.most; main = r.main; side = r.side } };
+
+    ghost invariant = { λ r. (r.main + r.side ≤ r.most.all) × (r.side ≤ r.most.side) };
+}
+
 impl Room {
     /// No connections yet, of so many.
     pub fn new(most: Most) -> Room
-        ensures none { result ≡ no_connections most }
-        ensures within { IsWithin result }
+        ensures { result ≡ no_connections most }
     {
         Room {
             most,
@@ -49,9 +60,10 @@ impl Room {
 
     /// How many there are.
     pub fn live(&self) -> u64
-        ensures { result ≡ min (self.now.main + self.now.side) (2 ^ 64 - 1) }
+        ensures live { result ≡ self.now.main + self.now.side }
+        ensures within { IsWithin self.now }
     {
-        self.main.saturating_add(self.side)
+        self.main + self.side
     }
 
     /// How many there may be.
@@ -76,7 +88,6 @@ impl Room {
     pub fn take(&mut self, socket: Socket) -> bool
         ensures free { result ≡ has_room self.old socket }
         ensures new { self.new ≡ (if result then with_one self.old socket else self.old) }
-        ensures within { IsWithin self.old → IsWithin self.new }
     {
         if !self.has_room(socket) {
             return false;
@@ -94,7 +105,6 @@ impl Room {
     pub fn enter(&mut self, socket: Socket) -> Entry
         ensures entry { result ≡ entry_at self.old socket }
         ensures new { self.new ≡ with_entry self.old socket result }
-        ensures within { IsWithin self.old → IsWithin self.new }
     {
         if self.take(socket) {
             return Entry::Free;
@@ -126,8 +136,7 @@ impl Room {
 
     /// Counts one less at a socket.
     pub fn leave(&mut self, socket: Socket)
-        ensures new { self.new ≡ without_one self.old socket }
-        ensures within { IsWithin self.old → IsWithin self.new }
+        ensures { self.new ≡ without_one self.old socket }
     {
         match socket {
             Socket::Main => self.main = self.main.saturating_sub(1),

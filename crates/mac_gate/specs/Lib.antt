@@ -5,3 +5,5 @@ pub mod Patience
 pub mod Pace
 pub mod Turns
 pub mod Weight
+pub mod Load
+pub mod Health

@@ -1,15 +1,17 @@
 //! A connection of a loop: how far it is answered, and what it waits for.
 
 ghost use Rattle.std.specs.Prelude.{None};
+ghost use Rattle.mac_gate.specs.Load.{held_by};
 ghost use Rattle.mac_gate.specs.Patience.{IsLeft};
 ghost use Rattle.mac_http.specs.Turn.{IsTurn};
 
-use crate::devices::{Heard, Spoken};
+use crate::devices::{Heard, READ_MAX, Spoken};
 use crate::gathering::Gathered;
+use crate::load::Load;
 use crate::weight::Weight;
 use http_server::{Connection, Service};
 use mac_http::{Way, take_turn};
-use mac_sockets::{Readiness, Stream, Wakes};
+use mac_sockets::{Holds, Readiness, Stream, Wakes};
 use mio::{Registry, Token};
 use std::alloc::Global;
 use std::io;
@@ -30,12 +32,16 @@ const DROPPED_MICROS: u64 = 100_000;
 pub struct HttpConnection {
     stream: Stream,
     connection: Connection,
-    // What came of a request in small pieces, and wasn't looked at yet.
+    // What came of a request in small pieces, and wasn't looked at yet; and whether its loop has noted
+    // when it is to look at that.
     gathered: Gathered,
+    is_put_off: bool,
     // When something was written last, or it began, in microseconds.
     since: u64,
     // What has come since then.
     weight: Weight,
+    // How much memory it is counted for.
+    load: Load,
     // Whether the last read gave some bytes.
     has_come: bool,
     // Whether there may be something to be read, and room to write.
@@ -56,8 +62,10 @@ impl HttpConnection {
             stream,
             connection,
             gathered: Gathered::new(alloc),
+            is_put_off: false,
             since: now,
             weight: Weight::new(),
+            load: Load::new(),
             has_come: false,
             has_more: true,
             has_room: true,
@@ -81,11 +89,6 @@ impl HttpConnection {
         }
         self.awaits_room = awaits;
         self.stream.await_room(registry, token, awaits)
-    }
-
-    /// When something was written last, or it began.
-    pub fn since(&self) -> u64 {
-        self.since
     }
 
     /// The way by which its peer comes.
@@ -134,9 +137,20 @@ impl HttpConnection {
         left_of(limit, now.saturating_sub(self.since))
     }
 
-    /// In how many microseconds what came in small pieces is looked at, where something is put off.
-    pub fn due_in(&self) -> Option<u64> {
-        self.gathered.due_in()
+    /// In how many microseconds what came in small pieces is looked at, where something is put off and
+    /// no look at it is noted. From then on one is.
+    pub fn put_off(&mut self) -> Option<u64> {
+        if self.is_put_off {
+            return None;
+        }
+        let due_in = self.gathered.due_in()?;
+        self.is_put_off = true;
+        Some(due_in)
+    }
+
+    /// The look comes that was noted.
+    pub fn take_up(&mut self) {
+        self.is_put_off = false;
     }
 
     /// Does what can be done without waiting, by this service; what is dropped is read into the
@@ -150,10 +164,11 @@ impl HttpConnection {
 
     /// Takes a turn. A fault ends the connection.
     fn answer<S: Service>(&mut self, service: &mut S, now: u64) -> bool {
-        let mut heard = Heard::new(&self.stream, &mut self.gathered, self.has_more, now);
+        let limit = self.weight.read_limit(READ_MAX as u64) as usize;
+        let mut heard = Heard::new(&self.stream, &mut self.gathered, self.has_more, limit, now);
         let mut spoken = Spoken::new(&self.stream, self.has_room);
         let turned = answer_turn(&mut self.connection, service, &mut heard, &mut spoken);
-        let (came, has_gone) = (heard.came, spoken.has_gone);
+        let (came, waited, has_gone) = (heard.came, spoken.waited, spoken.has_gone);
         let has_come = came > 0;
         self.has_more = heard.has_more || (has_come && self.is_closing);
         self.has_room = spoken.has_room;
@@ -161,6 +176,7 @@ impl HttpConnection {
             self.has_come = has_come;
         }
         self.weight.hear(came as u64);
+        self.load.note(self.weight.bytes(), waited as u64);
         if has_gone {
             self.weight.answer();
             self.since = now;
@@ -198,6 +214,19 @@ impl HttpConnection {
             }
             Ok(_) | Err(_) => false,
         }
+    }
+}
+
+impl Holds for HttpConnection {
+    ghost bytes = { λ one. held_by one.load };
+
+    fn held(&self) -> u64 {
+        self.load.held()
+    }
+
+    // When something was written last, or it began.
+    fn since(&self) -> u64 {
+        self.since
     }
 }
 

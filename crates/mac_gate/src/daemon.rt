@@ -1,5 +1,8 @@
 //! What a face over HTTP tells of its daemon, and tells it.
 
+ghost use Rattle.std.specs.Prelude.{◌≡◌, ◌++◌, IfOk, OnOk};
+ghost use Rattle.mac_gate.specs.Health.{health_of, health_text};
+
 use crate::draws::SystemDraws;
 use crate::key_lines::append_told_keys;
 use crate::noting::{exchange_of, request_of};
@@ -33,16 +36,8 @@ impl<'a, R: Wait + Clock> OwnDaemon<'a, R> {
 
     /// Tells how the daemon is.
     fn tell_health(&self, text: &mut Vec<u8>) -> Result<Told, AllocError> {
-        if self.server.is_ending() {
-            text.extend_from_slice(b"it was told to end\n")?;
-            return Ok(Told::Unwell);
-        }
-        if self.host().numbers().snapshot().number(Number::KeysRefused) > 0 {
-            text.extend_from_slice(b"the last key file was refused; the keys stay as they were\n")?;
-            return Ok(Told::Unwell);
-        }
-        text.extend_from_slice(b"ok\n")?;
-        Ok(Told::Well)
+        let refused = self.host().numbers().snapshot().number(Number::KeysRefused);
+        append_health(self.server.is_ending(), refused > 0, text)
     }
 
     /// Logs a request and the status that it was answered with, where requests or mints are logged.
@@ -97,11 +92,33 @@ impl<'a, R: Wait + Clock + RandomSource> Monitor for OwnDaemon<'a, R> {
     }
 
     fn note(&self, noted: Noted<'_>, status: StatusCode) {
-        if let Some(request) = request_of(noted.asks, noted.is_revoked, status) {
+        if let Some(request) = request_of(noted.asks, noted.reason, status) {
             self.host().numbers().count_request(request);
         }
         self.log(noted, status);
     }
+}
+
+/// Appends how a daemon is that was told to end or not, and whose last key file was refused or not.
+fn append_health(
+    is_ending: bool,
+    are_keys_refused: bool,
+    text: &mut Vec<u8>,
+) -> Result<Told, AllocError>
+    ensures told { IfOk result (λ told. told ≡ health_of is_ending are_keys_refused) }
+    ensures text { OnOk result
+        (text.new.items ≡ text.old.items ++ health_text is_ending are_keys_refused) }
+{
+    if is_ending {
+        text.extend_from_slice(b"it was told to end\n")?;
+        return Ok(Told::Unwell);
+    }
+    if are_keys_refused {
+        text.extend_from_slice(b"the last key file was refused; the keys stay as they were\n")?;
+        return Ok(Told::Unwell);
+    }
+    text.extend_from_slice(b"ok\n")?;
+    Ok(Told::Well)
 }
 
 /// Appends the version in Prometheus's text form: a metric whose value is 1, with a label.

@@ -7,13 +7,15 @@ use std::io::{Read, Write};
 
 /// How many bytes one read takes at most. So a turn answers one long request at most, and as many
 /// bytes behind it.
-const READ_MAX: usize = 8_192;
+pub const READ_MAX: usize = 8_192;
 
 /// What is read of a stream.
 #[derive(Drop)]
 pub struct Heard<'a> {
     stream: &'a Stream,
     gathered: &'a mut Gathered,
+    // How many bytes the read takes at most.
+    limit: usize,
     now: u64,
     /// Whether it was read.
     pub was_read: bool,
@@ -24,17 +26,19 @@ pub struct Heard<'a> {
 }
 
 impl<'a> Heard<'a> {
-    /// A turn's reader, at this moment in microseconds, where there may be something to be read, or
-    /// not. Small pieces are gathered.
+    /// A turn's reader of so many bytes at most, at this moment in microseconds, where there may be
+    /// something to be read, or not. Small pieces are gathered.
     pub fn new(
         stream: &'a Stream,
         gathered: &'a mut Gathered,
         has_more: bool,
+        limit: usize,
         now: u64,
     ) -> Heard<'a> {
         Heard {
             stream,
             gathered,
+            limit,
             now,
             was_read: false,
             came: 0,
@@ -45,7 +49,7 @@ impl<'a> Heard<'a> {
 
 impl<'a> Read for Heard<'a> {
     fn read(&mut self, buf: &mut [u8]) -> io::Result<usize> {
-        let room = buf.len().min(READ_MAX);
+        let room = buf.len().min(self.limit);
         let outcome = self.stream.read_past_signals(&mut buf[..room]);
         self.was_read = true;
         match outcome {
@@ -69,6 +73,8 @@ impl<'a> Read for Heard<'a> {
 #[derive(Drop)]
 pub struct Spoken<'a> {
     stream: &'a Stream,
+    /// How many bytes were to be written.
+    pub waited: usize,
     /// Whether bytes went.
     pub has_gone: bool,
     /// Whether there may be room for more.
@@ -80,6 +86,7 @@ impl<'a> Spoken<'a> {
     pub fn new(stream: &'a Stream, has_room: bool) -> Spoken<'a> {
         Spoken {
             stream,
+            waited: 0,
             has_gone: false,
             has_room,
         }
@@ -88,6 +95,7 @@ impl<'a> Spoken<'a> {
 
 impl<'a> Write for Spoken<'a> {
     fn write(&mut self, buf: &[u8]) -> io::Result<usize> {
+        self.waited = buf.len();
         let outcome = self.stream.write_past_signals(buf);
         match &outcome {
             Ok(count) => {

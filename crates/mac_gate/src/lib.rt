@@ -18,6 +18,7 @@ mod draws;
 mod gathering;
 mod key_lines;
 mod limit;
+mod load;
 mod looping;
 mod noting;
 mod pace;

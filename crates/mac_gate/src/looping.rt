@@ -7,7 +7,7 @@ use crate::waiting::Waiting;
 use http_server::Connection;
 use mac_host::{microseconds, microseconds_of};
 use mac_http::CONFIG;
-use mac_sockets::{STACK, Stream};
+use mac_sockets::{STACK, SharedBudget, Stream};
 use mio::Waker;
 use std::alloc::Global;
 use std::hash::RandomState;
@@ -28,15 +28,16 @@ pub struct HttpLoop {
 }
 
 impl HttpLoop {
-    /// A loop of this number, whose connections' peers may each take so long, with what ends its
-    /// waits.
-    pub fn new<R: Net>(
+    /// A loop of this number, whose connections' peers may each take so long and hold memory within
+    /// this budget, with what ends its waits.
+    pub fn new<R: Net + Wait>(
         rt: &R,
         alloc: Global,
         number: usize,
         patience: Duration,
+        budget: &Arc<SharedBudget, Global>,
     ) -> io::Result<(HttpLoop, Waker)> {
-        let (connections, waker) = Waiting::new(rt, alloc, microseconds_of(patience))?;
+        let (connections, waker) = Waiting::new(rt, alloc, microseconds_of(patience), budget)?;
         let mut piece = Vec::new(alloc);
         piece.resize(DROPPED_PIECE, 0)?;
         let own = HttpLoop {
@@ -81,6 +82,7 @@ impl HttpLoop {
             self.take_in_all(rt, alloc, server);
             self.advance_ready(rt, server, service);
             self.sweep(rt, server);
+            self.settle(rt, server);
             if is_closed && self.connections.count() == 0 {
                 return;
             }
@@ -94,11 +96,15 @@ impl HttpLoop {
         alloc: Global,
         server: &Shared,
     ) {
+        let mut has_come = false;
         for _ in rt.forever() {
             let Some(newcomer) = server.take(rt, self.number) else {
-                return;
+                break;
             };
             self.receive(rt, alloc, server, newcomer);
+            has_come = true;
+        }
+        if has_come {
             server.note_stalest(self.number, self.connections.stalest_since());
         }
     }
@@ -132,20 +138,49 @@ impl HttpLoop {
     }
 
     /// Has those that are ready do what they can, once each; but of those with a dear request only the
-    /// next one, behind the others.
-    fn advance_ready<R: Wait, S: Answers>(&mut self, rt: &R, server: &Shared, service: &mut S) {
+    /// next one, behind the others. Where there is no memory for a turn, none has one.
+    fn advance_ready<R: Wait + Clock, S: Answers>(
+        &mut self,
+        rt: &R,
+        server: &Shared,
+        service: &mut S,
+    ) {
         if server.is_ending() {
             self.connections.end_idle();
         }
-        for _ in 0..self.connections.count_ready() {
-            if let Some((slot, way)) = self.connections.next_ready() {
+        let ready = self.connections.count_ready();
+        for turn in 0..=ready {
+            if !self.connections.has_room(rt) {
+                break;
+            }
+            let next = if turn < ready {
+                self.connections.next_ready()
+            } else {
+                self.connections.next_dear()
+            };
+            if let Some((slot, way)) = next {
                 service.come_by(way);
                 self.advance(rt, server, service, slot);
             }
         }
-        if let Some((slot, way)) = self.connections.next_dear() {
-            service.come_by(way);
-            self.advance(rt, server, service, slot);
+    }
+
+    /// Gives back what turns haven't taken, and what those had who have left. Where some loop lacks
+    /// more than connections leave, those here that hold most are let go, as long as they hold much;
+    /// else a loop that lacks memory waits for others.
+    fn settle<R: Wait + Clock>(&mut self, rt: &R, server: &Shared) {
+        self.connections.settle(rt);
+        let mut has_ended = false;
+        for _ in rt.forever() {
+            if !self.connections.drop_heaviest(rt) {
+                break;
+            }
+            server.host().tell_heavy(rt);
+            server.leave(rt, self.number);
+            has_ended = true;
+        }
+        if !has_ended {
+            self.connections.await_others(rt);
         }
     }
 

@@ -1,23 +1,24 @@
-//! What a request over HTTP is counted as, by its status and by whether its token was taken back; and
-//! what is logged of it, by its status.
+//! What a request over HTTP is counted and logged as, by its status and by why it wasn't done.
 
-ghost use Rattle.std.specs.Prelude.{◌≡◌};
-ghost use Rattle.mac_gate.specs.Noting.{counted_as, is_well, told_of_call, told_of_verify};
+ghost use Rattle.std.specs.Prelude.{◌≡◌, IfOk};
+ghost use Rattle.mac_gate.specs.Noting.{counted_as, is_revoked, is_well, logged_reason};
+ghost use Rattle.mac_gate.specs.Noting.{told_of_call, told_of_verify};
 
 use http::StatusCode;
 use mac_count::{Asked, Request, Told};
-use mac_host::{Exchange, copy_told_identifier};
-use mac_http::{Asks, Noted};
+use mac_host::{Exchange, LoggedReason, copy_told_identifier};
+use mac_http::{Asks, Noted, Reason};
+use mac_wire::Refusal;
 use std::alloc::{AllocError, Global};
 
 /// What a request is counted as, if it is counted: what needs no key isn't.
-pub fn request_of(asks: Asks, is_revoked: bool, status: StatusCode) -> Option<Request>
-    ensures { result ≡ counted_as asks is_revoked status }
+pub fn request_of(asks: Asks, reason: Option<Reason>, status: StatusCode) -> Option<Request>
+    ensures { result ≡ counted_as asks reason status }
 {
     match asks {
         Asks::Verify => Some(Request {
             asked: Asked::Verify,
-            told: told_of_verify(is_revoked, status),
+            told: told_of_verify(reason, status),
         }),
         Asks::Mint => Some(Request {
             asked: Asked::Mint,
@@ -32,10 +33,10 @@ pub fn request_of(asks: Asks, is_revoked: bool, status: StatusCode) -> Option<Re
 }
 
 /// What a verify was told.
-fn told_of_verify(is_revoked: bool, status: StatusCode) -> Told
-    ensures { result ≡ told_of_verify is_revoked status }
+fn told_of_verify(reason: Option<Reason>, status: StatusCode) -> Told
+    ensures { result ≡ told_of_verify reason status }
 {
-    if is_revoked {
+    if is_revoked(reason) {
         Told::Revoked
     } else if is_well(status) {
         Told::Granted
@@ -44,6 +45,13 @@ fn told_of_verify(is_revoked: bool, status: StatusCode) -> Told
     } else {
         Told::Refused
     }
+}
+
+/// Whether a token was refused that was taken back.
+fn is_revoked(reason: Option<Reason>) -> bool
+    ensures { result ≡ is_revoked reason }
+{
+    matches!(reason, Some(Reason::Refused(Refusal::Revoked)))
 }
 
 /// What a request for a token was told.
@@ -62,7 +70,9 @@ pub fn exchange_of(
     alloc: Global,
     noted: Noted<'_>,
     status: StatusCode,
-) -> Result<Exchange, AllocError> {
+) -> Result<Exchange, AllocError>
+    ensures { IfOk result (λ e. e.reason ≡ logged_reason noted.entry.reason status) }
+{
     let name = Vec::from_slice(alloc, noted.name)?;
     let minted = match noted.minted {
         Some(identifier) => Some(copy_told_identifier(alloc, identifier)?),
@@ -76,20 +86,32 @@ pub fn exchange_of(
         Asks::Inspect => "inspect",
         Asks::Check => "check",
     };
-    let (verdict, code) = match (asks, is_well(status)) {
-        (Asks::Verify, true) => ("granted", None),
-        (Asks::Verify, false) if status == StatusCode::FORBIDDEN => ("unsatisfied", None),
-        (Asks::Inspect | Asks::Check, true) => ("told", None),
-        (_, true) => ("token", None),
-        (_, false) => ("refused", Some(status.as_u16())),
+    let verdict = match (asks, is_well(status)) {
+        (Asks::Verify, true) => "granted",
+        (Asks::Verify, false) if status == StatusCode::FORBIDDEN => "unsatisfied",
+        (Asks::Inspect | Asks::Check, true) => "told",
+        (_, true) => "token",
+        (_, false) => "refused",
     };
     Ok(Exchange {
         asks: what,
         name,
         verdict,
-        code,
+        reason: logged_reason(noted.reason, status),
         minted,
     })
+}
+
+/// Why a request wasn't done, if it wasn't: what is noted of that, or else the status.
+fn logged_reason(reason: Option<Reason>, status: StatusCode) -> Option<LoggedReason>
+    ensures { result ≡ logged_reason reason status }
+{
+    match reason {
+        Some(Reason::Refused(why)) => Some(LoggedReason::Code(why.code())),
+        Some(Reason::Unsatisfied(index)) => Some(LoggedReason::Caveat(index)),
+        None if is_well(status) => None,
+        None => Some(LoggedReason::Status(status.as_u16())),
+    }
 }
 
 /// Whether a status says that what was asked for was done.

@@ -94,13 +94,13 @@ where
     let entrance = Entrance::open(rt, alloc, doors)?;
     let (mut made, mut wakers) = (Vec::new(alloc), Vec::new(alloc));
     for (number, content) in contents.into_iter().enumerate() {
-        let (own, waker) = HttpLoop::new(rt, alloc, number, bounds.patience)?;
+        let (own, waker) = HttpLoop::new(rt, alloc, number, bounds.patience, host.budget())?;
         made.push((own, content))?;
         wakers.push(waker)?;
     }
     let shutter = Arc::try_clone(entrance.shutter())?;
     let server = Shared::new(alloc, bounds, host, shutter, wakers)?;
-    server.open(rt);
+    server.open(rt)?;
     match start_all(rt, made, entrance, &server) {
         Some(acceptor) => Ok(HttpServer { server, acceptor }),
         None => {

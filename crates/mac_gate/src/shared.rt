@@ -100,9 +100,9 @@ impl Shared {
         }
     }
 
-    /// Has the end of the daemon wait until it is closed.
-    pub fn open<R: Wait>(&self, rt: &R) {
-        self.host.open_server(rt);
+    /// Has the end of the daemon shut it, and wait until it is closed.
+    pub fn open<R: Wait>(&self, rt: &R) -> Result<(), AllocError> {
+        self.host.open_server(rt, &self.shutter)
     }
 
     /// Tells the end of the daemon that no further connection comes in, and has each loop return

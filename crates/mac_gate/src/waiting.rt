@@ -5,38 +5,63 @@ use crate::turns::Turns;
 use http_server::Service;
 use mac_host::microseconds_of;
 use mac_http::Way;
-use mac_sockets::{Connections, REST_MIN, Readiness};
+use mac_sockets::{Account, Connections, Holds, REST_MIN, Readiness, SharedBudget, heaviest};
 use mio::{Token, Waker};
 use std::alloc::Global;
+use std::collections::VecDeque;
 use std::io;
 use std::net::Net;
+use std::sync::{Arc, Wait};
 use std::time::{Clock, Duration};
 
 /// How many microseconds pass at most until one that is owed something is looked at again, though no
 /// event told of it.
 const OWED: u64 = 1_000_000;
 
+/// How many bytes the turn of a connection may take beside what it is counted for: for the dearest
+/// request, until it is answered, and for its response.
+const TURN_ROOM: u64 = 4_194_304;
+
+/// When a slot's connection is looked at, of which something came that was put off.
+#[derive(Clone, Copy)]
+struct PutOff {
+    slot: usize,
+    at: u64,
+}
+
 /// The connections of a loop, each in its slot.
 #[derive(Drop)]
 pub struct Waiting {
     connections: Connections<HttpConnection>,
+    // What they have of the memory of all.
+    account: Account,
     // Those that are ready and have a dear request.
     dear: Turns,
     // Both in microseconds.
     patience: u64,
-    // Nobody has to be looked at before then of whom no event tells.
+    // Nobody has to be looked at before then of whom no event tells, but for those below.
     due: Option<u64>,
+    // Those of whom something came that was put off, each once, the first one that is due in front.
+    put_off: VecDeque<PutOff>,
 }
 
 impl Waiting {
-    /// No connections, whose peers may each take so long, and what ends the waits for them.
-    pub fn new<R: Net>(rt: &R, alloc: Global, patience: u64) -> io::Result<(Waiting, Waker)> {
+    /// No connections, whose peers may each take so long, and what ends the waits for them. What they
+    /// hold is within this budget.
+    pub fn new<R: Net + Wait>(
+        rt: &R,
+        alloc: Global,
+        patience: u64,
+        budget: &Arc<SharedBudget, Global>,
+    ) -> io::Result<(Waiting, Waker)> {
         let (connections, waker) = Connections::new(rt, alloc)?;
         let waiting = Waiting {
+            account: Account::open(rt, budget, connections.waker()?)?,
             connections,
             dear: Turns::new(alloc),
             patience,
             due: None,
+            put_off: VecDeque::new(alloc),
         };
         Ok((waiting, waker))
     }
@@ -61,7 +86,7 @@ impl Waiting {
     pub fn wait<R: Clock>(&mut self, rt: &R) {
         let now = self.now();
         let due = if self.dear.is_empty() {
-            self.due
+            self.next_due()
         } else {
             Some(now)
         };
@@ -70,6 +95,47 @@ impl Waiting {
             None => None,
         };
         self.connections.wait(rt, patience);
+        self.look_again();
+    }
+
+    /// When somebody has to be looked at of whom no event tells.
+    fn next_due(&self) -> Option<u64> {
+        match (self.due, self.put_off.front()) {
+            (Some(due), Some(first)) => Some(due.min(first.at)),
+            (None, Some(first)) => Some(first.at),
+            (due, None) => due,
+        }
+    }
+
+    /// Lists those of whom something was put off until now.
+    fn look_again(&mut self) {
+        let now = self.now();
+        for _ in 0..self.put_off.len() {
+            match self.put_off.front() {
+                Some(first) if first.at <= now => {}
+                _ => return,
+            }
+            if let Some(first) = self.put_off.pop_front() {
+                self.take_up(first.slot);
+            }
+        }
+    }
+
+    /// Lists a slot whose connection has something that was put off.
+    fn take_up(&mut self, slot: usize) {
+        if let Some(one) = self.connections.slots.get_mut(slot) {
+            one.take_up();
+        }
+        self.connections.wake(slot, Readiness::UNTOLD);
+    }
+
+    /// Has the connection of a slot looked at so long from now; or all, where there is no memory to
+    /// note one.
+    fn look_later(&mut self, slot: usize, left: u64) {
+        let at = self.now().saturating_add(left);
+        if self.put_off.push_back(PutOff { slot, at }).is_err() {
+            self.expect(left);
+        }
     }
 
     /// Takes a connection in, and has the poll tell of it. Whether that could be.
@@ -121,7 +187,48 @@ impl Waiting {
     /// Lets the connection of a slot go. Whether there is one.
     fn release(&mut self, slot: usize) -> bool {
         self.dear.leave(slot);
-        self.connections.slots.release(slot).is_some()
+        let Some(one) = self.connections.slots.release(slot) else {
+            return false;
+        };
+        self.account.count(one.held(), 0);
+        true
+    }
+
+    /// Whether one is ready, or has its turn among those with a dear request.
+    fn has_turn(&self) -> bool {
+        self.connections.slots.has_ready() || !self.dear.is_empty()
+    }
+
+    /// Has the memory that one turn may take, where one is due. Whether there is as much.
+    pub fn has_room<R: Wait>(&mut self, rt: &R) -> bool {
+        let more = if self.has_turn() { TURN_ROOM } else { 0 };
+        self.account.has_room(rt, more)
+    }
+
+    /// Gives back what turns haven't taken, and what those had who have left.
+    pub fn settle<R: Wait>(&mut self, rt: &R) {
+        let _ = self.account.settle(rt);
+    }
+
+    /// Lets the connection go that holds most, where one of this loop is to end. Whether there is
+    /// one.
+    pub fn drop_heaviest<R: Wait>(&mut self, rt: &R) -> bool {
+        if !self.account.must_end(rt) {
+            return false;
+        }
+        let Some(heavy) = heaviest(&self.connections.slots) else {
+            return false;
+        };
+        let is_gone = self.release(heavy.slot);
+        self.settle(rt);
+        is_gone
+    }
+
+    /// Where there was no memory for a turn that is due, waits for what other loops give back.
+    pub fn await_others<R: Wait + Clock>(&self, rt: &R) {
+        if self.account.lacks() && self.has_turn() {
+            self.account.await_others(rt);
+        }
     }
 
     /// When something was sent to that one, in microseconds.
@@ -191,12 +298,15 @@ impl Waiting {
         let Some(mut one) = self.connections.slots.take(slot) else {
             return false;
         };
+        let before = one.held();
         let goes_on = one.advance(service, now, piece)
             && one.update(self.connections.registry(), Token(slot)).is_ok();
         if !goes_on {
+            self.account.count(before, 0);
             let _ = self.release(slot);
             return true;
         }
+        self.account.count(before, one.held());
         let _ = self.connections.slots.put(slot, one);
         if is_ending {
             self.end_if_idle(slot);
@@ -207,16 +317,17 @@ impl Waiting {
 
     /// Notes until when one that goes on has to be looked at.
     fn stay(&mut self, slot: usize) {
-        let Some(one) = self.connections.slots.get(slot) else {
+        let now = self.now();
+        let Some(one) = self.connections.slots.get_mut(slot) else {
             return;
         };
-        let (left, is_owed) = (one.left(self.patience, self.now()), one.is_owed());
-        let due_in = one.due_in();
+        let (left, is_owed) = (one.left(self.patience, now), one.is_owed());
+        let due_in = one.put_off();
         if let Some(left) = left {
             self.expect(left);
         }
         if let Some(micros) = due_in {
-            self.expect(micros);
+            self.look_later(slot, micros);
         }
         if is_owed {
             self.expect(OWED);

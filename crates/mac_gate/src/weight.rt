@@ -1,7 +1,7 @@
 //! How long a request is, as far as it came.
 
-ghost use Rattle.std.specs.Prelude.{◌≡◌, nat_lt};
-ghost use Rattle.mac_gate.specs.Weight.{answered, heard, new_weight};
+ghost use Rattle.std.specs.Prelude.{◌≡◌};
+ghost use Rattle.mac_gate.specs.Weight.{answered, fresh, heard, is_dear, new_weight, read_limit};
 
 /// A request of more bytes is dear: it may take milliseconds.
 pub const LIGHT_MAX: u64 = 4_096;
@@ -25,6 +25,14 @@ impl Weight {
         }
     }
 
+    /// How many bytes came since then.
+    pub fn bytes(&self) -> u64
+        ensures { result ≡ self.now.bytes }
+    {
+        let Weight { bytes, .. } = *self;
+        bytes
+    }
+
     /// Whether nothing has come since the last response.
     pub fn is_idle(&self) -> bool
         ensures { result ≡ self.now.is_idle }
@@ -32,20 +40,38 @@ impl Weight {
         self.is_idle
     }
 
-    /// Whether the request is dear.
-    pub fn is_dear(&self) -> bool
-        ensures { result ≡ nat_lt LIGHT_MAX self.now.bytes }
+    /// How many bytes came since the last response went.
+    fn fresh(&self) -> u64
+        ensures { result ≡ fresh self.now }
     {
-        self.bytes > LIGHT_MAX
+        let Weight { bytes, is_idle } = *self;
+        if is_idle { 0 } else { bytes }
+    }
+
+    /// Whether the request is dear: it has more bytes, or as many came and it isn't answered.
+    pub fn is_dear(&self) -> bool
+        ensures { result ≡ is_dear self.now }
+    {
+        self.bytes > LIGHT_MAX || self.fresh() == LIGHT_MAX
+    }
+
+    /// How many bytes a turn reads at most, where one reads so many of a dear request. Of another one
+    /// it reads no more than such a request may have, so that none is answered which is longer.
+    pub fn read_limit(&self, most: u64) -> u64
+        ensures { result ≡ read_limit self.now most }
+    {
+        if self.is_dear() {
+            return most;
+        }
+        LIGHT_MAX.saturating_sub(self.fresh()).min(most)
     }
 
     /// Notes that so many bytes came.
     pub fn hear(&mut self, count: u64)
         ensures { self.new ≡ heard self.old count }
     {
-        let Weight { bytes, is_idle } = *self;
         if count > 0 {
-            let before = if is_idle { 0 } else { bytes };
+            let before = self.fresh();
             *self = Weight {
                 bytes: before.saturating_add(count),
                 is_idle: false,

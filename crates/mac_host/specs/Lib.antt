@@ -1,4 +1,5 @@
 pub mod Badge
 pub mod Exchange
 pub mod Minted
+pub mod Requested
 pub mod Standing

@@ -2,6 +2,7 @@
 
 use crate::notices::Notices;
 use crate::standing::{Call, Standing};
+use mac_sockets::Shutter;
 use std::alloc::{AllocError, Global};
 use std::sync::{Arc, Condvar, CondvarTimeouts, Mutex, Wait};
 use std::time::{Clock, Duration};
@@ -11,6 +12,8 @@ use std::time::{Clock, Duration};
 pub struct Ending {
     standing: Mutex<Standing>,
     change: Condvar,
+    // They shut where connections of further servers come in.
+    shutters: Mutex<Vec<Arc<Shutter, Global>>>,
 }
 
 impl Ending {
@@ -19,18 +22,28 @@ impl Ending {
         let ending = Ending {
             standing: Mutex::new(Standing::new()),
             change: Condvar::new(),
+            shutters: Mutex::new(Vec::new(alloc)),
         };
         Ok(Arc::new(alloc, ending)?)
     }
 
     /// Tells the daemon to end: once what it has read is answered, or at once where it was told
-    /// before. Who tells it shuts its entrance behind that.
+    /// before. Who tells it shuts its entrance behind that. Those of further servers are shut here.
     pub fn tell<R: Wait>(&self, rt: &R) {
         let mut standing = self.standing.lock(rt);
         let own = &mut *standing;
         own.tell();
         drop(standing);
         self.change.notify_all();
+        self.shut_all(rt);
+    }
+
+    /// Shuts where connections of further servers come in.
+    fn shut_all<R: Wait>(&self, rt: &R) {
+        let shutters = self.shutters.lock(rt);
+        for shutter in shutters.iter() {
+            shutter.shut();
+        }
     }
 
     /// Tells a daemon to end that has another one's socket at a path, where it wasn't told before,
@@ -46,6 +59,7 @@ impl Ending {
         notices.tell_replaced(rt, path);
         drop(standing);
         self.change.notify_all();
+        self.shut_all(rt);
         true
     }
 
@@ -94,17 +108,6 @@ impl Ending {
         own.hear()
     }
 
-    /// Waits until the daemon is told to end, or has ended by itself, for so long at most. Whether
-    /// that is so. It hears of no look, which is for whoever awaits a call.
-    pub fn await_ending<R: Wait + Clock>(&self, rt: &R, patience: Duration) -> bool {
-        let standing = self.standing.lock(rt);
-        let waits = |standing: &mut Standing| !standing.is_ending();
-        let (standing, _) = self
-            .change
-            .wait_timeout_while(rt, standing, patience, waits);
-        standing.is_ending()
-    }
-
     /// Waits until the daemon has ended, and its further servers too, for so many seconds at most,
     /// and no longer than until it is told a second time. Whether all have ended.
     pub fn await_end<R: Wait + Clock>(&self, rt: &R, seconds: u64) -> bool {
@@ -117,11 +120,25 @@ impl Ending {
         standing.is_empty()
     }
 
-    /// Counts a further server, which takes connections.
-    pub fn open_server<R: Wait>(&self, rt: &R) {
+    /// Counts a further server, which takes connections until it is shut so.
+    pub fn open_server<R: Wait>(
+        &self,
+        rt: &R,
+        shutter: &Arc<Shutter, Global>,
+    ) -> Result<(), AllocError> {
+        let mut shutters = self.shutters.lock(rt);
+        let all = &mut *shutters;
+        all.push(Arc::try_clone(shutter)?)?;
+        drop(shutters);
         let mut standing = self.standing.lock(rt);
         let own = &mut *standing;
         own.open_server();
+        let is_late = own.is_ending();
+        drop(standing);
+        if is_late {
+            shutter.shut();
+        }
+        Ok(())
     }
 
     /// Counts one less: it takes no connections any more.

@@ -34,6 +34,17 @@ impl Logged {
     }
 }
 
+/// Why a request wasn't done, as its line tells it.
+#[derive(Clone, Copy, Debug, PartialEq, Eq)]
+pub enum LoggedReason {
+    /// The number of a refusal.
+    Code(u8),
+    /// The index of the first caveat that isn't satisfied, from 0.
+    Caveat(u16),
+    /// The status of a response over HTTP, where there is neither of these.
+    Status(u16),
+}
+
 /// A request, and what it was answered.
 #[derive(Drop)]
 pub struct Exchange {
@@ -43,8 +54,8 @@ pub struct Exchange {
     pub name: Vec<u8>,
     /// What it was answered, in a word.
     pub verdict: &'static str,
-    /// The number of a refusal.
-    pub code: Option<u16>,
+    /// Why it wasn't done, if it wasn't.
+    pub reason: Option<LoggedReason>,
     /// The identifier of the token that it was answered with, where that was minted.
     pub minted: Option<Vec<u8>>,
 }

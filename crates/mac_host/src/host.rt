@@ -6,12 +6,13 @@ use crate::numbers::Numbers;
 use crate::roster::Roster;
 use mac_board::{ListNews, News};
 use mac_decide::SeenTokens;
+use mac_sockets::{SharedBudget, Shutter};
 use std::alloc::{AllocError, Global};
 use std::sync::{Arc, Wait};
 use std::time::Clock;
 
 /// What a server has of its daemon: its end, its log, its numbers, the list of the connections of
-/// its own socket, and the memory of tokens.
+/// its own socket, the memory of tokens, and the budget of what connections hold.
 #[derive(Drop)]
 pub struct Host {
     ending: Arc<Ending, Global>,
@@ -19,6 +20,7 @@ pub struct Host {
     numbers: Numbers,
     roster: Arc<Roster, Global>,
     seen: SeenTokens,
+    budget: Arc<SharedBudget, Global>,
 }
 
 impl Host {
@@ -29,6 +31,7 @@ impl Host {
         numbers: Numbers,
         roster: Arc<Roster, Global>,
         seen: SeenTokens,
+        budget: Arc<SharedBudget, Global>,
     ) -> Host {
         Host {
             ending,
@@ -36,17 +39,20 @@ impl Host {
             numbers,
             roster,
             seen,
+            budget,
         }
     }
 
-    /// That of a server which is no daemon's: nothing is logged, listed or remembered.
-    pub fn alone<R: Wait + Clock>(rt: &R, alloc: Global) -> Result<Host, AllocError> {
+    /// That of a server which is no daemon's: nothing is logged, listed or remembered, and its
+    /// connections have so many bytes of memory together.
+    pub fn alone<R: Wait + Clock>(rt: &R, alloc: Global, memory: u64) -> Result<Host, AllocError> {
         Ok(Host {
             ending: Ending::new(alloc)?,
             notices: Notices::none(alloc),
             numbers: Numbers::begin(rt, alloc)?,
             roster: Roster::new(rt, alloc, 1, Vec::new(alloc))?,
             seen: SeenTokens::none(),
+            budget: SharedBudget::new(alloc, memory)?,
         })
     }
 
@@ -58,6 +64,7 @@ impl Host {
             numbers: self.numbers.share()?,
             roster: Arc::try_clone(&self.roster)?,
             seen: self.seen.share()?,
+            budget: Arc::try_clone(&self.budget)?,
         })
     }
 
@@ -86,6 +93,11 @@ impl Host {
         &self.seen
     }
 
+    /// The budget of what all connections hold.
+    pub fn budget(&self) -> &Arc<SharedBudget, Global> {
+        &self.budget
+    }
+
     /// Tells what came of a look at the key file, if there is anything to be told.
     pub fn tell_keys<R: Wait + Clock>(&self, rt: &R, file: &str, news: News) {
         self.numbers.note_keys(rt, &news);
@@ -99,9 +111,14 @@ impl Host {
         self.notices.tell_revoked(rt, file, news);
     }
 
-    /// Counts a further server. The end waits until it takes no connections any more, and has none.
-    pub fn open_server<R: Wait>(&self, rt: &R) {
-        self.ending.open_server(rt);
+    /// Counts a further server. The end shuts it so, and waits until it takes no connections any more,
+    /// and has none.
+    pub fn open_server<R: Wait>(
+        &self,
+        rt: &R,
+        shutter: &Arc<Shutter, Global>,
+    ) -> Result<(), AllocError> {
+        self.ending.open_server(rt, shutter)
     }
 
     /// Counts a further server less: it takes no connections any more.
@@ -113,6 +130,13 @@ impl Host {
     pub fn enter<R: Wait>(&self, rt: &R) {
         self.ending.enter(rt);
         self.numbers.count_http_begun();
+    }
+
+    /// Counts and tells that a connection of a further server is ended, since it holds most of the
+    /// memory of all.
+    pub fn tell_heavy<R: Wait + Clock>(&self, rt: &R) {
+        self.numbers.count_heavy();
+        self.notices.tell_heavy(rt);
     }
 
     /// Counts one less.

@@ -18,7 +18,7 @@ pub(crate) fn minted_fields(
 }
 
 /// The same with the name, where it is one that a line tells.
-fn with_name(fields: Fields, name: &[u8]) -> Result<Fields, NoMemory>
+pub(crate) fn with_name(fields: Fields, name: &[u8]) -> Result<Fields, NoMemory>
     ensures { IfOk result (λ told. told ≡ with_name fields name.now) }
 {
     if is_told_name(name) {

@@ -4,8 +4,9 @@ use crate::badge::{Badge, Life};
 use crate::clock::microseconds;
 use crate::exchange::{Exchange, Logged};
 use crate::minted::minted_fields;
+use crate::requested::request_fields;
 use mac_board::{ListNews, ListRefusal, News, Refusal};
-use mac_log::{Fields, Key, Kind, Log, NoMemory, is_told_name, start_log};
+use mac_log::{Fields, Key, Kind, Log, NoMemory, start_log};
 use std::alloc::Global;
 use std::fmt::Display;
 use std::io;
@@ -15,6 +16,10 @@ use std::time::Clock;
 
 /// How many milliseconds the daemon waits at its end until its last lines are printed.
 const PATIENCE_MILLIS: u64 = 200;
+
+/// Why a connection was ended that held most of the memory of all.
+pub const HEAVY: &str =
+    "it held most of the memory that connections have together, which is used up";
 
 /// What a daemon serves, as it is told at its start.
 #[derive(Clone, Copy)]
@@ -151,6 +156,12 @@ impl Notices {
         self.post(rt, kind, fields);
     }
 
+    /// Tells that a connection without a number was ended, since it held most of the memory of all.
+    pub fn tell_heavy<R: Wait + Clock>(&self, rt: &R) {
+        let fields = Fields::new(self.alloc).with_text(Key::Fault, HEAVY.as_bytes());
+        self.post(rt, Kind::ConnectionFault, fields);
+    }
+
     /// Tells that a connection was closed, since there are as many as this limit allows.
     pub fn tell_full<R: Wait + Clock>(&self, rt: &R, limit: &str, most: u64) {
         let fields = limit_fields(self.alloc, limit, most);
@@ -264,22 +275,14 @@ fn connection_fields(alloc: Global, badge: Option<Badge>) -> Result<Fields, NoMe
     }
 }
 
-/// What a request asked for, under which name, and what it was answered: no token and no fact.
+/// What is told of a request, behind its connection.
 fn exchange_fields(
     alloc: Global,
     badge: Option<Badge>,
     exchange: Exchange,
 ) -> Result<Fields, NoMemory> {
-    let mut fields = connection_fields(alloc, badge)?;
-    fields = fields.with_text(Key::Asks, exchange.asks.as_bytes())?;
-    if is_told_name(exchange.name.as_slice()) {
-        fields = fields.with_text(Key::Name, exchange.name.as_slice())?;
-    }
-    fields = fields.with_text(Key::Verdict, exchange.verdict.as_bytes())?;
-    match exchange.code {
-        Some(code) => fields.with_number(alloc, Key::Code, code as u64),
-        None => Ok(fields),
-    }
+    let fields = connection_fields(alloc, badge)?;
+    request_fields(alloc, fields, &exchange)
 }
 
 fn limit_fields(alloc: Global, limit: &str, most: u64) -> Result<Fields, NoMemory> {

@@ -18,7 +18,6 @@ use Rattle.mac_token.specs.RawToken.{TokenParts}
 use Rattle.mac_token.specs.Read.{read_of}
 use Rattle.mac_token.specs.declared.fault.TokenRefusal.{TokenRefusal}
 use Rattle.mac_wire.specs.Request.{verify_now}
-use Rattle.mac_wire.specs.declared.reply.Refusal.TheVariants as refusal
 use Rattle.mac_wire.specs.declared.reply.Reply.{Reply}
 use Rattle.mac_wire.specs.declared.reply.Reply.TheVariants as reply
 use Rattle.mac_wire.specs.declared.request.Grant.TheVariants as grant
@@ -38,7 +37,6 @@ granted_by scheme reply.Granted identifier location e = absurd (cc)
 granted_by scheme (reply.GrantedTo i l) identifier location e = cc
 granted_by scheme (reply.Token bytes) identifier location e = absurd (cc)
 granted_by scheme (reply.Unsatisfied index) identifier location e = absurd (cc)
-granted_by scheme (reply.Refused refusal.Revoked) identifier location e = absurd (cc)
 granted_by scheme (reply.Refused reason) identifier location e = absurd (cc)
 
 -- where no fragment and no unsafe path is told and the facts are few, what is found with them

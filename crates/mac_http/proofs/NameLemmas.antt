@@ -1,5 +1,5 @@
 -- What is found of a name's keys by who has no token of theirs.
-use Rattle.std.proofs.Common.{◌≡◌, ◌⊎◌, ℕ, List, Bool, true, false, Option, Some, None, inl, inr, refl, sym, ap, ◌∙◌, ⊎_elim}
+use Rattle.std.proofs.Common.{◌≡◌, ◌⊎◌, ℕ, List, Bool, true, false, Option, Some, None, inl, inr, refl, sym, ap, subst, ◌∙◌}
 use Rattle.std.specs.Prelude.{if◌then◌else◌}
 use Rattle.std.specs.FinMap as map
 use Rattle.http.specs.declared.request.Parts.{Parts}
@@ -13,64 +13,67 @@ use Rattle.mac_keys.specs.declared.keys.Keys.{Keys}
 use Rattle.mac_decide.proofs.RevocationLemmas.{kept-refused}
 use Rattle.mac_token.specs.Read.{read_of}
 use Rattle.mac_wire.specs.Request.{verify_now}
+use Rattle.mac_wire.specs.declared.reply.Refusal.{Refusal}
 use Rattle.mac_wire.specs.declared.reply.Refusal.TheVariants as refusal
 use Rattle.mac_wire.specs.declared.reply.Reply.{Reply}
 use Rattle.mac_wire.specs.declared.reply.Reply.TheVariants as reply
 use Rattle.mac_wire.specs.declared.request.Grant.TheVariants as grant
 use Rattle.mac_http.specs.declared.authorization.Scheme.{Scheme}
 use Rattle.mac_http.specs.declared.finding.Finding.{Finding}
-use Rattle.mac_http.specs.declared.finding.Finding.TheVariants.{Fragment, Invalid, ManyFacts, UnsafePath}
+use Rattle.mac_http.specs.declared.finding.Finding.TheVariants.{Fragment, Invalid, ManyFacts, NoMoment, NoToken, Unknown, UnsafePath}
 use Rattle.mac_http.specs.declared.rules.Rules.{Rules}
 use Rattle.mac_http.specs.declared.rules.Sources.{Sources}
 use Rattle.mac_http.specs.Authorization.{credentials_in}
 use Rattle.mac_http.specs.Facts.{facts_of, tells_fragment, tells_unsafe}
 use Rattle.mac_http.specs.Found.{IsHeld, found_at, found_by, found_few, found_in, found_of, found_under, found_with, terms_of}
+use Rattle.mac_http.specs.Saying.{AreToldAlike}
 use Rattle.mac_http.specs.Target.{target_in}
 
--- the token is held, or it is found as where the name has no keys
+-- the token is held, or it is told as where the name has no keys
 abbrev IsUntold : Finding → Finding → Type 0
-IsUntold f bare = IsHeld f ⊎ (f ≡ bare)
+IsUntold f bare = IsHeld f ⊎ AreToldAlike f bare
 
-by_reply : (scheme : Scheme) (r : Reply) → IsUntold (found_by scheme r) (Invalid scheme)
-by_reply scheme reply.Granted = inr refl
-by_reply scheme (reply.GrantedTo identifier location) = inl tt
-by_reply scheme (reply.Token bytes) = inr refl
-by_reply scheme (reply.Unsatisfied index) = inl tt
-by_reply scheme (reply.Refused refusal.Revoked) = inl tt
-by_reply scheme (reply.Refused reason) = inr refl
+itself : (f : Finding) → AreToldAlike f f
+itself f = λ granted response. (λ told. told, λ told. told)
+
+by_reply : (scheme : Scheme) (why : Refusal) (r : Reply) → IsUntold (found_by scheme r) (Invalid scheme why)
+by_reply scheme why reply.Granted = inr (λ granted response. (λ told. told, λ told. told))
+by_reply scheme why (reply.GrantedTo identifier location) = inl tt
+by_reply scheme why (reply.Token bytes) = inr (λ granted response. (λ told. told, λ told. told))
+by_reply scheme why (reply.Unsatisfied index) = inl tt
+by_reply scheme why (reply.Refused reason) = inr (λ granted response. (λ told. told, λ told. told))
 
 -- a name without keys has no token
 unkeyed : (terms : Terms) (name : List ℕ) (credentials : Scheme × List ℕ) (facts : List (List ℕ)) → keys_of terms name ≡ None
-    → found_by credentials.0 (answer_to terms (verify_now grant.Owner name credentials.1 facts)) ≡ Invalid credentials.0
+    → found_by credentials.0 (answer_to terms (verify_now grant.Owner name credentials.1 facts)) ≡ Invalid credentials.0 refusal.UnknownKey
 unkeyed terms name credentials facts none =
     ap (λ (k : Option Keys). found_by credentials.0 (unless_revoked (is_listed_read terms.table.revoked name (read_of credentials.1)) (keyed k (λ keys. timed terms.moment (λ m. verify_reply grant.Owner credentials.1 (record { moment = m; facts = facts }) keys))))) none
     ∙ ap (found_by credentials.0) (kept-refused (is_listed_read terms.table.revoked name (read_of credentials.1)) refusal.UnknownKey)
 
 at_moment : (terms bare : Terms) (name : List ℕ) (credentials : Scheme × List ℕ) (facts : List (List ℕ)) (moment : Option ℕ) → keys_of bare name ≡ None
     → IsUntold (found_at terms name credentials facts moment) (found_at bare name credentials facts moment)
-at_moment terms bare name credentials facts None none = inr refl
+at_moment terms bare name credentials facts None none = inr (itself NoMoment)
 at_moment terms bare name credentials facts (Some moment) none =
-    ⊎_elim
-    (λ held. inl held)
-    (λ same. inr (same ∙ sym (unkeyed bare name credentials facts none)))
-    (by_reply credentials.0 (answer_to terms (verify_now grant.Owner name credentials.1 facts)))
+    subst (IsUntold (found_by credentials.0 (answer_to terms (verify_now grant.Owner name credentials.1 facts))))
+    (sym (unkeyed bare name credentials facts none))
+    (by_reply credentials.0 refusal.UnknownKey (answer_to terms (verify_now grant.Owner name credentials.1 facts)))
 
 if_few : (few : Bool) (f bare : Finding) → IsUntold f bare → IsUntold (if few then f else ManyFacts) (if few then bare else ManyFacts)
 if_few true f bare untold = untold
-if_few false f bare untold = inr refl
+if_few false f bare untold = inr (itself ManyFacts)
 
 if_safe : (unsafe : Bool) (f bare : Finding) → IsUntold f bare → IsUntold (if unsafe then UnsafePath else f) (if unsafe then UnsafePath else bare)
-if_safe true f bare untold = inr refl
+if_safe true f bare untold = inr (itself UnsafePath)
 if_safe false f bare untold = untold
 
 if_whole : (broken : Bool) (f bare : Finding) → IsUntold f bare → IsUntold (if broken then Fragment else f) (if broken then Fragment else bare)
-if_whole true f bare untold = inr refl
+if_whole true f bare untold = inr (itself Fragment)
 if_whole false f bare untold = untold
 
 under_keys : (sources : Sources) (table bare : Table) (rules : Rules) (moment : Option ℕ) (head : Parts) (target : List ℕ × List ℕ) (o : Option (Scheme × List ℕ))
     → keys_of (terms_of bare rules moment) target.0 ≡ None
     → IsUntold (found_under sources (terms_of table rules moment) head target o) (found_under sources (terms_of bare rules moment) head target o)
-under_keys sources table bare rules moment head target None none = inr refl
+under_keys sources table bare rules moment head target None none = inr (itself NoToken)
 under_keys sources table bare rules moment head target (Some credentials) none =
     let facts = facts_of sources head target.1 in
     let terms = terms_of table rules moment in
@@ -89,7 +92,7 @@ no_keys bare name false none = refl
 
 in_target : (table bare : Table) (rules : Rules) (moment : Option ℕ) (head : Parts) (o : Option (List ℕ × List ℕ)) → ((name : List ℕ) → map.get bare.keys name ≡ None)
     → IsUntold (found_in rules.sources (terms_of table rules moment) head o) (found_in rules.sources (terms_of bare rules moment) head o)
-in_target table bare rules moment head None none = inr refl
+in_target table bare rules moment head None none = inr (itself Unknown)
 in_target table bare rules moment head (Some target) none =
     under_keys rules.sources table bare rules moment head target (credentials_in head.headers)
     (no_keys bare target.0 (is_allowed rules.rights.now.names target.0) (none target.0))

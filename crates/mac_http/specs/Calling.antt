@@ -5,7 +5,7 @@ use Rattle.http.specs.declared.request.Request.{Request}
 use Rattle.http1.specs.Fields.{Header}
 use Rattle.http_server.specs.declared.response.Response.{Response}
 use Rattle.http_server.specs.Response.{IsResponse}
-use Rattle.mac_calls.specs.Outcome.{minted_identifier, outcome_of}
+use Rattle.mac_calls.specs.Outcome.{outcome_of}
 use Rattle.mac_calls.specs.declared.answering.Outcome.{Outcome}
 use Rattle.mac_calls.specs.declared.answering.Outcome.TheVariants.{NoKey, Minted, Reply, Refused}
 use Rattle.mac_calls.specs.declared.call.Call.{Call}
@@ -68,7 +68,7 @@ abbrev pub TellsOutcome : Outcome → Response → Type 0
 TellsOutcome NoKey = IsResponse 404 [] []
 TellsOutcome (Minted json identifier) = IsResponse 200 is_json json
 TellsOutcome (Reply json) = IsResponse 200 is_json json
-TellsOutcome (Refused json) = IsResponse 400 is_json json
+TellsOutcome (Refused json why) = IsResponse 400 is_json json
 
 -- the same, if the method is POST
 abbrev pub TellsCall : Bool → Outcome → Response → Type 0
@@ -98,21 +98,21 @@ RespondsToCall table rules moment asked request response = ((drawn : List ℕ) �
     (allowed_outcome rules table moment asked drawn (body_of request)) response)
     ⊎ IsOverloaded response
 
--- the identifier of the token that a response brings, if the method is POST
-abbrev pub minted_by_post : Bool → Outcome → Option (List ℕ)
-minted_by_post true o = minted_identifier o
-minted_by_post false o = None
+-- what came of a call, if the method is POST
+abbrev pub outcome_by_post : Bool → Outcome → Option Outcome
+outcome_by_post true o = Some o
+outcome_by_post false o = None
 
 -- the same, unless the call is refused before by a status
-abbrev pub minted_unless_refused : Option ℕ → Bool → Outcome → Option (List ℕ)
-minted_unless_refused (Some status) is_post o = None
-minted_unless_refused None is_post o = minted_by_post is_post o
+abbrev pub outcome_unless_refused : Option ℕ → Bool → Outcome → Option Outcome
+outcome_unless_refused (Some status) is_post o = None
+outcome_unless_refused None is_post o = outcome_by_post is_post o
 
--- the identifier is that of the token that the response brings, where it brings one that was minted
-abbrev pub IsMintedFor : List ℕ → Table → Rules → Option ℕ → Call × List ℕ → Request (List ℕ)
-    → Response → Option (List ℕ) → Type 0
-IsMintedFor drawn table rules moment asked request response minted =
-    (minted ≡ minted_unless_refused (refusal_of rules.way (head_of request))
+-- whoever notes the response is told what came of the call, where the response tells that
+abbrev pub NotesOutcome : List ℕ → Table → Rules → Option ℕ → Call × List ℕ → Request (List ℕ)
+    → Response → Option Outcome → Type 0
+NotesOutcome drawn table rules moment asked request response noted =
+    (noted ≡ outcome_unless_refused (refusal_of rules.way (head_of request))
     (bytes_eq (head_of request).method (codes "POST"))
     (allowed_outcome rules table moment asked drawn (body_of request)))
-    ⊎ ((minted ≡ None) × IsOverloaded response)
+    ⊎ ((noted ≡ None) × IsOverloaded response)

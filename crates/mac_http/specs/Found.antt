@@ -17,21 +17,21 @@ use Rattle.mac_wire.specs.declared.reply.Reply.TheVariants as reply
 use Rattle.mac_wire.specs.declared.request.Grant.TheVariants as grant
 use Rattle.mac_http.specs.declared.authorization.Scheme.{Scheme}
 use Rattle.mac_http.specs.declared.finding.Finding.{Finding}
-use Rattle.mac_http.specs.declared.finding.Finding.TheVariants.{Unknown, NoToken, Fragment, UnsafePath, ManyFacts, NoMoment, Invalid, Revoked, Unsatisfied, Granted}
+use Rattle.mac_http.specs.declared.finding.Finding.TheVariants.{Unknown, NoToken, Fragment, UnsafePath, ManyFacts, NoMoment, Invalid, Unsatisfied, Granted}
 use Rattle.mac_http.specs.declared.rules.Rules.{Rules}
 use Rattle.mac_http.specs.declared.rules.Sources.{Sources}
 use Rattle.mac_http.specs.Authorization.{credentials_in}
 use Rattle.mac_http.specs.Facts.{facts_of, tells_fragment, tells_unsafe}
 use Rattle.mac_http.specs.Target.{target_in}
 
--- what the reply to a verify that asks whose the token is finds of one that came by a scheme
+-- what the reply to a verify that asks whose the token is finds of one that came by a scheme: such a
+-- request is replied to with neither a bare grant nor a token
 abbrev pub found_by : Scheme → Reply → Finding
 found_by scheme (reply.GrantedTo identifier location) = Granted identifier location
 found_by scheme (reply.Unsatisfied index) = Unsatisfied index
-found_by scheme reply.Granted = Invalid scheme
-found_by scheme (reply.Token bytes) = Invalid scheme
-found_by scheme (reply.Refused refusal.Revoked) = Revoked scheme
-found_by scheme (reply.Refused reason) = Invalid scheme
+found_by scheme (reply.Refused why) = Invalid scheme why
+found_by scheme reply.Granted = Invalid scheme refusal.BadRequest
+found_by scheme (reply.Token bytes) = Invalid scheme refusal.BadRequest
 
 -- what is found of a token with these facts, if the clock told a moment: what the answer to a verify
 -- under the same terms finds, whatever way it comes
@@ -81,17 +81,11 @@ abbrev pub found_of : Table → Rules → Option ℕ → Parts → Finding
 found_of table rules moment head =
     found_in rules.sources (terms_of table rules moment) head (target_in (uri_path head.uri))
 
--- the token of the request was taken back
-abbrev pub is_revoked : Finding → Bool
-is_revoked (Revoked scheme) = true
-is_revoked _ = false
-
--- a token of the request is good under the name's keys, whether its caveats hold or not, and whether
--- it was taken back or not
+-- a token of the request is good under the name's keys, whether its caveats hold or not, and was not
+-- taken back
 abbrev pub IsHeld : Finding → Type 0
 IsHeld (Granted identifier location) = Unit {0}
 IsHeld (Unsatisfied index) = Unit {0}
-IsHeld (Revoked scheme) = Unit {0}
 IsHeld _ = ⊥
 
 -- the request names keys that may be used and grant its token at the moment with its facts, and the

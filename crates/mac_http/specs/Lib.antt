@@ -7,6 +7,7 @@ pub mod Facts
 pub mod Found
 pub mod Page
 pub mod Path
+pub mod Reason
 pub mod Saying
 pub mod Target
 pub mod Turn

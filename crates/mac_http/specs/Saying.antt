@@ -1,16 +1,17 @@
 -- The response that tells what was found (this project's own).
-use Rattle.std.specs.Prelude.{ℕ, ◌≡◌, ◌⊎◌, Bool, false, List, [], ◌∷◌, ◌++◌, codes}
+use Rattle.std.specs.Prelude.{ℕ, ◌≡◌, ◌↔◌, ◌⊎◌, Option, None, List, [], ◌∷◌, ◌++◌, codes}
 use Rattle.std.specs.Fmt.{decimal}
 use Rattle.http1.specs.Fields.{Header}
 use Rattle.http_server.specs.declared.response.Response.{Response}
 use Rattle.http_server.specs.Response.{IsResponse}
 use Rattle.mac_http.specs.declared.finding.Finding.{Finding}
 use Rattle.mac_http.specs.declared.finding.Finding.TheVariants as found
+use Rattle.mac_http.specs.declared.reason.Reason.{Reason}
 use Rattle.mac_http.specs.declared.rules.Granted.{Granted}
 use Rattle.mac_http.specs.declared.rules.Granted.TheVariants.{Ok, NoContent}
 use Rattle.mac_http.specs.Authorization.{challenge}
 use Rattle.mac_http.specs.Escaped.{escaped}
-use Rattle.mac_http.specs.Found.{is_revoked}
+use Rattle.mac_http.specs.Reason.{reason_found}
 
 -- the status that grants
 abbrev pub granted_status : Granted → ℕ
@@ -25,8 +26,7 @@ status_of granted found.Fragment = 400
 status_of granted found.UnsafePath = 403
 status_of granted found.ManyFacts = 400
 status_of granted found.NoMoment = 500
-status_of granted (found.Invalid scheme) = 401
-status_of granted (found.Revoked scheme) = 401
+status_of granted (found.Invalid scheme why) = 401
 status_of granted (found.Unsatisfied index) = 403
 status_of granted (found.Granted identifier location) = granted_status granted
 
@@ -57,8 +57,7 @@ fields_for found.Fragment = []
 fields_for found.UnsafePath = tells_why (codes "path")
 fields_for found.ManyFacts = []
 fields_for found.NoMoment = []
-fields_for (found.Invalid scheme) = asks (challenge scheme)
-fields_for (found.Revoked scheme) = asks (challenge scheme)
+fields_for (found.Invalid scheme why) = asks (challenge scheme)
 fields_for (found.Unsatisfied index) = tells_why (unsatisfied_reason index)
 fields_for (found.Granted identifier location) = tells_whose identifier location
 
@@ -76,8 +75,7 @@ body_for found.Fragment = []
 body_for found.UnsafePath = codes "{\"reason\":\"the path is not plain\"}"
 body_for found.ManyFacts = []
 body_for found.NoMoment = []
-body_for (found.Invalid scheme) = []
-body_for (found.Revoked scheme) = []
+body_for (found.Invalid scheme why) = []
 body_for (found.Unsatisfied index) = unsatisfied_body index
 body_for (found.Granted identifier location) = []
 
@@ -93,7 +91,12 @@ IsOverloaded = IsResponse 503 [] []
 abbrev pub Responds : Granted → Finding → Response → Type 0
 Responds granted f response = Tells granted f response ⊎ IsOverloaded response
 
--- whoever notes the response is told whether it refuses a token that was taken back
-abbrev pub NotesRevoked : Finding → Response → Bool → Type 0
-NotesRevoked f response revoked =
-    (revoked ≡ is_revoked f) ⊎ ((revoked ≡ false) × IsOverloaded response)
+-- two findings are told alike: no response tells which of them it is
+abbrev pub AreToldAlike : Finding → Finding → Type 0
+AreToldAlike f g = (granted : Granted) (response : Response)
+    → Tells granted f response ↔ Tells granted g response
+
+-- whoever notes the response is told the reason in what was found
+abbrev pub NotesReason : Finding → Response → Option Reason → Type 0
+NotesReason f response reason =
+    (reason ≡ reason_found f) ⊎ ((reason ≡ None) × IsOverloaded response)

@@ -5,9 +5,9 @@ ghost use Rattle.std.specs.Prelude.{option_map};
 ghost use Rattle.http.specs.Request.{body_of, head_of};
 ghost use Rattle.http_server.specs.Response.{IsBlank, IsResponse, fields_of};
 ghost use Rattle.mac_http.specs.Browsing.{refusal_of};
-ghost use Rattle.mac_http.specs.Calling.{IsMintedFor, RespondsWith, TellsCall, TellsOutcome};
+ghost use Rattle.mac_http.specs.Calling.{NotesOutcome, RespondsWith, TellsCall, TellsOutcome};
 ghost use Rattle.mac_http.specs.Calling.{TellsUnlessRefused, allowed_outcome, call_in, is_json};
-ghost use Rattle.mac_http.specs.Calling.{minted_by_post, minted_unless_refused};
+ghost use Rattle.mac_http.specs.Calling.{outcome_by_post, outcome_unless_refused};
 ghost use Rattle.mac_http.specs.Calling.{may_use, takes_post};
 
 use crate::browsing::refusal_of;
@@ -19,7 +19,6 @@ use http::{Method, Request, StatusCode};
 use http_server::Response;
 use mac_calls::{Brought, Call, Outcome, answer};
 use mac_decide::Rights;
-use mac_wire::Bytes as Identifier;
 use std::alloc::{AllocError, Global};
 
 /// The paths of calls.
@@ -80,24 +79,24 @@ pub fn call_in(calls: Calls, path: &[u8]) -> Option<Asked<'_>>
 }
 
 /// Fills a blank response to a request for a call. Where memory is refused it is a 503 without
-/// fields. The identifier of the token that was minted, if the response brings one.
+/// fields. What came of the call, where the response tells that.
 pub(crate) fn respond_to_call(
     alloc: Global,
     footing: Footing<'_>,
     called: Called<'_>,
     response: &mut Response,
-) -> Option<Identifier>
+) -> Option<Outcome>
     requires { IsBlank response.old }
     ensures told { RespondsWith called.entry.drawn.now footing.entry.keys.now footing.entry.rules
         footing.entry.moment (called.entry.asked.call, called.entry.asked.name.now)
         called.entry.request.now response.new }
-    ensures minted { IsMintedFor called.entry.drawn.now footing.entry.keys.now
+    ensures noted { NotesOutcome called.entry.drawn.now footing.entry.keys.now
         footing.entry.rules footing.entry.moment
         (called.entry.asked.call, called.entry.asked.name.now) called.entry.request.now
         response.new result }
 {
     match fill(alloc, footing, called, response) {
-        Ok(minted) => minted,
+        Ok(outcome) => outcome,
         Err(_) => {
             response.clear();
             response.status = StatusCode::SERVICE_UNAVAILABLE;
@@ -111,7 +110,7 @@ fn fill(
     footing: Footing<'_>,
     called: Called<'_>,
     response: &mut Response,
-) -> Result<Option<Identifier>, AllocError>
+) -> Result<Option<Outcome>, AllocError>
     requires { IsBlank response.old }
     ensures told { OnOk result (TellsUnlessRefused
         (refusal_of footing.entry.rules.way (head_of called.entry.request.now))
@@ -119,7 +118,7 @@ fn fill(
         (allowed_outcome footing.entry.rules footing.entry.keys.now footing.entry.moment
         (called.entry.asked.call, called.entry.asked.name.now) called.entry.drawn.now
         (body_of called.entry.request.now)) response.new) }
-    ensures minted { IfOk result (λ minted. minted ≡ minted_unless_refused
+    ensures noted { IfOk result (λ noted. noted ≡ outcome_unless_refused
         (refusal_of footing.entry.rules.way (head_of called.entry.request.now))
         (bytes_eq (head_of called.entry.request.now).method (codes "POST"))
         (allowed_outcome footing.entry.rules footing.entry.keys.now footing.entry.moment
@@ -141,14 +140,14 @@ fn fill_unrefused(
     footing: Footing<'_>,
     called: Called<'_>,
     response: &mut Response,
-) -> Result<Option<Identifier>, AllocError>
+) -> Result<Option<Outcome>, AllocError>
     requires { IsBlank response.old }
     ensures told { OnOk result (TellsCall
         (bytes_eq (head_of called.entry.request.now).method (codes "POST"))
         (allowed_outcome footing.entry.rules footing.entry.keys.now footing.entry.moment
         (called.entry.asked.call, called.entry.asked.name.now) called.entry.drawn.now
         (body_of called.entry.request.now)) response.new) }
-    ensures minted { IfOk result (λ minted. minted ≡ minted_by_post
+    ensures noted { IfOk result (λ noted. noted ≡ outcome_by_post
         (bytes_eq (head_of called.entry.request.now).method (codes "POST"))
         (allowed_outcome footing.entry.rules footing.entry.keys.now footing.entry.moment
         (called.entry.asked.call, called.entry.asked.name.now) called.entry.drawn.now
@@ -160,7 +159,7 @@ fn fill_unrefused(
     }
     let outcome = answer_allowed(alloc, footing, called)?;
     tell(&outcome, response)?;
-    Ok(outcome.into_identifier())
+    Ok(Some(outcome))
 }
 
 /// What comes of a call. A mint under a name that may not be used is as one of a name without keys.
@@ -218,7 +217,9 @@ fn tell(outcome: &Outcome, response: &mut Response) -> Result<(), AllocError>
         }
         Outcome::Minted { json, .. } => put_json(StatusCode::OK, json.as_slice(), response),
         Outcome::Reply(json) => put_json(StatusCode::OK, json.as_slice(), response),
-        Outcome::Refused(json) => put_json(StatusCode::BAD_REQUEST, json.as_slice(), response),
+        Outcome::Refused { json, .. } => {
+            put_json(StatusCode::BAD_REQUEST, json.as_slice(), response)
+        }
     }
 }
 

@@ -124,8 +124,8 @@ fn answer_plain<S: Monitor>(
     ) {
         Some(asked) => answer_call(alloc, footing, monitor, asked, request, response),
         None => {
-            let revoked = respond(alloc, footing, request, response);
-            let noted = note_of_path(request.uri().path().as_bytes(), revoked);
+            let reason = respond(alloc, footing, request, response);
+            let noted = note_of_path(request.uri().path().as_bytes(), reason);
             monitor.note(noted, response.status);
         }
     }
@@ -155,9 +155,8 @@ fn answer_call<S: Monitor>(
         request,
         drawn: &drawn,
     };
-    let minted = respond_to_call(alloc, footing, called, response);
-    let identifier = minted.as_ref().map(|identifier| identifier.as_slice());
-    monitor.note(note_of_call(asked, identifier), response.status);
+    let outcome = respond_to_call(alloc, footing, called, response);
+    monitor.note(note_of_call(asked, outcome.as_ref()), response.status);
 }
 
 /// Random bytes for a call: a mint alone takes any.

@@ -5,7 +5,7 @@ ghost use Rattle.http.specs.Request.{head_of};
 ghost use Rattle.mac_calls.specs.Counted.{are_few};
 ghost use Rattle.mac_token.specs.RawToken.{byte_lists};
 ghost use Rattle.mac_wire.specs.Request.{counted_fields};
-ghost use Rattle.mac_http.specs.Found.{found_at, found_by, found_few, found_of, is_revoked};
+ghost use Rattle.mac_http.specs.Found.{found_at, found_by, found_few, found_of};
 ghost use Rattle.mac_http.specs.Found.{terms_of};
 
 use crate::authorization::{Credentials, Scheme, credentials_in};
@@ -34,24 +34,13 @@ pub enum Finding {
     ManyFacts,
     /// The clock told no moment.
     NoMoment,
-    /// The token is none under the name's keys, or the name has none that may be used. It came by this
-    /// scheme.
-    Invalid(Scheme),
-    /// The token is one under the name's keys that was taken back. It came by this scheme.
-    Revoked(Scheme),
+    /// The token came by this scheme and is refused, for this reason: it is none under the name's keys,
+    /// or was taken back, or the name has none that may be used.
+    Invalid(Scheme, Refusal),
     /// The index of the first caveat that isn't satisfied, from 0.
     Unsatisfied(u16),
     /// The token is granted: its identifier, and its location.
     Granted(Bytes, Bytes),
-}
-
-impl Finding {
-    /// Whether the token was taken back.
-    pub(crate) fn is_revoked(&self) -> bool
-        ensures { result ≡ is_revoked self.now }
-    {
-        matches!(self, Finding::Revoked(_))
-    }
 }
 
 /// What is found of a request. No token is read that the memory has.
@@ -122,7 +111,7 @@ fn found_by(scheme: Scheme, reply: Reply) -> Finding
             location,
         } => Finding::Granted(identifier, location),
         Reply::Unsatisfied(index) => Finding::Unsatisfied(index),
-        Reply::Refused(Refusal::Revoked) => Finding::Revoked(scheme),
-        Reply::Granted | Reply::Token(_) | Reply::Refused(_) => Finding::Invalid(scheme),
+        Reply::Refused(why) => Finding::Invalid(scheme, why),
+        Reply::Granted | Reply::Token(_) => Finding::Invalid(scheme, Refusal::BadRequest),
     }
 }

@@ -22,6 +22,7 @@ ghost use Rattle.mac_keys.specs.KeyTable.{Table};
 ghost use Rattle.mac_keys.specs.Keys.{listed};
 ghost use Rattle.mac_keys.specs.declared.keys.Keys.{Keys};
 ghost use Rattle.mac_token.specs.RawToken.{TokenParts};
+ghost use Rattle.mac_wire.specs.declared.reply.Refusal.{Refusal as PlainRefusal};
 ghost use Rattle.percent_encoding.specs.Percent.{percent_decode};
 ghost use Rattle.mac_http.specs.declared.attending.TheConstants.{CONFIG};
 ghost use Rattle.mac_http.specs.declared.authorization.Scheme.{Scheme as PlainScheme};
@@ -38,7 +39,7 @@ ghost use Rattle.mac_http.specs.Facts.{facts_of, tells_fragment, tells_unsafe};
 ghost use Rattle.mac_http.specs.Found.{found_of, found_with, context_of, IsGrantedBy, IsHeld};
 ghost use Rattle.mac_http.specs.Target.{target_in};
 ghost use Rattle.mac_http.specs.Path.{steps, IsStep};
-ghost use Rattle.mac_http.specs.Saying.{IsOverloaded, Tells};
+ghost use Rattle.mac_http.specs.Saying.{AreToldAlike, IsOverloaded, Tells};
 ghost use Rattle.mac_http.specs.Turn.{AnswersOnce, IsTurn};
 
 use crate::finding::Finding;
@@ -55,13 +56,13 @@ pub fn granted_exactly()
         ↔ IsGrantedBy table rules moment head }
 {}
 
-/// Who brings no token, or one that the name's keys didn't make, finds what he finds where no name
-/// has keys. So he can't tell a name that exists from one that doesn't.
+/// Who brings no token, or one that the name's keys didn't make, is told what he is told where no
+/// name has keys. So he can't tell a name that exists from one that doesn't.
 pub fn names_are_told_to_holders_alone()
     ensures { (table bare : Table) (rules : PlainRules) (moment : Option ℕ) (head : Parts)
         → ((name : List ℕ) → map.get bare.keys name ≡ None)
         → IsHeld (found_of table rules moment head)
-        ⊎ (found_of table rules moment head ≡ found_of bare rules moment head) }
+        ⊎ AreToldAlike (found_of table rules moment head) (found_of bare rules moment head) }
 {}
 
 /// A name that may not be used at an address is there as one without keys, whatever token comes.
@@ -80,11 +81,11 @@ pub fn response_tells_the_finding()
         → (r.status ≡ s.status) × (fields_of r ≡ fields_of s) × (r.body.items ≡ s.body.items) }
 {}
 
-/// A token that was taken back is told as one that isn't valid: a response doesn't say which it is.
-pub fn revoked_is_told_as_invalid()
-    ensures { (granted : PlainGranted) (scheme : PlainScheme) (response : Response)
-        → Tells granted (Finding.Revoked scheme) response
-        ↔ Tells granted (Finding.Invalid scheme) response }
+/// A response doesn't say why a token is refused: one that was taken back, as one of another key, as
+/// one of a name that has none.
+pub fn refused_tokens_are_told_alike()
+    ensures { (scheme : PlainScheme) (why other : PlainRefusal)
+        → AreToldAlike (Finding.Invalid scheme why) (Finding.Invalid scheme other) }
 {}
 
 /// At an address that isn't allowed to mint, or where that call isn't answered, a path below

@@ -1,10 +1,13 @@
 //! What a request is noted as, for who counts and logs requests.
 
-ghost use Rattle.std.specs.Prelude.{◌≡◌, false};
+ghost use Rattle.std.specs.Prelude.{◌≡◌, option_and_then, option_copied};
+ghost use Rattle.mac_calls.specs.Outcome.{minted_identifier};
+ghost use Rattle.mac_http.specs.Reason.{reason_of_call};
 
 use crate::calling::Asked;
+use crate::reason::{Reason, reason_of_call};
 use crate::target::target_in;
-use mac_calls::Call;
+use mac_calls::{Call, Outcome};
 
 /// What a request asks for that names no page.
 #[derive(Clone, Copy, Debug, PartialEq, Eq)]
@@ -30,14 +33,15 @@ pub struct Noted<'a> {
     pub name: &'a [u8],
     /// The identifier of the token that was minted for it.
     pub minted: Option<&'a [u8]>,
-    /// Whether it brought a token that was taken back, and is refused for that.
-    pub is_revoked: bool,
+    /// Why it wasn't granted or done, where more than its status tells that.
+    pub reason: Option<Reason>,
 }
 
-/// That of a call, for which a token with this identifier was minted, if one was. None of these calls
-/// asks whether a token was taken back.
-pub(crate) fn note_of_call<'a>(asked: Asked<'a>, minted: Option<&'a [u8]>) -> Noted<'a>
-    ensures { result.is_revoked ≡ false }
+/// That of a call, of which this came, if it was made.
+pub(crate) fn note_of_call<'a>(asked: Asked<'a>, outcome: Option<&'a Outcome>) -> Noted<'a>
+    ensures minted { option_copied result.minted
+        ≡ option_and_then minted_identifier (option_copied outcome.entry) }
+    ensures reason { result.reason ≡ option_and_then reason_of_call (option_copied outcome.entry) }
 {
     let asks = match asked.call {
         Call::Mint => Asks::Mint,
@@ -46,17 +50,22 @@ pub(crate) fn note_of_call<'a>(asked: Asked<'a>, minted: Option<&'a [u8]>) -> No
         Call::Check => Asks::Check,
         Call::Verify => Asks::Verify,
     };
+    let (minted, reason) = match outcome {
+        Some(outcome) => (outcome.identifier(), reason_of_call(outcome)),
+        None => (None, None),
+    };
     Noted {
         asks,
         name: asked.name,
         minted,
-        is_revoked: false,
+        reason,
     }
 }
 
-/// That of any other path, with whether it brought a token that was taken back.
-pub(crate) fn note_of_path(path: &[u8], is_revoked: bool) -> Noted<'_>
-    ensures { result.is_revoked ≡ is_revoked }
+/// That of any other path, with why it wasn't granted.
+pub(crate) fn note_of_path(path: &[u8], reason: Option<Reason>) -> Noted<'_>
+    ensures minted { result.minted ≡ None }
+    ensures reason { result.reason ≡ reason }
 {
     let name: &[u8] = match target_in(path) {
         Some(target) => target.name,
@@ -66,6 +75,6 @@ pub(crate) fn note_of_path(path: &[u8], is_revoked: bool) -> Noted<'_>
         asks: Asks::Verify,
         name,
         minted: None,
-        is_revoked,
+        reason,
     }
 }

@@ -4,13 +4,15 @@ ghost use Rattle.std.specs.Prelude.{◌≡◌, ◌∷◌, [], ◌++◌, IfOk, On
 ghost use Rattle.http.specs.Request.{head_of};
 ghost use Rattle.http_header.specs.FieldValue.{plain_value};
 ghost use Rattle.http_server.specs.Response.{IsBlank, fields_of};
-ghost use Rattle.mac_http.specs.Found.{found_of, is_revoked};
-ghost use Rattle.mac_http.specs.Saying.{NotesRevoked};
+ghost use Rattle.mac_http.specs.Found.{found_of};
+ghost use Rattle.mac_http.specs.Reason.{reason_found};
+ghost use Rattle.mac_http.specs.Saying.{NotesReason};
 ghost use Rattle.mac_http.specs.Saying.{Responds, Tells, body_for, fields_for, status_of, tells_whose, tells_why, unsatisfied_body, unsatisfied_reason};
 
 use crate::escaped::escaped;
 use crate::finding::{Finding, find};
 use crate::footing::Footing;
+use crate::reason::{Reason, reason_found};
 use crate::rules::Granted;
 use bytes::{BufMut, Bytes};
 use http::header::{CONTENT_TYPE, HeaderName, HeaderValue, HeaderValueError, WWW_AUTHENTICATE};
@@ -25,26 +27,26 @@ const IDENTIFIER: &str = "macaroon-identifier";
 
 const LOCATION: &str = "macaroon-location";
 
-/// Fills a blank response to a request. Where memory is refused it is a 503 without fields. Whether
-/// it refuses a token that was taken back, which it tells as any that isn't valid.
+/// Fills a blank response to a request. Where memory is refused it is a 503 without fields. Why the
+/// request isn't granted, where that is told: the response tells all tokens that are refused alike.
 pub fn respond(
     alloc: Global,
     footing: Footing<'_>,
     request: &Request<Bytes>,
     response: &mut Response,
-) -> bool
+) -> Option<Reason>
     requires { IsBlank response.old }
     ensures told { Responds footing.entry.rules.granted (found_of footing.entry.keys.now
         footing.entry.rules footing.entry.moment (head_of request.now)) response.new }
-    ensures revoked { NotesRevoked (found_of footing.entry.keys.now footing.entry.rules
+    ensures noted { NotesReason (found_of footing.entry.keys.now footing.entry.rules
         footing.entry.moment (head_of request.now)) response.new result }
 {
     match fill(alloc, footing, request, response) {
-        Ok(revoked) => revoked,
+        Ok(reason) => reason,
         Err(_) => {
             response.clear();
             response.status = StatusCode::SERVICE_UNAVAILABLE;
-            false
+            None
         }
     }
 }
@@ -54,16 +56,16 @@ fn fill(
     footing: Footing<'_>,
     request: &Request<Bytes>,
     response: &mut Response,
-) -> Result<bool, AllocError>
+) -> Result<Option<Reason>, AllocError>
     requires { IsBlank response.old }
     ensures told { OnOk result (Tells footing.entry.rules.granted (found_of footing.entry.keys.now
         footing.entry.rules footing.entry.moment (head_of request.now)) response.new) }
-    ensures revoked { IfOk result (λ revoked. revoked ≡ is_revoked (found_of
+    ensures noted { IfOk result (λ reason. reason ≡ reason_found (found_of
         footing.entry.keys.now footing.entry.rules footing.entry.moment (head_of request.now))) }
 {
     let finding = find(alloc, footing, request)?;
     say(alloc, footing.rules.granted, &finding, response)?;
-    Ok(finding.is_revoked())
+    Ok(reason_found(&finding))
 }
 
 /// Fills a blank response with what was found.
@@ -87,8 +89,7 @@ fn status(granted: Granted, finding: &Finding) -> StatusCode
 {
     match finding {
         Finding::Unknown => StatusCode::NOT_FOUND,
-        Finding::NoToken | Finding::Invalid(_) => StatusCode::UNAUTHORIZED,
-        Finding::Revoked(_) => StatusCode::UNAUTHORIZED,
+        Finding::NoToken | Finding::Invalid(_, _) => StatusCode::UNAUTHORIZED,
         Finding::UnsafePath | Finding::Unsatisfied(_) => StatusCode::FORBIDDEN,
         Finding::Fragment | Finding::ManyFacts => StatusCode::BAD_REQUEST,
         Finding::NoMoment => StatusCode::INTERNAL_SERVER_ERROR,
@@ -109,8 +110,7 @@ fn put_fields(alloc: Global, finding: &Finding, response: &mut Response) -> Resu
         Finding::NoToken => {
             response.add_header(WWW_AUTHENTICATE, HeaderValue::from_static("Macaroon"))
         }
-        Finding::Invalid(scheme) => response.add_header(WWW_AUTHENTICATE, scheme.challenge()),
-        Finding::Revoked(scheme) => response.add_header(WWW_AUTHENTICATE, scheme.challenge()),
+        Finding::Invalid(scheme, _) => response.add_header(WWW_AUTHENTICATE, scheme.challenge()),
         Finding::UnsafePath => put_reason(response, HeaderValue::from_static("path")),
         Finding::Unsatisfied(index) => put_reason(response, unsatisfied_reason(alloc, *index)?),
         Finding::Granted(identifier, location) => {
@@ -171,7 +171,7 @@ fn put_body(alloc: Global, finding: &Finding, body: &mut Rope) -> Result<(), All
         Finding::Unsatisfied(index) => put_unsatisfied(alloc, *index, body),
         Finding::Unknown | Finding::NoToken | Finding::Fragment => Ok(()),
         Finding::ManyFacts | Finding::NoMoment => Ok(()),
-        Finding::Invalid(_) | Finding::Revoked(_) | Finding::Granted(_, _) => Ok(()),
+        Finding::Invalid(_, _) | Finding::Granted(_, _) => Ok(()),
     }
 }
 

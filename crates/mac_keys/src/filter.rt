@@ -3,8 +3,8 @@
 //! Most tokens were never taken back. A filter has a byte at each of its places, and a hash of an
 //! identifier says its place and its tag. There the byte is free, the tag of all that came there,
 //! or says that several came. So an identifier that came is never told to be missing, and one that
-//! didn't seldom needs a further look: fewer than one in a hundred, where there are eight places
-//! for each that came.
+//! didn't seldom needs a further look: fewer than one in thirty, where there are four places for
+//! each that came.
 ghost use Rattle.std.specs.Prelude.{◌≡◌, ℕ, true};
 ghost use Rattle.mac_keys.specs.Filter.{admits, after_tag, hash_of, may_have, place_of, tag_of};
 
@@ -13,7 +13,7 @@ use std::hash::{FoldHasher, Hasher};
 use std::marker::Model;
 
 /// How many places there are for each identifier that comes, and in all at least.
-const PLACES_EACH: usize = 8;
+const PLACES_EACH: usize = 4;
 
 const PLACES_LEAST: usize = 64;
 

@@ -55,3 +55,25 @@ abbrev pub is_bounded : Kind → Bool
 is_bounded kind.Request = false
 is_bounded kind.Mint = false
 is_bounded _ = true
+
+-- the place of a kind among all
+abbrev pub kind_place : Kind → ℕ
+kind_place kind.Start = 0
+kind_place kind.KeysRead = 1
+kind_place kind.KeysRefused = 2
+kind_place kind.KeysEmpty = 3
+kind_place kind.RevokedRead = 4
+kind_place kind.RevokedRefused = 5
+kind_place kind.ConnectionFault = 6
+kind_place kind.ConnectionIdle = 7
+kind_place kind.ConnectionDropped = 8
+kind_place kind.LimitReached = 9
+kind_place kind.LimitLow = 10
+kind_place kind.AcceptFault = 11
+kind_place kind.SystemFault = 12
+kind_place kind.Request = 13
+kind_place kind.Mint = 14
+kind_place kind.Replaced = 15
+kind_place kind.Drain = 16
+kind_place kind.End = 17
+kind_place kind.LeftOut = 18

@@ -9,3 +9,4 @@ pub mod Line
 pub mod Quota
 pub mod Printed
 pub mod Waiting
+pub mod Books

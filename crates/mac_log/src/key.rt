@@ -50,6 +50,10 @@ pub enum Key {
     Verdict,
     /// The number of a refusal.
     Code,
+    /// The index of a caveat that isn't satisfied, from 0.
+    Caveat,
+    /// The status of a response over HTTP.
+    Status,
     /// How many bytes a peer hasn't taken.
     Unsent,
     /// Which of several ways something has.
@@ -86,6 +90,8 @@ impl Key {
             Key::Identifier => "identifier",
             Key::Verdict => "verdict",
             Key::Code => "code",
+            Key::Caveat => "caveat",
+            Key::Status => "status",
             Key::Unsent => "unsent",
             Key::Form => "form",
             Key::Memory => "memory",

@@ -1,7 +1,7 @@
 //! What lines tell of.
 
 ghost use Rattle.std.specs.Prelude.{◌≡◌, ◌<◌};
-ghost use Rattle.mac_log.specs.Kind.{is_bounded, kind_level, kind_word};
+ghost use Rattle.mac_log.specs.Kind.{is_bounded, kind_level, kind_place, kind_word};
 
 use crate::level::Level;
 
@@ -137,7 +137,8 @@ impl Kind {
 
     /// Its place among the kinds.
     pub fn place(self) -> usize
-        ensures { result < KINDS }
+        ensures place { result ≡ kind_place self }
+        ensures within { result < KINDS }
     {
         self as usize
     }

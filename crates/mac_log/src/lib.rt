@@ -8,6 +8,7 @@
 //! has at most `LINE_MAX` bytes: what is longer is cut, and ends in ` ...`.
 #![tactic(auto)]
 
+mod books;
 mod clock;
 mod fields;
 mod key;
@@ -20,6 +21,7 @@ mod moment;
 mod name;
 mod printer;
 mod quota;
+mod taken;
 mod value;
 
 pub use fields::{FIELDS_MAX, FIELDS_ROOM, Fields};
@@ -27,7 +29,7 @@ pub use key::Key;
 pub use kind::{KINDS, Kind};
 pub use level::Level;
 pub use line::{LINE_MAX, Line};
-pub use log::{Log, REQUESTS_WAITING_MAX, WAITING_MAX};
+pub use log::{Fate, Log, REQUESTS_WAITING_MAX, WAITING_MAX};
 pub use moment::MOMENT_MAX;
 pub use name::{TOKEN_MIN, is_told_name};
 pub use printer::start_log;

@@ -1,6 +1,6 @@
 //! Lines that wait to be printed.
 
-ghost use Rattle.std.specs.Prelude.{◌≡◌};
+ghost use Rattle.std.specs.Prelude.{◌≡◌, [], ◌∷◌, ◌++◌, if◌then◌else◌};
 ghost use Rattle.mac_log.specs.Waiting.{waiting_max};
 
 use crate::NoMemory;
@@ -9,7 +9,7 @@ use crate::fields::Fields;
 use crate::kind::{KINDS, Kind};
 use crate::line::Line;
 use crossbeam_queue::ArrayQueue;
-use mac_mail::Bell;
+use mac_mail::{Bell, History};
 use std::alloc::Global;
 use std::sync::Wait;
 use std::sync::atomic::AtomicU64;
@@ -45,6 +45,26 @@ struct LeftOut {
     counts: [AtomicU64; KINDS],
 }
 
+/// What became of a line: its kind stands in one of these.
+#[derive(Drop)]
+pub struct Fate {
+    /// It waits to be printed.
+    pub waiting: History<Kind>,
+    /// It was left out, and is counted.
+    pub left_out: History<Kind>,
+}
+
+impl LeftOut {
+    /// Counts a line of a kind.
+    fn count(&self, kind: Kind, fate: &mut Fate)
+        ensures waiting { fate.new.waiting ≡ fate.old.waiting }
+        ensures left_out { fate.new.left_out ≡ fate.old.left_out ++ kind ∷ [] }
+    {
+        self.counts[kind.place()].fetch_add(1, SeqCst);
+        fate.left_out.add(&kind);
+    }
+}
+
 impl Log {
     /// No line yet.
     pub fn new(alloc: Global) -> Result<Log, NoMemory> {
@@ -61,7 +81,18 @@ impl Log {
 
     /// Hands a line over to be printed, with the moment of this call, and waits for nobody. The
     /// fields may be those for which memory ran out: then the line is left out.
-    pub fn post<R: Wait + Clock>(&self, rt: &R, kind: Kind, fields: Result<Fields, NoMemory>) {
+    pub fn post<R: Wait + Clock>(
+        &self,
+        rt: &R,
+        kind: Kind,
+        fields: Result<Fields, NoMemory>,
+    ) -> Fate
+        ensures { result.waiting ++ result.left_out ≡ kind ∷ [] }
+    {
+        let mut fate = Fate {
+            waiting: History::new(),
+            left_out: History::new(),
+        };
         let millis = millis_now(rt);
         let is_waiting = match fields {
             Ok(fields) => self.push(
@@ -71,21 +102,30 @@ impl Log {
                     millis,
                     fields,
                 },
+                &mut fate,
             ),
             Err(_) => false,
         };
         if !is_waiting {
-            self.left_out.counts[kind.place()].fetch_add(1, SeqCst);
+            self.left_out.count(kind, &mut fate);
         }
         self.bell.ring();
+        fate
     }
 
     /// Puts a line into the queue, if there is room for its kind.
-    fn push<R: Wait>(&self, rt: &R, line: Line) -> bool {
+    fn push<R: Wait>(&self, rt: &R, line: Line, fate: &mut Fate) -> bool
+        ensures waiting { fate.new.waiting ≡ (if result then fate.old.waiting ++ line.kind ∷ []
+            else fate.old.waiting) }
+        ensures left_out { fate.new.left_out ≡ fate.old.left_out }
+    {
         self.posted.fetch_add(1, SeqCst);
-        let has_room = self.waiting.len(rt) < waiting_max(line.kind);
+        let kind = line.kind;
+        let has_room = self.waiting.len(rt) < waiting_max(kind);
         let is_waiting = has_room && self.waiting.push(rt, line).is_ok();
-        if !is_waiting {
+        if is_waiting {
+            fate.waiting.add(&kind);
+        } else {
             self.dealt_with.fetch_add(1, SeqCst);
         }
         is_waiting

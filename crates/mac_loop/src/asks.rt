@@ -1,18 +1,23 @@
 //! What a loop has workers answer: jobs go into their line from the loop's desk, and the answers come
-//! back to its mailbox.
+//! back to its mailbox. Those that wait go there in turn by the sockets that they came by.
 
 ghost use Rattle.std.specs.Prelude.{◌≡◌};
 ghost use Rattle.mac_loop.specs.Asks.{home_of};
 
+use crate::socket_queues::SocketQueues;
 use mac_decide::{Job, Macaroons};
+use mac_host::Socket;
 use mac_order::Answer;
 use mac_queue::{Desk, Post};
 use mio::Waker;
 use slab::Slab;
 use std::alloc::Global;
-use std::collections::VecDeque;
 use std::marker::Model;
 use std::sync::Wait;
+
+/// How many jobs of a loop are in the line for each worker at most: one that the worker has, and the
+/// next one.
+const FOR_EACH_WORKER: usize = 2;
 
 /// Who asked: the client of a slot, by the number of its connection.
 #[derive(Clone, Copy)]
@@ -28,7 +33,7 @@ pub struct Answered {
     pub answer: Option<Answer<Macaroons>>,
 }
 
-/// A job that the line had no room for.
+/// A job that waits to go into the line.
 #[derive(Drop)]
 struct Ask {
     place: u64,
@@ -41,7 +46,10 @@ pub(crate) struct Asks {
     desk: Desk<Macaroons>,
     // Who waits for the answer at each place.
     askers: Slab<Asker>,
-    unput: VecDeque<Ask>,
+    // What isn't in the line yet.
+    unput: SocketQueues<Ask>,
+    // How many of its jobs are in the line at a time, at most.
+    most: usize,
 }
 
 impl Model for Asks {
@@ -53,8 +61,9 @@ impl Model for Asks {
 }
 
 impl Asks {
-    /// Nobody waits at this desk. The loop's own waker ends its waits once an answer has come.
-    pub fn new(alloc: Global, desk: Desk<Macaroons>, waker: Option<Waker>) -> Asks
+    /// Nobody waits at this desk, whose line so many workers take from. The loop's own waker ends
+    /// its waits once an answer has come.
+    pub fn new(alloc: Global, desk: Desk<Macaroons>, workers: usize, waker: Option<Waker>) -> Asks
         ensures { result ≡ home_of desk }
     {
         if let Some(waker) = waker {
@@ -63,7 +72,8 @@ impl Asks {
         Asks {
             desk,
             askers: Slab::new(alloc),
-            unput: VecDeque::new(alloc),
+            unput: SocketQueues::new(alloc),
+            most: workers.saturating_mul(FOR_EACH_WORKER),
         }
     }
 
@@ -75,53 +85,52 @@ impl Asks {
             desk,
             askers: _,
             unput: _,
+            most: _,
         } = self;
         desk
     }
 
-    /// Has a worker answer a job. Whether there is memory to wait for that.
-    pub fn ask<R: Wait>(&mut self, rt: &R, asker: Asker, job: Job) -> bool
+    /// Has a worker answer a job of a client that came in at a socket. Whether there is memory to
+    /// wait for that.
+    pub fn ask<R: Wait>(&mut self, rt: &R, socket: Socket, asker: Asker, job: Job) -> bool
         ensures { self.new ≡ self.old }
     {
-        if self.askers.reserve(1).is_err() || self.unput.reserve(1).is_err() {
+        if self.askers.reserve(1).is_err() {
             return false;
         }
         let place = self.askers.insert_reserved(asker) as u64;
-        match self.put(rt, Ask { place, job }) {
-            Ok(()) => true,
-            Err(ask) => self.unput.push_back(ask).is_ok(),
+        if self.unput.push(socket, Ask { place, job }).is_err() {
+            let _ = self.askers.try_remove(place as usize);
+            return false;
         }
+        self.put_more(rt);
+        true
     }
 
     /// Whether jobs wait for room in the line.
     pub fn has_unput(&self) -> bool {
-        !self.unput.is_empty()
+        self.unput.len() > 0
     }
 
-    /// Puts the jobs that wait for room into the line, as far as there is room now.
+    /// Puts jobs that wait into the line, as far as there is room now, and no more than the workers
+    /// are soon to take.
     pub fn put_more<R: Wait>(&mut self, rt: &R)
         ensures { self.new ≡ self.old }
     {
-        for _ in 0..self.unput.len() {
-            let Some(ask) = self.unput.pop_front() else {
+        for _ in self.out()..self.most {
+            let Some((socket, ask)) = self.unput.pop() else {
                 return;
             };
-            if let Err(ask) = self.put(rt, ask) {
-                let _ = self.unput.push_front(ask);
+            if let Err(ask) = put(rt, &mut self.desk, ask) {
+                self.unput.put_back(socket, ask);
                 return;
             }
         }
     }
 
-    /// Puts a job into the line. Where there is no room it comes back.
-    fn put<R: Wait>(&mut self, rt: &R, ask: Ask) -> Result<(), Ask>
-        ensures place { self.new ≡ self.old }
-    {
-        let Ask { place, job } = ask;
-        match self.desk.putter.put(rt, place, job) {
-            Ok(()) => Ok(()),
-            Err((_, job)) => Err(Ask { place, job }),
-        }
+    /// How many jobs are in the line or with workers.
+    fn out(&self) -> usize {
+        self.askers.len().saturating_sub(self.unput.len())
     }
 
     /// What came of a job next, and who asked.
@@ -134,5 +143,16 @@ impl Asks {
         };
         let asker = self.askers.try_remove(place as usize)?;
         Some(Answered { asker, answer })
+    }
+}
+
+/// Puts a job into the line from a desk. Where there is no room it comes back.
+fn put<R: Wait>(rt: &R, desk: &mut Desk<Macaroons>, ask: Ask) -> Result<(), Ask>
+    ensures { home_of desk.new ≡ home_of desk.old }
+{
+    let Ask { place, job } = ask;
+    match desk.putter.put(rt, place, job) {
+        Ok(()) => Ok(()),
+        Err((_, job)) => Err(Ask { place, job }),
     }
 }

@@ -34,6 +34,11 @@ impl Batch {
         })
     }
 
+    /// Whether there are none.
+    pub fn is_empty(&self) -> bool {
+        self.lent.is_empty()
+    }
+
     /// One more, out of this slot. Without memory it comes back.
     pub fn push(&mut self, slot: usize, member: Member) -> Result<(), Member> {
         let Member { client, note } = member;

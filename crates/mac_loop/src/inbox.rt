@@ -307,8 +307,7 @@ impl Loops {
         self.wake_all();
     }
 
-    /// Has each loop look.
-    pub fn wake_all(&self) {
+    fn wake_all(&self) {
         for side in self.sides.iter() {
             side.inbox.wake();
         }

@@ -20,6 +20,7 @@ mod members;
 mod meter;
 mod port;
 mod resting;
+mod socket_queues;
 mod transcript;
 mod watch;
 

@@ -23,7 +23,7 @@ use mac_decide::{Macaroons, SeenTokens};
 use mac_host::{Traffic, microseconds, microseconds_of};
 use mac_plain::{Came, Client, Round};
 use mac_queue::Desk;
-use mac_sockets::{Account, Connections, Inbox, WaitFault};
+use mac_sockets::{Account, Connections, Inbox, SharedBudget, WaitFault};
 use mio::{Token, Waker};
 use std::alloc::Global;
 use std::net::Net;
@@ -52,16 +52,16 @@ pub struct Loop {
     number: usize,
     alloc: Global,
     members: Connections<Member>,
-    // What ends its waits once workers have answered.
+    // What ends its waits once workers have answered, of whom there are so many.
     waker: Option<Waker>,
+    workers: usize,
     // The clients of a turn.
     batch: Batch,
     round: Round,
     parts: usize,
     shares: Shares,
-    // What its clients have of the memory of all, and how many bytes they hold.
+    // What its clients have of the memory of all, and hold of it.
     account: Account,
-    held: u64,
     // How many bytes may be unsent in this turn on a client that is read.
     unsent_max: usize,
     // How many looks at all loops there were.
@@ -85,6 +85,8 @@ pub struct Loop {
 pub struct LoopTerms {
     /// How many there are.
     pub count: usize,
+    /// How many workers answer what they must not.
+    pub workers: usize,
     /// The seconds after which a client that makes no progress is ended. Where none are asked for,
     /// one is that has sent nothing whole for five minutes.
     pub idle: Option<u64>,
@@ -95,20 +97,21 @@ pub struct LoopTerms {
     pub memory: u64,
 }
 
-/// The loops of these terms, which share a memory of tokens.
-pub fn make_loops<R: Net>(
+/// The loops of these terms, which share a memory of tokens, and the budget of what their clients hold.
+pub fn make_loops<R: Net + Wait>(
     rt: &R,
     alloc: Global,
     terms: LoopTerms,
     seen: &SeenTokens,
+    budget: &Arc<SharedBudget, Global>,
 ) -> Result<(Arc<Loops, Global>, Vec<Loop>), WaitFault> {
     let LoopTerms {
         count,
+        workers,
         idle,
         may_share,
         memory,
     } = terms;
-    let account = Account::open(alloc, memory)?;
     let mut loops = Loops::new(alloc, may_share, memory);
     let mut made = Vec::with_capacity(alloc, count)?;
     for number in 0..count {
@@ -118,13 +121,13 @@ pub fn make_loops<R: Net>(
             number,
             alloc,
             waker: Some(members.waker()?),
+            workers,
+            account: Account::open(rt, budget, members.waker()?)?,
             members,
             batch: Batch::with_capacity(alloc, PARTS_MAX)?,
             round: Round::new(alloc, seen.share()?)?,
             parts: PARTS_MAX,
             shares: Shares::new(alloc, count)?,
-            account: account.share()?,
-            held: 0,
             unsent_max: 0,
             looks: 0,
             late: 0,
@@ -156,7 +159,7 @@ impl Loop {
         W: Watch,
         ensures { home_of result ≡ home_of desk }
     {
-        let mut asks = Asks::new(self.alloc, desk, self.waker.take());
+        let mut asks = Asks::new(self.alloc, desk, self.workers, self.waker.take());
         self.take_turns(rt, loops, outlook, &mut asks, watch);
         asks.into_desk()
     }
@@ -186,6 +189,7 @@ impl Loop {
             self.serve_ready(rt, loops, outlook, asks, watch);
             self.sweep(rt, loops, watch);
             self.keep_time(rt, loops, outlook, watch);
+            self.settle(rt, loops, watch);
             if self.members.slots.count() == 0 && loops.is_closed() {
                 return;
             }
@@ -336,7 +340,6 @@ impl Loop {
             .serve(rt, &mut self.round, threads, outlook, unsent_max);
         loops.end_turn();
         self.finish_turn(rt, loops, outlook, asks, watch);
-        self.settle(rt, loops, watch, is_room, growth);
     }
 
     /// Does what the clients of a turn have left to do, and tells what the turn came to.

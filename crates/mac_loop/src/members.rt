@@ -11,7 +11,7 @@ use mac_decide::{Job, Macaroons};
 use mac_host::{Badge, Life, Traffic};
 use mac_order::Answer;
 use mac_plain::{Came, Client, Course, Round};
-use mac_sockets::{Readiness, Wakes};
+use mac_sockets::{Holds, Readiness, Wakes};
 use std::alloc::Global;
 use std::sync::Wait;
 use std::time::Clock;
@@ -233,6 +233,19 @@ impl Member {
     pub fn begin_turn(&mut self, deep: usize, looks: u64) -> usize {
         self.note.look = looks;
         if self.note.is_deep { deep } else { 1 }
+    }
+}
+
+impl Holds for Member {
+    ghost bytes = { λ member. member.note.held };
+
+    fn held(&self) -> u64 {
+        let Note { held, .. } = self.note;
+        held
+    }
+
+    fn since(&self) -> u64 {
+        self.note.since
     }
 }
 

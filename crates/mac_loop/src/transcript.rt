@@ -1,11 +1,16 @@
 //! What a connection is asked and answered, read off the bytes of its socket, for who logs that. No
-//! contract speaks of the bytes; which token a request minted, once both are cut out, is one's.
+//! contract speaks of how they are cut; which token a request minted, once it and its reply are, and
+//! what a reply says of why it wasn't done, are contracts'.
 
-ghost use Rattle.std.specs.Prelude.{◌≡◌};
+ghost use Rattle.std.specs.Prelude.{◌≡◌, ◌++◌, ◌<◌, ◌^◌, List, Some, ℕ};
+ghost use Rattle.std.specs.Int.{to_be_bytes, w16};
 ghost use Rattle.std.specs.Option.{option_copied, option_map};
+ghost use Rattle.mac_wire.specs.Reply.{IsReply, placed_payload};
+ghost use Rattle.mac_wire.specs.declared.reply.Reply.{Reply};
 ghost use Rattle.mac_loop.specs.Minted.{identifier_asked, minted_by};
+ghost use Rattle.mac_loop.specs.Reason.{reason_of, reason_told};
 
-use mac_host::{Exchange, copy_told_identifier, copy_told_name};
+use mac_host::{Exchange, LoggedReason, copy_told_identifier, copy_told_name};
 use mac_wire::{
     Arrival, Cut, FeedFault, FrameReader, ReplyKind, Request, RequestKind, Version, key_name,
     next_frame, parse_request, reply_kind, request_kind,
@@ -165,7 +170,8 @@ impl Transcript {
                 self.texts = self.texts.saturating_sub(asked.texts());
             }
             if let (Some(asked), Some(told)) = (asked, told) {
-                self.exchanges.push_back(answered(asked, told))?;
+                let reason = reason_in(version, payload);
+                self.exchanges.push_back(answered(asked, told, reason))?;
             }
         }
         Ok(rest)
@@ -221,13 +227,49 @@ fn minted_by(asked: Option<Vec<u8>>, told: ReplyKind) -> Option<Vec<u8>>
     }
 }
 
+/// Why a request wasn't done, as the payload of its reply's frame tells it.
+fn reason_in(version: Version, payload: &[u8]) -> Option<LoggedReason>
+    ensures { (place : ℕ) (reply : Reply) → IsReply reply
+        → payload.now ≡ placed_payload version place reply → result ≡ reason_of reply }
+{
+    match reply_kind(version, payload) {
+        Some(told) => reason_told(told, last_number(payload)),
+        None => None,
+    }
+}
+
+/// The same, as the reply's kind tells it, and the index behind that.
+fn reason_told(told: ReplyKind, index: Option<u16>) -> Option<LoggedReason>
+    ensures { result ≡ reason_told told index }
+{
+    match told {
+        ReplyKind::Granted | ReplyKind::Token => None,
+        ReplyKind::Unsatisfied => index.map(LoggedReason::Caveat),
+        ReplyKind::Refused(code) => Some(LoggedReason::Code(code)),
+    }
+}
+
+/// The number in the last two bytes, the high one first.
+fn last_number(bytes: &[u8]) -> Option<u16>
+    ensures { (front : List ℕ) (number : ℕ) → number < 2 ^ 16
+        → bytes.now ≡ front ++ to_be_bytes w16 number → result ≡ Some number }
+{
+    if bytes.len() < 2 {
+        return None;
+    }
+    let (_front, last) = bytes.split_at(bytes.len() - 2);
+    Some(u16::from_be_bytes([last[0], last[1]]))
+}
+
 /// A request with what its reply tells.
-fn answered(asked: Asked, told: ReplyKind) -> Exchange {
-    let (verdict, code) = match told {
-        ReplyKind::Granted => ("granted", None),
-        ReplyKind::Token => ("token", None),
-        ReplyKind::Unsatisfied => ("unsatisfied", None),
-        ReplyKind::Refused(code) => ("refused", Some(code as u16)),
+fn answered(asked: Asked, told: ReplyKind, reason: Option<LoggedReason>) -> Exchange
+    ensures { result.reason ≡ reason }
+{
+    let verdict = match told {
+        ReplyKind::Granted => "granted",
+        ReplyKind::Token => "token",
+        ReplyKind::Unsatisfied => "unsatisfied",
+        ReplyKind::Refused(_) => "refused",
     };
     let Asked {
         what,
@@ -238,7 +280,7 @@ fn answered(asked: Asked, told: ReplyKind) -> Exchange {
         asks: what,
         name,
         verdict,
-        code,
+        reason,
         minted: minted_by(identifier, told),
     }
 }

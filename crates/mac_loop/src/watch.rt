@@ -6,7 +6,7 @@ ghost use Rattle.mac_loop.specs.Alive.{EndsWell};
 use crate::ended::EndedLife;
 use crate::port::SocketPort;
 use mac_count::REQUESTS;
-use mac_host::{Badge, Exchange, Life, Socket, Traffic};
+use mac_host::{Badge, Exchange, HEAVY, Life, Socket, Traffic};
 use mac_plain::{Client, Course, Ended, Fall};
 use std::alloc::AllocError;
 use std::sync::Wait;
@@ -38,7 +38,7 @@ pub enum PlainFault {
     #[error("another connection came in its place")]
     GaveWay,
     /// It held more than others of the memory that all have together, and there was no more.
-    #[error("it held most of the memory that connections have together, which is used up")]
+    #[error("{}", HEAVY)]
     Heavy,
 }
 

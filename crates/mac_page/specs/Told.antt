@@ -82,7 +82,7 @@ abbrev pub status_of_outcome : Outcome → ℕ
 status_of_outcome outcome.NoKey = 404
 status_of_outcome (outcome.Minted json identifier) = 200
 status_of_outcome (outcome.Reply json) = 200
-status_of_outcome (outcome.Refused json) = 400
+status_of_outcome (outcome.Refused json why) = 400
 
 abbrev pub status_of : Told → ℕ
 status_of Foreign = 403
@@ -108,7 +108,7 @@ abbrev pub fields_of_outcome : Outcome → List Header
 fields_of_outcome outcome.NoKey = []
 fields_of_outcome (outcome.Minted json identifier) = is_json
 fields_of_outcome (outcome.Reply json) = is_json
-fields_of_outcome (outcome.Refused json) = is_json
+fields_of_outcome (outcome.Refused json why) = is_json
 
 abbrev pub fields_for : Told → List Header
 fields_for Foreign = []
@@ -144,7 +144,7 @@ abbrev pub body_of_outcome : Outcome → List ℕ
 body_of_outcome outcome.NoKey = []
 body_of_outcome (outcome.Minted json identifier) = json
 body_of_outcome (outcome.Reply json) = json
-body_of_outcome (outcome.Refused json) = json
+body_of_outcome (outcome.Refused json why) = json
 
 abbrev pub body_for : Site → Told → List ℕ
 body_for site Foreign = []

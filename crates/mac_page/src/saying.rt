@@ -93,7 +93,7 @@ fn outcome_status(outcome: &Outcome) -> StatusCode
     match outcome {
         Outcome::NoKey => StatusCode::NOT_FOUND,
         Outcome::Minted { .. } | Outcome::Reply(_) => StatusCode::OK,
-        Outcome::Refused(_) => StatusCode::BAD_REQUEST,
+        Outcome::Refused { .. } => StatusCode::BAD_REQUEST,
     }
 }
 
@@ -141,7 +141,7 @@ fn put_outcome(outcome: &Outcome, response: &mut Response) -> Result<(), AllocEr
 {
     match outcome {
         Outcome::NoKey => Ok(()),
-        Outcome::Minted { .. } | Outcome::Reply(_) | Outcome::Refused(_) => put_json(response),
+        Outcome::Minted { .. } | Outcome::Reply(_) | Outcome::Refused { .. } => put_json(response),
     }
 }
 
@@ -210,6 +210,7 @@ fn put_outcome_body(outcome: &Outcome, body: &mut Rope) -> Result<(), AllocError
     match outcome {
         Outcome::NoKey => Ok(()),
         Outcome::Minted { json, .. } => body.put_slice(json.as_slice()),
-        Outcome::Reply(json) | Outcome::Refused(json) => body.put_slice(json.as_slice()),
+        Outcome::Reply(json) => body.put_slice(json.as_slice()),
+        Outcome::Refused { json, .. } => body.put_slice(json.as_slice()),
     }
 }

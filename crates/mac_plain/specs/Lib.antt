@@ -11,3 +11,4 @@ pub mod Receiving
 pub mod Rounds
 pub mod Shares
 pub mod Tally
+pub mod Memory

@@ -1,6 +1,6 @@
 //! A plain connection.
 
-ghost use Rattle.std.specs.Prelude.{◌≡◌, ◌⊎◌, ◌↔◌, true, ℕ, List, [], ◌∷◌, ◌<◌, ◌==◌, length, not, IsTrue, IfSome, OnOk, OnErr};
+ghost use Rattle.std.specs.Prelude.{◌≡◌, ◌⊎◌, ◌↔◌, true, ℕ, List, [], ◌∷◌, ◌<◌, ◌≤◌, ◌==◌, length, not, IsTrue, IfSome, OnOk, OnErr};
 ghost use Rattle.mac_board.specs.Noticed.{Current};
 ghost use Rattle.mac_wire.specs.declared.arrival.Arrival.TheVariants as arrival;
 ghost use Rattle.mac_wire.specs.Reply.{IsReply};
@@ -8,6 +8,7 @@ ghost use Rattle.mac_wire.specs.Session.{Stands};
 ghost use Rattle.mac_decide.specs.declared.job.Job.{Job};
 ghost use Rattle.mac_plain.specs.Client.{Answers, HasAnswered, answer_under, arrivals, may_move, replies, terms_for};
 ghost use Rattle.mac_plain.specs.Goes.{Goes, after_reply};
+ghost use Rattle.mac_plain.specs.Memory.{is_waiting, least_held};
 ghost use Rattle.mac_plain.specs.declared.course.Course.TheVariants as course;
 ghost use Rattle.mac_wire.specs.Stream.{version_or_one as version_so_far};
 
@@ -127,7 +128,9 @@ impl<P: Port> Client<P> {
 
     /// How many bytes of memory it has for what came and for what goes out; what a worker answers
     /// was copied.
-    pub fn held(&self) -> usize {
+    pub fn held(&self) -> usize
+        ensures { least_held self.now ≤ result }
+    {
         let came = self.session.carried.capacity();
         let copied = if self.is_waiting() { came } else { 0 };
         let gone = self.session.unsent.capacity();
@@ -186,7 +189,9 @@ impl<P: Port> Client<P> {
     }
 
     /// Whether it waits for a worker's answer.
-    pub fn is_waiting(&self) -> bool {
+    pub fn is_waiting(&self) -> bool
+        ensures { result ≡ is_waiting self.now.course }
+    {
         matches!(self.course, Course::Awaiting(_))
     }
 

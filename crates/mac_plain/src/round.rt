@@ -2,6 +2,7 @@
 
 ghost use Rattle.std.specs.Prelude.{◌≡◌, ◌≢◌, ◌≤◌, [], ◌∷◌, length, vec_len, IsFalse, IsTrue};
 ghost use Rattle.mac_board.specs.Noticed.{Current as PlainCurrent, Notices, lent_current};
+ghost use Rattle.mac_count.specs.RequestCounts.{no_counts};
 ghost use Rattle.mac_decide.specs.Prepared.{reply_to_job};
 ghost use Rattle.mac_decide.specs.Viewed.{viewed};
 ghost use Rattle.mac_plain.specs.Asking.{Takes};
@@ -11,6 +12,7 @@ ghost use Rattle.mac_plain.specs.Rounds.{ServesEach};
 ghost use Rattle.mac_plain.specs.Goes.{AreAnswered, AreRead};
 ghost use Rattle.mac_plain.specs.Receiving.{Receives};
 ghost use Rattle.mac_plain.specs.Requests.{AreWithin, asked_of};
+ghost use Rattle.mac_plain.specs.Tally.{counts_of};
 
 use crate::NoMemory;
 use crate::answering::{Bench, answer_requests};
@@ -160,7 +162,10 @@ impl Round {
     }
 
     /// How many requests were answered since the last call, each kind at its place.
-    pub fn take_counts(&mut self) -> [u64; REQUESTS] {
+    pub fn take_counts(&mut self) -> [u64; REQUESTS]
+        ensures taken { result ≡ counts_of self.old.bench.tally }
+        ensures none_left { counts_of self.new.bench.tally ≡ no_counts }
+    {
         self.bench.tally.take()
     }
 }

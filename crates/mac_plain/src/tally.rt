@@ -1,49 +1,59 @@
 //! How many requests were answered, by what they asked for and what they were answered.
 
-ghost use Rattle.std.specs.Prelude.{◌≡◌};
-ghost use Rattle.mac_decide.specs.Viewed.{arrival_of};
-ghost use Rattle.mac_plain.specs.Tally.{asked_by, asked_as, told_by};
+ghost use Rattle.std.specs.Prelude.{◌≡◌, map};
+ghost use Rattle.mac_count.specs.RequestCounts.{no_counts, with_all_counted, with_counted};
+ghost use Rattle.mac_decide.specs.Viewed.{arrival_of, viewed};
+ghost use Rattle.mac_plain.specs.Tally.{asked_by, asked_as, counts_of, request_of, requests_of};
+ghost use Rattle.mac_plain.specs.Tally.{told_by};
 
-use mac_count::{Asked, REQUESTS, Request, Told};
+use mac_count::{Asked, REQUESTS, Request, RequestCounts, Told};
 use mac_decide::{ArrivalView, JobView};
 use mac_wire::{Refusal, Reply};
 
-/// How many of each kind, at its place. No contract speaks of the counts.
+/// How many of each kind.
 #[derive(Drop)]
 pub struct Tally {
-    counts: [u64; REQUESTS],
+    counts: RequestCounts,
 }
 
 impl Tally {
     /// None yet.
-    pub fn new() -> Tally {
+    pub fn new() -> Tally
+        ensures { counts_of result ≡ no_counts }
+    {
         Tally {
-            counts: [0; REQUESTS],
+            counts: RequestCounts::new(),
         }
     }
 
     /// Counts these jobs, each with the reply at its place.
-    pub fn count_all(&mut self, jobs: &[JobView<'_>], replies: &[Reply]) {
-        for (job, reply) in jobs.iter().zip(replies) {
-            self.count(job, reply);
+    pub fn count_all(&mut self, jobs: &[JobView<'_>], replies: &[Reply])
+        ensures { counts_of self.new ≡ with_all_counted (counts_of self.old)
+            (requests_of (map viewed jobs.now) replies.now) }
+    {
+        for index in 0..jobs.len().min(replies.len()) {
+            self.count(&jobs[index], &replies[index]);
         }
     }
 
     /// Counts a job with its reply.
-    pub fn count(&mut self, job: &JobView<'_>, reply: &Reply) {
+    pub fn count(&mut self, job: &JobView<'_>, reply: &Reply)
+        ensures { counts_of self.new ≡ with_counted (counts_of self.old)
+            (request_of (viewed job.now) reply.now) }
+    {
         let request = Request {
             asked: asked_by(&job.arrival),
             told: told_by(reply),
         };
-        let place = request.place();
-        self.counts[place] = self.counts[place].saturating_add(1);
+        self.counts.count(request);
     }
 
-    /// The counts since the last call.
-    pub fn take(&mut self) -> [u64; REQUESTS] {
-        let counts = self.counts;
-        self.counts = [0; REQUESTS];
-        counts
+    /// The counts since the last call, each kind at its place.
+    pub fn take(&mut self) -> [u64; REQUESTS]
+        ensures taken { result ≡ counts_of self.old }
+        ensures none_left { counts_of self.new ≡ no_counts }
+    {
+        self.counts.take()
     }
 }
 

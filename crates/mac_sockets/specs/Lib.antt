@@ -1,2 +1,3 @@
 pub mod Budget
 pub mod Entrance
+pub mod Heavy

@@ -1,17 +1,21 @@
-//! How many bytes may be taken by several threads together, and how many are.
+//! How many bytes may be taken by several threads together, how many are, and who lacks some.
 
-ghost use Rattle.std.specs.Prelude.{◌≡◌, ◌≤◌, ◌+◌, ◌-◌, nat_le, if◌then◌else◌, IsTrue};
-ghost use Rattle.mac_sockets.specs.Budget.{no_bytes_of, with_taken};
+ghost use Rattle.std.specs.Prelude.{◌≡◌, ◌+◌, ◌-◌, nat_le, if◌then◌else◌};
+ghost use Rattle.mac_sockets.specs.Budget.{counted, held_in_want, most_wanted, no_bytes_of};
+ghost use Rattle.mac_sockets.specs.Budget.{with_held, with_taken, with_wanted};
 
-use std::alloc::{AllocError, Global};
 use std::marker::Model;
-use std::sync::{Arc, Mutex, Wait};
 
-/// How many bytes there are, and how many of them are taken: never more.
+/// How many bytes there are, and how many of them are taken: never more. What is taken for turns and
+/// isn't held by connections comes back soon.
 #[derive(Drop)]
 pub struct Budget {
     most: u64,
     taken: u64,
+    // How many bytes connections hold.
+    held: u64,
+    // The most that anybody wants who lacks it.
+    wanted: u64,
 }
 
 impl Model for Budget {
@@ -20,7 +24,8 @@ impl Model for Budget {
 
     ghost Value = { Funds };
 
-    ghost view = { λ b. record { most = b.most; taken = b.taken } };
+    ghost view = { λ b.
+        record { most = b.most; taken = b.taken; held = b.held; wanted = b.wanted } };
 
     ghost invariant = { λ b. b.taken ≤ b.most };
 }
@@ -30,7 +35,12 @@ impl Budget {
     pub fn new(most: u64) -> Budget
         ensures { result ≡ no_bytes_of most }
     {
-        Budget { most, taken: 0 }
+        Budget {
+            most,
+            taken: 0,
+            held: 0,
+            wanted: 0,
+        }
     }
 
     /// Takes so many, where as many are left. Whether that was so.
@@ -53,55 +63,33 @@ impl Budget {
         self.taken = self.taken.saturating_sub(count);
     }
 
-    /// How many are taken.
-    pub fn taken(&self) -> u64
-        ensures taken { result ≡ self.now.taken }
-        ensures within { result ≤ self.now.most }
+    /// Notes how many bytes the connections of a loop hold, which held so many before.
+    pub fn note_held(&mut self, before: u64, now: u64)
+        ensures { self.new ≡ with_held self.old (counted self.old.held before now) }
     {
-        self.taken
-    }
-}
-
-/// What one of several threads has taken of a budget that all share.
-#[derive(Drop)]
-pub struct Account {
-    budget: Arc<Mutex<Budget>, Global>,
-    taken: u64,
-}
-
-impl Account {
-    /// The first account of a budget of so many bytes.
-    pub fn open(alloc: Global, most: u64) -> Result<Account, AllocError> {
-        let budget = Arc::new(alloc, Mutex::new(Budget::new(most)))?;
-        Ok(Account { budget, taken: 0 })
+        self.held = self.held.saturating_sub(before).saturating_add(now);
     }
 
-    /// A further account of the same budget, of which nothing is taken.
-    pub fn share(&self) -> Result<Account, AllocError> {
-        let budget = Arc::try_clone(&self.budget)?;
-        Ok(Account { budget, taken: 0 })
-    }
-
-    /// Has so many bytes from now on: takes what is lacking, where as much is left, or gives back
-    /// what is over. Whether it has them: else it has what it had.
-    pub fn hold<R: Wait>(&mut self, rt: &R, count: u64) -> bool
-        ensures taken { self.new.taken ≡ (if result then count else self.old.taken) }
-        ensures less { count ≤ self.old.taken → IsTrue result }
+    /// Notes how many bytes a loop lacks, which lacked so many before: of several the most.
+    pub fn note_wanted(&mut self, before: u64, now: u64)
+        ensures { self.new ≡ with_wanted self.old (most_wanted self.old.wanted before now) }
     {
-        let mut budget = self.budget.lock(rt);
-        let budget = &mut *budget;
-        if count <= self.taken {
-            budget.give(self.taken - count);
-        } else if !budget.take(count - self.taken) {
-            return false;
+        let others = if self.wanted == before {
+            0
+        } else {
+            self.wanted
+        };
+        self.wanted = others.max(now);
+    }
+
+    /// How many bytes connections hold, where these leave less than somebody wants.
+    pub fn held_in_want(&self) -> Option<u64>
+        ensures { result ≡ held_in_want self.now }
+    {
+        if self.most < self.held.saturating_add(self.wanted) {
+            Some(self.held)
+        } else {
+            None
         }
-        self.taken = count;
-        true
-    }
-
-    /// How many bytes all have together.
-    pub fn taken_by_all<R: Wait>(&self, rt: &R) -> u64 {
-        let budget = self.budget.lock(rt);
-        budget.taken()
     }
 }

@@ -110,11 +110,11 @@ impl<'a> HttpPlan<'a> {
 }
 
 /// How many descriptors a server over HTTP may need: one for each connection, two for each door with its lock,
-/// two for each loop to wait by, and three to wait at the doors.
+/// three for each loop to wait by, and three to wait at the doors.
 fn server_descriptors(connections: usize, doors: usize, loops: usize) -> u64 {
     (connections as u64)
         .saturating_add((doors as u64).saturating_mul(2))
-        .saturating_add((loops as u64).saturating_mul(2))
+        .saturating_add((loops as u64).saturating_mul(3))
         .saturating_add(3)
 }
 

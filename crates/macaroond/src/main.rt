@@ -215,7 +215,7 @@ where
         IsKeyTable found.first.read.table × IfSome found.revoked (λ list. IsList list.list)) }
 {
     let keys = followed.keys;
-    let first = match read_first(rt, keys.path) {
+    let first = match read_first(rt, keys) {
         Ok(first) => first,
         Err(fault) => return Err(tell_key_file(rt, keys.path, fault)),
     };

@@ -7,7 +7,7 @@ use crate::descriptors::open_standard;
 use crate::page_texts::{DOCUMENT, SCRIPT, STYLE};
 use crate::telling::{tell_door, tell_nowhere, tell_page_address, tell_server};
 use mac_commands::{
-    ListPlace, PageOptions, Status, read_keys, take_list, tell_fault, tell_key_file,
+    ListPlace, MEMORY_MIN, PageOptions, Status, read_keys, take_list, tell_fault, tell_key_file,
     warn_of_no_keys, warn_of_readers,
 };
 use mac_gate::{
@@ -150,7 +150,8 @@ where
     R: Threads + Wait + Sync + Copy + Send + 'static,
 {
     let contents = Content::site(rt.alloc(), site)?;
-    start_server(rt, doors, contents, bounds(), Host::alone(rt, rt.alloc())?)
+    let host = Host::alone(rt, rt.alloc(), MEMORY_MIN)?;
+    start_server(rt, doors, contents, bounds(), host)
 }
 
 /// What the connections of the page are held to. Those that are silent give way, so that they shut

@@ -2,7 +2,7 @@
 ghost use Rattle.macaroond.specs.Watching.{Watches, WatchesList};
 
 use mac_board::Editor;
-use mac_commands::{KeyPlace, ListPlace, look_at, look_at_list};
+use mac_commands::{KeyPlace, ListPlace, ObservedFile, look_at, look_at_list};
 use mac_host::Host;
 use std::alloc::{Alloc, Global};
 use std::fs::{File, Files};
@@ -29,20 +29,29 @@ pub(crate) fn look_once<R>(
 where
     R: Alloc<A = Global> + Files<File = File> + Clock + Wait + Drop,
 {
-    let editor = look_at_keys(rt, followed.keys, editor, host);
-    match followed.list {
-        Some(place) => look_at_revoked(rt, place, editor, host),
-        None => editor,
-    }
+    let keys = followed.keys;
+    let mut file = ObservedFile::new(keys.path, keys.of_others);
+    let editor = look_at_keys(rt, keys, &mut file, editor, host);
+    let Some(list) = followed.list else {
+        return editor;
+    };
+    let mut file = ObservedFile::new(list.path, list.of_others);
+    look_at_revoked(rt, list, &mut file, editor, host)
 }
 
 /// The same of the key file alone.
-fn look_at_keys<R>(rt: &R, keys: KeyPlace<'_>, editor: Editor<R>, host: &Host) -> Editor<R>
+fn look_at_keys<R>(
+    rt: &R,
+    keys: KeyPlace<'_>,
+    file: &mut ObservedFile<'_>,
+    editor: Editor<R>,
+    host: &Host,
+) -> Editor<R>
 where
     R: Alloc<A = Global> + Files<File = File> + Clock + Wait + Drop,
-    ensures { Watches editor result }
+    ensures { Watches file.old editor file.new result }
 {
-    let Ok(sight) = look_at(rt, keys, &editor) else {
+    let Ok(sight) = look_at(rt, file, &editor) else {
         return editor;
     };
     let (editor, told) = editor.look(rt.alloc(), sight);
@@ -53,17 +62,23 @@ where
 }
 
 /// The same of the list alone.
-fn look_at_revoked<R>(rt: &R, place: ListPlace<'_>, editor: Editor<R>, host: &Host) -> Editor<R>
+fn look_at_revoked<R>(
+    rt: &R,
+    list: ListPlace<'_>,
+    file: &mut ObservedFile<'_>,
+    editor: Editor<R>,
+    host: &Host,
+) -> Editor<R>
 where
     R: Alloc<A = Global> + Files<File = File> + Clock + Wait + Drop,
-    ensures { WatchesList editor result }
+    ensures { WatchesList list.entry.may_empty file.old editor file.new result }
 {
-    let Ok(sight) = look_at_list(rt, place, &editor) else {
+    let Ok(sight) = look_at_list(rt, file, &editor) else {
         return editor;
     };
-    let (editor, told) = editor.look_at_list(rt.alloc(), place.may_empty, &sight);
+    let (editor, told) = editor.look_at_list(rt.alloc(), list.may_empty, &sight);
     if let Ok(news) = told {
-        host.tell_revoked(rt, place.path, news);
+        host.tell_revoked(rt, list.path, news);
     }
     editor
 }

@@ -8,11 +8,10 @@ ghost use Rattle.mac_board.specs.Publisher.{tables};
 use super::{PublishFault, Publisher};
 use crate::follower::Followers;
 use crate::issue::{Issue, Posted, Put, Seen, Stay};
+use crate::last_number::LastNumber;
 use left_right::writer::Writer;
 use mac_keys::KeyTable;
 use std::alloc::{AllocError, Global};
-use std::sync::atomic::AtomicU64;
-use std::sync::atomic::Ordering::SeqCst;
 use std::sync::{Arc, Wait};
 
 impl<R: Wait + Drop> Publisher<R> {
@@ -28,7 +27,7 @@ impl<R: Wait + Drop> Publisher<R> {
     {
         let table = Arc::new(alloc, first)?;
         let other = Arc::try_clone(&table)?;
-        let last = Arc::new(alloc, AtomicU64::new(0))?;
+        let last = LastNumber::new(alloc)?;
         let shown = Issue { table, number: 0 };
         let spare = Issue {
             table: other,
@@ -45,7 +44,7 @@ impl<R: Wait + Drop> Publisher<R> {
     {
         let Publisher {
             mut writer,
-            last,
+            mut last,
             rt,
         } = self;
         let number = writer.published().number;
@@ -63,10 +62,10 @@ impl<R: Wait + Drop> Publisher<R> {
             return (Publisher { writer, last, rt }, Err(PublishFault::NoMemory));
         };
         // Before the table itself: once one follower has it, each other looks for it.
-        last.store(number + 1, SeqCst);
+        last.tell(number + 1);
         let (writer, shown) = writer.publish_as::<Put, R>(&rt);
         let Ok(()) = shown else {
-            last.store(number, SeqCst);
+            last.tell(number);
             return (Publisher { writer, last, rt }, Err(PublishFault::NoMemory));
         };
         let writer = shown_again(writer, &rt);
@@ -76,7 +75,7 @@ impl<R: Wait + Drop> Publisher<R> {
     /// What makes followers of the board.
     pub fn followers(&self) -> Result<Followers, AllocError> {
         let factory = self.writer.factory().another()?;
-        let last = Arc::try_clone(&self.last)?;
+        let last = self.last.share()?;
         Ok(Followers::new(factory, last))
     }
 }

@@ -9,21 +9,13 @@ use super::new_file::{Beside, find_itself, is_one, sync_folder};
 use crate::fault::PipeFault;
 use crate::input::read_input;
 use crate::list_store::read_list_text;
+use crate::observed_file::Held;
 use mac_board::ReadFault;
 use mac_keys::wipe;
 use mac_wire::ReaderSource;
 use std::alloc::{Alloc, Global};
 use std::fs::{self, File, Files, Metadata};
 use std::io;
-
-/// What a file holds that may be changed.
-#[derive(Clone, Copy)]
-pub(super) enum Held {
-    /// Keys.
-    Keys,
-    /// A list of tokens that were taken back.
-    List,
-}
 
 /// A file as it was read to be changed.
 #[derive(Drop)]

@@ -9,7 +9,8 @@ ghost use Rattle.mac_commands.specs.declared.people.keygen.Change.TheVariants.{A
 use super::PersonFault;
 use super::asking::KeygenWords;
 use super::given::draw_secret;
-use super::key_files::{Held, create_file, read_kept, replace_file};
+use super::key_files::{create_file, read_kept, replace_file};
+use crate::observed_file::Held;
 use mac_keys::{
     ChangeFault, KeyFault, add_above, add_below, drop_lower, drop_upper, raise_lower, wipe,
 };

@@ -8,6 +8,7 @@ use crate::looping::Loop;
 use crate::members::Member;
 use crate::watch::Watch;
 use mac_board::Outlook;
+use mac_host::Badge;
 use std::sync::Wait;
 use std::time::Clock;
 
@@ -27,15 +28,15 @@ impl Loop {
         let Some(job) = member.ask(self.alloc, outlook.current()) else {
             return false;
         };
-        let number = member.note.badge.number;
-        let is_asked = asks.ask(rt, Asker { slot, number }, job);
+        let Badge { number, socket, .. } = member.note.badge;
+        let is_asked = asks.ask(rt, socket, Asker { slot, number }, job);
         if !is_asked {
             member.lose_answer();
         }
         is_asked
     }
 
-    /// Gives clients the answers that have come.
+    /// Gives clients the answers that have come, and puts as many jobs more into the line.
     pub(super) fn take_answers<R: Wait, W: Watch>(
         &mut self,
         rt: &R,
@@ -45,13 +46,13 @@ impl Loop {
     )
         ensures { asks.new ≡ asks.old }
     {
-        asks.put_more(rt);
         for _ in rt.forever() {
             let Some(answered) = asks.next(rt) else {
-                return;
+                break;
             };
             self.hand_back(answered, loops, watch);
         }
+        asks.put_more(rt);
     }
 
     /// Gives the client that asked what came of it, if it is still there.
@@ -73,7 +74,7 @@ impl Loop {
         }
         loops.count_unsent(unsent, member.client.unsent());
         let (before, now) = member.count_held();
-        self.held = self.held.saturating_sub(before).saturating_add(now);
+        self.account.count(before, now);
         self.members.slots.list(asker.slot);
     }
 }

@@ -2,7 +2,8 @@ use denote.Exit.{no}
 use denote.Param.Send.{arg_send, copied_send, param_send}
 use Rattle.std.proofs.Crossing.{Arc-send, send}
 use Rattle.mac_board.proofs.follower.Followers.TheSendSync as followers
-use Rattle.mac_daemon.proofs.Sent.{five_sent, parts_sent}
+use Rattle.mac_daemon.proofs.Sent.{parts_sent}
+use Rattle.mac_sockets.proofs.Sent.{five_sent}
 use Rattle.mac_host.proofs.ending.Ending.TheSendSync as ending
 use Rattle.mac_daemon.proofs.listening.start_serving.Goals as goal
 

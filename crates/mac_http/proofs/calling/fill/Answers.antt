@@ -5,5 +5,5 @@ pub returns-in-Some-clause-told : goal.returns-in-Some-clause-told
 returns-in-Some-clause-told c =
     rw (sym c.refusal_of.ensures ∙ c.in-Some.is) (record { status = refl; headers = c.requires.headers; body = c.requires.body })
 
-pub returns-in-Some-clause-minted : goal.returns-in-Some-clause-minted
-returns-in-Some-clause-minted c = rw (sym c.refusal_of.ensures ∙ c.in-Some.is) refl
+pub returns-in-Some-clause-noted : goal.returns-in-Some-clause-noted
+returns-in-Some-clause-noted c = rw (sym c.refusal_of.ensures ∙ c.in-Some.is) refl

@@ -8,8 +8,8 @@ returns-then-ne-clause-told c =
     search (rules, c.method.ensures, c.ne.ensures, c.if-ne.true) in
     rw other c.in_ok-refuse_method.ensures
 
-pub returns-then-ne-clause-minted : goal.returns-then-ne-clause-minted
-returns-then-ne-clause-minted c =
+pub returns-then-ne-clause-noted : goal.returns-then-ne-clause-noted
+returns-then-ne-clause-noted c =
     let other : bytes_eq (head_of c.args.called.request.now).method (80 ∷ 79 ∷ 83 ∷ 84 ∷ []) ≡ false =
     search (rules, c.method.ensures, c.ne.ensures, c.if-ne.true) in
     rw other refl

@@ -35,7 +35,12 @@ invariant_of-result-2 g c =
     let more = one-more (view before.place) (view after.place) now after.shown.value c.args.table rule (rw c.append.ensures.desk c.args.self.counted) last in
     let again = c.shown_again-writer.ensures in
     let same = history-same (view after.place) (view c.shown_again-writer.result.desk.place) (arc_value after.shown.value.table) (arc_value c.shown_again-writer.result.desk.shown.value.table) again.view again.table in
-    record { counted = ap length same ∙ more.0 ∙ ap (λ (n : ℕ). n + 1) (sym again.number) }
+    let told : c.tell.new.self.told.value ≡ now.number + 1 =
+    rw c.append.ensures.desk (c.tell.ensures ∙ ap (λ (i : Issue). i.number + 1) c.published.ensures) in
+    record {
+      counted = ap length same ∙ more.0 ∙ ap (λ (n : ℕ). n + 1) (sym again.number);
+      told = told ∙ sym (ap (λ (p : Table × ℕ). p.1) last) ∙ sym again.number;
+    }
 
 pub returns : goal.returns
 returns g c =

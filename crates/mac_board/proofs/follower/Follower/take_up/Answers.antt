@@ -1,5 +1,0 @@
-use Rattle.mac_board.proofs.Board.{sees}
-use Rattle.mac_board.proofs.follower.Follower.take_up.Goals as goal
-
-pub enter_as-requires : goal.enter_as-requires
-enter_as-requires c = sees _ _

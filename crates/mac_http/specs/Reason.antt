@@ -1,0 +1,26 @@
+-- Why a request isn't granted or done, for who counts and logs it (this project's own).
+use Rattle.std.specs.Prelude.{Option, Some, None, option_map}
+use Rattle.mac_calls.specs.Outcome.{wire_refusal}
+use Rattle.mac_calls.specs.declared.answering.Outcome.{Outcome}
+use Rattle.mac_wire.specs.declared.reply.Refusal.TheVariants as refusal
+use Rattle.mac_http.specs.declared.finding.Finding.{Finding}
+use Rattle.mac_http.specs.declared.finding.Finding.TheVariants as found
+use Rattle.mac_http.specs.declared.reason.Reason.{Reason}
+use Rattle.mac_http.specs.declared.reason.Reason.TheVariants.{Refused, Unsatisfied}
+
+-- what was found of a token: why it is refused, or which caveat isn't satisfied; what no moment tells
+-- is refused as the wire does
+abbrev pub reason_found : Finding → Option Reason
+reason_found found.Unknown = None
+reason_found found.NoToken = None
+reason_found found.Fragment = None
+reason_found found.UnsafePath = None
+reason_found found.ManyFacts = None
+reason_found found.NoMoment = Some (Refused refusal.NoClock)
+reason_found (found.Invalid scheme why) = Some (Refused why)
+reason_found (found.Unsatisfied index) = Some (Unsatisfied index)
+reason_found (found.Granted identifier location) = None
+
+-- the refusal that came of a call, if one came
+abbrev pub reason_of_call : Outcome → Option Reason
+reason_of_call outcome = option_map Refused (wire_refusal outcome)
