@@ -1,4 +1,5 @@
 """A service whose path /account is for those who bring a token: service.py SOCKET PORT"""
+import logging
 import sys
 from wsgiref.simple_server import make_server
 
@@ -18,5 +19,7 @@ def service(environ, start_response):
     return [b"anybody may read this\n"]
 
 
+# Why a request was refused is logged as information, which Python leaves out where nothing else is said.
+logging.basicConfig(level=logging.INFO, format="%(asctime)s %(message)s")
 guarded = RequireMacaroon(account, Client(sys.argv[1]), "bank", request_facts)
 make_server("127.0.0.1", int(sys.argv[2]), service).serve_forever()

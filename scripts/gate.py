@@ -9,6 +9,7 @@ with `--tidy` each such crate is a failure.
 import os
 import pathlib
 import re
+import resource
 import shutil
 import subprocess
 import sys
@@ -94,8 +95,17 @@ def steps():
     yield judged(*followed(OUTSIDE), "scripts/outside.py")
 
 
+def taken_since(begin):
+    """What has passed since then by the clock, and what it took of the processors."""
+    used = resource.getrusage(resource.RUSAGE_CHILDREN)
+    clock, processor = (time.monotonic() - begin) / 60, (used.ru_utime + used.ru_stime) / 60
+    return f"{clock:.0f} minutes, {processor:.0f} processor minutes, on {len(os.sched_getaffinity(0))} processors"
+
+
 def main():
+    begin = time.monotonic()
     passed, failed, skipped = map(sum, zip(*steps()))
+    print(f"gate: all of it took {taken_since(begin)}")
     if skipped and "--all" in sys.argv:
         print(f"gate: nothing may be skipped, and {skipped} were")
         failed += skipped

@@ -1,7 +1,10 @@
 // A macaroon service over gopkg.in/macaroon.v2, to measure macaroond beside: the same frames, requests and replies, but no
 // JSON, one number (20) for what is no token, no reply to a frame that is too long, and no refusal of unknown names.
 //
-//	go_daemon listen --socket PATH --keys FILE [--workers COUNT] [--batch COUNT]
+//	go_daemon listen --socket PATH --keys FILE [--workers COUNT] [--batch COUNT] [--inline] [--remember TOKENS]
+//
+// As it comes, workers answer what a connection's goroutine reads. With --inline that goroutine answers it, and with
+// --remember tokens whose signature was found right aren't hashed again.
 package main
 
 import (
@@ -34,19 +37,24 @@ func main() {
 	file := words.String("keys", "", "the key file")
 	workers := words.Int("workers", runtime.NumCPU(), "how many goroutines answer")
 	batch := words.Int("batch", 1, "how many frames that have arrived together are one job at most")
+	inline := words.Bool("inline", false, "whether a frame is answered where it is read")
+	tokens := words.Int("remember", 0, "how many tokens are remembered at most")
 	words.Parse(os.Args[2:])
-	secrets := secretsByName(*file)
+	own := service{secrets: secretsByName(*file), memory: newMemory(*tokens)}
 	listener, err := net.Listen("unix", *socket)
 	if err != nil {
 		panic(err)
 	}
 	jobs := make(chan job, 1024)
 	for i := 0; i < *workers; i++ {
-		go work(secrets, jobs)
+		go work(own, jobs)
 	}
-	fmt.Printf("listening at %s: %d keys, %d workers\n", *socket, len(secrets), *workers)
+	fmt.Printf("listening at %s: %d keys, %d workers\n", *socket, len(own.secrets), *workers)
 	for {
-		if stream, err := listener.Accept(); err == nil {
+		stream, err := listener.Accept()
+		if err == nil && *inline {
+			go converse(own, stream)
+		} else if err == nil {
 			due := make(chan job, 64)
 			go receive(stream, jobs, due, *batch)
 			go send(stream, due)
@@ -65,15 +73,61 @@ func secretsByName(file string) map[string][]byte {
 	return secrets
 }
 
-func work(secrets map[string][]byte, jobs <-chan job) {
+// What requests are answered by.
+type service struct {
+	secrets map[string][]byte
+	memory  *memory
+}
+
+func work(own service, jobs <-chan job) {
 	for asked := range jobs {
 		var replies []byte
 		for _, payload := range asked.payloads {
-			reply := answer(secrets, payload)
-			replies = append(binary.BigEndian.AppendUint32(replies, uint32(len(reply))), reply...)
+			replies = appendReply(replies, own, payload)
 		}
 		asked.replies <- replies
 	}
+}
+
+func appendReply(replies []byte, own service, payload []byte) []byte {
+	reply := answer(own, payload)
+	return append(binary.BigEndian.AppendUint32(replies, uint32(len(reply))), reply...)
+}
+
+// Answers each frame where it is read, and writes once no further one has arrived whole. A frame that is too long is the
+// end.
+func converse(own service, stream net.Conn) {
+	defer stream.Close()
+	reader := bufio.NewReaderSize(stream, 2*frameMax)
+	var replies []byte
+	for {
+		head, err := reader.Peek(4)
+		if err != nil || binary.BigEndian.Uint32(head) > frameMax {
+			return
+		}
+		frame, err := reader.Peek(4 + int(binary.BigEndian.Uint32(head)))
+		if err != nil {
+			return
+		}
+		replies = appendReply(replies, own, frame[4:])
+		reader.Discard(len(frame))
+		if len(replies) < frameMax && hasWhole(reader) {
+			continue
+		}
+		if _, err := stream.Write(replies); err != nil {
+			return
+		}
+		replies = replies[:0]
+	}
+}
+
+// Whether the next frame has arrived whole.
+func hasWhole(reader *bufio.Reader) bool {
+	if reader.Buffered() < 4 {
+		return false
+	}
+	head, _ := reader.Peek(4)
+	return reader.Buffered() >= 4+int(binary.BigEndian.Uint32(head))
 }
 
 func receive(stream net.Conn, jobs, due chan<- job, batch int) {
@@ -95,7 +149,7 @@ func gathered(reader *bufio.Reader, most int) (payloads [][]byte, isEnd bool) {
 			return payloads, true
 		}
 		length := int(binary.BigEndian.Uint32(head))
-		if len(payloads) > 0 && reader.Buffered() < 4+length {
+		if len(payloads) > 0 && !hasWhole(reader) {
 			break
 		}
 		frame := make([]byte, 4+length)
@@ -133,7 +187,7 @@ func (f *fields) name() string  { return string(f.take(f.number())) }
 func (f *fields) field() []byte { return f.take(int(binary.BigEndian.Uint16(f.take(2)))) }
 
 // The payload of the reply to a request. What is no request panics on its way.
-func answer(secrets map[string][]byte, payload []byte) (reply []byte) {
+func answer(own service, payload []byte) (reply []byte) {
 	defer func() {
 		if recover() != nil {
 			reply = []byte{16}
@@ -144,7 +198,7 @@ func answer(secrets map[string][]byte, payload []byte) (reply []byte) {
 	case 1, 2:
 		form, token := f.number(), new(macaroon.Macaroon)
 		if kind == 1 {
-			secret, location := secrets[f.name()], string(f.field())
+			secret, location := own.secrets[f.name()], string(f.field())
 			version := map[int]macaroon.Version{1: macaroon.V1, 2: macaroon.V2, 4: macaroon.V2}[form]
 			token, _ = macaroon.New(secret, f.field(), location, version)
 		} else if token.UnmarshalBinary(bare(f.field())) != nil {
@@ -159,15 +213,16 @@ func answer(secrets map[string][]byte, payload []byte) (reply []byte) {
 		}
 		return append([]byte{1}, written...)
 	case 3:
-		secret, token := secrets[f.name()], new(macaroon.Macaroon)
-		if token.UnmarshalBinary(bare(f.field())) != nil {
-			return []byte{20}
+		name, token := f.name(), f.field()
+		moment, facts := binary.BigEndian.Uint64(f.take(8)), make([][]byte, f.number())
+		for i := range facts {
+			facts[i] = f.field()
 		}
-		moment, facts := binary.BigEndian.Uint64(f.take(8)), map[string]bool{}
-		for count := f.number(); count > 0; count-- {
-			facts[string(f.field())] = true
+		caveats, fault := own.caveats(name, token)
+		if fault != 0 {
+			return []byte{fault}
 		}
-		return verdict(secret, token, moment, facts)
+		return verdict(caveats, moment, facts)
 	}
 	return []byte{16}
 }
@@ -181,13 +236,26 @@ func bare(written []byte) []byte {
 	return decoded
 }
 
-func verdict(secret []byte, token *macaroon.Macaroon, moment uint64, facts map[string]bool) []byte {
-	conditions, err := token.VerifySignature(secret, nil)
-	if err != nil {
-		return []byte{23}
+// The caveats of a token whose signature the name's secret gives, or the number of a refusal.
+func (own service) caveats(name string, written []byte) ([]string, byte) {
+	if caveats, ok := own.memory.find(name, written); ok {
+		return caveats, 0
 	}
-	for i, condition := range conditions {
-		if facts[condition] {
+	token := new(macaroon.Macaroon)
+	if token.UnmarshalBinary(bare(written)) != nil {
+		return nil, 20
+	}
+	caveats, err := token.VerifySignature(own.secrets[name], nil)
+	if err != nil {
+		return nil, 23
+	}
+	own.memory.keep(name, written, caveats)
+	return caveats, 0
+}
+
+func verdict(caveats []string, moment uint64, facts [][]byte) []byte {
+	for i, condition := range caveats {
+		if holds(condition, facts) {
 			continue
 		}
 		end, err := time.Parse("time < 2006-01-02T15:04", strings.TrimSuffix(condition, "Z"))
@@ -196,4 +264,14 @@ func verdict(secret []byte, token *macaroon.Macaroon, moment uint64, facts map[s
 		}
 	}
 	return []byte{0}
+}
+
+// Whether a caveat equals one of the facts.
+func holds(caveat string, facts [][]byte) bool {
+	for _, fact := range facts {
+		if string(fact) == caveat {
+			return true
+		}
+	}
+	return false
 }

@@ -16,13 +16,27 @@ const (
 // one dot or two.
 var otherwiseRead = regexp.MustCompile(`(?i)//|\\|%2e|%2f|%5c|/\.\.?(/|$)`)
 
+// What some servers end a segment at, drop, or read in a way of their own: a semicolon, an
+// escape of it, of a zero byte or of a tab, and `%u`; and an escape of a character of UTF-8 in
+// more bytes than it needs.
+var oddlyRead = regexp.MustCompile(`(?i);|%3b|%00|%09|%u|%c[01]|%e0%[89]|%f0%8`)
+
 // RequestFacts gives the method and the path of a request, for Guard; or an ErrNotPlain.
 func RequestFacts(r *http.Request) ([]string, error) {
+	return requestFacts(r, PathFacts)
+}
+
+// StrictRequestFacts is RequestFacts with StrictPathFacts.
+func StrictRequestFacts(r *http.Request) ([]string, error) {
+	return requestFacts(r, StrictPathFacts)
+}
+
+func requestFacts(r *http.Request, pathFacts func(string) ([]string, error)) ([]string, error) {
 	target := r.RequestURI
 	if target == "" {
 		target = r.URL.EscapedPath()
 	}
-	facts, err := PathFacts(target)
+	facts, err := pathFacts(target)
 	if err != nil {
 		return nil, err
 	}
@@ -56,6 +70,33 @@ func PathFacts(target string) ([]string, error) {
 		}
 	}
 	return facts, nil
+}
+
+// StrictPathFacts is PathFacts where paths are read strictly, as by `--http-strict-paths`: one
+// that some servers read in a way of their own isn't plain either.
+func StrictPathFacts(target string) ([]string, error) {
+	path, _, _ := strings.Cut(target, "?")
+	if oddlyRead.MatchString(path) || hasOverlong(path) {
+		return nil, ErrNotPlain
+	}
+	return PathFacts(target)
+}
+
+// hasOverlong tells whether a character of UTF-8 has more bytes than it needs (RFC 3629, section 3).
+func hasOverlong(path string) bool {
+	for at := 0; at < len(path); at++ {
+		next := byte(0)
+		if at+1 < len(path) {
+			next = path[at+1]
+		}
+		switch first := path[at]; {
+		case first == 0xC0, first == 0xC1,
+			first == 0xE0 && 0x80 <= next && next <= 0x9F,
+			first == 0xF0 && 0x80 <= next && next <= 0x8F:
+			return true
+		}
+	}
+	return false
 }
 
 // isPlain tells whether each server reads the path alike.

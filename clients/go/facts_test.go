@@ -16,6 +16,7 @@ import (
 func pathRows(t *testing.T) (rows []struct {
 	Target string
 	Facts  []string
+	Odd    bool
 }) {
 	content, err := os.ReadFile("../cases/paths.json")
 	if err == nil {
@@ -33,6 +34,11 @@ func TestPathFacts(t *testing.T) {
 		if !reflect.DeepEqual(facts, row.Facts) || (row.Facts == nil) != errors.Is(err, ErrNotPlain) {
 			t.Errorf("of %q the facts are %q, %v", row.Target, facts, err)
 		}
+		facts, err = StrictPathFacts(row.Target)
+		if (row.Facts == nil || row.Odd) != errors.Is(err, ErrNotPlain) ||
+			err == nil && !reflect.DeepEqual(facts, row.Facts) {
+			t.Errorf("of %q the facts are %q, %v, read strictly", row.Target, facts, err)
+		}
 		if row.Target == "" {
 			continue
 		}
@@ -41,6 +47,15 @@ func TestPathFacts(t *testing.T) {
 			row.Facts != nil && !reflect.DeepEqual(facts, append([]string{"method = PUT"}, row.Facts...)) {
 			t.Errorf("of a request for %q the facts are %q, %v", row.Target, facts, err)
 		}
+	}
+	for _, odd := range []string{"\xc0\xae", "\xc1", "\xe0\x9f\xbf", "\xf0\x8f"} {
+		if facts, err := StrictPathFacts("/a/" + odd); !errors.Is(err, ErrNotPlain) {
+			t.Errorf("of %q the facts are %q, %v, read strictly", odd, facts, err)
+		}
+	}
+	odd := &http.Request{Method: "GET", RequestURI: "/a;b", URL: &url.URL{Path: "/x"}}
+	if facts, err := StrictRequestFacts(odd); !errors.Is(err, ErrNotPlain) {
+		t.Errorf("%q, %v", facts, err)
 	}
 	facts, err := RequestFacts(&http.Request{Method: "GET", URL: &url.URL{Path: "/ä"}})
 	if err != nil || facts[2] != "path = /%C3%A4" {

@@ -4,12 +4,15 @@ import (
 	"context"
 	"log"
 	"net/http"
+	"regexp"
 	"strings"
 	"time"
 )
 
 // How long a guard waits for a verdict where nothing else is said.
 const guardTimeout = time.Second
+
+var requestID = regexp.MustCompile(`\A[A-Za-z0-9._-]{1,40}\z`)
 
 type identifierKey struct{}
 
@@ -81,7 +84,7 @@ type guard struct {
 func (g *guard) serve(next http.Handler, w http.ResponseWriter, r *http.Request) {
 	found := g.judge(r)
 	if g.logger != nil && !found.Granted() {
-		g.logger.Printf("macaroon refused: %v", found)
+		g.logger.Printf("macaroon refused: %v%s", found, loggedID(r.Header.Values("X-Request-Id")))
 	}
 	if g.hook != nil {
 		g.hook(r, found)
@@ -115,6 +118,15 @@ func (g *guard) judge(r *http.Request) Judgement {
 		return failed(err)
 	}
 	return judged(verdict, brought.scheme)
+}
+
+// loggedID gives what the log has of the one X-Request-Id field of a request, where that is an
+// id which the daemon logs too: a signature has more letters, so none is a token.
+func loggedID(fields []string) string {
+	if len(fields) != 1 || !requestID.MatchString(fields[0]) {
+		return ""
+	}
+	return " id=" + fields[0]
 }
 
 // Identifier gives the identifier of the token by which a request was let through.

@@ -107,6 +107,33 @@ func TestRequireMacaroon(t *testing.T) {
 	}
 }
 
+// The id of a request stands in the log, where it brings one that may.
+func TestLoggedIDs(t *testing.T) {
+	ids := []string{"a", "8f14e45fceea167a5a36dedd4bea2543", "2030f39a-86d8-4bfd-aead-06f154c3e1f6", "A.b_c-0", strings.Repeat("9", 40)}
+	others := [][]string{nil, {}, {"a", "b"}, {""}, {strings.Repeat("9", 41)}, {"a b"}, {"a=b"}, {"a\nb"}, {"a\n"}, {"\xe4"}, {"a,b"}, {"{}"}}
+	for _, id := range ids {
+		if line := loggedWithout(t, id); line != "macaroon refused: status=401 reason=no_token id="+id+"\n" {
+			t.Errorf("%q: %q", id, line)
+		}
+	}
+	for _, fields := range others {
+		if line := loggedWithout(t, fields...); line != "macaroon refused: status=401 reason=no_token\n" {
+			t.Errorf("%q: %q", fields, line)
+		}
+	}
+}
+
+// loggedWithout gives what is logged of a request without a token that brings these ids.
+func loggedWithout(t *testing.T, ids ...string) string {
+	t.Helper()
+	var logged strings.Builder
+	asked := httptest.NewRequest("GET", "/", nil)
+	asked.Header["X-Request-Id"] = ids
+	guarded := RequireMacaroon(nil, "bank", nil, GuardLog(log.New(&logged, "", 0)))(http.NotFoundHandler())
+	guarded.ServeHTTP(httptest.NewRecorder(), asked)
+	return logged.String()
+}
+
 // tried gives what a guard makes of a request with a token, and how long it took.
 func tried(ctx context.Context, guarded http.Handler, seen *Judgement) (string, time.Duration) {
 	asked := httptest.NewRequest("GET", "/", nil).WithContext(ctx)

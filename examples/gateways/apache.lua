@@ -20,7 +20,7 @@ end
 -- judged, or a fact that the client named; `_` stands for `-` too, as CGI reads it.
 local UNTOLD = {
     "^x%-forwarded", "^x%-original", "^x%-rewrite%-url$", "^x%-http%-method", "^x%-method%-override$",
-    "^x%-real%-ip$", "^forwarded$", "^macaroon%-",
+    "^x%-real%-ip$", "^x%-request%-id$", "^forwarded$", "^macaroon%-",
 }
 
 local function drop_untold(r)
@@ -35,12 +35,16 @@ local function drop_untold(r)
 end
 
 function check(r)
+    -- The request's id in the logs, for a client who asks why; the service gets no other one. macaroond takes
+    -- letters, digits, `-`, `_` and `.`, and Apache's ids may have a `@`.
+    local id = r.subprocess_env["UNIQUE_ID"]:gsub("@", "_")
+    r.notes["macaroon-request"], r.err_headers_out["X-Request-Id"] = id, id
     local stream = unix.stream()
     -- Nothing of the client's own but its token, and the facts that Apache knows.
     local status, found = ask(stream, {
         "GET /verify/bank HTTP/1.1", "Host: macaroond", "Connection: close",
         "Authorization: " .. (r.headers_in["Authorization"] or ""),
-        "X-Forwarded-Method: " .. r.method, "X-Forwarded-Uri: " .. r.unparsed_uri,
+        "X-Request-Id: " .. id, "X-Forwarded-Method: " .. r.method, "X-Forwarded-Uri: " .. r.unparsed_uri,
         "X-Forwarded-Host: " .. (r.hostname or ""),
         "X-Forwarded-Proto: " .. (r.is_https and "https" or "http"),
         "X-Real-IP: " .. r.useragent_ip, "Macaroon-Fact: service = demo", "", "",
@@ -50,6 +54,7 @@ function check(r)
         drop_untold(r)
         -- The client may name this field in its Connection, and Apache would take it out then.
         r.headers_in["Macaroon-Identifier"] = found["macaroon-identifier"]
+        r.headers_in["X-Request-Id"] = id
         r.headers_in["Connection"] = (r.headers_in["Connection"] or ""):lower():match("close")
         return apache2.OK
     end

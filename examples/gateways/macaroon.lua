@@ -17,6 +17,8 @@ core.register_action("macaroon", { "http-req" }, function(txn)
             ["x-forwarded-host"] = { txn.sc:host_only(txn.sf:req_fhdr("host")) },
             ["x-forwarded-proto"] = { txn.f:ssl_fc() == 1 and "https" or "http" },
             ["x-real-ip"] = { txn.f:src() },
+            -- What macaroond's log has as `id=`, by --log requests.
+            ["x-request-id"] = { txn.f:unique_id() },
             ["macaroon-fact"] = { "service = demo" },
         },
     }

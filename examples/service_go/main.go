@@ -15,7 +15,7 @@ func main() {
 	if err != nil {
 		log.Fatal(err)
 	}
-	guarded := macaroond.Guard(client, "bank", macaroond.RequestFacts)
+	guarded := macaroond.Guard(client, "bank", macaroond.RequestFacts, macaroond.GuardLog(log.Default()))
 	http.Handle("/account", guarded(http.HandlerFunc(func(w http.ResponseWriter, r *http.Request) {
 		identifier, _ := macaroond.Identifier(r.Context())
 		fmt.Fprintln(w, "the account of", identifier)

@@ -109,16 +109,16 @@ def status_of(port, path, token=None):
     return awaited(came) or (0, "the service doesn't come up")
 
 
-# What the example services answer to a path and a token.
+# What the example services answer to a path and a token, and what they log of it.
 SERVICE_ROWS = [
-    ("/", None, 200, "anybody may read this\n"),
-    ("/account", None, 401, ""),
-    ("/account", "alice", 200, "the account of alice\n"),
-    ("/account", "for all below", 200, "the account of alice\n"),
-    ("/account", "for another path", 403, ""),
-    ("/account?path=/other", "alice", 200, "the account of alice\n"),
-    ("/account", "of another key", 401, ""),
-    ("/account", "!", 401, ""),
+    ("/", None, 200, "anybody may read this\n", None),
+    ("/account", None, 401, "", "status=401 reason=no_token"),
+    ("/account", "alice", 200, "the account of alice\n", None),
+    ("/account", "for all below", 200, "the account of alice\n", None),
+    ("/account", "for another path", 403, "", "status=403 reason=24 caveat=0"),
+    ("/account?path=/other", "alice", 200, "the account of alice\n", None),
+    ("/account", "of another key", 401, "", "status=401 reason=23"),
+    ("/account", "!", 401, "", "status=401 reason=19"),
 ]
 
 
@@ -134,11 +134,14 @@ def service_faults(command, env, folder):
             "for another path": client.mint("bank", "alice", caveats=["path = /other"]),
             "of another key": client.mint("shop", "alice"),
         }
-    with subprocess.Popen([*command, path, str(port)], env=env, stderr=subprocess.DEVNULL) as service:
-        came = [status_of(port, path, tokens[name]) for path, name, _, _ in SERVICE_ROWS]
-        service.kill()
-    wanted = [(status, text) for _, _, status, text in SERVICE_ROWS]
-    return [f"{command[-1]}: {got} where {due} is due" for got, due in zip(came, wanted) if got != due], len(came)
+    with open(f"{path}.service", "w") as errors:
+        with subprocess.Popen([*command, path, str(port)], env=env, stderr=errors) as service:
+            came = [status_of(port, path, tokens[name]) for path, name, _, _, _ in SERVICE_ROWS]
+            service.kill()
+    told = re.findall(r"^\d{4}[-/]\d\d[-/]\d\d [\d:,]+ macaroon refused: (.+)$", pathlib.Path(errors.name).read_text(), re.MULTILINE)
+    seen = [*came, told]
+    wanted = [*((row[2], row[3]) for row in SERVICE_ROWS), [row[4] for row in SERVICE_ROWS if row[4]]]
+    return [f"{command[-1]}: {got} where {due} is due" for got, due in zip(seen, wanted) if got != due], len(seen)
 
 
 def services_faults(folder):

@@ -165,6 +165,7 @@ PAST = [
     "X-Forwarded-Server: admin.example",
     "X-Forwarded-Ssl: on",
     "X-Forwarded-User: root",
+    "X-Request-Id: of-the-client",
 ]
 
 

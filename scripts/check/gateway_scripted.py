@@ -30,6 +30,7 @@ def by_envoy(row):
     """
     fields = [f"Host: {host_of(row)}", "Content-Length: 0", "macaroon-fact: service = demo"]
     fields += ["x-envoy-internal: true", "x-envoy-expected-rq-timeout-ms: 2000"]
+    fields += ["x-request-id: 4a1b7c2e-9d3f-4e5a-8b6c-0f1e2d3c4b5a"]
     fields += [f"authorization: {','.join(tokens_of(row))}"] * bool(tokens_of(row))
     return head(f"/verify/bank{row.target}", *fields, method=row.method)
 

@@ -18,13 +18,15 @@ sys.path.insert(0, str(pathlib.Path(__file__).resolve().parents[1]))
 from check import sessions
 from check.http_rows import SECRET, v2
 from common import TOP
-from common.daemon import PATIENCE, Daemon, awaited, connected, free_port
+from common.daemon import PATIENCE, Daemon, awaited, connected, free_port, put_keys
 
 import request
 
 FOLDER = TOP / "examples" / "gateways"
 # The port of the service behind, in each configuration.
 SERVICE_PORT = 18090
+# The fact that each configuration tells of its own.
+OWN_FACT = "service = demo"
 
 
 class Gateway(typing.NamedTuple):
@@ -185,13 +187,17 @@ def give_to_workers(folder):
 
 
 @contextlib.contextmanager
-def in_folder(*words):
-    """A daemon that is started with these words, in a folder that has the configurations."""
+def in_folder(*words, revoked=""):
+    """A daemon that is started with these words, in a folder that has the configurations, and with a list of tokens
+    that were taken back, where one is given."""
     with tempfile.TemporaryDirectory() as where:
         folder = pathlib.Path(where)
         give_to_workers(folder)
         for file in FOLDER.iterdir():
             shutil.copy(file, folder)
+        if revoked:
+            put_keys(folder / "revoked", revoked)
+            words = [*words, "--revoked", "revoked"]
         daemon = Daemon(folder, key_file(SECRET), *words, name="macaroond.socket", cwd=folder)
         try:
             yield daemon.start()
@@ -213,6 +219,11 @@ def change(path, old, new):
     if old not in text:
         raise ValueError(f"{path.name} has no {old}")
     path.write_text(text.replace(old, new))
+
+
+def change_all(path, old, new):
+    """The same wherever it stands, be it nowhere."""
+    path.write_text(path.read_text().replace(old, new))
 
 
 # What stands around README's lines for nginx, which name the package's socket and a service of their own.
@@ -238,14 +249,17 @@ def write_readme(folder):
 
 
 @contextlib.contextmanager
-def guarded(name, patient=True, by_readme=False):
-    """A gateway that asks a daemon, and waits for it as its configuration says, or long enough."""
+def guarded(name, *further, patient=True, by_readme=False, revoked="", fact=OWN_FACT):
+    """A gateway that asks a daemon, and waits for it as its configuration says, or long enough. The daemon has these
+    further words, and the gateway tells it a fact of its own."""
     gateway, facts = GATEWAYS[name], "forwarded" if by_readme else "header,forwarded"
     words = ["--http", "unix:macaroond.http", "--http-mode", "660", "--http-facts", facts]
-    with in_folder(*words) as daemon, serving() as service:
+    with in_folder(*words, *further, revoked=revoked) as daemon, serving() as service:
         port, config = free_port(), daemon.folder / gateway.config
         if by_readme:
             write_readme(daemon.folder)
+        for file in {gateway.config, gateway.waits[0]} if fact != OWN_FACT else ():
+            change_all(daemon.folder / file, OWN_FACT, fact)
         change(config, str(gateway.port), str(port))
         change(config, str(SERVICE_PORT), str(service.server_address[1]))
         if patient:

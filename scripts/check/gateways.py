@@ -9,6 +9,7 @@ where they aren't. Envoy and Traefik aren't in Debian: a script sends what they 
 import concurrent.futures
 import http.client
 import pathlib
+import re
 import signal
 import sys
 import time
@@ -30,6 +31,8 @@ LOST_BY = {
 # More requests than a gateway keeps connections, and after how many seconds none is left of those
 # that it doesn't keep.
 REPEATS, SETTLED = 40, 3
+# An id of a request that macaroond takes for its log.
+ID = re.compile(r"[A-Za-z0-9._-]{16,40}")
 GRANTED, NO_TOKEN = Row("granted", 200, ALICE), Row("no token", 401)
 NEW_SECRET = b"the secret that comes next"
 NEW = Row("by the new key", 200, narrowed(secret=NEW_SECRET))
@@ -88,21 +91,24 @@ def on_one_connection(scene):
 
 def as_reasons_are_told(name, scene):
     """The client is told why, and the log has it and nothing of a token."""
-    narrow, tokens = narrowed("a = b"), [ALICE]
+    narrow, tokens, ids = narrowed("a = b"), [ALICE], []
     for what, token, target, reason in (
         ("a caveat that isn't satisfied", narrow, HELLO, "24 0"),
         ("a path that isn't plain", ALICE, "/guarded/a//b", "path"),
         ("a grant", ALICE, HELLO, None),
     ):
-        _, fields = asked(scene.port, head(target, f"Authorization: Macaroon {token}"))
+        _, fields = asked(scene.port, head(target, f"Authorization: Macaroon {token}", "X-Request-Id: of-the-client"))
         yield f"the client's reason of {what}", fields.get("macaroon-reason") or None, reason
+        yield f"an id of {what}", ID.fullmatch(fields.get("x-request-id", "")) is not None, True
         tokens.append(token)
+        ids.append(fields["x-request-id"])
     log = scene.daemon.folder / GATEWAYS[name].log
-    awaited(lambda: '"24 0"' in log.read_text() and '"path"' in log.read_text())
-    text = log.read_text()
+    text = awaited(lambda: (told := log.read_text()) and all(one in told for one in ['"24 0"', '"path"', *ids]) and told) or ""
     yield "the log has both reasons", ['"24 0"' in text, '"path"' in text], [True, True]
+    yield "and the ids", [one in text for one in ids], [True] * 3
     yield "and no token", [token for token in tokens if token in text], []
-    yield "and the service saw the grant alone", len(scene.service.taken()), 1
+    seen = scene.service.taken()
+    yield "and the service saw the grant alone, by its id", [one.values("x-request-id") for one in seen], [ids[2:]]
 
 
 def by_an_old_client(scene):

@@ -2,10 +2,10 @@
 """The manifests of examples/kubernetes: each field is one of its kind, each name that one part gives another is there,
 and macaroond's words are those that it takes. They are run by nobody: this machine has no Kubernetes."""
 import pathlib
-import re
 import sys
 
 sys.path.insert(0, str(pathlib.Path(__file__).resolve().parents[1]))
+from check.man_page import options
 from common import TOP
 
 FOLDER = TOP / "examples" / "kubernetes"
@@ -103,8 +103,7 @@ def joined(parts):
 
 def misled(container, mounts):
     """Options that macaroond doesn't take, and paths in them at which nothing is mounted."""
-    sources = "".join(path.read_text() for path in TOP.glob("crates/mac_commands/src/**/*.rt"))
-    known = {f"--{name}" for name in re.findall(r'\balloc,\s+"([a-z-]+)",', sources)}
+    known = options()
     for word in container.get("args", []):
         option, _, value = word.partition("=")
         if option not in known:

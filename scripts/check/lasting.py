@@ -12,7 +12,7 @@ from check.daemon_rows import MALFORMED, MINT, NO_REQUEST, TOKEN
 from common import daemon, logged
 from common.daemon import REST, come_to, connected, frame, received
 from common.rows import judged, of_each
-from faults import hostile
+from faults.dear import dearest_request
 
 import request
 
@@ -167,7 +167,7 @@ def begun_frames():
 
 def owed_replies():
     """Requests that take longer to answer than a connection may make no progress."""
-    dear = hostile.dearest_request()
+    dear = dearest_request()
     with listening(subprocess.DEVNULL, "--idle", "1") as (path, _):
         with connected(path) as stream:
             stream.settimeout(LONGEST_WAIT)

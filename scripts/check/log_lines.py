@@ -32,6 +32,8 @@ MEMORY_MIN = 1 << 26
 TORN, LINES_MAX = 300, 10
 # The most bytes of a line, and how many of them the value of a lone field has at least, where it is cut.
 LINE_MAX, FIELD_LEAST = 1_024, 900
+# What is said of a word behind `--log` that is none.
+UNKNOWN = "what is logged besides is requests, mints or identifiers, or several of these with commas between them"
 # The kinds that were seen, over all tests here.
 SEEN = set()
 
@@ -389,6 +391,87 @@ def mints(folder):
         yield "both kinds", (minted_of(both.lines()), said_of(both.lines(), "1")), ([("1", "bank", "alice")], [("mint", "bank", "token", None)])
 
 
+# Identifiers of tokens, and what the line of a verify has of each: a long one is cut.
+HOLDERS = {**MINTED, b"i" * 64: "i" * 64, b"i" * 65: "i" * 64, b"\x00" * 4000: "\x00" * 64}
+
+
+def identifiers_of(lines, connection):
+    """What lines of requests of a connection tell as identifiers."""
+    of = [it.fields for it in lines if it.what == "request" and it.fields.get("connection") == connection]
+    return [fields.get("identifier") for fields in of]
+
+
+def identifiers(folder):
+    """Where that is asked for, the line of a verify tells whose token it was, if its signature is right."""
+    log, taken_back = Log(folder), pathlib.Path(folder, "revoked")
+    put_keys(taken_back, "revoked bank 676f6e65\n")
+    bare = lambda holder, *caveats: text_of(v2(SECRET, holder, caveats))
+    asked = [(request.verify("bank", bare(holder), 0), shown) for holder, shown in HOLDERS.items()]
+    asked += [
+        (request.verify("bank", bare(b"alice", b"x"), 0), "alice"),
+        (request.verify("bank", bare(b"gone", b"x"), "now"), "gone"),
+        (request.verify("bank", text_of(v2(b"another secret", b"alice")), 0), None),
+        (request.verify("shop", bare(b"alice"), 0), None),
+        (request.verify("none", bare(b"alice"), 0), None),
+        (request.verify("bank", "!!!!", 0), None),
+        (request.verify("bank", SLOW_TOKEN, 0), None),
+        (request.mint("v2-binary", "bank", "", "alice"), None),
+        (request.attenuate("v2-binary", bare(b"alice")), None),
+        (b"", None),
+        (request.verify("bank", bare(b"last"), 0), "last"),
+    ]
+    due = [shown for _, shown in asked]
+    with listening(log, "--log", "identifiers", "--revoked", str(taken_back)) as (path, _):
+        for number, hello in (("1", b""), ("2", HELLO)):
+            with connected(path) as stream:
+                stream.sendall(hello + b"".join(frame(payload) for payload, _ in asked))
+                awaited(lambda: len(identifiers_of(log.lines(), number)) >= len(due))
+            yield f"identifiers on {number}", identifiers_of(log.lines(), number), due
+        text = log.text()
+        yield "what is cut has a mark", sum(line.endswith('" ...') for line in text.splitlines()), 4
+        yield "no token", [payload for payload, shown in asked if shown and text_of(v2(SECRET, shown.encode())) in text], []
+    other = Log(folder, "other")
+    with listening(other, "--log", "requests,mints") as (path, _), connected(path) as stream:
+        reply_to(stream, asked[0][0])
+        yield "unasked, none", (await_said(other, "1", 1), identifiers_of(other.lines(), "1")), ([("verify", "bank", "granted", None)], [None])
+
+
+# Values of `X-Request-Id`, and what the line has of each.
+UUID, NGINX = "7c0e9d3a-51f6-4b0c-9f5e-2a64d1b8e730", "2f0c4a1be0b94a7f8c1d6c3f5e7a9b02"
+IDS = {
+    (UUID,): UUID,
+    (NGINX,): NGINX,
+    ("a.b_c-9",): "a.b_c-9",
+    ("a" * 40,): "a" * 40,
+    ("a" * 41,): None,
+    ("a" * 43,): None,
+    (TOKEN.decode(),): None,
+    ("7F000001:8296_7F00001E",): None,
+    ("a b",): None,
+    ("a=b",): None,
+    ("",): None,
+    (UUID, UUID): None,
+    (): None,
+}
+
+
+def ids_over_http(folder):
+    """The line of a request over HTTP has the id that came with it, and never that of another."""
+    log, http, web = Log(folder), f"{folder}/http", f"{folder}/web"
+    words = ["--log", "requests", "--http", f"unix:{http}", "--http-calls", f"unix:{web}"]
+    with listening(log, *words):
+        for path, target, body in ((http, "GET /verify/bank", b""), (web, "POST /inspect", b"{}")):
+            with connected(path) as stream:
+                for values in IDS:
+                    fields = "".join(f"X-Request-Id: {value}\r\n" for value in values)
+                    head = f"{target} HTTP/1.1\r\nHost: x\r\n{fields}Content-Length: {len(body)}\r\n\r\n"
+                    stream.sendall(head.encode() + body)
+                    stream.recv(65_536)
+        due = [*IDS.values()] * 2
+        await_said(log, None, len(due))
+        yield "ids", [it.fields.get("id") for it in log.lines() if it.what == "request"], due
+
+
 def no_requests(folder):
     """Without that, none has; another word is refused."""
     log = Log(folder)
@@ -399,8 +482,9 @@ def no_requests(folder):
         run.terminate()
         log.first("end")
     yield "no line", said_of(log.lines(), "1"), []
-    run = daemon.refused(f"{folder}/socket", "--log", "all")
-    yield "another word", (run.returncode, run.stderr), (2, "error: what is logged besides is requests, mints or both with a comma between them\n")
+    for words in ("all", "", "requests,", "requests,all", "Mints"):
+        run = daemon.refused(f"{folder}/socket", "--log", words)
+        yield f"another word: {words}", (run.returncode, run.stderr), (2, f"error: {UNKNOWN}\n")
 
 
 def replaced(folder):
@@ -431,5 +515,5 @@ def page():
 
 def faults():
     parts = [connections, many_torn, few_descriptors, replaced, refused_step, key_files, lists, long_path, journal]
-    seen = list(in_folders(*parts, requests, unread, requests_over_http, mints, unread_mints, no_requests))
+    seen = list(in_folders(*parts, requests, unread, requests_over_http, mints, unread_mints, identifiers, ids_over_http, no_requests))
     return judged([*seen, *page()])

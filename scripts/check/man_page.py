@@ -11,15 +11,22 @@ FLEET = TOP / "clients" / "fleet"
 PAGE, OF_FLEET = TOP / "man" / "macaroond.1", FLEET / "macaroond-fleet.1"
 SUBCOMMANDS = ["keygen", "check", "mint", "attenuate", "verify", "inspect", "status", "revoke", "pipe", "serve", "listen", "page"]
 STATUSES = ["0", "1", "2", "3", "4"]
+# An argument of a subcommand in the sources, and those that aren't told by their names.
+ARGUMENT = re.compile(r'\b(?:Argument::\w+\(|alloc,)\s*"([a-z-]+)",')
+WITHOUT_NAMES = {"--macaroond", "--name", "--token", *(f"--{name}" for name in SUBCOMMANDS)}
+
+
+def options():
+    """The options that macaroond takes, as its sources have them."""
+    sources = "".join(path.read_text() for path in TOP.glob("crates/mac_commands/src/**/*.rt"))
+    return {f"--{name}" for name in ARGUMENT.findall(sources)} - WITHOUT_NAMES
 
 
 def faults():
     """What is wrong with the pages, how many names they are asked for, and what wasn't looked at."""
     text = PAGE.read_text().replace("\\-", "-")
     uses = [f"macaroond {name}" for name in SUBCOMMANDS]
-    sources = "".join(path.read_text() for path in TOP.glob("crates/mac_commands/src/**/*.rt"))
-    options = set(re.findall(r'\balloc, "([a-z-]+)", ', sources)) - set(SUBCOMMANDS) - {"macaroond", "name", "token"}
-    names = uses + [f"--{name}" for name in sorted(options)]
+    names = uses + sorted(options())
     missing = [name for name in names if name not in text]
     missing += [f"status {status}" for status in STATUSES if text.count(f".TP\n.B {status}\n") != 2]
     skipped = [] if shutil.which("groff") else ["groff isn't there to read its marks"]

@@ -7,7 +7,7 @@ import subprocess
 import tempfile
 import time
 
-from check.http_rows import OLD, json_text, v2
+from check.http_rows import OLD, README, json_text, v2
 from check.http_sockets import asking, bearing, listening, response
 from common import TOP
 from common.daemon import PROGRAM, REST, come_to, connected, frame, put_keys, reply_to
@@ -16,11 +16,13 @@ from common.rows import judged
 import request
 
 PAGE = TOP / "docs" / "OPERATING.md"
-LINE = re.compile(r'macaroond_([a-z_]+)(\{[^}]*\})? (\d+)')
-TYPE = re.compile(r"# TYPE macaroond_([a-z_]+) (counter|gauge)")
+LINE = re.compile(r'macaroond_([a-z_]+)(\{[^}]*\})? (\d+(?:\.\d{6})?)')
+TYPE = re.compile(r"# TYPE macaroond_([a-z_]+) (counter|gauge|histogram)")
 # Facts that make a request longer than 4,096 bytes. A loop doesn't answer one whose token begins as JSON besides.
 LONG = ["a" * 250] * 20
 WIDE = request.verify("bank", "{", 0, *LONG)
+# How many requests are timed: small ones, dear ones, and verifies over HTTP, so many of each.
+TIMED = 5
 
 
 def numbers(daemon):
@@ -30,19 +32,29 @@ def numbers(daemon):
         status, fields, body, _ = response(stream)
     lines = body.decode().splitlines()
     values = dict(line.rsplit(" ", 1) for line in lines if LINE.fullmatch(line))
-    told = {name.removeprefix("macaroond_"): int(value) for name, value in values.items()}
+    told = {name.removeprefix("macaroond_"): float(value) if "." in value else int(value) for name, value in values.items()}
     strangers = [line for line in lines if not LINE.fullmatch(line) and not TYPE.fullmatch(line)]
     return told if status == 200 and not strangers else {"strangers": strangers}
 
 
+# What tells requests apart: what was asked, what was told, and the number of a refusal that has one.
+LABELS = "asked", "told", "code"
+
+
+def requests_total(*words):
+    """The name of a number of requests."""
+    labels = ",".join(f'{label}="{word}"' for label, word in zip(LABELS, words))
+    return f"requests_total{{{labels}}}"
+
+
 def of_requests(counts):
-    """The numbers of requests, by what was asked and what was told."""
-    return {f'requests_total{{asked="{asked}",told="{told}"}}': count for (asked, told), count in counts.items()}
+    """The numbers of requests, by the words that tell them apart."""
+    return {requests_total(*words): count for words, count in counts.items()}
 
 
 def grown(before, after):
     """How much the numbers of requests have grown, those that have."""
-    return {name: after[name] - before[name] for name in before if "{" in name and after[name] != before[name]}
+    return {name: after[name] - before[name] for name in before if "asked=" in name and after[name] != before[name]}
 
 
 def await_number(daemon, name, value):
@@ -78,18 +90,19 @@ def requests_and_bytes(daemon):
     yield "connections: it has left", await_number(daemon, "connections", 0), 0
     after = numbers(daemon)
     # A connection that asked for the numbers may be there still.
-    names = set(after) - {"connections_http"}
+    names = {name for name in after if name != "connections_http" and "_seconds" not in name}
     changed = {name: after[name] - before[name] for name in names if after[name] != before[name]}
     due = of_requests({
-        ("mint", "token"): 1, ("mint", "refused"): 1, ("attenuate", "token"): 1, ("attenuate", "refused"): 1,
-        ("verify", "granted"): 2, ("verify", "unsatisfied"): 1, ("verify", "refused"): 1, ("nothing", "refused"): 2,
+        ("mint", "token"): 1, ("mint", "refused", 18): 1, ("attenuate", "token"): 1, ("attenuate", "refused", 19): 1,
+        ("verify", "granted"): 2, ("verify", "unsatisfied"): 1, ("verify", "refused", 18): 1,
+        ("nothing", "refused", 16): 2,
     })
     yield "what has grown", changed, {**due, "connections_total": 1, "bytes_in_total": came, "bytes_out_total": went}
 
 
 def wide(daemon):
     """A request that is dear is counted beside the others."""
-    before, refused = numbers(daemon), 'requests_total{asked="verify",told="refused"}'
+    before, refused = numbers(daemon), requests_total("verify", "refused", 20)
     with connected(daemon.path) as stream:
         replies = [reply_to(stream, WIDE) for _ in range(3)]
     yield "its replies", replies, [b"\x14"] * 3
@@ -99,6 +112,29 @@ def wide(daemon):
     after = numbers(daemon)
     yield "bytes in", after["bytes_in_total"] - before["bytes_in_total"], 3 * len(frame(WIDE))
     yield "bytes out", after["bytes_out_total"] - before["bytes_out_total"], 3 * len(frame(b"\x14"))
+
+
+def times(daemon):
+    """How long requests took: each has its time, no longer than who asks waits, and the buckets hold all of them."""
+    small = request.verify("bank", v2(b"dora"), 0)
+    before, begin = numbers(daemon), time.monotonic()
+    with connected(daemon.path) as stream:
+        replies = [reply_to(stream, payload) for payload in [small, WIDE] * TIMED]
+    with daemon.unix() as gateway:
+        for _ in range(TIMED):
+            gateway.sendall(bearing(README))
+            replies.append(response(gateway)[0])
+    waited = time.monotonic() - begin
+    yield "replies that are timed", replies, [b"\0", b"\x14"] * TIMED + [200] * TIMED
+    count = before["request_seconds_count"] + 3 * TIMED
+    yield "each has its time", await_number(daemon, "request_seconds_count", count), count
+    after = numbers(daemon)
+    took = after["request_seconds_sum"] - before["request_seconds_sum"]
+    yield f"they took {took:.6f} s of {waited:.3f} s", 0 < took < waited, True
+    buckets = [value for name, value in after.items() if name.startswith("request_seconds_bucket")]
+    yield "those of a bound are among those of the next", buckets, sorted(buckets)
+    asked = sum(value for name, value in after.items() if name.startswith("requests_total"))
+    yield "all are in the last", (len(buckets), buckets[-1], asked), (12, count, count)
 
 
 def remembered(daemon):
@@ -127,7 +163,7 @@ def taken_back():
         request.attenuate("v2-binary", gone, "a = b"): 1,
     }
     statuses = {gone: 401, forged: 401, stays: 200}
-    due = {("verify", "revoked"): 4, ("verify", "refused"): 2, ("verify", "granted"): 2, ("attenuate", "token"): 1}
+    due = {("verify", "revoked", 29): 4, ("verify", "refused", 23): 2, ("verify", "granted"): 2, ("attenuate", "token"): 1}
     with tempfile.TemporaryDirectory() as folder:
         listed = pathlib.Path(folder, "revoked")
         put_keys(listed, f"revoked bank {b'alice'.hex()}\n")
@@ -213,7 +249,7 @@ def another():
 def faults():
     seen = [*another(), *taken_back()]
     with listening() as daemon:
-        for part in (requests_and_bytes, wide, remembered, keys, page):
+        for part in (requests_and_bytes, wide, times, remembered, keys, page):
             seen += part(daemon)
     with listening("--connections", "2") as daemon:
         seen += connections(daemon)

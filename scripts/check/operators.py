@@ -40,12 +40,22 @@ def version_in(path):
     return status(path)[1].splitlines()[0].removeprefix("version ")
 
 
+# What numbers are called that Prometheus has another name for.
+PLAIN = {"requests_total": "requests", "request_seconds_bucket": "requests_within", "request_seconds_sum": "requests_seconds"}
+
+
+def plain_name(name):
+    """The name of a number in the form for people, with its labels as Prometheus has them."""
+    word, brace, labels = name.partition("{")
+    return PLAIN.get(word, word) + brace + labels
+
+
 def metrics(path):
     """The same of `status --prometheus`, by the names of the other form."""
     _, text, _ = status(path, "--prometheus")
-    rows = re.findall(r"^macaroond_(\S+) (\d+)$", text, re.M)
-    labelled = re.compile(r'requests_total\{asked="(\w+)",told="(\w+)"\}')
-    return {labelled.sub(r"requests \1 \2", name): value for name, value in rows}
+    rows = re.findall(r"^macaroond_(\S+) ([0-9.]+)$", text, re.M)
+    label = re.compile(r'\{?[a-z]+="([\w.]+)"[,}]')
+    return {label.sub(r" \1", plain_name(name)): value for name, value in rows}
 
 
 def listed(path):
@@ -171,6 +181,10 @@ def without():
     with tempfile.TemporaryDirectory() as folder:
         path = f"{folder}/none"
         yield "no daemon", status(path), (3, "", f"error: {path}.status: {NO_DAEMON}\n")
+        with socket.socket(socket.AF_UNIX) as silent:
+            silent.bind(f"{path}.status")
+            silent.listen()
+            yield "one that hangs", status(path), (3, "", f"error: {path}.status: {NO_DAEMON}\n")
         long = f"{folder}/{'a' * (LONG - len(folder) - 1)}"
         with daemon.running(long) as run:
             run.terminate()

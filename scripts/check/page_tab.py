@@ -33,14 +33,19 @@ class Page:
 
     def paste(self, token):
         """Gives the page no token, and then this one as a paste does, and waits until each was looked at."""
+        self.forget_verdict()
         self.tab.value("{ const it = document.getElementById('token'); it.value = ''; it.dispatchEvent(new Event('input')); }")
         headline = "(document.querySelector('#verdict-words .headline') || {}).textContent"
         self.tab.until(f"{headline} === 'No token yet'", True)
         if token:
-            self.tab.value("document.getElementById('verdict-words').replaceChildren()")
+            self.forget_verdict()
             self.focus("token")
             self.tab.type(token)
-            self.tab.until(f"{headline} !== undefined", True)
+            self.tab.until(f"![undefined, 'No token yet'].includes({headline})", True)
+
+    def forget_verdict(self):
+        """Takes the last verdict away, so that the next one is not taken for it."""
+        self.tab.value("document.getElementById('verdict-words').replaceChildren()")
 
     def focus(self, field):
         self.tab.value(f"document.getElementById('{field}').focus()")

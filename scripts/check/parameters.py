@@ -13,23 +13,10 @@ from wrong_bodies.functions import HEADER, functions_of
 MOST = 6
 OF_LIBRARY = {"mac_plain": 5}
 # What passes that, and why.
-ROUND = "the requests of a round, where they lie and what is up, aren't one type yet"
 SERVER = "what a server is started or run with isn't one type yet"
 MEANT = {
-    "mac_loop::looping::Loop::look_after": SERVER,
     "mac_loop::looping::sharing::Loop::give": SERVER,
     "mac_loop::looping::sharing::Loop::move_to": SERVER,
-    "mac_plain::answering::answer_requests": ROUND,
-    "mac_plain::answering::answer_rest": ROUND,
-    "mac_plain::answering::replies_from": ROUND,
-    "mac_plain::answering::answer_runs": ROUND,
-    "mac_plain::answering::answer_some": ROUND,
-    "mac_plain::answering::replies_to": ROUND,
-    "mac_plain::answering::answer_apart": ROUND,
-    "mac_plain::answering::answer_alone": ROUND,
-    "mac_plain::answering::reply_to": ROUND,
-    "mac_plain::round::Round::serve": "a round lent its threads, what is up, its clients and their bound",
-    "mac_plain::round::visit": "a client, what it is read with, and where what came goes",
     "mac_serve::connection::serve": SERVER,
     "mac_serve::connection::run_both": SERVER,
     "mac_serve::inbound::Inbound::take_arrivals": SERVER,

@@ -29,10 +29,9 @@ sys.path.insert(0, str(pathlib.Path(__file__).resolve().parents[1]))
 from check import changing_keys
 from check.changing_keys import AWAITED, GRANTED, SECRETS, UP_WITHIN, Asker, Probe, json_token, lines
 from common.daemon import Daemon, awaited, begun, come_to, connected, ending, frame, listening, put_keys, refused, serve_command
-from common.processes import processor_seconds, stolen, stolen_since
 from common.rows import judged, of_each
 from common.tokens import text_of, v1, v2
-from measure import load
+from measure import rounds
 
 import request
 
@@ -49,10 +48,8 @@ DEAR_CAVEATS, WIDE_FACTS = changing_keys.DEAR_CAVEATS, changing_keys.WIDE_FACTS
 NONE = "# none\n"
 # With which words a daemon remembers no token, and the one that is asked for.
 WAYS = {"with --remember 0": ["--remember", "0"], "with tokens remembered": []}
-# How many lines the lists have that are measured, how many seconds a load goes on, and what is left of its rate at
-# least. What the host may take of the processors in a round, and how often one is timed anew for that.
-TEN, MILLION, SECONDS, RATE_LEAST, ROUNDS = 10, 1_000_000, 0.5, 0.98, 40
-STOLEN_MAX, TRIES = 0.02, 5
+# How many lines the lists have that are measured, what is left of the rate at least, and in how many rounds.
+TEN, MILLION, RATE_LEAST, ROUNDS = 10, 1_000_000, 0.98, 40
 STATUS = re.compile(rb"HTTP/1\.1 (\d{3}) ")
 # How the daemon tells how many lines are up.
 NUMBER = re.compile(rb"^macaroond_revoked (\d+)$", re.M)
@@ -359,52 +356,23 @@ def write_list(path, count):
             file.write(f"revoked bank {drawn().hex()}\n")
 
 
-def rate(clients, path, run):
-    """How many verifies a second the load of scripts/measure/load.py gets, and the processor time that each takes."""
-    asked, due = load.loads(path)["verify"]
-    begin, used = time.monotonic(), processor_seconds(run.pid)
-    job = (path, asked, due, 0, begin + SECONDS)
-    count = sum(count for count, _ in clients.map(load.drive, [job] * clients._processes, 1))
-    return count / (time.monotonic() - begin), (processor_seconds(run.pid) - used) / count
-
-
-def rates(clients, daemons, first):
-    """The same of each daemon in turn, from this one on, anew where the machine's host took processors meanwhile."""
-    places = [(first + turn) % len(daemons) for turn in range(len(daemons))]
-    for _ in range(TRIES):
-        before = stolen()
-        found = {place: rate(clients, *daemons[place]) for place in places}
-        if stolen_since(before) <= STOLEN_MAX:
-            break
-    return found
-
-
-def median(found):
-    return sorted(found)[len(found) // 2]
-
-
-def medians(clients, lists, rounds, words):
+def medians(clients, lists, times, words):
     """The median of the rates without a list, and for each list those of its ratios, of rate and time, in a round."""
     with contextlib.ExitStack() as stack:
         ways = [[], *[["--revoked", path] for path in lists.values()]]
         daemons = [stack.enter_context(listening(*way, *words)) for way in ways]
-        rates(clients, daemons, 0)
-        found = [rates(clients, daemons, number) for number in range(rounds)]
-    ratios = {
-        count: [median([one[place][kind] / one[0][kind] for one in found]) for kind in range(2)]
-        for place, count in enumerate(lists, start=1)
-    }
-    return median([one[0][0] for one in found]), ratios
+        without, ratios = rounds.compared(clients, daemons, times)
+    return without, dict(zip(lists, ratios))
 
 
-def compare(rounds):
+def compare(times):
     """Prints what lists leave of the rate without one, in each way, and gives the script's status."""
     with tempfile.TemporaryDirectory() as folder, multiprocessing.Pool(4) as clients:
         lists, least = {count: f"{folder}/{count}" for count in (TEN, MILLION)}, 1.0
         for count, path in lists.items():
             write_list(path, count)
         for way, words in WAYS.items():
-            without, ratios = medians(clients, lists, rounds, words)
+            without, ratios = medians(clients, lists, times, words)
             told = "; ".join(f"{of:.3f} of it at {at:.3f} of the time with {count:,} lines" for count, (of, at) in ratios.items())
             print(f"{way}: {without:,.0f} verifies a second without a list; {told}", flush=True)
             least = min(least, ratios[MILLION][0])

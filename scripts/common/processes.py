@@ -2,11 +2,12 @@
 import os
 import pathlib
 import resource
+import time
 
 TICKS = os.sysconf("SC_CLK_TCK")
-# What share of the processors' time the host of a virtual machine may take while something is timed on it, and how often
-# that is timed anew where it took more.
-STOLEN_MAX, CALM_TRIES = 0.03, 5
+# How often something is timed where it comes late, and how many seconds a machine that held it up is left alone before
+# that is done anew.
+CALM_TRIES, CALM_PAUSE = 5, 3
 # A user that owns nothing here, as who commands run that root may not.
 NOBODY = 65_534
 
@@ -57,11 +58,11 @@ def stolen_since(before):
     return (stolen_now - stolen_before) / max(1, all_now - all_before)
 
 
-def timed_calmly(time_it, is_late):
-    """What is timed. Where it came late while the host gave this machine's processors to others, it is timed anew."""
-    for _ in range(CALM_TRIES):
-        before = stolen()
-        found = time_it()
-        if not is_late(found) or stolen_since(before) <= STOLEN_MAX:
+def timed_calmly(what, time_it, is_late):
+    """What is timed, which may come late where the machine held it up: then it is timed anew, some times."""
+    for count in range(1, CALM_TRIES + 1):
+        if not is_late(found := time_it()):
             break
+        print(f"{what} came late, {count} of {CALM_TRIES} times")
+        time.sleep(CALM_PAUSE)
     return found

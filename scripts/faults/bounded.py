@@ -6,9 +6,10 @@
 One that never reads its replies sends requests that are refused, as many as the daemon takes, with
 `--log requests` and without: the daemon holds no more than HELD_MAX MiB for it, and has a line for
 each request once its replies are read. One over HTTP sends a head a byte at a time, as long as it may
-be: in the middle of its parts, and in the middle of the last three, a byte costs BYTE_MAX microseconds of the
-processor at most. A machine may take longer than that for a loop that only waits for some milliseconds, looks at
-the clock and reads (bare.c, run beside it): then a byte costs BARE_TIMES what it costs there, at most. Both are told.
+be, in a call for each: a byte costs BYTE_MAX microseconds of the processor at most. Another one also waits until each
+byte is read, so that a read gives one: the same holds in the middle of its parts, and of the last three. A machine may
+take longer for a loop that only waits for some milliseconds, looks at the clock and reads byte by byte (bare.c, run
+beside it): then a byte costs what it costs there at most, and BARE_TIMES as much where each is read alone. All are told.
 
 A crowd of CROWD clients sends frames that aren't whole, or never reads, and one of HTTP_CROWD does so over
 HTTP: with `--memory MEMORY` the daemon holds no more than that and BESIDE_MAX MiB, ends some of them, counts
@@ -37,7 +38,7 @@ sys.path.insert(0, str(pathlib.Path(__file__).resolve().parents[1]))
 from common import daemon, programs
 from common.daemon import awaited, come_to, connected, frame, numbers, received
 from common.processes import allow_descriptors, mebibytes, timed_calmly
-from faults.hostile import dearest_token, over_http, sends_dear
+from faults.dear import dearest_token, over_http, sends_dear
 
 import request
 
@@ -161,7 +162,8 @@ def dear_over_http():
             before = mebibytes(run.pid)
             sends_dear(http, over_http(dearest_token()), DEAR_CROWD, time.monotonic() + DEAR_SECONDS)
             held, left = mebibytes(run.pid, "VmHWM") - before, left_of(run.pid, before)
-            answered = int(numbers(path)["requests verify refused"])
+            told = numbers(path).items()
+            answered = sum(int(value) for name, value in told if name.startswith("requests verify refused"))
     print(f"bounded: {held:.0f} MiB held for {who}, {answered} requests answered, {left:.0f} left behind them")
     yield from past_bounds(who, held, left)
     if answered < DEAR_CROWD:
@@ -243,42 +245,59 @@ def bare_loop(folder):
             yield stream, run
 
 
-def drips(pid, stream, part):
-    """Microseconds of the processor for each of these bytes, which come alone."""
+def drips(pid, stream, part, awaits=True):
+    """Microseconds of the processor for each of these bytes, sent alone, and read so where that is awaited."""
     before = processor_micros(pid)
     for byte in part:
         stream.send(bytes([byte]))
-        taken(stream)
+        if awaits:
+            taken(stream)
+    taken(stream)
     time.sleep(0.05)
     return (processor_micros(pid) - before) / len(part)
 
 
+def long_head():
+    """A request over HTTP whose head is as long as it may be."""
+    return b"GET /healthz HTTP/1.1\r\nHost: a\r\nX: ".ljust(HEAD - 4, b"a") + b"\r\n\r\n"
+
+
+def is_answered(stream):
+    """Whether a request was answered with a status of 200."""
+    return stream.recv(1_000).split(b" ")[1] == b"200"
+
+
 def dripped():
-    """A head whose bytes come alone, and is answered at its end."""
+    """Heads whose bytes are sent alone, and which are answered at their ends."""
     with tempfile.TemporaryDirectory() as folder:
         http = f"{folder}/http"
         words = ("--http", f"unix:{http}", "--http-patience", "60")
         with bare_loop(folder) as (bare, least), daemon.listening(*words) as (_, run):
             awaited(pathlib.Path(http).exists)
             with connected(http, patience=PATIENCE) as stream:
-                head = b"GET /healthz HTTP/1.1\r\nHost: a\r\nX: ".ljust(HEAD - 4, b"a") + b"\r\n\r\n"
-                parts = [head[part * HEAD // PARTS : (part + 1) * HEAD // PARTS] for part in range(PARTS)]
+                sent = drips(run.pid, stream, long_head(), awaits=False)
+                were_answered = [is_answered(stream)]
+            with connected(http, patience=PATIENCE) as stream:
+                parts = [long_head()[part * HEAD // PARTS : (part + 1) * HEAD // PARTS] for part in range(PARTS)]
                 each = [(drips(least.pid, bare, bytes(BARE_BYTES)), drips(run.pid, stream, part)) for part in parts]
-                status = stream.recv(1_000).split(b" ")[1]
+                were_answered.append(is_answered(stream))
     of_bare, costs = statistics.median(one[0] for one in each), [one[1] for one in each]
     told = " ".join(f"{cost:.1f}" for cost in costs)
-    print(f"bounded: a byte of a head that comes alone costs {told} us, part by part; in a bare loop {of_bare:.1f}")
+    print(f"bounded: a byte of a head that is sent alone costs {sent:.1f} us; where it is read alone, {told} us", end=" ")
+    print(f"part by part, and in a bare loop {of_bare:.1f}")
+    if sent > max(BYTE_MAX, of_bare):
+        yield f"a byte of a head that is sent alone costs {sent:.1f} us of the processor"
     late = max(statistics.median(costs), statistics.median(costs[-LAST:]))
     if late > max(BYTE_MAX, BARE_TIMES * of_bare):
-        yield f"a byte of a head that comes alone costs {late:.1f} us of the processor, in a bare loop {of_bare:.1f}"
-    if status != b"200":
-        yield f"a head that came so was answered {status.decode()}"
+        yield f"a byte of a head that is read alone costs {late:.1f} us of the processor, in a bare loop {of_bare:.1f}"
+    if not all(were_answered):
+        yield "a head that came so wasn't answered with 200"
 
 
 def faults(count=CROWD):
     """What costs more than it may, beside what it prints."""
     found = [*unread(()), *unread(("--log", "requests")), *all_together(count), *dear_over_http()]
-    found += [*told_once_read(), *timed_calmly(lambda: [*dripped()], bool)]
+    found += [*told_once_read(), *timed_calmly("bounded: a byte of a head", lambda: [*dripped()], bool)]
     return [f"bounded: {fault}" for fault in found]
 
 

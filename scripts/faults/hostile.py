@@ -6,7 +6,8 @@
 The hostile ones vanish in the middle of a frame, send garbage, send lengths that lie, never read,
 connect and say nothing, send 64 KiB frames without end, and connect a thousand times one after the
 other. The one beside them, which was there before, must lose nothing and wait no longer than a
-second for a reply; on a machine that is busy with other work it may wait longer, and the run fails.
+second for a reply. What is late may be the machine's doing: a round with such a wait is made anew, some
+times, and the run fails where each of them had one.
 
 They come in rounds. After each, the daemon's descriptors and threads are as many as before the first,
 and within SETTLING seconds it is as large as after the first, but for GROWTH_MAX: each of its loops
@@ -14,7 +15,8 @@ and of the C library's arenas keeps some of what it once held.
 
 Then 8 and 60 clients send the dearest requests without end, tokens in JSON of 32 KiB, and another's
 small verify is timed beside them: its median, its 99th percentile and its longest wait are told. The
-same is done over HTTP. And 600 send them at the second socket, beside one who sends them at the first.
+same is done over HTTP. And 600 send them at the second socket, beside one who sends them at the first
+(dear.py, which says when these are timed anew).
 
 Then 64 and 640 clients send requests of 5 KiB whose replies have 30, and read them slowly, some 36 KB in
 ten seconds; once what they sent first is answered, a verify of 8 KiB is timed beside them.
@@ -23,7 +25,6 @@ Then 63 clients that never read send requests whose replies are the largest besi
 the daemon takes, and the daemon, now with all arenas, stays below PEAK_MAX. Asks for bin/macaroond,
 or the program that MACAROOND names.
 """
-import base64
 import contextlib
 import functools
 import multiprocessing
@@ -41,6 +42,7 @@ sys.path.insert(0, str(pathlib.Path(__file__).resolve().parents[1]))
 from common import daemon, programs
 from common.daemon import awaited, come_to, frame
 from common.processes import allow_descriptors, mebibytes, status, timed_calmly
+from faults.dear import beside_dear, beside_side, late_of, told_of
 
 import client
 import request
@@ -53,12 +55,6 @@ ROUNDS = 4
 SIZE_MAX, GROWTH_MAX, SETTLING = 40, 12, 10
 # How many clients never read, and the most MiB of the daemon that answers them.
 SILENT, PEAK_MAX = 63, 450
-# How many clients send dear requests at a time, for how many seconds another is timed beside them, and
-# how many seconds of its waits the 99th percentile may be, on a machine that does other work too; and
-# over HTTP, where a loop answers what is dear, on one that does no other. And how many send them at the second
-# socket, and how many seconds such a request at the first one may wait.
-CROWDS, DEAR_SECONDS, DEAR_WAIT_MAX, HTTP_WAIT_MAX = (8, 60), 3, 0.5, 0.01
-SIDE_CROWDS, SIDE_WAIT_MAX = (600,), 0.15
 # How many clients read slowly, how many bytes each of them a second, and what each of them sends at most. For how
 # many seconds another is timed beside them, in how many waits in a row what they sent first is known to be answered,
 # within how many seconds that has to be, and how many seconds of its waits the 99th percentile may be.
@@ -191,8 +187,9 @@ def soak(path, pid, seconds):
     time.sleep(0.2)
     before = state(pid)
     count, longest, states, sizes = 0, 0.0, [], []
+    is_late = lambda found: found[1] > LONGEST_WAIT
     for _ in range(ROUNDS):
-        replies, wait = timed_calmly(lambda: crowded(path, seconds / ROUNDS), lambda found: found[1] > LONGEST_WAIT)
+        replies, wait = timed_calmly("hostile: a reply", lambda: crowded(path, seconds / ROUNDS), is_late)
         count, longest = count + replies, max(longest, wait)
         states.append(settled(pid, before))
         sizes.append(settled_size(pid, sizes[0] + GROWTH_MAX if sizes else SIZE_MAX))
@@ -204,105 +201,6 @@ def soak(path, pid, seconds):
         yield f"descriptors and threads were {before}, and then {states}"
     if max(sizes) > min(sizes[0] + GROWTH_MAX, SIZE_MAX):
         yield "the daemon grew"
-
-
-def dearest_request():
-    """A verify of a token of nearly 32 KiB in JSON, with as many caveats as it may have."""
-    caveats = ",".join('{"i":"' + "x" * 230 + '"}' for _ in range(128))
-    token = '{"v":2,"i":"a","c":[' + caveats + '],"s64":"' + "A" * 43 + '"}'
-    payload = request.verify("bank", token, 0)
-    return frame(payload)
-
-
-def over_http(token):
-    """A verify of this token over HTTP."""
-    return f"GET /verify/bank HTTP/1.1\r\nHost: a\r\nAuthorization: Bearer {token}\r\n\r\n".encode()
-
-
-def dearest_token():
-    """A token of nearly 32 KiB in JSON that is dear to read, from one who has none."""
-    caveats = ",".join(['{"i":""}'] * 3_500)
-    return '{"v":2,"i":"a","c":[' + caveats + '],"s64":"' + "A" * 43 + '"}'
-
-
-def sends_dear(path, text, count, until):
-    """So many connections on which this goes out without end, and what is answered is read."""
-    texts = text * 8
-    rest = {connected(path): memoryview(texts) for _ in range(count)}
-    for one in rest:
-        one.setblocking(False)
-    while time.monotonic() < until:
-        readable, writable, _ = select.select(rest, rest, [], 0.1)
-        for one in readable:
-            one.recv(65_536)
-        for one in writable:
-            rest[one] = rest[one][one.send(rest[one]) :] or memoryview(texts)
-
-
-def waits_beside(answers, path, text, count):
-    """The seconds that requests waited beside so many clients with this dear request, sorted."""
-    until = time.monotonic() + DEAR_SECONDS
-    crowd = multiprocessing.Process(target=sends_dear, args=(path, text, count, until), daemon=True)
-    waits = []
-    crowd.start()
-    time.sleep(0.3)
-    while time.monotonic() < until:
-        begin = time.monotonic()
-        if not answers():
-            raise SystemExit("hostile: a request had another reply than it is due")
-        waits.append(time.monotonic() - begin)
-        time.sleep(0.001)
-    crowd.join(timeout=30)
-    return sorted(waits)
-
-
-def late_of(waits):
-    """The 99th percentile of waits that are sorted."""
-    return waits[len(waits) * 99 // 100]
-
-
-def told_of(waits):
-    """How many waits there were, and how long: in the middle, at the 99th percentile, and the longest."""
-    median, late, longest = (1000 * wait for wait in (waits[len(waits) // 2], late_of(waits), waits[-1]))
-    return f"{len(waits)} times: p50 {median:.2f} ms, p99 {late:.1f} ms, the longest {longest:.0f} ms"
-
-
-def late_beside(what, most, *asked, crowds=CROWDS):
-    """What is wrong with the waits of who asks this beside others with dear requests there, if anything."""
-    for count in crowds:
-        waits = timed_calmly(lambda: waits_beside(*asked, count), lambda waits: late_of(waits) > most)
-        print(f"hostile: {what} beside {count} clients with dear requests, {told_of(waits)}")
-        if late_of(waits) > most:
-            yield f"beside {count} clients with dear requests {what} waited {late_of(waits):.3f} s (p99)"
-
-
-def beside_dear(path, http):
-    """The same at both: in frames, and over HTTP."""
-    with client.Client(path) as asked:
-        token = asked.ask(request.mint("v2-binary", "bank", "", "a", "a = 1", "b = 2", "c = 3"))[1:]
-        small = request.verify("bank", "hex:" + token.hex(), 0, "a = 1", "b = 2", "c = 3")
-        frames = lambda: asked.ask(small) == b"\x00"
-        yield from late_beside("a small verify in frames", DEAR_WAIT_MAX, frames, path, dearest_request())
-        plain = asked.ask(request.mint("v2-binary", "bank", "", "a"))[1:]
-    text = over_http(base64.urlsafe_b64encode(plain).rstrip(b"=").decode())
-    awaited(pathlib.Path(http).exists)
-    with connected(http) as stream:
-
-        def grants():
-            stream.sendall(text)
-            return stream.recv(65_536).startswith(b"HTTP/1.1 200 ")
-
-        dear = over_http(dearest_token())
-        yield from late_beside("a small verify over HTTP", HTTP_WAIT_MAX, grants, http, dear)
-
-
-def beside_side(path, side):
-    """The same of dear requests at the first socket beside those at the second one, which are taken in turn."""
-    dear = dearest_request()
-    with client.Client(path, timeout=SLOW_SETTLING) as asked:
-        due = asked.ask(dear[4:])
-        answers = lambda: asked.ask(dear[4:]) == due
-        yield from late_beside("a dear verify at the other socket", SIDE_WAIT_MAX, answers, side, dear, crowds=SIDE_CROWDS)
 
 
 def largest_reply(path):
@@ -396,8 +294,9 @@ def waits_beside_slow(path, text, count):
 def beside_slow(path):
     """What is wrong with the waits of a client with verifies of 8 KiB beside others that read slowly, if anything."""
     text = largest_reply(path)
+    is_late = lambda waits: late_of(waits) > SLOW_WAIT_MAX
     for count in SLOW_CROWDS:
-        waits = timed_calmly(lambda: waits_beside_slow(path, text, count), lambda waits: late_of(waits) > SLOW_WAIT_MAX)
+        waits = timed_calmly("hostile: a verify of 8 KiB", lambda: waits_beside_slow(path, text, count), is_late)
         print(f"hostile: a verify of 8 KiB beside {count} clients that read slowly, {told_of(waits)}")
         if late_of(waits) > SLOW_WAIT_MAX:
             yield f"beside {count} clients that read slowly a verify of 8 KiB waited {late_of(waits):.3f} s (p99)"

@@ -21,6 +21,7 @@ from .guard import (
     judged,
     method_facts,
     note,
+    request_id,
     sent,
 )
 from .text import Text
@@ -38,8 +39,22 @@ def request_facts(scope: Scope) -> List[Text]:
 
     A WebSocket's method is GET.
     """
-    target = scope.get("raw_path") or sent(scope["path"].encode("utf-8", "surrogateescape"))
-    return [*method_facts(scope.get("method", "GET")), *path_facts(target)]
+    return [*method_facts(scope.get("method", "GET")), *path_facts(target(scope))]
+
+
+def strict_request_facts(scope: Scope) -> List[Text]:
+    """The same, where the path is read strictly."""
+    return [*method_facts(scope.get("method", "GET")), *path_facts(target(scope), strict=True)]
+
+
+def target(scope: Scope) -> bytes:
+    """The request's target as it was sent, where the server tells it; else what is sent for such a path."""
+    return scope.get("raw_path") or sent(scope["path"].encode("utf-8", "surrogateescape"))
+
+
+def values(scope: Scope, field: bytes) -> List[bytes]:
+    """The values of the fields of this name."""
+    return [value for name, value in scope["headers"] if name.lower() == field]
 
 
 class RequireMacaroon:
@@ -74,7 +89,7 @@ class RequireMacaroon:
         if scope["type"] == "lifespan":
             return await self.application(scope, receive, send)
         found = await self.judge(scope)
-        found.log(self.logger)
+        found.log(self.logger, request_id(values(scope, b"x-request-id")))
         if self.hook is not None:
             self.hook(scope, found)
         if found:
@@ -88,8 +103,7 @@ class RequireMacaroon:
 
     async def judge(self, scope: Scope) -> Judgement:
         """What becomes of a request: it is let through, or why not."""
-        given = [value for name, value in scope["headers"] if name.lower() == b"authorization"]
-        brought = credentials(given)
+        brought = credentials(values(scope, b"authorization"))
         if brought is None:
             return WITHOUT_TOKEN
         try:

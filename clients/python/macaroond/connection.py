@@ -77,7 +77,9 @@ class Connection:
             self.end(fault)
         except OSError as fault:
             self.end(Disconnected(f"the connection failed: {fault}"))
-        self.give_back()
+        # Who ends the connection rings before it lets go of the lock.
+        with self.lock:
+            self.give_back()
 
     def turn(self) -> None:
         """Waits until there is something to read or room to write, and uses it."""

@@ -7,6 +7,7 @@ have it (docs/HTTP.md).
 from __future__ import annotations
 
 import logging
+import re
 from http import HTTPStatus
 from typing import Dict, Iterable, NamedTuple, Optional, Sequence
 from urllib.parse import quote
@@ -72,15 +73,17 @@ class Judgement(NamedTuple):
         }
         return {name: value for name, value in fields.items() if value is not None}
 
-    def log(self, logger: logging.Logger) -> None:
-        """Logs a refusal: as a warning where there was no verdict."""
+    def log(self, logger: logging.Logger, request_id: Optional[str] = None) -> None:
+        """Logs a refusal, with the request's id: as a warning where there was no verdict."""
         if not self:
             level = logging.WARNING if self.status == HTTPStatus.SERVICE_UNAVAILABLE else logging.INFO
-            logger.log(level, "macaroon refused: %s", self)
+            logger.log(level, "macaroon refused: %s%s", self, "" if request_id is None else f" id={request_id}")
 
 
 WITHOUT_TOKEN = Judgement(HTTPStatus.UNAUTHORIZED, NO_TOKEN, challenge="Macaroon")
 DAEMON_AWAY = Judgement(HTTPStatus.SERVICE_UNAVAILABLE, AWAY)
+# The ids of requests that are logged, as the daemon has them: a signature has more letters, so none is a token.
+REQUEST_ID = re.compile(rb"[A-Za-z0-9._-]{1,40}")
 SCHEMES = {b"macaroon": "Macaroon", b"bearer": "Bearer"}
 # What stands in a path as it is sent (RFC 3986, section 3.3), beside letters, digits and `-._~`.
 SENT_PLAINLY = "/:@!$&'()*+,;="
@@ -100,6 +103,11 @@ def credentials(fields: Sequence[bytes]) -> Optional[Credentials]:
     scheme, _, token = fields[0].strip().partition(b" ")
     name, token = SCHEMES.get(scheme.lower()), token.strip()
     return Credentials(name, token) if name and token else None
+
+
+def request_id(fields: Sequence[bytes]) -> Optional[str]:
+    """What the one X-Request-Id field of a request brings, where that may be logged."""
+    return fields[0].decode() if len(fields) == 1 and REQUEST_ID.fullmatch(fields[0]) else None
 
 
 def sent(path: bytes) -> bytes:

@@ -22,6 +22,7 @@ from .guard import (
     judged,
     method_facts,
     note,
+    request_id,
     sent,
 )
 from .text import Text
@@ -37,6 +38,11 @@ def no_facts(environ: Environ) -> Iterable[Text]:
 def request_facts(environ: Environ) -> List[Text]:
     """The method and the path of a request, for `facts`; `NotPlain` where the path isn't plain."""
     return [*method_facts(environ["REQUEST_METHOD"]), *path_facts(target(environ))]
+
+
+def strict_request_facts(environ: Environ) -> List[Text]:
+    """The same, where the path is read strictly."""
+    return [*method_facts(environ["REQUEST_METHOD"]), *path_facts(target(environ), strict=True)]
 
 
 def target(environ: Environ) -> bytes:
@@ -98,7 +104,7 @@ class RequireMacaroon:
 
     def __call__(self, environ: Environ, start_response: Callable[..., Any]) -> Iterable[bytes]:
         found = self.judge(environ)
-        found.log(self.logger)
+        found.log(self.logger, request_id([environ.get("HTTP_X_REQUEST_ID", "").encode("latin-1", "replace")]))
         if self.hook is not None:
             self.hook(environ, found)
         if found:

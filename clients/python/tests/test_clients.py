@@ -9,6 +9,7 @@ import time
 import unittest
 
 from macaroond import AsyncClient, Client, Disconnected, Form, Refused, TimedOut, errors, inspect
+from macaroond.connection import Connection
 
 from .asked import BOTH, await_end
 from .script import GRANTED, folder, running, server
@@ -461,7 +462,29 @@ class Late(OverScripts):
             self.assertEqual(client.ask(b"a"), b"\x01a")
 
 
+class SlowRope:
+    """A rope that rings twice: the thread that reads comes out of its wait before the second time."""
+
+    def __init__(self, rope):
+        self.rope = rope
+
+    def send(self, text):
+        self.rope.send(text)
+        time.sleep(0.2)
+        self.rope.send(text)
+
+    def close(self):
+        self.rope.close()
+
+
 class Left(unittest.TestCase):
+    def test_who_ends_a_connection_rings_before_it_is_closed(self):
+        with server(grants) as path:
+            connection = Connection(path, 5)
+            connection.rope = SlowRope(connection.rope)
+            connection.end(Disconnected("the client was closed"))
+            self.assertTrue(connection.is_over)
+
     def test_a_client_that_nobody_has_ends_its_connection(self):
         ended = threading.Event()
 

@@ -52,6 +52,9 @@ CASES = [
 # What `Macaroon-Reason` has to tell: of a caveat that isn't satisfied, and else nothing.
 TOLD = {"24 caveat=7": "24 7"}
 
+# The ids of requests that are logged, and texts that aren't.
+IDS = ["a", "8f14e45fceea167a5a36dedd4bea2543", "2030f39a-86d8-4bfd-aead-06f154c3e1f6", "A.b_c-0", "9" * 40]
+NO_IDS = ["", "9" * 41, "a b", "a=b", "a\nb", "a\n", "\xe4", "a,b", "{}", TEXT]
 # The fields of a request that brings two, of which each alone or none would be granted.
 TWICE = [("Bearer " + TEXT, "Bearer " + TEXT), ("Bearer " + TEXT, "Basic x"), ("Basic x", "Macaroon " + TEXT), ("Bearer " + TEXT, "")]
 # The paths that facts are told of, and those that are refused, for each client and the daemon.
@@ -80,6 +83,31 @@ def lines(status, reason):
     level = "WARNING" if status == 503 else "INFO"
     refused = [f"{level}:macaroond.guard:macaroon refused: status={status} reason={reason}"]
     return ["INFO:macaroond.guard:-"] + (refused if status != 200 else [])
+
+
+class Ids(unittest.TestCase):
+    """The id of a request stands in the log, where it brings one that may."""
+
+    def lines_of(self, told):
+        """What a guard of WSGI logs of a request without a token that brings these fields, and one of ASGI."""
+        environ = {} if told is None else {"HTTP_X_REQUEST_ID": ",".join(told)}
+        headers = [(b"X-Request-Id", text.encode("latin-1")) for text in told or []]
+
+        async def send(_):
+            pass
+
+        with logged(self) as log:
+            wsgi.RequireMacaroon(None, Client("nowhere"), "bank")(environ, lambda status, fields: None)
+            guard = asgi.RequireMacaroon(None, None, "bank")
+            asyncio.run(guard({"type": "http", "headers": headers}, None, send))
+        return [line.partition("reason=")[2] for line in log.output[1:]]
+
+    def test_ids(self):
+        for text in IDS:
+            self.assertEqual(self.lines_of([text]), [f"no_token id={text}"] * 2)
+        for told in (None, [], ["a", "b"], *([text] for text in NO_IDS)):
+            with self.subTest(told=told):
+                self.assertEqual(self.lines_of(told), ["no_token"] * 2)
 
 
 class Clock:
@@ -302,10 +330,10 @@ class Asgi(unittest.TestCase):
 class Paths(unittest.TestCase):
     """The facts of a path, by the table that the daemon's answers are compared with too."""
 
-    def each(self, facts_of):
+    def each(self, facts_of, is_strict=False):
         for row in PATHS:
             with self.subTest(target=row["target"]):
-                if row["facts"] is None:
+                if row["facts"] is None or (is_strict and "odd" in row):
                     self.assertRaises(NotPlain, facts_of, row["target"])
                 else:
                     self.assertEqual(facts_of(row["target"]), row["facts"])
@@ -313,6 +341,17 @@ class Paths(unittest.TestCase):
     def test_targets(self):
         self.each(path_facts)
         self.each(lambda target: path_facts(target.encode()))
+
+    def test_strict_targets(self):
+        self.each(lambda target: path_facts(target, strict=True), is_strict=True)
+        self.each(lambda target: asgi.strict_request_facts({"path": "/x", "raw_path": target.encode() or b"x"})[2:], is_strict=True)
+        for odd in (b"\xc0\xae", b"\xc1", b"\xe0\x9f\xbf", b"\xf0\x8f"):
+            self.assertRaises(NotPlain, path_facts, b"/a/" + odd, strict=True)
+        for usual in ("\u00e9", "\u0800", "\U00010000"):
+            path_facts("/a/" + usual, strict=True)
+        environ = {"REQUEST_METHOD": "GET", "REQUEST_URI": "/a;b"}
+        self.assertRaises(NotPlain, wsgi.strict_request_facts, environ)
+        self.assertIn("path = /a;b", wsgi.request_facts(environ))
 
     def test_requests(self):
         def told(name):

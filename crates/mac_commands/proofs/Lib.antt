@@ -1,3 +1,4 @@
+pub mod Building
 pub mod CommandLineLemmas
 pub mod DoingLemmas
 pub mod KeyText

@@ -13,3 +13,4 @@ pub mod Pipe
 pub mod PipeText
 pub mod ReplyLine
 pub mod Status
+pub mod Tables

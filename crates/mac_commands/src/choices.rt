@@ -87,7 +87,8 @@ pub struct ListenOptions {
     pub verify_connections: Option<u64>,
     /// Whether it takes its sockets over from a daemon that listens there.
     pub replace: bool,
-    /// What is logged beside the usual: the words `requests` and `mints`, with a comma between them.
+    /// What is logged beside the usual: some of the words `requests`, `mints` and `identifiers`,
+    /// with commas between them.
     pub log: Option<String>,
     /// Whether the key file may be one that others may use.
     pub keys_of_others: bool,

@@ -1,18 +1,15 @@
 //! The command line as `clap` is told it, and what its options say.
-ghost use Rattle.std.specs.Prelude.{◌≡◌, false, IfOk};
-ghost use Rattle.clap.specs.Words.{app_of, rule_of};
-ghost use Rattle.mac_commands.specs.Arguments.{number, number_from, option, required, with_rules};
+ghost use Rattle.std.specs.Prelude.{◌≡◌, IfOk};
+ghost use Rattle.clap.specs.Words.{app_of};
+ghost use Rattle.mac_commands.specs.Arguments.{with_rules};
 ghost use Rattle.mac_commands.specs.CommandLine.{calls_rules, command_line, further_rules};
 ghost use Rattle.mac_commands.specs.CommandLine.{gateway_rules, listen_command};
 ghost use Rattle.mac_commands.specs.CommandLine.{page_command, pipe_command, serve_command, served_app};
 
 use crate::help::{LISTEN_HELP, PAGE_HELP, PIPE_HELP, SERVE_HELP};
-use crate::parts::{
-    KEYS_HELP, add_arg, add_subcommand, build_flag, build_option, build_subcommand,
-};
+use crate::parts::{Argument, KEYS_HELP, add_arguments, add_subcommand, build_subcommand};
 use crate::people::add_people;
-use clap::builder::ValueParser;
-use clap::{Arg, Command};
+use clap::Command;
 use mac_pool::WORKERS_MAX;
 use std::alloc::{AllocError, Global};
 
@@ -99,8 +96,8 @@ const VERIFY_CONNECTIONS_HELP: &str =
 const REPLACE_HELP: &str =
     "Takes the sockets over from a daemon that listens there; that one ends without loss";
 
-const LOG_HELP: &str = "What is logged besides: requests, mints or both, with a comma between, \
-    a line for each [default: nothing]";
+const LOG_HELP: &str = "What is logged besides: requests, mints or identifiers, or several of \
+    these with commas between, a line for each [default: nothing]";
 
 const OTHERS_HELP: &str = "Takes files that others may use too, which are refused without this";
 
@@ -124,7 +121,7 @@ const HTTP_FACTS_HELP: &str =
     "Where facts are taken from: header, query, forwarded, with commas between [default: none]";
 
 const HTTP_STRICT_HELP: &str =
-    "Tells no fact of a path that holds ; or %00, %09, %u or bytes that are no shortest UTF-8";
+    "Refuses a path that holds ; or %00, %09, %u or bytes that are no shortest UTF-8";
 
 const HTTP_NAMES_HELP: &str =
     "The names that may be verified over HTTP, with commas between [default: all]";
@@ -168,10 +165,10 @@ pub fn build_command<'a>(alloc: Global) -> Result<Command<'a>, AllocError>
         .version(VERSION)
         .subcommand_required(true)
         .disable_help_subcommand(true);
-    let program = add_subcommand(program, build_pipe(alloc)?)?;
-    let program = add_subcommand(program, build_serve(alloc)?)?;
-    let program = add_subcommand(program, build_listen(alloc)?)?;
-    let program = add_subcommand(program, build_page(alloc)?)?;
+    let program = add_subcommand(program, build_pipe(alloc))?;
+    let program = add_subcommand(program, build_serve(alloc))?;
+    let program = add_subcommand(program, build_listen(alloc))?;
+    let program = add_subcommand(program, build_page(alloc))?;
     add_people(alloc, program)
 }
 
@@ -181,22 +178,20 @@ fn build_pipe<'a>(alloc: Global) -> Result<Command<'a>, AllocError>
 {
     let about = "Answers the requests on standard input, one line each";
     let pipe = build_subcommand(alloc, "pipe", about, PIPE_HELP);
-    add_arg(
-        pipe,
-        build_option(alloc, "revoked", "FILE", ONCE_REVOKED_HELP),
-    )
+    let arguments = [Argument::Text("revoked", "FILE", ONCE_REVOKED_HELP)];
+    add_arguments(alloc, pipe, &arguments)
 }
 
 /// The subcommand `serve`: four of its options have to be given.
 fn build_serve<'a>(alloc: Global) -> Result<Command<'a>, AllocError>
     ensures { IfOk result (λ serve. app_of serve ≡ serve_command) }
 {
-    let serve = build_served(alloc)?;
-    let serve = add_arg(serve, build_flag(alloc, "keys-of-others", OTHERS_HELP))?;
-    add_arg(
-        serve,
-        build_option(alloc, "revoked", "FILE", ONCE_REVOKED_HELP),
-    )
+    let served = build_served(alloc)?;
+    let arguments = [
+        Argument::Flag("keys-of-others", OTHERS_HELP),
+        Argument::Text("revoked", "FILE", ONCE_REVOKED_HELP),
+    ];
+    add_arguments(alloc, served, &arguments)
 }
 
 /// The same with the options that have to be given.
@@ -205,12 +200,13 @@ fn build_served<'a>(alloc: Global) -> Result<Command<'a>, AllocError>
 {
     let about = "Answers the requests of so many connections over a Unix socket";
     let serve = build_subcommand(alloc, "serve", about, SERVE_HELP);
-    let serve = add_arg(serve, build_path(alloc, "socket", SOCKET_HELP))?;
-    let serve = add_arg(serve, build_path(alloc, "keys", KEYS_HELP))?;
-    let workers = build_count(alloc, "workers", WORKERS_MAX as u64, SERVE_WORKERS_HELP);
-    let serve = add_arg(serve, workers.required(true))?;
-    let accept = build_count(alloc, "accept", ACCEPT_MAX, ACCEPT_HELP);
-    add_arg(serve, accept.required(true))
+    let arguments = [
+        Argument::Required("socket", "PATH", SOCKET_HELP),
+        Argument::Required("keys", "PATH", KEYS_HELP),
+        Argument::RequiredCount("workers", WORKERS_MAX as u64, SERVE_WORKERS_HELP),
+        Argument::RequiredCount("accept", ACCEPT_MAX, ACCEPT_HELP),
+    ];
+    add_arguments(alloc, serve, &arguments)
 }
 
 /// The subcommand `listen`, whose socket and key file have to be given.
@@ -218,23 +214,21 @@ fn build_listen<'a>(alloc: Global) -> Result<Command<'a>, AllocError>
     ensures { IfOk result (λ listen. app_of listen ≡ listen_command) }
 {
     let about = "Answers requests over a Unix socket until it is told to end";
-    let workers = build_count(alloc, "workers", WORKERS_MAX as u64, LISTEN_WORKERS_HELP);
-    let connections = build_count(alloc, "connections", CONNECTIONS_MAX, CONNECTIONS_HELP);
-    let drain = build_count(alloc, "drain", DRAIN_MAX, DRAIN_HELP);
-    let remember = build_bytes(alloc, "remember", 0, REMEMBER_MAX, REMEMBER_HELP);
-    let memory = build_bytes(alloc, "memory", MEMORY_MIN, MEMORY_MAX, MEMORY_HELP);
     let listen = build_subcommand(alloc, "listen", about, LISTEN_HELP);
-    let listen = add_arg(listen, build_path(alloc, "socket", SOCKET_HELP))?;
-    let listen = add_arg(listen, build_path(alloc, "keys", KEYS_HELP))?;
-    let listen = add_arg(listen, workers)?;
-    let listen = add_arg(listen, build_option(alloc, "mode", "DIGITS", MODE_HELP))?;
-    let listen = add_arg(listen, build_count(alloc, "idle", IDLE_MAX, IDLE_HELP))?;
-    let listen = add_arg(listen, build_count(alloc, "loops", LOOPS_MAX, LOOPS_HELP))?;
-    let listen = add_arg(listen, connections)?;
-    let listen = add_arg(listen, drain)?;
-    let listen = add_arg(listen, remember)?;
-    let listen = add_arg(listen, memory)?;
-    let listen = add_arg(listen, build_option(alloc, "names", "NAMES", NAMES_HELP))?;
+    let arguments = [
+        Argument::Required("socket", "PATH", SOCKET_HELP),
+        Argument::Required("keys", "PATH", KEYS_HELP),
+        Argument::Count("workers", WORKERS_MAX as u64, LISTEN_WORKERS_HELP),
+        Argument::Text("mode", "DIGITS", MODE_HELP),
+        Argument::Count("idle", IDLE_MAX, IDLE_HELP),
+        Argument::Count("loops", LOOPS_MAX, LOOPS_HELP),
+        Argument::Count("connections", CONNECTIONS_MAX, CONNECTIONS_HELP),
+        Argument::Count("drain", DRAIN_MAX, DRAIN_HELP),
+        Argument::Bytes("remember", 0, REMEMBER_MAX, REMEMBER_HELP),
+        Argument::Bytes("memory", MEMORY_MIN, MEMORY_MAX, MEMORY_HELP),
+        Argument::Text("names", "NAMES", NAMES_HELP),
+    ];
+    let listen = add_arguments(alloc, listen, &arguments)?;
     add_further(alloc, listen)
 }
 
@@ -244,29 +238,22 @@ fn add_further<'a>(alloc: Global, listen: Command<'a>) -> Result<Command<'a>, Al
     ensures { IfOk result (λ whole. app_of whole ≡ with_rules (with_rules
         (with_rules (app_of listen.entry) further_rules) gateway_rules) calls_rules) }
 {
-    let socket = build_option(alloc, "verify-socket", "PATH", VERIFY_HELP);
-    let mode = build_option(alloc, "verify-mode", "DIGITS", VERIFY_MODE_HELP);
-    let names = build_option(alloc, "verify-names", "NAMES", VERIFY_NAMES_HELP);
-    let connections = build_count(
-        alloc,
-        "verify-connections",
-        CONNECTIONS_MAX,
-        VERIFY_CONNECTIONS_HELP,
-    );
-    let replace = build_flag(alloc, "replace", REPLACE_HELP);
-    let log = build_option(alloc, "log", "WORDS", LOG_HELP);
-    let others = build_flag(alloc, "keys-of-others", OTHERS_HELP);
-    let revoked = build_option(alloc, "revoked", "FILE", REVOKED_HELP);
-    let emptied = build_flag(alloc, "allow-empty-revoked", EMPTY_REVOKED_HELP);
-    let listen = add_arg(listen, socket)?;
-    let listen = add_arg(listen, mode)?;
-    let listen = add_arg(listen, names)?;
-    let listen = add_arg(listen, connections)?;
-    let listen = add_arg(listen, replace)?;
-    let listen = add_arg(listen, log)?;
-    let listen = add_arg(listen, others)?;
-    let listen = add_arg(listen, revoked)?;
-    let listen = add_arg(listen, emptied)?;
+    let arguments = [
+        Argument::Text("verify-socket", "PATH", VERIFY_HELP),
+        Argument::Text("verify-mode", "DIGITS", VERIFY_MODE_HELP),
+        Argument::Text("verify-names", "NAMES", VERIFY_NAMES_HELP),
+        Argument::Count(
+            "verify-connections",
+            CONNECTIONS_MAX,
+            VERIFY_CONNECTIONS_HELP,
+        ),
+        Argument::Flag("replace", REPLACE_HELP),
+        Argument::Text("log", "WORDS", LOG_HELP),
+        Argument::Flag("keys-of-others", OTHERS_HELP),
+        Argument::Text("revoked", "FILE", REVOKED_HELP),
+        Argument::Flag("allow-empty-revoked", EMPTY_REVOKED_HELP),
+    ];
+    let listen = add_arguments(alloc, listen, &arguments)?;
     add_http(alloc, listen)
 }
 
@@ -276,15 +263,12 @@ fn build_page<'a>(alloc: Global) -> Result<Command<'a>, AllocError>
 {
     let about = "Shows what a macaroon says on a page, for a browser on this machine";
     let page = build_subcommand(alloc, "page", about, PAGE_HELP);
-    let page = add_arg(
-        page,
-        build_option(alloc, "address", "ADDRESS", PAGE_ADDRESS_HELP),
-    )?;
-    let page = add_arg(page, build_option(alloc, "keys", "FILE", PAGE_KEYS_HELP))?;
-    add_arg(
-        page,
-        build_option(alloc, "revoked", "FILE", ONCE_REVOKED_HELP),
-    )
+    let arguments = [
+        Argument::Text("address", "ADDRESS", PAGE_ADDRESS_HELP),
+        Argument::Text("keys", "FILE", PAGE_KEYS_HELP),
+        Argument::Text("revoked", "FILE", ONCE_REVOKED_HELP),
+    ];
+    add_arguments(alloc, page, &arguments)
 }
 
 /// The subcommand with its options for HTTP.
@@ -292,33 +276,22 @@ fn add_http<'a>(alloc: Global, listen: Command<'a>) -> Result<Command<'a>, Alloc
     ensures { IfOk result (λ whole. app_of whole
         ≡ with_rules (with_rules (app_of listen.entry) gateway_rules) calls_rules) }
 {
-    let anywhere = build_option(alloc, "http-anywhere", "ADDRESSES", HTTP_ANYWHERE_HELP);
-    let most = build_count(
-        alloc,
-        "http-connections",
-        HTTP_CONNECTIONS_MAX,
-        HTTP_CONNECTIONS_HELP,
-    );
-    let patience = build_count(
-        alloc,
-        "http-patience",
-        HTTP_PATIENCE_MAX,
-        HTTP_PATIENCE_HELP,
-    );
-    let granted = build_option(alloc, "http-granted", "STATUS", HTTP_GRANTED_HELP);
-    let facts = build_option(alloc, "http-facts", "SOURCES", HTTP_FACTS_HELP);
-    let mode = build_option(alloc, "http-mode", "DIGITS", HTTP_MODE_HELP);
-    let strict = build_flag(alloc, "http-strict-paths", HTTP_STRICT_HELP);
-    let names = build_option(alloc, "http-names", "NAMES", HTTP_NAMES_HELP);
-    let listen = add_arg(listen, build_option(alloc, "http", "ADDRESSES", HTTP_HELP))?;
-    let listen = add_arg(listen, anywhere)?;
-    let listen = add_arg(listen, mode)?;
-    let listen = add_arg(listen, most)?;
-    let listen = add_arg(listen, patience)?;
-    let listen = add_arg(listen, granted)?;
-    let listen = add_arg(listen, facts)?;
-    let listen = add_arg(listen, strict)?;
-    let listen = add_arg(listen, names)?;
+    let arguments = [
+        Argument::Text("http", "ADDRESSES", HTTP_HELP),
+        Argument::Text("http-anywhere", "ADDRESSES", HTTP_ANYWHERE_HELP),
+        Argument::Text("http-mode", "DIGITS", HTTP_MODE_HELP),
+        Argument::Count(
+            "http-connections",
+            HTTP_CONNECTIONS_MAX,
+            HTTP_CONNECTIONS_HELP,
+        ),
+        Argument::Count("http-patience", HTTP_PATIENCE_MAX, HTTP_PATIENCE_HELP),
+        Argument::Text("http-granted", "STATUS", HTTP_GRANTED_HELP),
+        Argument::Text("http-facts", "SOURCES", HTTP_FACTS_HELP),
+        Argument::Flag("http-strict-paths", HTTP_STRICT_HELP),
+        Argument::Text("http-names", "NAMES", HTTP_NAMES_HELP),
+    ];
+    let listen = add_arguments(alloc, listen, &arguments)?;
     add_calls(alloc, listen)
 }
 
@@ -326,40 +299,13 @@ fn add_http<'a>(alloc: Global, listen: Command<'a>) -> Result<Command<'a>, Alloc
 fn add_calls<'a>(alloc: Global, listen: Command<'a>) -> Result<Command<'a>, AllocError>
     ensures { IfOk result (λ whole. app_of whole ≡ with_rules (app_of listen.entry) calls_rules) }
 {
-    let calls = build_option(alloc, "http-calls", "ADDRESSES", HTTP_CALLS_HELP);
-    let mode = build_option(alloc, "http-calls-mode", "DIGITS", HTTP_CALLS_MODE_HELP);
-    let allowed = build_option(alloc, "http-calls-allow", "CALLS", HTTP_CALLS_ALLOW_HELP);
-    let names = build_option(alloc, "http-calls-names", "NAMES", HTTP_CALLS_NAMES_HELP);
-    let allow = build_option(alloc, "http-allow", "CALLS", HTTP_ALLOW_HELP);
-    let admin = build_option(alloc, "http-admin", "ADDRESSES", HTTP_ADMIN_HELP);
-    let listen = add_arg(listen, calls)?;
-    let listen = add_arg(listen, mode)?;
-    let listen = add_arg(listen, allowed)?;
-    let listen = add_arg(listen, names)?;
-    let listen = add_arg(listen, allow)?;
-    add_arg(listen, admin)
-}
-
-/// A required option that takes a path.
-fn build_path<'a>(alloc: Global, name: &'a str, help: &'a str) -> Arg<'a>
-    ensures rule { rule_of result ≡ required (option name.entry.now) }
-    ensures local { result.global ≡ false }
-{
-    build_option(alloc, name, "PATH", help).required(true)
-}
-
-/// An option that takes a number from 1 to `most`.
-fn build_count<'a>(alloc: Global, name: &'a str, most: u64, help: &'a str) -> Arg<'a>
-    ensures rule { rule_of result ≡ number most (option name.entry.now) }
-    ensures local { result.global ≡ false }
-{
-    build_option(alloc, name, "COUNT", help).value_parser(ValueParser::unsigned(1, most))
-}
-
-/// An option that takes a number of bytes from `least` to `most`.
-fn build_bytes<'a>(alloc: Global, name: &'a str, least: u64, most: u64, help: &'a str) -> Arg<'a>
-    ensures rule { rule_of result ≡ number_from least most (option name.entry.now) }
-    ensures local { result.global ≡ false }
-{
-    build_option(alloc, name, "BYTES", help).value_parser(ValueParser::unsigned(least, most))
+    let arguments = [
+        Argument::Text("http-calls", "ADDRESSES", HTTP_CALLS_HELP),
+        Argument::Text("http-calls-mode", "DIGITS", HTTP_CALLS_MODE_HELP),
+        Argument::Text("http-calls-allow", "CALLS", HTTP_CALLS_ALLOW_HELP),
+        Argument::Text("http-calls-names", "NAMES", HTTP_CALLS_NAMES_HELP),
+        Argument::Text("http-allow", "CALLS", HTTP_ALLOW_HELP),
+        Argument::Text("http-admin", "ADDRESSES", HTTP_ADMIN_HELP),
+    ];
+    add_arguments(alloc, listen, &arguments)
 }

@@ -1,5 +1,5 @@
 //! What the options of a subcommand say.
-ghost use Rattle.std.specs.Prelude.{◌≡◌, codes, IfOk};
+ghost use Rattle.std.specs.Prelude.{◌≡◌, ◌⊎◌, codes, false, IfOk, None};
 ghost use Rattle.clap.specs.Words.{first_of, found_of, rows_of};
 ghost use Rattle.mac_commands.specs.CommandLine.{IsText, mode_given};
 ghost use Rattle.mac_commands.specs.Options.{Chooses, HasListenOptions, HasNumber, HasOptions};
@@ -84,7 +84,9 @@ fn read_listen(alloc: Global, options: &ArgMatches<'_>) -> Result<Choice, Option
     ) else {
         return Err(OptionFault::UnknownMode);
     };
-    let http = read_http(alloc, options)?;
+    if !has_http_modes(options) {
+        return Err(OptionFault::UnknownMode);
+    }
     Ok(Choice::Listen(ListenOptions {
         socket: read_text(alloc, options, "socket")?,
         keys: read_text(alloc, options, "keys")?,
@@ -106,8 +108,17 @@ fn read_listen(alloc: Global, options: &ArgMatches<'_>) -> Result<Choice, Option
         keys_of_others: read_flag(options, "keys-of-others"),
         revoked: read_optional_text(alloc, options, "revoked")?,
         allow_empty_revoked: read_flag(options, "allow-empty-revoked"),
-        http,
+        http: read_http(alloc, options)?,
     }))
+}
+
+/// Whether each mode of a socket over HTTP is one.
+fn has_http_modes(options: &ArgMatches<'_>) -> bool
+    ensures { result ≡ false →
+        (mode_given (first_of (codes "http-mode") (rows_of (found_of options.now))) ≡ None)
+        ⊎ (mode_given (first_of (codes "http-calls-mode") (rows_of (found_of options.now))) ≡ None) }
+{
+    read_mode(options, "http-mode").is_some() && read_mode(options, "http-calls-mode").is_some()
 }
 
 /// The choice of the options of `page`.

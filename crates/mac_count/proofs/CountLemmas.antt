@@ -1,5 +1,5 @@
 -- Requests that are counted one after the other.
-use Rattle.std.proofs.Common.{◌≡◌, ℕ, ◌+◌, ◌<◌, ◌==◌, Bool, true, false, cond, List, [], ◌∷◌, length, refl, ap, ◌∙◌, arith}
+use Rattle.std.proofs.Common.{◌≡◌, ℕ, ◌+◌, ◌<◌, ◌==◌, Bool, true, false, cond, List, [], ◌∷◌, Some, None, length, refl, ap, ◌∙◌, arith}
 use Rattle.std.specs.Prelude.{min}
 use Rattle.std.proofs.lemmas.Bool.Decides.{nat_tests}
 use Rattle.std.proofs.lemmas.Grind.{common_steps}
@@ -11,6 +11,7 @@ use Rattle.mac_count.specs.declared.number.Told.{Told}
 use Rattle.mac_count.specs.declared.number.Told.TheVariants as told
 use Rattle.mac_count.specs.declared.number.Request.{Request}
 use Rattle.mac_count.specs.declared.number.TheConstants.{REQUESTS}
+use Rattle.mac_wire.specs.declared.reply.Refusal.TheVariants as refusal
 use Rattle.mac_count.specs.Number.{request_place}
 use Rattle.mac_count.specs.RequestCounts.{count_of, counted, with_counted, with_all_counted}
 
@@ -24,14 +25,25 @@ own-place : (counts : List ℕ) (kind request : Request) → (request_place requ
     → counted (with_counted counts request) kind ≡ min (counted counts kind + 1) 18_446_744_073_709_551_615
 own-place counts kind request own within = grind (arith, nat_tests, common_steps, get_or-set_same)
 
-told-within : (t : Told) → request_place (record { asked = asked.Nothing; told = t }) < 20
+told-within : (t : Told) → request_place (record { asked = asked.Nothing; told = t }) < 64
 told-within told.Granted = omega arith
 told-within told.Token = omega arith
 told-within told.Unsatisfied = omega arith
-told-within told.Refused = omega arith
-told-within told.Revoked = omega arith
+told-within (told.Refused None) = omega arith
+told-within (told.Refused (Some refusal.BadRequest)) = omega arith
+told-within (told.Refused (Some refusal.FrameTooLong)) = omega arith
+told-within (told.Refused (Some refusal.UnknownKey)) = omega arith
+told-within (told.Refused (Some refusal.Transport)) = omega arith
+told-within (told.Refused (Some refusal.Malformed)) = omega arith
+told-within (told.Refused (Some refusal.ThirdParty)) = omega arith
+told-within (told.Refused (Some refusal.Limit)) = omega arith
+told-within (told.Refused (Some refusal.BadSignature)) = omega arith
+told-within (told.Refused (Some refusal.CaveatLocation)) = omega arith
+told-within (told.Refused (Some refusal.NotAllowed)) = omega arith
+told-within (told.Refused (Some refusal.NoClock)) = omega arith
+told-within (told.Refused (Some refusal.Revoked)) = omega arith
 
-asked-told-within : (a : Asked) (t : Told) → request_place (record { asked = a; told = t }) < 20
+asked-told-within : (a : Asked) (t : Told) → request_place (record { asked = a; told = t }) < 64
 asked-told-within asked.Mint t = let last = told-within t in omega arith
 asked-told-within asked.Attenuate t = let last = told-within t in omega arith
 asked-told-within asked.Verify t = let last = told-within t in omega arith
@@ -43,7 +55,7 @@ pub all_counted : (counts : List ℕ) (kind : Request) (requests : List Request)
 all_counted counts kind [] size few = omega arith
 all_counted counts kind (request ∷ requests) size few =
     let more : List ℕ = with_counted counts request in
-    let within : request_place request < 20 = asked-told-within request.asked request.told in
+    let within : request_place request < 64 = asked-told-within request.asked request.told in
     let as_long : length more ≡ REQUESTS = length-set counts (request_place request) (min (counted counts request + 1) 18_446_744_073_709_551_615) ∙ size in
     let split : count_of kind (request ∷ requests) ≡ cond (request_place request == request_place kind) 1 0 + count_of kind requests = sum_by-cons (λ (r : Request). cond (request_place r == request_place kind) 1 0) request requests in
     elim (request_place request == request_place kind) as (λ t. (request_place request == request_place kind) ≡ t → counted (with_all_counted counts (request ∷ requests)) kind ≡ counted counts kind + count_of kind (request ∷ requests)) [

@@ -1,2 +1,4 @@
 pub mod OnceLemmas
 pub mod CountLemmas
+pub mod TimeLemmas
+pub mod TextLemmas

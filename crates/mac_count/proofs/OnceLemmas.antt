@@ -1,5 +1,5 @@
 -- Each number and each kind of request stands once in its table.
-use Rattle.std.proofs.Common.{◌≡◌, ◌==◌, refl}
+use Rattle.std.proofs.Common.{◌≡◌, ◌==◌, Some, None, refl}
 use Rattle.std.specs.Prelude.{count_by}
 use Rattle.mac_count.specs.declared.number.Number.{Number}
 use Rattle.mac_count.specs.declared.number.Number.TheVariants as number
@@ -8,6 +8,7 @@ use Rattle.mac_count.specs.declared.number.Asked.TheVariants as asked
 use Rattle.mac_count.specs.declared.number.Told.{Told}
 use Rattle.mac_count.specs.declared.number.Told.TheVariants as told
 use Rattle.mac_count.specs.declared.number.Request.{Request}
+use Rattle.mac_wire.specs.declared.reply.Refusal.TheVariants as refusal
 use Rattle.mac_count.specs.Number.{all_numbers, all_requests, number_place, request_place}
 
 pub number_once : (n : Number) → count_by (λ (other : Number). number_place other == number_place n) all_numbers ≡ 1
@@ -32,23 +33,67 @@ request_once_of : (a : Asked) (t : Told) → count_by (λ (other : Request). req
 request_once_of asked.Mint told.Granted = refl
 request_once_of asked.Mint told.Token = refl
 request_once_of asked.Mint told.Unsatisfied = refl
-request_once_of asked.Mint told.Refused = refl
-request_once_of asked.Mint told.Revoked = refl
+request_once_of asked.Mint (told.Refused None) = refl
+request_once_of asked.Mint (told.Refused (Some refusal.BadRequest)) = refl
+request_once_of asked.Mint (told.Refused (Some refusal.FrameTooLong)) = refl
+request_once_of asked.Mint (told.Refused (Some refusal.UnknownKey)) = refl
+request_once_of asked.Mint (told.Refused (Some refusal.Transport)) = refl
+request_once_of asked.Mint (told.Refused (Some refusal.Malformed)) = refl
+request_once_of asked.Mint (told.Refused (Some refusal.ThirdParty)) = refl
+request_once_of asked.Mint (told.Refused (Some refusal.Limit)) = refl
+request_once_of asked.Mint (told.Refused (Some refusal.BadSignature)) = refl
+request_once_of asked.Mint (told.Refused (Some refusal.CaveatLocation)) = refl
+request_once_of asked.Mint (told.Refused (Some refusal.NotAllowed)) = refl
+request_once_of asked.Mint (told.Refused (Some refusal.NoClock)) = refl
+request_once_of asked.Mint (told.Refused (Some refusal.Revoked)) = refl
 request_once_of asked.Attenuate told.Granted = refl
 request_once_of asked.Attenuate told.Token = refl
 request_once_of asked.Attenuate told.Unsatisfied = refl
-request_once_of asked.Attenuate told.Refused = refl
-request_once_of asked.Attenuate told.Revoked = refl
+request_once_of asked.Attenuate (told.Refused None) = refl
+request_once_of asked.Attenuate (told.Refused (Some refusal.BadRequest)) = refl
+request_once_of asked.Attenuate (told.Refused (Some refusal.FrameTooLong)) = refl
+request_once_of asked.Attenuate (told.Refused (Some refusal.UnknownKey)) = refl
+request_once_of asked.Attenuate (told.Refused (Some refusal.Transport)) = refl
+request_once_of asked.Attenuate (told.Refused (Some refusal.Malformed)) = refl
+request_once_of asked.Attenuate (told.Refused (Some refusal.ThirdParty)) = refl
+request_once_of asked.Attenuate (told.Refused (Some refusal.Limit)) = refl
+request_once_of asked.Attenuate (told.Refused (Some refusal.BadSignature)) = refl
+request_once_of asked.Attenuate (told.Refused (Some refusal.CaveatLocation)) = refl
+request_once_of asked.Attenuate (told.Refused (Some refusal.NotAllowed)) = refl
+request_once_of asked.Attenuate (told.Refused (Some refusal.NoClock)) = refl
+request_once_of asked.Attenuate (told.Refused (Some refusal.Revoked)) = refl
 request_once_of asked.Verify told.Granted = refl
 request_once_of asked.Verify told.Token = refl
 request_once_of asked.Verify told.Unsatisfied = refl
-request_once_of asked.Verify told.Refused = refl
-request_once_of asked.Verify told.Revoked = refl
+request_once_of asked.Verify (told.Refused None) = refl
+request_once_of asked.Verify (told.Refused (Some refusal.BadRequest)) = refl
+request_once_of asked.Verify (told.Refused (Some refusal.FrameTooLong)) = refl
+request_once_of asked.Verify (told.Refused (Some refusal.UnknownKey)) = refl
+request_once_of asked.Verify (told.Refused (Some refusal.Transport)) = refl
+request_once_of asked.Verify (told.Refused (Some refusal.Malformed)) = refl
+request_once_of asked.Verify (told.Refused (Some refusal.ThirdParty)) = refl
+request_once_of asked.Verify (told.Refused (Some refusal.Limit)) = refl
+request_once_of asked.Verify (told.Refused (Some refusal.BadSignature)) = refl
+request_once_of asked.Verify (told.Refused (Some refusal.CaveatLocation)) = refl
+request_once_of asked.Verify (told.Refused (Some refusal.NotAllowed)) = refl
+request_once_of asked.Verify (told.Refused (Some refusal.NoClock)) = refl
+request_once_of asked.Verify (told.Refused (Some refusal.Revoked)) = refl
 request_once_of asked.Nothing told.Granted = refl
 request_once_of asked.Nothing told.Token = refl
 request_once_of asked.Nothing told.Unsatisfied = refl
-request_once_of asked.Nothing told.Refused = refl
-request_once_of asked.Nothing told.Revoked = refl
+request_once_of asked.Nothing (told.Refused None) = refl
+request_once_of asked.Nothing (told.Refused (Some refusal.BadRequest)) = refl
+request_once_of asked.Nothing (told.Refused (Some refusal.FrameTooLong)) = refl
+request_once_of asked.Nothing (told.Refused (Some refusal.UnknownKey)) = refl
+request_once_of asked.Nothing (told.Refused (Some refusal.Transport)) = refl
+request_once_of asked.Nothing (told.Refused (Some refusal.Malformed)) = refl
+request_once_of asked.Nothing (told.Refused (Some refusal.ThirdParty)) = refl
+request_once_of asked.Nothing (told.Refused (Some refusal.Limit)) = refl
+request_once_of asked.Nothing (told.Refused (Some refusal.BadSignature)) = refl
+request_once_of asked.Nothing (told.Refused (Some refusal.CaveatLocation)) = refl
+request_once_of asked.Nothing (told.Refused (Some refusal.NotAllowed)) = refl
+request_once_of asked.Nothing (told.Refused (Some refusal.NoClock)) = refl
+request_once_of asked.Nothing (told.Refused (Some refusal.Revoked)) = refl
 
 pub request_once : (r : Request) → count_by (λ (other : Request). request_place other == request_place r) all_requests ≡ 1
 request_once r = request_once_of r.asked r.told

@@ -1,5 +1,6 @@
 -- What is counted, and how it is named.
-use Rattle.std.specs.Prelude.{◌≡◌, ℕ, ◌+◌, ◌*◌, List, [], ◌∷◌, codes}
+use Rattle.std.specs.Prelude.{◌≡◌, ℕ, ◌+◌, ◌*◌, List, [], ◌∷◌, map, Option, Some, None, codes}
+use Rattle.std.specs.List.{flat_map}
 use Rattle.mac_count.specs.declared.number.Number.{Number}
 use Rattle.mac_count.specs.declared.number.Number.TheVariants as number
 use Rattle.mac_count.specs.declared.number.Asked.{Asked}
@@ -7,6 +8,8 @@ use Rattle.mac_count.specs.declared.number.Asked.TheVariants as asked
 use Rattle.mac_count.specs.declared.number.Request.{Request}
 use Rattle.mac_count.specs.declared.number.Told.{Told}
 use Rattle.mac_count.specs.declared.number.Told.TheVariants as told
+use Rattle.mac_wire.specs.declared.reply.Refusal.{Refusal}
+use Rattle.mac_wire.specs.declared.reply.Refusal.TheVariants as refusal
 
 -- the name of a number
 abbrev pub number_word : Number → List ℕ
@@ -80,13 +83,19 @@ asked_word asked.Attenuate = codes "attenuate"
 asked_word asked.Verify = codes "verify"
 asked_word asked.Nothing = codes "nothing"
 
--- the word for what it was answered
+-- the word for what it was answered: a token that was taken back has one of its own
 abbrev pub told_word : Told → List ℕ
 told_word told.Granted = codes "granted"
 told_word told.Token = codes "token"
 told_word told.Unsatisfied = codes "unsatisfied"
-told_word told.Refused = codes "refused"
-told_word told.Revoked = codes "revoked"
+told_word (told.Refused None) = codes "refused"
+told_word (told.Refused (Some refusal.Revoked)) = codes "revoked"
+told_word (told.Refused (Some reason)) = codes "refused"
+
+-- the reason of a refusal that has a number
+abbrev pub told_reason : Told → Option Refusal
+told_reason (told.Refused reason) = reason
+told_reason _ = None
 
 abbrev asked_place : Asked → ℕ
 asked_place asked.Mint = 0
@@ -94,38 +103,51 @@ asked_place asked.Attenuate = 1
 asked_place asked.Verify = 2
 asked_place asked.Nothing = 3
 
-abbrev told_place : Told → ℕ
+abbrev refusal_place : Refusal → ℕ
+refusal_place refusal.BadRequest = 0
+refusal_place refusal.FrameTooLong = 1
+refusal_place refusal.UnknownKey = 2
+refusal_place refusal.Transport = 3
+refusal_place refusal.Malformed = 4
+refusal_place refusal.ThirdParty = 5
+refusal_place refusal.Limit = 6
+refusal_place refusal.BadSignature = 7
+refusal_place refusal.CaveatLocation = 8
+refusal_place refusal.NotAllowed = 9
+refusal_place refusal.NoClock = 10
+refusal_place refusal.Revoked = 11
+
+-- the place of an answer among them
+abbrev pub told_place : Told → ℕ
 told_place told.Granted = 0
 told_place told.Token = 1
 told_place told.Unsatisfied = 2
-told_place told.Refused = 3
-told_place told.Revoked = 4
+told_place (told.Refused None) = 3
+told_place (told.Refused (Some reason)) = 4 + refusal_place reason
 
 -- the place of a request in a snapshot
 abbrev pub request_place : Request → ℕ
-request_place r = 5 * asked_place r.asked + told_place r.told
+request_place r = 16 * asked_place r.asked + told_place r.told
+
+-- what a request may ask for, in the order in which it is written
+abbrev pub all_asked : List Asked
+all_asked = asked.Mint ∷ asked.Attenuate ∷ asked.Verify ∷ asked.Nothing ∷ []
+
+-- what it may be answered, in that order
+abbrev pub all_told : List Told
+all_told =
+    told.Granted ∷ told.Token ∷ told.Unsatisfied ∷ told.Refused None ∷
+    told.Refused (Some refusal.BadRequest) ∷ told.Refused (Some refusal.FrameTooLong) ∷
+    told.Refused (Some refusal.UnknownKey) ∷ told.Refused (Some refusal.Transport) ∷
+    told.Refused (Some refusal.Malformed) ∷ told.Refused (Some refusal.ThirdParty) ∷
+    told.Refused (Some refusal.Limit) ∷ told.Refused (Some refusal.BadSignature) ∷
+    told.Refused (Some refusal.CaveatLocation) ∷ told.Refused (Some refusal.NotAllowed) ∷
+    told.Refused (Some refusal.NoClock) ∷ told.Refused (Some refusal.Revoked) ∷ []
+
+-- requests that ask this, one for each answer
+abbrev pub requests_of : Asked → List Request
+requests_of what = map (λ answer. record { asked = what; told = answer }) all_told
 
 -- all requests, in the order in which they are written
 abbrev pub all_requests : List Request
-all_requests =
-    record { asked = asked.Mint; told = told.Granted } ∷
-    record { asked = asked.Mint; told = told.Token } ∷
-    record { asked = asked.Mint; told = told.Unsatisfied } ∷
-    record { asked = asked.Mint; told = told.Refused } ∷
-    record { asked = asked.Mint; told = told.Revoked } ∷
-    record { asked = asked.Attenuate; told = told.Granted } ∷
-    record { asked = asked.Attenuate; told = told.Token } ∷
-    record { asked = asked.Attenuate; told = told.Unsatisfied } ∷
-    record { asked = asked.Attenuate; told = told.Refused } ∷
-    record { asked = asked.Attenuate; told = told.Revoked } ∷
-    record { asked = asked.Verify; told = told.Granted } ∷
-    record { asked = asked.Verify; told = told.Token } ∷
-    record { asked = asked.Verify; told = told.Unsatisfied } ∷
-    record { asked = asked.Verify; told = told.Refused } ∷
-    record { asked = asked.Verify; told = told.Revoked } ∷
-    record { asked = asked.Nothing; told = told.Granted } ∷
-    record { asked = asked.Nothing; told = told.Token } ∷
-    record { asked = asked.Nothing; told = told.Unsatisfied } ∷
-    record { asked = asked.Nothing; told = told.Refused } ∷
-    record { asked = asked.Nothing; told = told.Revoked } ∷
-    []
+all_requests = flat_map requests_of all_asked

@@ -4,6 +4,7 @@ ghost use Rattle.mac_count.specs.Number.{IsGauge};
 
 use crate::number::{NUMBERS, Number, REQUESTS, Request};
 use crate::snapshot::Snapshot;
+use crate::times::{BUCKETS, bucket_of};
 use std::array;
 use std::sync::atomic::AtomicU64;
 use std::sync::atomic::Ordering::SeqCst;
@@ -14,6 +15,8 @@ use std::sync::atomic::Ordering::SeqCst;
 pub struct Counters {
     numbers: [AtomicU64; NUMBERS],
     requests: [AtomicU64; REQUESTS],
+    times: [AtomicU64; BUCKETS],
+    micros: AtomicU64,
 }
 
 impl Counters {
@@ -22,6 +25,8 @@ impl Counters {
         Counters {
             numbers: array::from_fn(|_| AtomicU64::new(0)),
             requests: array::from_fn(|_| AtomicU64::new(0)),
+            times: array::from_fn(|_| AtomicU64::new(0)),
+            micros: AtomicU64::new(0),
         }
     }
 
@@ -44,17 +49,30 @@ impl Counters {
         self.numbers[number.place()].store(value, SeqCst);
     }
 
-    /// Counts a request that was answered.
-    pub fn answered(&self, request: Request) {
+    /// Counts a request that was answered, and took so many microseconds.
+    pub fn answered(&self, request: Request, micros: u64) {
         self.requests[request.place()].fetch_add(1, SeqCst);
+        self.add_times(1, micros);
     }
 
-    /// Counts requests that were answered, so many of each at its place.
-    pub fn add_requests(&self, counts: &[u64; REQUESTS]) {
+    /// Counts requests that were answered, so many of each at its place, of which each took so many
+    /// microseconds.
+    pub fn add_requests(&self, counts: &[u64; REQUESTS], micros: u64) {
+        let mut count = 0u64;
         for place in 0..REQUESTS {
             if counts[place] > 0 {
                 self.requests[place].fetch_add(counts[place], SeqCst);
+                count = count.saturating_add(counts[place]);
             }
+        }
+        self.add_times(count, micros);
+    }
+
+    /// Counts how long so many requests took.
+    fn add_times(&self, count: u64, micros: u64) {
+        if count > 0 {
+            self.times[bucket_of(micros)].fetch_add(count, SeqCst);
+            self.micros.fetch_add(count.saturating_mul(micros), SeqCst);
         }
     }
 
@@ -63,6 +81,8 @@ impl Counters {
         Snapshot {
             numbers: array::from_fn(|place| load(&self.numbers, place)),
             requests: array::from_fn(|place| load(&self.requests, place)),
+            times: array::from_fn(|place| load(&self.times, place)),
+            micros: self.micros.load(SeqCst),
         }
     }
 }

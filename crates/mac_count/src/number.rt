@@ -2,13 +2,21 @@
 
 ghost use Rattle.std.specs.Prelude.{◌≡◌, ◌<◌};
 ghost use Rattle.mac_count.specs.Number.{asked_word, number_kind, number_place, number_word};
-ghost use Rattle.mac_count.specs.Number.{request_place, told_word};
+ghost use Rattle.mac_count.specs.Number.{request_place, told_place, told_reason, told_word};
+
+use mac_wire::Refusal;
 
 /// How many numbers there are beside those of requests.
 pub const NUMBERS: usize = 16;
 
+/// How many things there are that a request may ask for.
+pub const ASKED: usize = 4;
+
+/// How many answers are told apart: one is a refusal without a number, and each number has one.
+pub const TOLD: usize = 16;
+
 /// How many numbers there are of requests: one for each thing asked and each answer.
-pub const REQUESTS: usize = 20;
+pub const REQUESTS: usize = ASKED * TOLD;
 
 /// A number that stands alone.
 #[derive(Clone, Copy, Debug, PartialEq, Eq)]
@@ -61,7 +69,7 @@ pub enum Asked {
 }
 
 /// What a request was answered.
-#[derive(Clone, Copy, Debug, PartialEq, Eq)]
+#[derive(Clone, Copy, PartialEq, Eq)]
 pub enum Told {
     /// The token holds.
     Granted,
@@ -69,14 +77,13 @@ pub enum Told {
     Token,
     /// A caveat does not hold.
     Unsatisfied,
-    /// Any other refusal.
-    Refused,
-    /// The token was taken back.
-    Revoked,
+    /// Any other refusal: for the reason that has a number on the wire, or for one that has none,
+    /// as over HTTP where no token came.
+    Refused(Option<Refusal>),
 }
 
 /// A request: what it asked for, and what it was answered.
-#[derive(Clone, Copy, Debug, PartialEq, Eq)]
+#[derive(Clone, Copy, PartialEq, Eq)]
 pub struct Request {
     /// What it asked for.
     pub asked: Asked,
@@ -163,6 +170,9 @@ impl Number {
 }
 
 impl Asked {
+    /// All of them, in the order in which they are written.
+    pub const ALL: [Asked; ASKED] = [Asked::Mint, Asked::Attenuate, Asked::Verify, Asked::Nothing];
+
     /// The word for it.
     pub fn word(self) -> &'static str
         ensures { result.now ≡ asked_word self }
@@ -177,7 +187,27 @@ impl Asked {
 }
 
 impl Told {
-    /// The word for it.
+    /// All of them, in the order in which they are written.
+    pub const ALL: [Told; TOLD] = [
+        Told::Granted,
+        Told::Token,
+        Told::Unsatisfied,
+        Told::Refused(None),
+        Told::Refused(Some(Refusal::BadRequest)),
+        Told::Refused(Some(Refusal::FrameTooLong)),
+        Told::Refused(Some(Refusal::UnknownKey)),
+        Told::Refused(Some(Refusal::Transport)),
+        Told::Refused(Some(Refusal::Malformed)),
+        Told::Refused(Some(Refusal::ThirdParty)),
+        Told::Refused(Some(Refusal::Limit)),
+        Told::Refused(Some(Refusal::BadSignature)),
+        Told::Refused(Some(Refusal::CaveatLocation)),
+        Told::Refused(Some(Refusal::NotAllowed)),
+        Told::Refused(Some(Refusal::NoClock)),
+        Told::Refused(Some(Refusal::Revoked)),
+    ];
+
+    /// The word for it. A token that was taken back has one of its own.
     pub fn word(self) -> &'static str
         ensures { result.now ≡ told_word self }
     {
@@ -185,102 +215,42 @@ impl Told {
             Told::Granted => "granted",
             Told::Token => "token",
             Told::Unsatisfied => "unsatisfied",
-            Told::Refused => "refused",
-            Told::Revoked => "revoked",
+            Told::Refused(Some(Refusal::Revoked)) => "revoked",
+            Told::Refused(_) => "refused",
+        }
+    }
+
+    /// The reason of a refusal that has a number.
+    pub fn reason(self) -> Option<Refusal>
+        ensures { result ≡ told_reason self }
+    {
+        match self {
+            Told::Refused(reason) => reason,
+            Told::Granted | Told::Token | Told::Unsatisfied => None,
+        }
+    }
+
+    /// Its place among them.
+    pub fn place(self) -> usize
+        ensures place { result ≡ told_place self }
+        ensures within { result < TOLD }
+    {
+        match self {
+            Told::Granted => 0,
+            Told::Token => 1,
+            Told::Unsatisfied => 2,
+            Told::Refused(None) => 3,
+            Told::Refused(Some(reason)) => 4 + reason as usize,
         }
     }
 }
 
 impl Request {
-    /// All of them, in the order in which they are written.
-    pub const ALL: [Request; REQUESTS] = [
-        Request {
-            asked: Asked::Mint,
-            told: Told::Granted,
-        },
-        Request {
-            asked: Asked::Mint,
-            told: Told::Token,
-        },
-        Request {
-            asked: Asked::Mint,
-            told: Told::Unsatisfied,
-        },
-        Request {
-            asked: Asked::Mint,
-            told: Told::Refused,
-        },
-        Request {
-            asked: Asked::Mint,
-            told: Told::Revoked,
-        },
-        Request {
-            asked: Asked::Attenuate,
-            told: Told::Granted,
-        },
-        Request {
-            asked: Asked::Attenuate,
-            told: Told::Token,
-        },
-        Request {
-            asked: Asked::Attenuate,
-            told: Told::Unsatisfied,
-        },
-        Request {
-            asked: Asked::Attenuate,
-            told: Told::Refused,
-        },
-        Request {
-            asked: Asked::Attenuate,
-            told: Told::Revoked,
-        },
-        Request {
-            asked: Asked::Verify,
-            told: Told::Granted,
-        },
-        Request {
-            asked: Asked::Verify,
-            told: Told::Token,
-        },
-        Request {
-            asked: Asked::Verify,
-            told: Told::Unsatisfied,
-        },
-        Request {
-            asked: Asked::Verify,
-            told: Told::Refused,
-        },
-        Request {
-            asked: Asked::Verify,
-            told: Told::Revoked,
-        },
-        Request {
-            asked: Asked::Nothing,
-            told: Told::Granted,
-        },
-        Request {
-            asked: Asked::Nothing,
-            told: Told::Token,
-        },
-        Request {
-            asked: Asked::Nothing,
-            told: Told::Unsatisfied,
-        },
-        Request {
-            asked: Asked::Nothing,
-            told: Told::Refused,
-        },
-        Request {
-            asked: Asked::Nothing,
-            told: Told::Revoked,
-        },
-    ];
-
-    /// Its place among them.
+    /// Its place among all requests.
     pub fn place(self) -> usize
         ensures place { result ≡ request_place self }
         ensures within { result < REQUESTS }
     {
-        5 * self.asked as usize + self.told as usize
+        TOLD * self.asked as usize + self.told.place()
     }
 }

@@ -1,9 +1,11 @@
 //! What the counters show at a moment.
 
-ghost use Rattle.std.specs.Prelude.{◌≡◌};
+ghost use Rattle.std.specs.Prelude.{◌≡◌, min, sum};
 ghost use Rattle.mac_count.specs.Texts.{number_value, request_value};
+ghost use Rattle.mac_count.specs.Times.{timed, within};
 
 use crate::number::{NUMBERS, Number, REQUESTS, Request};
+use crate::times::{BUCKETS, bucket_of};
 
 /// A number for each [`Number`] and one for each [`Request`], at its place.
 #[derive(Clone, Copy, Debug, PartialEq, Eq)]
@@ -12,6 +14,10 @@ pub struct Snapshot {
     pub numbers: [u64; NUMBERS],
     /// How many requests there were of each kind.
     pub requests: [u64; REQUESTS],
+    /// How many requests took as long as each bucket says.
+    pub times: [u64; BUCKETS],
+    /// How many microseconds all of them took together.
+    pub micros: u64,
 }
 
 impl Snapshot {
@@ -28,4 +34,30 @@ impl Snapshot {
     {
         self.requests[request.place()]
     }
+
+    /// How many requests took no longer than so many microseconds, which are a bound of time.
+    #[tactic(auto, unfolding(crate::specs::Times::within))]
+    pub fn within(&self, micros: u64) -> u64
+        ensures { result ≡ within self.now micros }
+    {
+        sum_of(&self.times[..bucket_of(micros) + 1])
+    }
+
+    /// How many requests there were, by the time that each took.
+    pub fn timed(&self) -> u64
+        ensures { result ≡ timed self.now }
+    {
+        sum_of(&self.times)
+    }
+}
+
+/// All of these together.
+fn sum_of(counts: &[u64]) -> u64
+    ensures { result ≡ min (sum counts.now) 18_446_744_073_709_551_615 }
+{
+    let mut total = 0u64;
+    for count in counts {
+        total = total.saturating_add(*count);
+    }
+    total
 }

@@ -1,10 +1,12 @@
 //! The loop that accepts the connections of sockets: so many of them, or until it is shut.
-ghost use Rattle.std.specs.Prelude.{◌≡◌, ◌<◌, length, IfOk, IfSome, IsTrue, Some};
+ghost use Rattle.std.specs.Prelude.{◌≡◌, ◌+◌, ◌<◌, length, IfOk, IfSome, IsFalse, IsTrue, Some};
+ghost use Rattle.mac_daemon.specs.Arrivals.{AreAccepted};
 ghost use Rattle.mac_daemon.specs.Day.{MeetsCount};
 ghost use Rattle.mac_daemon.specs.Gift.{GivesAt};
 ghost use Rattle.mac_host.specs.Badge.{socket_of_door};
 ghost use Rattle.mac_sockets.specs.Entrance.{doors_of, taken_of};
 
+use crate::arrivals::Arrivals;
 use crate::door::Gift;
 use crate::fault::DaemonFault;
 use crate::notice::Notice;
@@ -12,6 +14,7 @@ use crate::quay::Quay;
 use crate::room::Entry;
 use mac_host::{Badge, Life, Socket};
 use mac_loop::{Handover, Loops};
+use mac_mail::History;
 use mac_sockets::{Arrived, Entrance, Fresh};
 use std::alloc::Global;
 use std::io::ErrorKind;
@@ -27,11 +30,12 @@ const FIRST_LOOP: usize = 0;
 
 /// A connection that came in.
 #[derive(Drop)]
-struct Newcomer {
+pub(crate) struct Newcomer {
     stream: Fresh,
     // What its requests may do, where there is memory for that.
     rights: Option<Gift>,
-    badge: Badge,
+    /// What it is known by.
+    pub(crate) badge: Badge,
 }
 
 /// So many connections are accepted as were asked for.
@@ -54,7 +58,8 @@ where
     ensures { IfOk result (λ served. MeetsCount count served
         × (served ≡ taken_of entrance.new)) }
 {
-    let served = accept_each(rt, alloc, entrance, loops, quay, count);
+    let mut arrivals = Arrivals::none(alloc);
+    let served = accept_each(rt, entrance, &mut arrivals, loops, quay, count);
     entrance.close();
     if count.is_none() {
         quay.say_left(rt);
@@ -80,16 +85,17 @@ fn has_met(count: Option<u64>, served: u64) -> bool
 /// shut and nobody waits there.
 fn accept_each<R>(
     rt: &R,
-    alloc: Global,
     entrance: &mut Entrance<Gift>,
+    arrivals: &mut Arrivals,
     loops: &Loops,
     quay: &Quay,
     count: Option<u64>,
 ) -> Result<u64, DaemonFault>
 where
     R: Wait + Clock,
-    ensures { IfOk result (λ served. MeetsCount count served
+    ensures served { IfOk result (λ served. MeetsCount count served
         × (served ≡ taken_of entrance.new)) }
+    ensures accepted { AreAccepted arrivals.old arrivals.new (taken_of entrance.old) (taken_of entrance.new) }
 {
     for _ in rt.forever() {
         let served = entrance.taken();
@@ -100,10 +106,10 @@ where
         match entrance.accept(rt) {
             Some(Ok(arrived)) => {
                 let newcomer = receive(rt, entrance, arrived, quay);
-                enter(rt, alloc, newcomer, loops, quay);
+                arrivals.enter(rt, newcomer, loops, quay);
             }
             Some(Err(fault)) if count.is_some() => return Err(DaemonFault::System(fault)),
-            Some(Err(fault)) => pause(rt, alloc, fault, quay),
+            Some(Err(fault)) => pause(rt, arrivals.alloc, fault, quay),
             None if count.is_none() => return Ok(served),
             None => return Err(DaemonFault::System(ErrorKind::ConnectionAborted.into())),
         }
@@ -137,39 +143,60 @@ fn pause<R: Wait + Clock>(rt: &R, alloc: Global, fault: io::Error, quay: &Quay) 
 }
 
 /// Hands a connection to a loop, in the place of another one where there are as many as there may
-/// be.
-fn enter<R: Wait + Clock>(rt: &R, alloc: Global, newcomer: Newcomer, loops: &Loops, quay: &Quay) {
+/// be. Whether one has it: else it is closed.
+pub(crate) fn enter<R: Wait + Clock>(
+    rt: &R,
+    alloc: Global,
+    newcomer: Newcomer,
+    loops: &Loops,
+    quay: &Quay,
+    handed: &mut History<Badge>,
+) -> bool
+    ensures handed { IsTrue result → length handed.new ≡ length handed.old + 1 }
+    ensures closed { IsFalse result → handed.new ≡ handed.old }
+{
     let badge = newcomer.badge;
     let gives_way = match quay.enter(rt, badge.socket) {
         Entry::Free => {
             let mut newcomer = newcomer;
             newcomer.badge = quay.listed(rt, badge);
-            begin(rt, alloc, newcomer, loops, quay);
-            return;
+            return begin(rt, alloc, newcomer, loops, quay, handed);
         }
         Entry::SideFull => Socket::Side,
         Entry::Full(socket) => socket,
     };
-    if let Ok(client) = meet(alloc, newcomer, quay) {
-        let _ = loops.hand_displacing(rt, gives_way, client);
+    match meet(alloc, newcomer, quay) {
+        Ok(client) => loops.hand_displacing(rt, gives_way, client, handed).is_ok(),
+        Err(_) => false,
     }
 }
 
-/// Hands a connection that is counted to a loop. One for which there is no memory is closed, and
-/// that is told.
-fn begin<R: Wait + Clock>(rt: &R, alloc: Global, newcomer: Newcomer, loops: &Loops, quay: &Quay) {
+/// Hands a connection that is counted to a loop. Whether there was memory for that: else it is
+/// closed, and that is told.
+fn begin<R: Wait + Clock>(
+    rt: &R,
+    alloc: Global,
+    newcomer: Newcomer,
+    loops: &Loops,
+    quay: &Quay,
+    handed: &mut History<Badge>,
+) -> bool
+    ensures handed { IsTrue result → length handed.new ≡ length handed.old + 1 }
+    ensures closed { IsFalse result → handed.new ≡ handed.old }
+{
     let life = Life {
         badge: newcomer.badge,
         answered: 0,
     };
     let notice = match meet(alloc, newcomer, quay) {
-        Ok(client) => match loops.hand(rt, FIRST_LOOP, client) {
-            Ok(()) => return,
+        Ok(client) => match loops.hand(rt, FIRST_LOOP, client, handed) {
+            Ok(()) => return true,
             Err(_) => Notice::NoMemory,
         },
         Err(notice) => notice,
     };
     quay.refuse(rt, life, notice);
+    false
 }
 
 /// A connection as loops have it.

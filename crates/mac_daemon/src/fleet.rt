@@ -1,8 +1,12 @@
 //! The threads of a daemon: its loops, its workers, and who accepts.
-ghost use Rattle.std.specs.Prelude.{◌≡◌, ◌-◌, IfOk};
+ghost use denote.Param.Send.{IsSend, IsSync};
+ghost use Rattle.std.specs.Prelude.{◌≡◌, ◌-◌, IfOk, OnErr};
 ghost use Rattle.mac_daemon.specs.Day.{MeetsCount};
+ghost use Rattle.mac_daemon.specs.Homes.{AreHome};
 ghost use Rattle.mac_daemon.specs.Memory.{tokens_memory};
 ghost use Rattle.mac_loop.specs.Asks.{home_of};
+ghost use Rattle.mac_pool.specs.Pool.{IsGiven};
+ghost use Rattle.mac_queue.specs.Putting.{pass_of};
 
 use crate::accepting::accept_to_end;
 use crate::door::Gift;
@@ -11,7 +15,7 @@ use crate::quay::Quay;
 use mac_board::{Follower, Followers, TimedTables};
 use mac_decide::{Macaroons, SeenTokens};
 use mac_host::Ending;
-use mac_loop::{Loop, LoopTerms, Loops, make_loops};
+use mac_loop::{EndedLoop, Loop, LoopTerms, Loops, make_loops};
 use mac_pool::{Desk, Pool};
 use mac_sockets::{Entrance, STACK, SharedBudget, has_roomy_stacks};
 use mac_system::SystemMoments;
@@ -93,7 +97,7 @@ pub struct Day {
 #[derive(Drop)]
 pub struct Idlers {
     loops: Arc<Loops, Global>,
-    made: Vec<Loop>,
+    made: Vec<Box<Loop>>,
 }
 
 impl Idlers {
@@ -205,7 +209,9 @@ where
         count,
     };
     let served = run_loops(rt, alloc, &mut pool, made, &mut entrance, fleet);
-    let _books = pool.stop(rt);
+    let Ok(_books) = pool.stop(rt) else {
+        unreachable!()
+    };
     Ok(Day {
         served: served?,
         faults: quay.faults(),
@@ -213,19 +219,19 @@ where
 }
 
 /// Runs these loops, each in a thread at a desk of the pool, while connections come in. Each desk
-/// goes home.
+/// goes home, whether there is a thread for each loop or not.
 fn run_loops<R>(
     rt: &R,
     alloc: Global,
     pool: &mut Pool<Macaroons>,
-    mut made: Vec<Loop>,
+    mut made: Vec<Box<Loop>>,
     entrance: &mut Entrance<Gift>,
     fleet: Fleet<'_>,
 ) -> Result<u64, DaemonFault>
 where
     R: Threads + Wait + Clock + Sync + Copy + Send + 'static,
     ensures served { IfOk result (λ served. MeetsCount fleet.entry.count served) }
-    ensures queue { pool.new.queue ≡ pool.old.queue }
+    ensures home { AreHome pool.old pool.new }
 {
     let Some(one) = made.pop() else {
         fleet.ending.begin(rt);
@@ -245,39 +251,50 @@ where
     served
 }
 
-/// Starts the thread of a loop, at a desk of the pool.
+/// Starts the thread of a loop, at a desk of the pool. Where the system gives none, all loops are
+/// closed: this one ends here, since it has nobody, and its desk goes home.
 fn start_loop<R>(
     rt: R,
     alloc: Global,
     pool: &mut Pool<Macaroons>,
-    one: Loop,
+    one: Box<Loop>,
     fleet: Fleet<'_>,
 ) -> Result<LoopThread, DaemonFault>
 where
     R: Threads + Wait + Clock + Sync + Copy + Send + 'static,
     ensures desk { IfOk result (λ thread.
-        thread.promise.0.value.putter.queue ≡ pool.old.queue) }
-    ensures queue { pool.new.queue ≡ pool.old.queue }
+        IsGiven pool.old (pass_of thread.promise.0.value.putter) pool.new) }
+    ensures home { OnErr result (AreHome pool.old pool.new) }
 {
     let keys = fleet.followers.follower()?;
     let quay = Arc::try_clone(fleet.quay)?;
     let loops = Arc::try_clone(fleet.loops)?;
     let desk = pool.desk(alloc)?;
     let promise = SameDesk(Snapshot::of(&desk));
-    let work = move || run_loop(&rt, one, &loops, keys, &quay, desk);
+    let work = move || -> Desk<Macaroons>
+        requires { IsSend R.row × IsSync R.row }
+        ensures { home_of result ≡ home_of desk }
+    {
+        let (one, keys, desk) = (one, keys, desk);
+        run_loop(&rt, one, &loops, keys, &quay, desk)
+    };
     match Builder::new()
         .stack_size(STACK)
         .spawn_with(&rt, promise, work)
     {
         Ok(thread) => Ok(thread),
-        Err(_) => Err(DaemonFault::NoThread),
+        Err(refused) => {
+            fleet.loops.close();
+            pool.home((refused.value)());
+            Err(DaemonFault::NoThread)
+        }
     }
 }
 
 /// Runs a loop to its end, at this desk, which comes back.
 fn run_loop<R>(
     rt: &R,
-    one: Loop,
+    one: Box<Loop>,
     loops: &Loops,
     keys: Follower,
     quay: &Quay,
@@ -288,5 +305,7 @@ where
     ensures { home_of result ≡ home_of desk }
 {
     let mut outlook = TimedTables::new(keys, SystemMoments::new(rt));
-    one.run(rt, loops, &mut outlook, quay, desk)
+    let one = Box::into_inner(one);
+    let EndedLoop { desk, outcomes: _ } = one.run(rt, loops, &mut outlook, quay, desk);
+    desk
 }

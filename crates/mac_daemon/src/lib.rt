@@ -6,6 +6,7 @@
 #![tactic(auto)]
 
 mod accepting;
+mod arrivals;
 mod descriptors;
 mod door;
 mod fault;

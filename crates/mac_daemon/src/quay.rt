@@ -5,9 +5,10 @@ ghost use Rattle.std.specs.Prelude.{◌≡◌};
 
 use crate::notice::Notice;
 use crate::room::{Entry, Most, Room};
+use mac_count::Request;
 use mac_host::{Badge, Exchange, Life, Notices, Numbers, Roster, Socket, microseconds};
 use mac_loop::{EndedLife, Transcript, Turn, Watch};
-use mac_mail::Bell;
+use mac_mail::{Bell, History};
 use std::alloc::{AllocError, Global};
 use std::sync::atomic::AtomicU64;
 use std::sync::atomic::Ordering::SeqCst;
@@ -103,10 +104,11 @@ impl Quay {
         own.take(comes)
     }
 
-    /// What a connection that begins is noted in, where requests or mints are logged.
+    /// What a connection that begins is noted in, where requests are logged, or what they minted.
     pub fn transcript(&self, alloc: Global) -> Option<Transcript> {
-        if self.notices.logged().is_some() {
-            Some(Transcript::new(alloc))
+        let logged = self.notices.logged();
+        if logged.is_some() {
+            Some(Transcript::new(alloc, logged.identifiers))
         } else {
             None
         }
@@ -187,12 +189,14 @@ impl Quay {
 }
 
 impl Watch for Quay {
-    fn end<R: Wait + Clock>(&self, rt: &R, ended: EndedLife) {
+    fn end<R: Wait + Clock>(&self, rt: &R, ended: EndedLife, told: &mut History<Life>) {
         Quay::end(self, rt, ended.life, ended.fault.map(Notice::Plain));
+        told.add(&ended.life);
     }
 
-    fn count(&self, turn: &Turn) {
-        self.numbers.count_turn(&turn.requests, turn.traffic);
+    fn count(&self, turn: &Turn, micros: u64) {
+        self.numbers
+            .count_turn(&turn.requests, micros, turn.traffic);
     }
 
     fn tell<R: Wait + Clock>(&self, rt: &R, badge: Badge, exchange: Result<Exchange, AllocError>) {
@@ -217,11 +221,13 @@ impl Watch for Quay {
         rt: &R,
         gone: Option<EndedLife>,
         comes: Badge,
+        told: &mut History<Life>,
     ) -> Option<Badge> {
         let gone = gone.map(|ended| ended.life);
         if let Some(life) = gone {
             self.roster.leave(rt, life);
             self.numbers.count_ended(false);
+            told.add(&life);
         }
         let is_room = self.replace(rt, gone, comes.socket);
         self.ends.ring();
@@ -237,8 +243,8 @@ impl Watch for Quay {
         self.roster.set_wide(life, true);
     }
 
-    fn narrow(&self, life: Life, is_answered: bool) {
-        self.numbers.count_narrowed(is_answered);
+    fn narrow(&self, life: Life, answered: Option<Request>, micros: u64) {
+        self.numbers.count_narrowed(answered, micros);
         self.roster.set_wide(life, false);
     }
 }

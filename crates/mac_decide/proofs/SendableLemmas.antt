@@ -170,7 +170,7 @@ request-result-sent (Ok r) request basis is = rw is (request-sent request basis)
 request-result-sent (Err e) request basis is = tt
 
 -- the replies to jobs
-replies-sent : (jobs : List Job) → All IsReply (map reply_to_job jobs)
+pub replies-sent : (jobs : List Job) → All IsReply (map reply_to_job jobs)
 replies-sent jobs = All-map IsReply reply_to_job jobs (λ k d within. reply-sent (slice_index_or jobs k d).arrival (slice_index_or jobs k d).basis)
 
 -- the replies that a call gives to jobs

@@ -25,14 +25,9 @@ pub(crate) fn keys_at(run: &[Prepared<'_>], places: &[usize; LANES]) -> Option<[
     ensures { IfSome result (λ keys. AreUnder run.now places.now keys) }
 {
     let other = run.get(places[0])?.key()?;
-    Some([
-        key_at(run, places[0], other)?,
-        key_at(run, places[1], other)?,
-        key_at(run, places[2], other)?,
-        key_at(run, places[3], other)?,
-        key_at(run, places[4], other)?,
-        key_at(run, places[5], other)?,
-        key_at(run, places[6], other)?,
-        key_at(run, places[7], other)?,
-    ])
+    let mut keys = [other; LANES];
+    for lane in 0..LANES {
+        keys[lane] = key_at(run, places[lane], other)?;
+    }
+    Some(keys)
 }

@@ -169,11 +169,7 @@ fn replies_side_by_side(
     let mut run = ArrayVec::new();
     prepare_all(&mut run, rooms, alloc, sights.as_slice())?;
     walk(run.as_mut_slice());
-    let mut replies = ArrayVec::new();
-    for (sight, prepared) in sights.into_iter().zip(run) {
-        replies.push(reply_when_ready(seen, alloc, sight, prepared)?);
-    }
-    Ok(replies)
+    replies_when_ready(seen, alloc, sights, run)
 }
 
 /// Puts what the replies to what was seen wait for into an empty run.
@@ -196,6 +192,25 @@ fn prepare_all<'a>(
         }
     }
     Ok(())
+}
+
+/// The replies to what was seen, in order, once no other needs a text of theirs folded on.
+fn replies_when_ready(
+    seen: &SeenTokens,
+    alloc: Global,
+    sights: ArrayVec<Sight<'_>, RUN>,
+    run: ArrayVec<Prepared<'_>, RUN>,
+) -> Result<ArrayVec<Reply, RUN>, NoMemory>
+    requires count { length sights.items ≤ RUN }
+    requires each { length sights.items ≤ length run.items }
+    requires ready { AreReady sights.items (map comes_to run.items) }
+    ensures { IfOk result (λ replies. replies.items ≡ map due_of sights.entry.items) }
+{
+    let mut replies = ArrayVec::new();
+    for (sight, prepared) in sights.into_iter().zip(run) {
+        replies.push(reply_when_ready(seen, alloc, sight, prepared)?);
+    }
+    Ok(replies)
 }
 
 /// The reply to what was seen, once no other needs a text of it folded on.

@@ -1,3 +1,6 @@
 pub mod ListLemmas
 pub mod TurnLemmas
 pub mod Sent
+pub mod LifeLemmas
+pub mod LawLemmas
+pub mod LineLemmas

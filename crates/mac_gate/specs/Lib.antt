@@ -7,3 +7,6 @@ pub mod Turns
 pub mod Weight
 pub mod Load
 pub mod Health
+pub mod Lives
+pub mod Numbers
+pub mod Pages

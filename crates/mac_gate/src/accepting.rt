@@ -37,7 +37,7 @@ fn accept_each<R: Wait + Clock>(rt: &R, entrance: &mut Entrance<()>, server: &Sh
         match entrance.accept(rt) {
             Some(Ok(arrived)) => {
                 let Arrived { stream, door: _ } = arrived;
-                server.enter(rt, stream.into_stream());
+                server.enter(rt, stream);
             }
             Some(Err(fault)) => {
                 server.tell_refused(rt, fault);

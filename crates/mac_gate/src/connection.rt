@@ -1,77 +1,71 @@
 //! A connection of a loop: how far it is answered, and what it waits for.
 
-ghost use Rattle.std.specs.Prelude.{None};
+ghost use Rattle.std.specs.Prelude.{◌≡◌, [], IsSome, None};
+ghost use Rattle.http_server.specs.Connection.{config_of, history};
+ghost use Rattle.http_server.specs.History.{IsDone, new_history};
+ghost use Rattle.mac_gate.specs.Lives.{Lives, way_of};
 ghost use Rattle.mac_gate.specs.Load.{held_by};
 ghost use Rattle.mac_gate.specs.Patience.{IsLeft};
-ghost use Rattle.mac_http.specs.Turn.{IsTurn};
+ghost use Rattle.mac_http.specs.declared.attending.TheConstants.{CONFIG};
 
-use crate::devices::{Heard, READ_MAX, Spoken};
-use crate::gathering::Gathered;
-use crate::load::Load;
-use crate::weight::Weight;
-use http_server::{Connection, Service};
-use mac_http::{Way, take_turn};
-use mac_sockets::{Holds, Readiness, Stream, Wakes};
+use crate::answering::Answering;
+use crate::flow::Flow;
+use crate::note::HttpNote;
+use crate::offer::Offer;
+use crate::turning::InTurn;
+use http_server::Connection;
+use mac_sockets::{Fresh, Holds, Readiness, Stream, Wakes};
 use mio::{Registry, Token};
 use std::alloc::Global;
 use std::io;
 use std::io::ErrorKind;
 use std::net::Shutdown;
+use std::random::RandomSource;
+use std::sync::{Arc, Wait};
+use std::time::Clock;
 
-/// How many bytes one read behind the last response drops at most.
-pub const DROPPED_PIECE: usize = 16_384;
+/// How many bytes one read takes at most: in a turn, or behind the last response, where they are
+/// dropped.
+pub const PIECE: usize = 16_384;
 
-/// How many such reads there are at most.
-const DROPPED_READS: usize = 64;
-
-/// How many microseconds pass before each of them at most.
+/// How many microseconds pass before each read that drops what comes, at most.
 const DROPPED_MICROS: u64 = 100_000;
 
-/// A connection of a loop.
+/// A connection of a loop. What was written to it is a beginning of HTTP's answers to what was
+/// read, and each response is the one that its address offers for its request, by the way that its
+/// peer comes. Once it parts, all of it was written. What is read and dropped behind the last
+/// response isn't among what came.
 #[derive(Drop)]
 pub struct HttpConnection {
-    stream: Stream,
-    connection: Connection,
-    // What came of a request in small pieces, and wasn't looked at yet; and whether its loop has noted
-    // when it is to look at that.
-    gathered: Gathered,
-    is_put_off: bool,
-    // When something was written last, or it began, in microseconds.
-    since: u64,
-    // What has come since then.
-    weight: Weight,
-    // How much memory it is counted for.
-    load: Load,
-    // Whether the last read gave some bytes.
-    has_come: bool,
-    // Whether there may be something to be read, and room to write.
-    has_more: bool,
-    has_room: bool,
-    // Whether the peer writes no more: it is read to its end.
-    is_closing: bool,
-    // Whether a poll tells of room to write.
-    awaits_room: bool,
-    // Behind the last response, how many further reads drop what comes.
-    parting: Option<usize>,
+    pub(crate) stream: Stream,
+    // What is offered at its address.
+    pub(crate) offer: Arc<Offer, Global>,
+    pub(crate) connection: Box<Connection>,
+    pub(crate) flow: Flow,
+    pub(crate) note: HttpNote,
+    ghost lives: { ∥ Lives offer.value (way_of stream) flow [] connection.value ∥₁ },
+    ghost all: { IsSome note.parting → ∥ IsDone (history connection.value) ∥₁ },
 }
 
 impl HttpConnection {
-    /// A connection that begins now.
-    pub fn new(alloc: Global, stream: Stream, connection: Connection, now: u64) -> HttpConnection {
+    /// A connection that begins now, by this machine of HTTP, which has done nothing.
+    pub fn new(
+        alloc: Global,
+        stream: Fresh,
+        offer: Arc<Offer, Global>,
+        connection: Box<Connection>,
+        now: u64,
+    ) -> HttpConnection
+        requires fresh { history connection.value ≡ new_history }
+        requires config { config_of connection.value ≡ CONFIG }
+    {
+        let (stream, flow) = Flow::begin(alloc, stream);
         HttpConnection {
             stream,
+            offer,
             connection,
-            gathered: Gathered::new(alloc),
-            is_put_off: false,
-            since: now,
-            weight: Weight::new(),
-            load: Load::new(),
-            has_come: false,
-            has_more: true,
-            has_room: true,
-            is_closing: false,
-            awaits_room: false,
-            parting: None,
+            flow,
+            note: HttpNote::new(now),
         }
     }
 
@@ -83,133 +77,154 @@ impl HttpConnection {
 
     /// Has a poll tell of room to write too, while that is waited for.
     pub fn update(&mut self, registry: &Registry, token: Token) -> io::Result<()> {
-        let awaits = self.connection.wants_write() && !self.has_room;
-        if awaits == self.awaits_room {
+        let awaits = self.connection.wants_write() && !self.note.has_room;
+        if awaits == self.note.awaits_room {
             return Ok(());
         }
-        self.awaits_room = awaits;
+        self.note.awaits_room = awaits;
         self.stream.await_room(registry, token, awaits)
-    }
-
-    /// The way by which its peer comes.
-    pub fn way(&self) -> Way {
-        match &self.stream {
-            Stream::Unix(_) => Way::Socket,
-            Stream::Tcp(_) => Way::Port,
-        }
     }
 
     /// Whether it may be owed something: a response, or to be read on in a request that has begun,
     /// or since its last read gave some bytes.
     pub fn is_owed(&self) -> bool {
-        self.connection.wants_write() || !self.weight.is_idle() || self.has_come
+        self.connection.wants_write() || !self.note.weight.is_idle() || self.note.has_come
     }
 
     /// Whether a turn may do something.
     pub fn is_ready(&self) -> bool {
-        if self.parting.is_none() && self.connection.wants_write() {
-            self.has_room
+        if self.note.parting.is_none() && self.connection.wants_write() {
+            self.note.has_room
         } else {
-            self.has_more
+            self.note.has_more
         }
     }
 
     /// Whether a turn may answer a dear request.
     pub fn is_dear(&self) -> bool {
-        self.parting.is_none() && self.weight.is_dear()
+        self.note.parting.is_none() && self.note.weight.is_dear()
+    }
+
+    /// It waits for a turn among those with a dear request, since now unless it does already.
+    pub fn begin_wait(&mut self, now: u64) {
+        if self.note.waits_since.is_none() {
+            self.note.waits_since = Some(now);
+        }
+    }
+
+    /// It waits for a turn no more. Since when it did, in microseconds.
+    pub fn end_wait(&mut self) -> Option<u64> {
+        self.note.waits_since.take()
     }
 
     /// Takes nothing more from the peer than what has come, where the connection is idle.
     pub fn end_if_idle(&mut self) {
-        if self.weight.is_idle() && !self.is_closing && self.parting.is_none() {
+        if self.note.weight.is_idle() && !self.note.is_closing && self.note.parting.is_none() {
             self.stream.shut(Shutdown::Read);
-            self.is_closing = true;
-            self.has_more = true;
+            self.note.is_closing = true;
+            self.note.has_more = true;
         }
     }
 
     /// What is left now of the time that the peer may take, if anything.
     pub fn left(&self, patience: u64, now: u64) -> Option<u64> {
-        let limit = match self.parting {
+        let limit = match self.note.parting {
             Some(_) => DROPPED_MICROS,
             None => patience,
         };
-        left_of(limit, now.saturating_sub(self.since))
+        left_of(limit, now.saturating_sub(self.note.since))
     }
 
-    /// In how many microseconds what came in small pieces is looked at, where something is put off and
-    /// no look at it is noted. From then on one is.
+    /// In how many microseconds what came in small pieces is looked at, where something is put off
+    /// and no look at it is noted. From then on one is.
     pub fn put_off(&mut self) -> Option<u64> {
-        if self.is_put_off {
+        if self.note.is_put_off {
             return None;
         }
-        let due_in = self.gathered.due_in()?;
-        self.is_put_off = true;
+        let due_in = self.flow.gathered.due_in()?;
+        self.note.is_put_off = true;
         Some(due_in)
     }
 
     /// The look comes that was noted.
     pub fn take_up(&mut self) {
-        self.is_put_off = false;
+        self.note.is_put_off = false;
     }
 
-    /// Does what can be done without waiting, by this service; what is dropped is read into the
-    /// piece. Whether the connection goes on.
-    pub fn advance<S: Service>(&mut self, service: &mut S, now: u64, piece: &mut [u8]) -> bool {
-        match self.parting {
-            Some(left) => self.drop_piece(left, now, piece),
-            None => self.answer(service, now),
+    /// Does what can be done without waiting: what is read is put into the piece. None where it has
+    /// ended.
+    pub fn advance<R: Wait + Clock + RandomSource>(
+        self,
+        answering: &mut Answering<'_, R>,
+        now: u64,
+        piece: &mut [u8],
+    ) -> Option<HttpConnection> {
+        if self.note.parting.is_none() {
+            return self.answer(answering, now, piece);
+        }
+        let mut parting = self;
+        if parting.drop_piece(now, piece) {
+            Some(parting)
+        } else {
+            None
         }
     }
 
-    /// Takes a turn. A fault ends the connection.
-    fn answer<S: Service>(&mut self, service: &mut S, now: u64) -> bool {
-        let limit = self.weight.read_limit(READ_MAX as u64) as usize;
-        let mut heard = Heard::new(&self.stream, &mut self.gathered, self.has_more, limit, now);
-        let mut spoken = Spoken::new(&self.stream, self.has_room);
-        let turned = answer_turn(&mut self.connection, service, &mut heard, &mut spoken);
-        let (came, waited, has_gone) = (heard.came, spoken.waited, spoken.has_gone);
-        let has_come = came > 0;
-        self.has_more = heard.has_more || (has_come && self.is_closing);
-        self.has_room = spoken.has_room;
-        if heard.was_read {
-            self.has_come = has_come;
+    /// Takes a turn: where nothing is left to be sent it reads once. A fault ends the connection.
+    fn answer<R: Wait + Clock + RandomSource>(
+        self,
+        answering: &mut Answering<'_, R>,
+        now: u64,
+        piece: &mut [u8],
+    ) -> Option<HttpConnection>
+        requires { self.note.parting ≡ None }
+    {
+        let HttpConnection {
+            stream,
+            offer,
+            connection,
+            mut flow,
+            mut note,
+        } = self;
+        if connection.wants_write() {
+            let turn = InTurn {
+                stream,
+                offer,
+                connection,
+                flow,
+                note,
+            };
+            return turn.answer(answering, now, &[]);
         }
-        self.weight.hear(came as u64);
-        self.load.note(self.weight.bytes(), waited as u64);
-        if has_gone {
-            self.weight.answer();
-            self.since = now;
-            self.gathered.begin();
+        let heard = flow.read(&stream, piece, note.read_limit(), now);
+        note.hear(&heard);
+        let turn = InTurn {
+            stream,
+            offer,
+            connection,
+            flow,
+            note,
+        };
+        match heard.outcome {
+            Ok(told) => turn.answer(answering, now, &piece[..told]),
+            Err(fault) if fault.kind() == ErrorKind::WouldBlock => Some(turn.end()),
+            Err(_) => None,
         }
-        if !goes_on(&turned) {
+    }
+
+    /// Drops what has come behind the last response. It ends after some reads.
+    fn drop_piece(&mut self, now: u64, piece: &mut [u8]) -> bool {
+        let Some(left) = self.note.parting else {
             return false;
-        }
-        if self.connection.is_done() {
-            self.part(now);
-        }
-        true
-    }
-
-    /// Ends what is written, behind the last response. What still comes is read and dropped, so
-    /// that the peer reads that response and no reset.
-    fn part(&mut self, now: u64) {
-        self.stream.shut(Shutdown::Write);
-        self.parting = Some(DROPPED_READS);
-        self.since = now;
-        self.has_more = true;
-    }
-
-    /// Drops what has come behind the last response. It ends after `DROPPED_READS` reads.
-    fn drop_piece(&mut self, left: usize, now: u64, piece: &mut [u8]) -> bool {
+        };
         match self.stream.read_past_signals(piece) {
             Ok(count) if count > 0 && left > 0 => {
-                self.parting = Some(left.saturating_sub(1));
-                self.since = now;
+                self.note.parting = Some(left.saturating_sub(1));
+                self.note.since = now;
                 true
             }
             Err(fault) if fault.kind() == ErrorKind::WouldBlock => {
-                self.has_more = false;
+                self.note.has_more = false;
                 true
             }
             Ok(_) | Err(_) => false,
@@ -218,45 +233,24 @@ impl HttpConnection {
 }
 
 impl Holds for HttpConnection {
-    ghost bytes = { λ one. held_by one.load };
+    ghost bytes = { λ one. held_by one.note.load };
 
     fn held(&self) -> u64 {
-        self.load.held()
+        self.note.load.held()
     }
 
     // When something was written last, or it began.
     fn since(&self) -> u64 {
-        self.since
+        self.note.since
     }
 }
 
 impl Wakes for HttpConnection {
     fn wake(&mut self, told: Readiness) -> bool {
-        self.has_more = self.has_more || told.reads || told.closes;
-        self.has_room = self.has_room || told.writes;
-        self.is_closing = self.is_closing || told.closes;
+        self.note.has_more = self.note.has_more || told.reads || told.closes;
+        self.note.has_room = self.note.has_room || told.writes;
+        self.note.is_closing = self.note.is_closing || told.closes;
         self.is_ready()
-    }
-}
-
-/// A turn of a connection over its stream, which doesn't state its bytes.
-fn answer_turn<'a, S: Service>(
-    connection: &mut Connection,
-    service: &mut S,
-    heard: &mut Heard<'a>,
-    spoken: &mut Spoken<'a>,
-) -> io::Result<usize>
-    ensures { IsTurn S.answers None None None None service.old service.new
-        connection.old connection.new }
-{
-    take_turn(connection, service, heard, spoken)
-}
-
-/// Whether a connection goes on behind a turn: it was broken off by no fault.
-fn goes_on(turned: &io::Result<usize>) -> bool {
-    match turned {
-        Ok(_) => true,
-        Err(fault) => fault.kind() == ErrorKind::WouldBlock,
     }
 }
 

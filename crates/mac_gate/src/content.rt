@@ -1,17 +1,13 @@
 //! What the connections of a server are answered by: faces of a daemon, or a site.
 
-use crate::daemon::OwnDaemon;
-use crate::draws::SystemDraws;
+use crate::answering::Answering;
 use crate::looping::HttpLoop;
+use crate::offer::{AddressTerms, Offer};
 use crate::shared::Shared;
 use crate::terms::HttpTerms;
-use http_server::Service;
-use mac_board::{Follower, Followers, Moments, Tables};
-use mac_calls::Draws;
+use mac_board::{Follower, Followers};
 use mac_decide::Rights;
-use mac_http::{Face, Monitor, Way};
-use mac_page::{PageFace, Site};
-use mac_system::SystemMoments;
+use mac_page::Site;
 use std::alloc::{AllocError, Global};
 use std::random::RandomSource;
 use std::sync::{Arc, Wait};
@@ -19,39 +15,11 @@ use std::time::Clock;
 
 /// What answers the connections of a loop.
 #[derive(Drop)]
-pub enum Content {
-    /// A face of the daemon.
-    Daemon(FaceParts),
-    /// The face of a site.
-    Site(Site),
-}
-
-/// What a face of the daemon is made of.
-#[derive(Drop)]
-pub struct FaceParts {
-    /// Follows the key tables.
-    pub keys: Follower,
-    /// What is answered.
-    pub terms: HttpTerms,
-    /// What is allowed.
-    pub rights: Arc<Rights, Global>,
-}
-
-/// A service whose requests come by one way or another.
-pub trait Answers: Service {
-    /// Has the requests from now on come by this way.
-    fn come_by(&mut self, way: Way);
-}
-
-impl<'a, K: Tables, M: Moments, S: Monitor> Answers for Face<'a, K, M, S> {
-    fn come_by(&mut self, way: Way) {
-        Face::come_by(self, way);
-    }
-}
-
-impl<'a, D: Draws> Answers for PageFace<'a, D> {
-    // A page is asked at a port alone.
-    fn come_by(&mut self, _way: Way) {}
+pub struct Content {
+    // What is offered to them.
+    offer: Arc<Offer, Global>,
+    // Follows the key tables, where that is a daemon's.
+    keys: Option<Follower>,
 }
 
 impl Content {
@@ -63,14 +31,13 @@ impl Content {
         loops: usize,
         terms: HttpTerms,
     ) -> Result<Vec<Content>, AllocError> {
-        let rights = Arc::new(alloc, rights)?;
+        let offer = Arc::new(alloc, Offer::Daemon(AddressTerms { terms, rights }))?;
         let mut contents = Vec::with_capacity(alloc, loops)?;
         for _ in 0..loops {
-            contents.push(Content::Daemon(FaceParts {
-                keys: followers.follower()?,
-                terms,
-                rights: Arc::try_clone(&rights)?,
-            }))?;
+            contents.push(Content {
+                offer: Arc::try_clone(&offer)?,
+                keys: Some(followers.follower()?),
+            })?;
         }
         Ok(contents)
     }
@@ -78,7 +45,10 @@ impl Content {
     /// A site, for one loop.
     pub fn site(alloc: Global, site: Site) -> Result<Vec<Content>, AllocError> {
         let mut contents = Vec::with_capacity(alloc, 1)?;
-        contents.push(Content::Site(site))?;
+        contents.push(Content {
+            offer: Arc::new(alloc, Offer::Site(site))?,
+            keys: None,
+        })?;
         Ok(contents)
     }
 
@@ -90,37 +60,14 @@ impl Content {
         server: &Shared,
         own: &mut HttpLoop,
     ) {
-        match self {
-            Content::Daemon(parts) => parts.serve(rt, alloc, server, own),
-            Content::Site(site) => {
-                let mut face = PageFace::new(alloc, &site, SystemDraws(rt));
-                own.run(rt, alloc, server, &mut face);
-            }
-        }
-    }
-}
-
-impl FaceParts {
-    fn serve<R: Wait + Clock + RandomSource>(
-        self,
-        rt: &R,
-        alloc: Global,
-        server: &Shared,
-        own: &mut HttpLoop,
-    ) {
-        let FaceParts {
-            keys,
-            terms,
-            rights,
-        } = self;
-        let daemon = OwnDaemon {
+        let Content { offer, keys } = self;
+        let mut answering = Answering {
+            since: 0,
             rt,
             alloc,
             server,
-            version: terms.version,
+            keys,
         };
-        let rules = terms.rules(&rights, Way::Socket);
-        let mut face = Face::new(alloc, keys, rules, SystemMoments::new(rt), daemon);
-        own.run(rt, alloc, server, &mut face);
+        own.run(rt, &offer, &mut answering);
     }
 }

@@ -1,17 +1,18 @@
 //! What a face over HTTP tells of its daemon, and tells it.
 
-ghost use Rattle.std.specs.Prelude.{◌≡◌, ◌++◌, IfOk, OnOk};
+ghost use Rattle.std.specs.Prelude.{◌≡◌, ◌++◌, IfOk, OnOk, option_copied};
 ghost use Rattle.mac_gate.specs.Health.{health_of, health_text};
+ghost use Rattle.mac_gate.specs.Pages.{Adds, Tells, TellsConnections, TellsHealth, TellsNumbers};
+ghost use Rattle.mac_gate.specs.Pages.{TellsStatus};
 
 use crate::draws::SystemDraws;
-use crate::key_lines::append_told_keys;
 use crate::noting::{exchange_of, request_of};
+use crate::numbers::{append_numbers, append_status_page};
 use crate::shared::Shared;
-use http::StatusCode;
 use mac_calls::Draws;
-use mac_count::{Number, append_metrics, append_status, append_version};
+use mac_count::Number;
 use mac_decide::SeenTokens;
-use mac_host::Host;
+use mac_host::{Host, microseconds};
 use mac_http::{Monitor, Noted, Page, Told};
 use mac_keys::KeyTable;
 use std::alloc::{AllocError, Global};
@@ -27,6 +28,8 @@ pub struct OwnDaemon<'a, R> {
     pub server: &'a Shared,
     /// The version of the program.
     pub version: &'static str,
+    /// Since when what is answered now has been there, in microseconds.
+    pub since: u64,
 }
 
 impl<'a, R: Wait + Clock> OwnDaemon<'a, R> {
@@ -35,16 +38,51 @@ impl<'a, R: Wait + Clock> OwnDaemon<'a, R> {
     }
 
     /// Tells how the daemon is.
-    fn tell_health(&self, text: &mut Vec<u8>) -> Result<Told, AllocError> {
+    fn tell_health(&self, text: &mut Vec<u8>) -> Result<Told, AllocError>
+        ensures { IfOk result (Adds TellsHealth text.old.items text.new.items) }
+    {
         let refused = self.host().numbers().snapshot().number(Number::KeysRefused);
         append_health(self.server.is_ending(), refused > 0, text)
     }
 
-    /// Logs a request and the status that it was answered with, where requests or mints are logged.
-    fn log(&self, noted: Noted<'_>, status: StatusCode) {
+    /// Tells what it has counted, as Prometheus reads it.
+    fn tell_numbers(&self, text: &mut Vec<u8>) -> Result<Told, AllocError>
+        ensures { IfOk result (Adds (TellsNumbers self.now.version.now)
+            text.old.items text.new.items) }
+    {
+        let numbers = self.host().numbers().snapshot();
+        append_numbers(self.alloc, self.version, &numbers, text)?;
+        Ok(Told::Well)
+    }
+
+    /// Tells what it has counted, a line for each number, and these keys.
+    fn tell_status(&self, keys: Option<&KeyTable>, text: &mut Vec<u8>) -> Result<Told, AllocError>
+        ensures { IfOk result (Adds (TellsStatus self.now.version.now (option_copied keys.entry))
+            text.old.items text.new.items) }
+    {
+        let numbers = self.host().numbers().snapshot();
+        append_status_page(self.alloc, self.version, &numbers, keys, text)?;
+        Ok(Told::Well)
+    }
+
+    /// Tells its connections, a line for each.
+    fn tell_connections(&self, text: &mut Vec<u8>) -> Result<Told, AllocError>
+        ensures { IfOk result (Adds TellsConnections text.old.items text.new.items) }
+    {
+        let mut lines = Vec::new(self.alloc);
+        self.host()
+            .roster()
+            .append_lines(self.rt, self.alloc, &mut lines)?;
+        text.extend_from_slice(&lines)?;
+        Ok(Told::Well)
+    }
+
+    /// Logs a request, where any is logged.
+    fn log(&self, noted: &Noted<'_>) {
         let notices = self.host().notices();
-        if notices.logged().is_some() {
-            let exchange = exchange_of(self.alloc, noted, status);
+        let logged = notices.logged();
+        if logged.is_some() {
+            let exchange = exchange_of(self.alloc, logged.identifiers, noted);
             notices.tell_exchange(self.rt, None, exchange);
         }
     }
@@ -57,6 +95,8 @@ impl<'a, R: Wait + Clock + RandomSource> Draws for OwnDaemon<'a, R> {
 }
 
 impl<'a, R: Wait + Clock + RandomSource> Monitor for OwnDaemon<'a, R> {
+    ghost says = { λ daemon page keys text told. Tells daemon.version.now page keys text told };
+
     fn is_ending(&self) -> bool {
         self.server.is_ending()
     }
@@ -71,31 +111,20 @@ impl<'a, R: Wait + Clock + RandomSource> Monitor for OwnDaemon<'a, R> {
         keys: Option<&KeyTable>,
         text: &mut Vec<u8>,
     ) -> Result<Told, AllocError> {
-        let numbers = self.host().numbers();
         match page {
-            Page::Health => return self.tell_health(text),
-            Page::Numbers => {
-                append_version_metric(self.version, text)?;
-                append_metrics(self.alloc, &numbers.snapshot(), text)?;
-            }
-            Page::Status => {
-                append_version(self.version, text)?;
-                append_status(self.alloc, &numbers.snapshot(), text)?;
-                append_told_keys(self.alloc, keys, text)?;
-            }
-            Page::Connections => self
-                .host()
-                .roster()
-                .append_lines(self.rt, self.alloc, text)?,
+            Page::Health => self.tell_health(text),
+            Page::Numbers => self.tell_numbers(text),
+            Page::Status => self.tell_status(keys, text),
+            Page::Connections => self.tell_connections(text),
         }
-        Ok(Told::Well)
     }
 
-    fn note(&self, noted: Noted<'_>, status: StatusCode) {
-        if let Some(request) = request_of(noted.asks, noted.reason, status) {
-            self.host().numbers().count_request(request);
+    fn note(&self, noted: &Noted<'_>) {
+        if let Some(request) = request_of(noted) {
+            let micros = microseconds(self.rt).saturating_sub(self.since);
+            self.host().numbers().count_request(request, micros);
         }
-        self.log(noted, status);
+        self.log(noted);
     }
 }
 
@@ -119,12 +148,4 @@ fn append_health(
     }
     text.extend_from_slice(b"ok\n")?;
     Ok(Told::Well)
-}
-
-/// Appends the version in Prometheus's text form: a metric whose value is 1, with a label.
-fn append_version_metric(version: &str, text: &mut Vec<u8>) -> Result<(), AllocError> {
-    text.extend_from_slice(b"# TYPE macaroond_build_info gauge\n")?;
-    text.extend_from_slice(b"macaroond_build_info{version=\"")?;
-    text.extend_from_slice(version.as_bytes())?;
-    text.extend_from_slice(b"\"} 1\n")
 }

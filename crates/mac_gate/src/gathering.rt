@@ -1,6 +1,7 @@
 //! What a peer sends in small pieces, gathered until it is looked at.
 
-ghost use Rattle.std.specs.Prelude.{◌≡◌, ◌<◌, ◌≤◌, ◌+◌, ◌++◌, false, length, take, true, IfErr, IfOk, OnErr, OnOk};
+ghost use Rattle.std.specs.Prelude.{◌≡◌, ◌⊎◌, [], ◌<◌, ◌≤◌, ◌+◌, ◌++◌, false, length, take, true};
+ghost use Rattle.std.specs.Prelude.{IfErr, IfOk, OnErr, OnOk};
 ghost use Rattle.std.specs.Io.{ReadsAtMost};
 ghost use Rattle.std.specs.IoError.{error_kind};
 ghost use Rattle.mac_gate.specs.Pace.{is_due};
@@ -20,7 +21,9 @@ pub struct Gathered {
 
 impl Gathered {
     /// None. It takes no memory.
-    pub fn new(alloc: Global) -> Gathered {
+    pub fn new(alloc: Global) -> Gathered
+        ensures { result.bytes.items ≡ [] }
+    {
         Gathered {
             alloc,
             bytes: Vec::new(alloc),
@@ -29,11 +32,13 @@ impl Gathered {
     }
 
     /// A response was sent, and another request begins.
-    pub fn begin(&mut self) {
+    pub fn begin(&mut self)
+        ensures { self.new.bytes ≡ self.old.bytes }
+    {
         self.pace = Pace::new();
     }
 
-    /// In how many microseconds what is gathered is looked at, where something is.
+    /// In how many microseconds it is seen whether what is gathered is looked at, where something is.
     pub fn due_in(&self) -> Option<u64> {
         if self.bytes.is_empty() {
             None
@@ -76,6 +81,9 @@ impl Gathered {
         ensures due { OnOk result
             (is_due self.old.pace (length self.old.bytes.items) now ≡ true) }
         ensures err { OnErr result (self.new ≡ self.old) }
+        ensures put_off { IfErr result (λ told. (error_kind told ≡ ErrorKind.OutOfMemory)
+            ⊎ ((length self.old.bytes.items ≡ 0)
+            ⊎ (is_due self.old.pace (length self.old.bytes.items) now ≡ false))) }
     {
         if self.bytes.is_empty() || !self.pace.is_due(self.bytes.len() as u64, now) {
             return Err(fault);

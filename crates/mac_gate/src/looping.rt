@@ -1,13 +1,15 @@
 //! A loop: a thread's turns over its connections.
 
-use crate::connection::{DROPPED_PIECE, HttpConnection};
-use crate::content::{Answers, Content};
+use crate::answering::Answering;
+use crate::connection::{HttpConnection, PIECE};
+use crate::content::Content;
+use crate::offer::Offer;
 use crate::shared::{Newcomer, Shared};
 use crate::waiting::Waiting;
 use http_server::Connection;
 use mac_host::{microseconds, microseconds_of};
 use mac_http::CONFIG;
-use mac_sockets::{STACK, SharedBudget, Stream};
+use mac_sockets::{Fresh, STACK, SharedBudget};
 use mio::Waker;
 use std::alloc::Global;
 use std::hash::RandomState;
@@ -23,7 +25,7 @@ use std::time::{Clock, Duration};
 pub struct HttpLoop {
     number: usize,
     connections: Waiting,
-    // What is dropped is read into this.
+    // What comes is read into this.
     piece: Vec<u8>,
 }
 
@@ -39,7 +41,7 @@ impl HttpLoop {
     ) -> io::Result<(HttpLoop, Waker)> {
         let (connections, waker) = Waiting::new(rt, alloc, microseconds_of(patience), budget)?;
         let mut piece = Vec::new(alloc);
-        piece.resize(DROPPED_PIECE, 0)?;
+        piece.resize(PIECE, 0)?;
         let own = HttpLoop {
             number,
             connections,
@@ -67,20 +69,21 @@ impl HttpLoop {
         Builder::new().stack_size(STACK).spawn(&rt, work).is_ok()
     }
 
-    /// Serves the loop's connections, which this service answers, to the end of the last one.
-    pub fn run<R: Wait + Clock + RandomSource, S: Answers>(
+    /// Serves the loop's connections, which this answers by what is offered to them, to the end of
+    /// the last one.
+    pub fn run<R: Wait + Clock + RandomSource>(
         &mut self,
         rt: &R,
-        alloc: Global,
-        server: &Shared,
-        service: &mut S,
+        offer: &Arc<Offer, Global>,
+        answering: &mut Answering<'_, R>,
     ) {
+        let (alloc, server) = (answering.alloc, answering.server);
         for _ in rt.forever() {
             self.connections.wait(rt);
             // Behind the last arrival the server is closed.
             let is_closed = server.is_closed();
-            self.take_in_all(rt, alloc, server);
-            self.advance_ready(rt, server, service);
+            self.take_in_all(rt, alloc, server, offer);
+            self.advance_ready(rt, server, answering);
             self.sweep(rt, server);
             self.settle(rt, server);
             if is_closed && self.connections.count() == 0 {
@@ -95,13 +98,14 @@ impl HttpLoop {
         rt: &R,
         alloc: Global,
         server: &Shared,
+        offer: &Arc<Offer, Global>,
     ) {
         let mut has_come = false;
         for _ in rt.forever() {
             let Some(newcomer) = server.take(rt, self.number) else {
                 break;
             };
-            self.receive(rt, alloc, server, newcomer);
+            self.receive(rt, alloc, server, offer, newcomer);
             has_come = true;
         }
         if has_come {
@@ -116,34 +120,43 @@ impl HttpLoop {
         rt: &R,
         alloc: Global,
         server: &Shared,
+        offer: &Arc<Offer, Global>,
         newcomer: Newcomer,
     ) {
         let Newcomer { stream, displaces } = newcomer;
         if displaces && !self.connections.drop_stalest() {
             return;
         }
-        if !self.takes_in(rt, alloc, stream) {
+        if !self.takes_in(rt, alloc, stream, offer) {
             server.leave(rt, self.number);
         }
     }
 
     /// Takes a connection in. Whether that could be.
-    fn takes_in<R: Clock + RandomSource>(&mut self, rt: &R, alloc: Global, stream: Stream) -> bool {
-        let Ok(secrets) = RandomState::new(rt) else {
+    fn takes_in<R: Clock + RandomSource>(
+        &mut self,
+        rt: &R,
+        alloc: Global,
+        stream: Fresh,
+        offer: &Arc<Offer, Global>,
+    ) -> bool {
+        let (Ok(secrets), Ok(offer)) = (RandomState::new(rt), Arc::try_clone(offer)) else {
             return false;
         };
-        let connection = Connection::new(alloc, secrets, CONFIG);
-        let one = HttpConnection::new(alloc, stream, connection, microseconds(rt));
+        let Ok(connection) = Box::new(alloc, Connection::new(alloc, secrets, CONFIG)) else {
+            return false;
+        };
+        let one = HttpConnection::new(alloc, stream, offer, connection, microseconds(rt));
         self.connections.begin(one)
     }
 
-    /// Has those that are ready do what they can, once each; but of those with a dear request only the
-    /// next one, behind the others. Where there is no memory for a turn, none has one.
-    fn advance_ready<R: Wait + Clock, S: Answers>(
+    /// Has those that are ready do what they can, once each; but of those with a dear request only
+    /// the next one, behind the others. Where there is no memory for a turn, none has one.
+    fn advance_ready<R: Wait + Clock + RandomSource>(
         &mut self,
         rt: &R,
         server: &Shared,
-        service: &mut S,
+        answering: &mut Answering<'_, R>,
     ) {
         if server.is_ending() {
             self.connections.end_idle();
@@ -158,16 +171,15 @@ impl HttpLoop {
             } else {
                 self.connections.next_dear()
             };
-            if let Some((slot, way)) = next {
-                service.come_by(way);
-                self.advance(rt, server, service, slot);
+            if let Some(slot) = next {
+                self.advance(rt, server, answering, slot);
             }
         }
     }
 
     /// Gives back what turns haven't taken, and what those had who have left. Where some loop lacks
-    /// more than connections leave, those here that hold most are let go, as long as they hold much;
-    /// else a loop that lacks memory waits for others.
+    /// more than connections leave, those here that hold most are let go, as long as they hold
+    /// much; else a loop that lacks memory waits for others.
     fn settle<R: Wait + Clock>(&mut self, rt: &R, server: &Shared) {
         self.connections.settle(rt);
         let mut has_ended = false;
@@ -185,22 +197,22 @@ impl HttpLoop {
     }
 
     /// Has the connection of a slot do what it can.
-    fn advance<R: Wait, S: Answers>(
+    fn advance<R: Wait + Clock + RandomSource>(
         &mut self,
         rt: &R,
         server: &Shared,
-        service: &mut S,
+        answering: &mut Answering<'_, R>,
         slot: usize,
     ) {
         let is_ending = server.is_ending();
         let piece = self.piece.as_mut_slice();
-        if self.connections.advance(slot, service, is_ending, piece) {
+        if self.connections.advance(slot, answering, is_ending, piece) {
             server.leave(rt, self.number);
         }
     }
 
-    /// Looks at all connections, where it is time for that, and lets those go whose peers have taken
-    /// too long.
+    /// Looks at all connections, where it is time for that, and lets those go whose peers have
+    /// taken too long.
     fn sweep<R: Wait>(&mut self, rt: &R, server: &Shared) {
         if !self.connections.begins_look() {
             return;

@@ -1,20 +1,21 @@
 //! What a request over HTTP is counted and logged as, by its status and by why it wasn't done.
 
-ghost use Rattle.std.specs.Prelude.{◌≡◌, IfOk};
-ghost use Rattle.mac_gate.specs.Noting.{counted_as, is_revoked, is_well, logged_reason};
-ghost use Rattle.mac_gate.specs.Noting.{told_of_call, told_of_verify};
+ghost use Rattle.std.specs.Prelude.{◌≡◌, IfOk, option_copied, option_map};
+ghost use Rattle.mac_gate.specs.Noting.{IsExchangeOf, asks_word, counted_as, is_well};
+ghost use Rattle.mac_gate.specs.Noting.{identifier_of, logged_reason, told_identifier, told_of_call};
+ghost use Rattle.mac_gate.specs.Noting.{told_of_verify, verdict_word, well_word};
 
 use http::StatusCode;
 use mac_count::{Asked, Request, Told};
-use mac_host::{Exchange, LoggedReason, copy_told_identifier};
+use mac_host::{Exchange, LoggedReason, copy_identifier_of, copy_told_id, copy_told_identifier};
 use mac_http::{Asks, Noted, Reason};
-use mac_wire::Refusal;
 use std::alloc::{AllocError, Global};
 
 /// What a request is counted as, if it is counted: what needs no key isn't.
-pub fn request_of(asks: Asks, reason: Option<Reason>, status: StatusCode) -> Option<Request>
-    ensures { result ≡ counted_as asks reason status }
+pub fn request_of(noted: &Noted<'_>) -> Option<Request>
+    ensures { result ≡ counted_as noted.now.asks noted.now.reason noted.now.status }
 {
+    let (asks, reason, status) = (noted.asks, noted.reason, noted.status);
     match asks {
         Asks::Verify => Some(Request {
             asked: Asked::Verify,
@@ -22,84 +23,123 @@ pub fn request_of(asks: Asks, reason: Option<Reason>, status: StatusCode) -> Opt
         }),
         Asks::Mint => Some(Request {
             asked: Asked::Mint,
-            told: told_of_call(status),
+            told: told_of_call(reason, status),
         }),
         Asks::Attenuate => Some(Request {
             asked: Asked::Attenuate,
-            told: told_of_call(status),
+            told: told_of_call(reason, status),
         }),
         Asks::Inspect | Asks::Check => None,
     }
 }
 
-/// What a verify was told.
+/// What a verify was told: of a refusal, its reason, where that has a number.
 fn told_of_verify(reason: Option<Reason>, status: StatusCode) -> Told
     ensures { result ≡ told_of_verify reason status }
 {
-    if is_revoked(reason) {
-        Told::Revoked
-    } else if is_well(status) {
-        Told::Granted
-    } else if status == StatusCode::FORBIDDEN {
-        Told::Unsatisfied
-    } else {
-        Told::Refused
+    match reason {
+        Some(Reason::Refused(why)) => Told::Refused(Some(why)),
+        _ if is_well(status) => Told::Granted,
+        _ if status == StatusCode::FORBIDDEN => Told::Unsatisfied,
+        _ => Told::Refused(None),
     }
 }
 
-/// Whether a token was refused that was taken back.
-fn is_revoked(reason: Option<Reason>) -> bool
-    ensures { result ≡ is_revoked reason }
+/// The same of a request for a token.
+fn told_of_call(reason: Option<Reason>, status: StatusCode) -> Told
+    ensures { result ≡ told_of_call reason status }
 {
-    matches!(reason, Some(Reason::Refused(Refusal::Revoked)))
-}
-
-/// What a request for a token was told.
-fn told_of_call(status: StatusCode) -> Told
-    ensures { result ≡ told_of_call status }
-{
-    if is_well(status) {
-        Told::Token
-    } else {
-        Told::Refused
+    match reason {
+        Some(Reason::Refused(why)) => Told::Refused(Some(why)),
+        _ if is_well(status) => Told::Token,
+        _ => Told::Refused(None),
     }
 }
 
-/// What is logged of a request that was answered with this status.
+/// What is logged of a request. Where identifiers are logged, a token whose signature is right is read
+/// once more.
 pub fn exchange_of(
     alloc: Global,
-    noted: Noted<'_>,
-    status: StatusCode,
+    tells_identifiers: bool,
+    noted: &Noted<'_>,
 ) -> Result<Exchange, AllocError>
-    ensures { IfOk result (λ e. e.reason ≡ logged_reason noted.entry.reason status) }
+    ensures { IfOk result (IsExchangeOf tells_identifiers noted.now) }
 {
     let name = Vec::from_slice(alloc, noted.name)?;
-    let minted = match noted.minted {
-        Some(identifier) => Some(copy_told_identifier(alloc, identifier)?),
-        None => None,
-    };
-    let asks = noted.asks;
-    let what = match asks {
+    let minted = copy_minted(alloc, noted.minted)?;
+    let id = copy_told_id(alloc, noted.id)?;
+    Ok(Exchange {
+        asks: asks_word(noted.asks),
+        name,
+        verdict: verdict_word(noted.asks, noted.status),
+        reason: logged_reason(noted.reason, noted.status),
+        minted,
+        id,
+        identifier: identifier_of(alloc, tells_identifiers, noted.signed)?,
+    })
+}
+
+/// A copy of what the identifier of a token begins with that was minted, if one was.
+fn copy_minted(alloc: Global, minted: Option<&[u8]>) -> Result<Option<Vec<u8>>, AllocError>
+    ensures { IfOk result (λ copy. option_map (λ bytes. bytes.items) copy
+        ≡ told_identifier (option_copied minted.entry)) }
+{
+    match minted {
+        Some(identifier) => Ok(Some(copy_told_identifier(alloc, identifier)?)),
+        None => Ok(None),
+    }
+}
+
+/// The word for what a request asks for.
+fn asks_word(asks: Asks) -> &'static str
+    ensures { result.now ≡ asks_word asks }
+{
+    match asks {
         Asks::Verify => "verify",
         Asks::Mint => "mint",
         Asks::Attenuate => "attenuate",
         Asks::Inspect => "inspect",
         Asks::Check => "check",
-    };
-    let verdict = match (asks, is_well(status)) {
-        (Asks::Verify, true) => "granted",
-        (Asks::Verify, false) if status == StatusCode::FORBIDDEN => "unsatisfied",
-        (Asks::Inspect | Asks::Check, true) => "told",
-        (_, true) => "token",
-        (_, false) => "refused",
-    };
-    Ok(Exchange {
-        asks: what,
-        name,
-        verdict,
-        reason: logged_reason(noted.reason, status),
-        minted,
-    })
+    }
+}
+
+/// The word for what a request was answered with this status.
+fn verdict_word(asks: Asks, status: StatusCode) -> &'static str
+    ensures { result.now ≡ verdict_word asks status }
+{
+    if is_well(status) {
+        return well_word(asks);
+    }
+    match asks {
+        Asks::Verify if status == StatusCode::FORBIDDEN => "unsatisfied",
+        _ => "refused",
+    }
+}
+
+/// The word for what a request was answered that was done.
+fn well_word(asks: Asks) -> &'static str
+    ensures { result.now ≡ well_word asks }
+{
+    match asks {
+        Asks::Verify => "granted",
+        Asks::Mint | Asks::Attenuate => "token",
+        Asks::Inspect | Asks::Check => "told",
+    }
+}
+
+/// What is noted of the identifier of a token whose signature is right, where that is logged.
+fn identifier_of(
+    alloc: Global,
+    tells_identifiers: bool,
+    signed: Option<&[u8]>,
+) -> Result<Option<Vec<u8>>, AllocError>
+    ensures { IfOk result (λ noted. option_map (λ identifier. identifier.items) noted
+        ≡ identifier_of tells_identifiers (option_copied signed.entry)) }
+{
+    match signed {
+        Some(token) if tells_identifiers => copy_identifier_of(alloc, token),
+        _ => Ok(None),
+    }
 }
 
 /// Why a request wasn't done, if it wasn't: what is noted of that, or else the status.

@@ -9,12 +9,15 @@ pub const LOOKS_FREE: u64 = 64;
 /// Then it is looked at once it has grown by one part of so many.
 pub const LOOK_SHARE: u64 = 8;
 
-/// And else so many microseconds behind the last look.
+/// And else so many microseconds behind the last look,
 pub const LOOK_MICROS: u64 = 10_000;
+
+/// and so many for each byte that was seen, since a look reads all of them.
+pub const LOOK_EACH: u64 = 4;
 
 /// How much of what came since the last response was looked at, how often, and when last. Each look
 /// reads all that came since then: by this pace a head that comes a byte at a time costs no more
-/// than some times its length, and some looks a second.
+/// than some times its length, and a small share of the time that it takes.
 #[derive(Clone, Copy, PartialEq, Eq)]
 pub struct Pace {
     looks: u64,
@@ -38,9 +41,10 @@ impl Pace {
     pub fn is_due(&self, fresh: u64, now: u64) -> bool
         ensures { result ≡ is_due self.now fresh now }
     {
+        let waited = now.saturating_sub(self.looked);
         self.looks < LOOKS_FREE
             || self.seen <= fresh.saturating_mul(LOOK_SHARE)
-            || now.saturating_sub(self.looked) >= LOOK_MICROS
+            || (waited >= LOOK_MICROS && waited >= self.seen.saturating_mul(LOOK_EACH))
     }
 
     /// Notes that they are.

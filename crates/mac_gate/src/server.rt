@@ -6,7 +6,8 @@ use crate::looping::HttpLoop;
 use crate::shared::Shared;
 use crate::terms::Bounds;
 use mac_host::Host;
-use mac_sockets::{Doors, Entrance, WaitFault};
+use mac_sockets::{Doors, Entrance, SharedBudget, WaitFault};
+use mio::Waker;
 use std::alloc::{Alloc, AllocError, AllocFailed, Global};
 use std::io;
 use std::net::Net;
@@ -92,12 +93,7 @@ where
 {
     let alloc = rt.alloc();
     let entrance = Entrance::open(rt, alloc, doors)?;
-    let (mut made, mut wakers) = (Vec::new(alloc), Vec::new(alloc));
-    for (number, content) in contents.into_iter().enumerate() {
-        let (own, waker) = HttpLoop::new(rt, alloc, number, bounds.patience, host.budget())?;
-        made.push((own, content))?;
-        wakers.push(waker)?;
-    }
+    let (made, wakers) = make_loops(rt, alloc, contents, bounds, host.budget())?;
     let shutter = Arc::try_clone(entrance.shutter())?;
     let server = Shared::new(alloc, bounds, host, shutter, wakers)?;
     server.open(rt)?;
@@ -108,6 +104,23 @@ where
             Err(ServerFault::NoThread)
         }
     }
+}
+
+/// A loop for each of these contents, with what it answers by, and what ends the waits of each.
+fn make_loops<R: Net + Wait>(
+    rt: &R,
+    alloc: Global,
+    contents: Vec<Content>,
+    bounds: Bounds,
+    budget: &Arc<SharedBudget, Global>,
+) -> Result<(Vec<(HttpLoop, Content)>, Vec<Waker>), ServerFault> {
+    let (mut made, mut wakers) = (Vec::new(alloc), Vec::new(alloc));
+    for (number, content) in contents.into_iter().enumerate() {
+        let (own, waker) = HttpLoop::new(rt, alloc, number, bounds.patience, budget)?;
+        made.push((own, content))?;
+        wakers.push(waker)?;
+    }
+    Ok((made, wakers))
 }
 
 /// Starts the loops of a server, and the thread that accepts, if there is each of them.

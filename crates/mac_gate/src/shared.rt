@@ -3,7 +3,7 @@
 use crate::limit::Limit;
 use crate::terms::Bounds;
 use mac_host::Host;
-use mac_sockets::{Inbox, Shutter, Stream};
+use mac_sockets::{Fresh, Inbox, Shutter};
 use mio::Waker;
 use std::alloc::{AllocError, Global};
 use std::io;
@@ -18,7 +18,7 @@ const DISPLACING_MAX: usize = 16;
 /// A connection that is handed to a loop.
 #[derive(Drop)]
 pub struct Newcomer {
-    pub stream: Stream,
+    pub stream: Fresh,
     /// Whether one of the loop's connections is to give way to it.
     pub displaces: bool,
 }
@@ -121,7 +121,7 @@ impl Shared {
     /// Hands a connection to the loop that has the fewest. Where there are as many as there may be,
     /// it is handed to the one whose connections include the stalest, which gives way; or it is
     /// closed, where none does, and where there is no memory.
-    pub fn enter<R: Wait>(&self, rt: &R, stream: Stream) {
+    pub fn enter<R: Wait>(&self, rt: &R, stream: Fresh) {
         if self.admits(rt) {
             let number = self.idlest();
             if let Some(side) = self.sides.get(number) {

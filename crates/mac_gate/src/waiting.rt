@@ -1,21 +1,21 @@
 //! The connections of a loop, which of them are ready, and when one has taken too long.
 
+use crate::answering::Answering;
 use crate::connection::HttpConnection;
 use crate::turns::Turns;
-use http_server::Service;
 use mac_host::microseconds_of;
-use mac_http::Way;
 use mac_sockets::{Account, Connections, Holds, REST_MIN, Readiness, SharedBudget, heaviest};
 use mio::{Token, Waker};
 use std::alloc::Global;
 use std::collections::VecDeque;
 use std::io;
 use std::net::Net;
+use std::random::RandomSource;
 use std::sync::{Arc, Wait};
 use std::time::{Clock, Duration};
 
-/// How many microseconds pass at most until one that is owed something is looked at again, though no
-/// event told of it.
+/// How many microseconds pass at most until one that is owed something is looked at again, though
+/// no event told of it.
 const OWED: u64 = 1_000_000;
 
 /// How many bytes the turn of a connection may take beside what it is counted for: for the dearest
@@ -46,8 +46,8 @@ pub struct Waiting {
 }
 
 impl Waiting {
-    /// No connections, whose peers may each take so long, and what ends the waits for them. What they
-    /// hold is within this budget.
+    /// No connections, whose peers may each take so long, and what ends the waits for them. What
+    /// they hold is within this budget.
     pub fn new<R: Net + Wait>(
         rt: &R,
         alloc: Global,
@@ -81,8 +81,8 @@ impl Waiting {
         microseconds_of(self.connections.now())
     }
 
-    /// Waits until some are ready, and no longer than until one has to be looked at. Where it is the
-    /// turn of one with a dear request, it only looks.
+    /// Waits until some are ready, and no longer than until one has to be looked at. Where it is
+    /// the turn of one with a dear request, it only looks.
     pub fn wait<R: Clock>(&mut self, rt: &R) {
         let now = self.now();
         let due = if self.dear.is_empty() {
@@ -266,45 +266,54 @@ impl Waiting {
         self.list(slot);
     }
 
-    /// The next slot that is ready, with the way by which the peer of its connection comes. None where
-    /// that has a dear request: it waits for its turn among those, but where there is no memory.
-    pub fn next_ready(&mut self) -> Option<(usize, Way)> {
+    /// The next slot that is ready. None where its connection has a dear request: it waits for its
+    /// turn among those, but where there is no memory.
+    pub fn next_ready(&mut self) -> Option<usize> {
         let slot = self.connections.slots.next_ready()?;
         let one = self.connections.slots.get(slot)?;
-        let (way, is_dear) = (one.way(), one.is_dear());
-        if is_dear && self.dear.put(slot).is_ok() {
+        if one.is_dear() && self.dear.put(slot).is_ok() {
+            self.note_wait(slot);
             return None;
         }
-        Some((slot, way))
+        Some(slot)
+    }
+
+    /// Notes that the connection of a slot waits for its turn from now on.
+    fn note_wait(&mut self, slot: usize) {
+        let now = self.now();
+        if let Some(one) = self.connections.slots.get_mut(slot) {
+            one.begin_wait(now);
+        }
     }
 
     /// The same of the next one with a dear request.
-    pub fn next_dear(&mut self) -> Option<(usize, Way)> {
-        let slot = self.dear.next()?;
-        let one = self.connections.slots.get(slot)?;
-        Some((slot, one.way()))
+    pub fn next_dear(&mut self) -> Option<usize> {
+        self.dear.next()
     }
 
-    /// Has the connection of a slot do what it can, by this service; what it drops is read into the
+    /// Has the connection of a slot do what it can, answered by this; what it reads is put into the
     /// piece. Whether it has ended.
-    pub fn advance<S: Service>(
+    pub fn advance<R: Wait + Clock + RandomSource>(
         &mut self,
         slot: usize,
-        service: &mut S,
+        answering: &mut Answering<'_, R>,
         is_ending: bool,
         piece: &mut [u8],
     ) -> bool {
-        let now = self.now();
         let Some(mut one) = self.connections.slots.take(slot) else {
             return false;
         };
         let before = one.held();
-        let goes_on = one.advance(service, now, piece)
-            && one.update(self.connections.registry(), Token(slot)).is_ok();
-        if !goes_on {
-            self.account.count(before, 0);
-            let _ = self.release(slot);
-            return true;
+        let now = self.now();
+        answering.since = one.end_wait().unwrap_or(now);
+        let Some(mut one) = one.advance(answering, now, piece) else {
+            return self.end(slot, before);
+        };
+        if one
+            .update(self.connections.registry(), Token(slot))
+            .is_err()
+        {
+            return self.end(slot, before);
         }
         self.account.count(before, one.held());
         let _ = self.connections.slots.put(slot, one);
@@ -313,6 +322,13 @@ impl Waiting {
         }
         self.stay(slot);
         false
+    }
+
+    /// The connection of a slot has ended, which was counted for so many bytes.
+    fn end(&mut self, slot: usize, held: u64) -> bool {
+        self.account.count(held, 0);
+        let _ = self.release(slot);
+        true
     }
 
     /// Notes until when one that goes on has to be looked at.

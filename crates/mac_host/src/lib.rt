@@ -21,7 +21,10 @@ mod traffic;
 pub use badge::{Badge, Life, Socket};
 pub use clock::{microseconds, microseconds_of};
 pub use ending::Ending;
-pub use exchange::{Exchange, Logged, LoggedReason, copy_told_identifier, copy_told_name};
+pub use exchange::{
+    Exchange, Logged, LoggedReason, copy_identifier_of, copy_told_id, copy_told_identifier,
+    copy_told_name,
+};
 pub use host::Host;
 pub use notices::{Beginning, HEAVY, Notices};
 pub use numbers::Numbers;

@@ -107,7 +107,7 @@ impl Notices {
         if self.logged.mints {
             self.tell_mint(rt, badge, &exchange);
         }
-        if self.logged.requests {
+        if self.logged.tells_requests() {
             let fields = exchange.and_then(|exchange| exchange_fields(self.alloc, badge, exchange));
             self.post(rt, Kind::Request, fields);
         }

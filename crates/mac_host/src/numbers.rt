@@ -58,10 +58,10 @@ impl Numbers {
         self.counters.add(Number::ConnectionsHeavy, 1);
     }
 
-    /// A turn of a loop has ended, in which so many requests were answered, each kind at its place,
-    /// and this came and went.
-    pub fn count_turn(&self, requests: &[u64; REQUESTS], traffic: Traffic) {
-        self.counters.add_requests(requests);
+    /// A turn of a loop has ended that took so many microseconds, in which so many requests were
+    /// answered, each kind at its place, and this came and went.
+    pub fn count_turn(&self, requests: &[u64; REQUESTS], micros: u64, traffic: Traffic) {
+        self.counters.add_requests(requests, micros);
         self.add_some(Number::BytesIn, traffic.came);
         self.add_some(Number::BytesOut, traffic.went);
     }
@@ -72,12 +72,14 @@ impl Numbers {
         self.counters.add(Number::ConnectionsWide, 1);
     }
 
-    /// A connection waits for a worker no more. Whether it has the answer.
-    pub fn count_narrowed(&self, is_answered: bool) {
+    /// A connection waits for a worker no more, for which it did so many microseconds. What it has
+    /// had answered then, if anything.
+    pub fn count_narrowed(&self, answered: Option<Request>, micros: u64) {
         self.counters.take(Number::ConnectionsWide, 1);
         self.counters.add(Number::ConnectionsPlain, 1);
-        if is_answered {
+        if let Some(request) = answered {
             self.counters.add(Number::RequestsWide, 1);
+            self.counters.answered(request, micros);
         }
     }
 
@@ -91,9 +93,9 @@ impl Numbers {
         self.counters.take(Number::ConnectionsHttp, 1);
     }
 
-    /// A request was answered over HTTP.
-    pub fn count_request(&self, request: Request) {
-        self.counters.answered(request);
+    /// A request was answered over HTTP, which took so many microseconds.
+    pub fn count_request(&self, request: Request, micros: u64) {
+        self.counters.answered(request, micros);
     }
 
     /// The keys that were read have so many names.

@@ -1,6 +1,7 @@
 pub mod CallLemmas
 pub mod FieldLemmas
 pub mod LawLemmas
+pub mod SignedLemmas
 pub mod ListLemmas
 pub mod MintLemmas
 pub mod NameLemmas

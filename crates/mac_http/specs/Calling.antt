@@ -108,11 +108,14 @@ abbrev pub outcome_unless_refused : Option ℕ → Bool → Outcome → Option O
 outcome_unless_refused (Some status) is_post o = None
 outcome_unless_refused None is_post o = outcome_by_post is_post o
 
--- whoever notes the response is told what came of the call, where the response tells that
+-- the response tells what came of the call, and whoever notes it is told that; or the response tells
+-- that there was no memory, and nothing is noted
 abbrev pub NotesOutcome : List ℕ → Table → Rules → Option ℕ → Call × List ℕ → Request (List ℕ)
     → Response → Option Outcome → Type 0
 NotesOutcome drawn table rules moment asked request response noted =
-    (noted ≡ outcome_unless_refused (refusal_of rules.way (head_of request))
-    (bytes_eq (head_of request).method (codes "POST"))
-    (allowed_outcome rules table moment asked drawn (body_of request)))
-    ⊎ ((noted ≡ None) × IsOverloaded response)
+    let refused = refusal_of rules.way (head_of request) in
+    let is_post = bytes_eq (head_of request).method (codes "POST") in
+    let outcome = allowed_outcome rules table moment asked drawn (body_of request) in
+    (TellsUnlessRefused refused is_post outcome response
+    × (noted ≡ outcome_unless_refused refused is_post outcome))
+    ⊎ (IsOverloaded response × (noted ≡ None))

@@ -1,17 +1,17 @@
 -- The response that tells what was found (this project's own).
-use Rattle.std.specs.Prelude.{ℕ, ◌≡◌, ◌↔◌, ◌⊎◌, Option, None, List, [], ◌∷◌, ◌++◌, codes}
+use Rattle.std.specs.Prelude.{ℕ, ◌≡◌, ◌↔◌, ◌⊎◌, List, [], ◌∷◌, ◌++◌, codes}
 use Rattle.std.specs.Fmt.{decimal}
 use Rattle.http1.specs.Fields.{Header}
 use Rattle.http_server.specs.declared.response.Response.{Response}
 use Rattle.http_server.specs.Response.{IsResponse}
 use Rattle.mac_http.specs.declared.finding.Finding.{Finding}
 use Rattle.mac_http.specs.declared.finding.Finding.TheVariants as found
-use Rattle.mac_http.specs.declared.reason.Reason.{Reason}
+use Rattle.mac_http.specs.declared.reason.Judged.{Judged}
 use Rattle.mac_http.specs.declared.rules.Granted.{Granted}
 use Rattle.mac_http.specs.declared.rules.Granted.TheVariants.{Ok, NoContent}
 use Rattle.mac_http.specs.Authorization.{challenge}
 use Rattle.mac_http.specs.Escaped.{escaped}
-use Rattle.mac_http.specs.Reason.{reason_found}
+use Rattle.mac_http.specs.Reason.{judged_by, nothing_judged}
 
 -- the status that grants
 abbrev pub granted_status : Granted → ℕ
@@ -96,7 +96,8 @@ abbrev pub AreToldAlike : Finding → Finding → Type 0
 AreToldAlike f g = (granted : Granted) (response : Response)
     → Tells granted f response ↔ Tells granted g response
 
--- whoever notes the response is told the reason in what was found
-abbrev pub NotesReason : Finding → Response → Option Reason → Type 0
-NotesReason f response reason =
-    (reason ≡ reason_found f) ⊎ ((reason ≡ None) × IsOverloaded response)
+-- the response tells what was found, and whoever notes it is told what came of that; or the response
+-- tells that there was no memory, and nothing is noted
+abbrev pub NotesJudged : Granted → Finding → Response → Judged → Type 0
+NotesJudged granted f response j = (Tells granted f response × (j ≡ judged_by f))
+    ⊎ (IsOverloaded response × (j ≡ nothing_judged))

@@ -55,7 +55,7 @@ fn is_of_json(headers: &HeaderMap<HeaderValue>) -> bool
 }
 
 /// The one value of a field.
-fn only_value<'a>(values: &GetAll<'a, HeaderValue>) -> Option<&'a [u8]>
+pub(crate) fn only_value<'a>(values: &GetAll<'a, HeaderValue>) -> Option<&'a [u8]>
     ensures { option_map (λ v. v.now) result ≡ option_map (λ v. v.bytes) (only values.now) }
 {
     let mut left = values.iter();

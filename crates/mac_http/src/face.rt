@@ -10,7 +10,7 @@ use crate::calling::{Asked, Called, call_in, respond_to_call};
 use crate::footing::Footing;
 use crate::noted::{note_of_call, note_of_path};
 use crate::page::{Monitor, announce_close, page_in, tell_page};
-use crate::rules::{Rules, Way};
+use crate::rules::Rules;
 use crate::saying::respond;
 use bytes::Bytes;
 use http::{Request, StatusCode};
@@ -49,15 +49,6 @@ impl<'a, K, M, S> Face<'a, K, M, S> {
             moments,
             monitor,
         }
-    }
-
-    /// Has the requests from now on come by this way.
-    pub fn come_by(&mut self, way: Way)
-        ensures rules { self.new.rules ≡ record self.old.rules { way = way } }
-        ensures keys { self.new.keys ≡ self.old.keys }
-        ensures moments { self.new.moments ≡ self.old.moments }
-    {
-        self.rules.way = way;
     }
 }
 
@@ -124,21 +115,20 @@ fn answer_plain<S: Monitor>(
     ) {
         Some(asked) => answer_call(alloc, footing, monitor, asked, request, response),
         None => {
-            let reason = respond(alloc, footing, request, response);
-            let noted = note_of_path(request.uri().path().as_bytes(), reason);
-            monitor.note(noted, response.status);
+            let judged = respond(alloc, footing, request, response);
+            monitor.note(&note_of_path(request, judged, response));
         }
     }
 }
 
 /// Fills a blank response with what comes of a call, and notes that. Where a mint gets no random bytes
 /// it is a 503 without fields.
-fn answer_call<S: Monitor>(
+fn answer_call<'a, S: Monitor>(
     alloc: Global,
     footing: Footing<'_>,
     monitor: &S,
-    asked: Asked<'_>,
-    request: &Request<Bytes>,
+    asked: Asked<'a>,
+    request: &'a Request<Bytes>,
     response: &mut Response,
 )
     requires { IsBlank response.old }
@@ -147,7 +137,7 @@ fn answer_call<S: Monitor>(
 {
     let Some(drawn) = drawn_for(monitor, asked.call) else {
         response.status = StatusCode::SERVICE_UNAVAILABLE;
-        monitor.note(note_of_call(asked, None), response.status);
+        monitor.note(&note_of_call(asked, request, None, response));
         return;
     };
     let called = Called {
@@ -156,7 +146,7 @@ fn answer_call<S: Monitor>(
         drawn: &drawn,
     };
     let outcome = respond_to_call(alloc, footing, called, response);
-    monitor.note(note_of_call(asked, outcome.as_ref()), response.status);
+    monitor.note(&note_of_call(asked, request, outcome.as_ref(), response));
 }
 
 /// Random bytes for a call: a mint alone takes any.

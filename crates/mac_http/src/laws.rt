@@ -37,6 +37,8 @@ ghost use Rattle.mac_http.specs.Escaped.{escaped};
 ghost use Rattle.mac_http.specs.Faced.{IsAnswer, IsFaced};
 ghost use Rattle.mac_http.specs.Facts.{facts_of, tells_fragment, tells_unsafe};
 ghost use Rattle.mac_http.specs.Found.{found_of, found_with, context_of, IsGrantedBy, IsHeld};
+ghost use Rattle.mac_http.specs.Noted.{IsSignedBy, signed_in};
+ghost use Rattle.mac_http.specs.Reason.{is_signed};
 ghost use Rattle.mac_http.specs.Target.{target_in};
 ghost use Rattle.mac_http.specs.Path.{steps, IsStep};
 ghost use Rattle.mac_http.specs.Saying.{AreToldAlike, IsOverloaded, Tells};
@@ -117,6 +119,25 @@ pub fn pages_have_nothing_done()
         → rules.way ≡ Way.Port → is_of_page (head_of request).headers ≡ true
         → RespondsToCall table rules moment asked request response
         → IsResponse 403 [] [] response ⊎ IsOverloaded response }
+{}
+
+/// The token of a request is noted as signed only where it is one, and one of the keys of the name in
+/// its path gives the signature. So of any other no identifier is told.
+pub fn noted_tokens_are_signed()
+    ensures { (table : Table) (rules : PlainRules) (moment : Option ℕ) (head : Parts)
+        (bytes : List ℕ) → signed_in (is_signed (found_of table rules moment head)) head
+        ≡ Some bytes → IsSignedBy table rules moment head bytes }
+{}
+
+/// Such a token is noted wherever it is judged: where no fragment and no unsafe path is told, the
+/// facts are few, and the clock tells a moment.
+pub fn signed_tokens_are_noted()
+    ensures { (table : Table) (rules : PlainRules) (moment : Option ℕ) (head : Parts)
+        (bytes : List ℕ) (second : ℕ) (s : IsSignedBy table rules moment head bytes)
+        → moment ≡ Some second → tells_fragment rules.sources head s.behind ≡ false
+        → tells_unsafe rules.sources head s.behind ≡ false
+        → are_few (facts_of rules.sources head s.behind) ≡ true
+        → signed_in (is_signed (found_of table rules moment head)) head ≡ Some bytes }
 {}
 
 /// Facts are told by the verdict alone: where two requests with one token under one name's keys

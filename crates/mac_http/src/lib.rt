@@ -36,6 +36,6 @@ pub use footing::Footing;
 pub use noted::{Asks, Noted};
 pub use page::{Monitor, Page, Told};
 pub use path::{PATH_MAX, SEGMENTS_MAX};
-pub use reason::Reason;
+pub use reason::{Judged, Reason};
 pub use rules::{Calls, Granted, Pages, Rules, Sources, Way};
 pub use saying::respond;

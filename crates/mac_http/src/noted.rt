@@ -1,13 +1,24 @@
 //! What a request is noted as, for who counts and logs requests.
 
 ghost use Rattle.std.specs.Prelude.{◌≡◌, option_and_then, option_copied};
+ghost use Rattle.http.specs.Request.{head_of};
 ghost use Rattle.mac_calls.specs.Outcome.{minted_identifier};
+ghost use Rattle.http_uri.specs.Uri.{uri_path};
+ghost use Rattle.mac_http.specs.Noted.{asks_of, id_in, name_in, signed_in};
 ghost use Rattle.mac_http.specs.Reason.{reason_of_call};
 
+use crate::authorization::credentials_in;
+use crate::browsing::only_value;
 use crate::calling::Asked;
-use crate::reason::{Reason, reason_of_call};
+use crate::reason::{Judged, Reason, reason_of_call};
 use crate::target::target_in;
+use bytes::Bytes;
+use http::{Request, StatusCode};
+use http_server::Response;
 use mac_calls::{Call, Outcome};
+
+/// The name of the field by which gateways tell their requests apart.
+const ID: &str = "x-request-id";
 
 /// What a request asks for that names no page.
 #[derive(Clone, Copy, Debug, PartialEq, Eq)]
@@ -35,13 +46,29 @@ pub struct Noted<'a> {
     pub minted: Option<&'a [u8]>,
     /// Why it wasn't granted or done, where more than its status tells that.
     pub reason: Option<Reason>,
+    /// What its one field `X-Request-Id` says, whatever that is.
+    pub id: Option<&'a [u8]>,
+    /// The token that it asked to verify, where a key of its name gives the signature.
+    pub signed: Option<&'a [u8]>,
+    /// The status that it was answered with.
+    pub status: StatusCode,
 }
 
-/// That of a call, of which this came, if it was made.
-pub(crate) fn note_of_call<'a>(asked: Asked<'a>, outcome: Option<&'a Outcome>) -> Noted<'a>
+/// That of a call, of which this came, if it was made, and that has this response.
+pub(crate) fn note_of_call<'a>(
+    asked: Asked<'a>,
+    request: &'a Request<Bytes>,
+    outcome: Option<&'a Outcome>,
+    response: &Response,
+) -> Noted<'a>
+    ensures asks { result.asks ≡ asks_of asked.entry.call }
+    ensures name { result.name.now ≡ asked.entry.name.now }
+    ensures status { result.status ≡ response.now.status }
     ensures minted { option_copied result.minted
         ≡ option_and_then minted_identifier (option_copied outcome.entry) }
     ensures reason { result.reason ≡ option_and_then reason_of_call (option_copied outcome.entry) }
+    ensures id { option_copied result.id ≡ id_in (head_of request.now) }
+    ensures signed { result.signed ≡ None }
 {
     let asks = match asked.call {
         Call::Mint => Asks::Mint,
@@ -54,20 +81,34 @@ pub(crate) fn note_of_call<'a>(asked: Asked<'a>, outcome: Option<&'a Outcome>) -
         Some(outcome) => (outcome.identifier(), reason_of_call(outcome)),
         None => (None, None),
     };
+    let status = response.status;
     Noted {
         asks,
         name: asked.name,
         minted,
         reason,
+        id: id_in(request),
+        signed: None,
+        status,
     }
 }
 
-/// That of any other path, with why it wasn't granted.
-pub(crate) fn note_of_path(path: &[u8], reason: Option<Reason>) -> Noted<'_>
+/// That of a request with any other path, of which this came, and that has this response.
+pub(crate) fn note_of_path<'a>(
+    request: &'a Request<Bytes>,
+    judged: Judged,
+    response: &Response,
+) -> Noted<'a>
+    ensures asks { result.asks ≡ Asks.Verify }
+    ensures name { result.name.now ≡ name_in (uri_path (head_of request.now).uri) }
+    ensures status { result.status ≡ response.now.status }
     ensures minted { result.minted ≡ None }
-    ensures reason { result.reason ≡ reason }
+    ensures reason { result.reason ≡ judged.reason }
+    ensures id { option_copied result.id ≡ id_in (head_of request.now) }
+    ensures signed { option_copied result.signed
+        ≡ signed_in judged.is_signed (head_of request.now) }
 {
-    let name: &[u8] = match target_in(path) {
+    let name: &[u8] = match target_in(request.uri().path().as_bytes()) {
         Some(target) => target.name,
         None => &[],
     };
@@ -75,6 +116,27 @@ pub(crate) fn note_of_path(path: &[u8], reason: Option<Reason>) -> Noted<'_>
         asks: Asks::Verify,
         name,
         minted: None,
-        reason,
+        reason: judged.reason,
+        id: id_in(request),
+        signed: signed_in(judged.is_signed, request),
+        status: response.status,
     }
+}
+
+/// What tells a request apart: the value of its one field.
+fn id_in(request: &Request<Bytes>) -> Option<&[u8]>
+    ensures { option_copied result ≡ id_in (head_of request.now) }
+{
+    only_value(&request.headers().get_all(ID))
+}
+
+/// The token that a request brings, where a key gives its signature.
+fn signed_in(is_signed: bool, request: &Request<Bytes>) -> Option<&[u8]>
+    ensures { option_copied result ≡ signed_in is_signed (head_of request.now) }
+{
+    if !is_signed {
+        return None;
+    }
+    let credentials = credentials_in(request.headers())?;
+    Some(credentials.token)
 }

@@ -1,9 +1,13 @@
 //! The pages that tell of the daemon itself.
 
-ghost use Rattle.std.specs.Prelude.{◌≡◌, Ok, OnOk};
+ghost use Rattle.std.specs.Prelude.{◌≡◌, ◌++◌, ℕ, IfOk, List, Ok, OnOk, Option, option_copied};
 ghost use Rattle.http_server.specs.Response.{IsBlank, IsResponse};
 ghost use Rattle.mac_http.specs.Faced.{MayClose};
-ghost use Rattle.mac_http.specs.Page.{IsText, TellsPage, is_text, page_in};
+ghost use Rattle.mac_http.specs.Page.{IsText, Shows, ShowsIf, TellsPage, has_page, is_text};
+ghost use Rattle.mac_http.specs.Page.{page_in, told_keys, told_status};
+ghost use Rattle.mac_http.specs.declared.page.Page.{Page as PlainPage};
+ghost use Rattle.mac_http.specs.declared.page.Told.{Told as PlainTold};
+ghost use Rattle.mac_keys.specs.KeyTable.{Table};
 
 use crate::footing::Footing;
 use crate::noted::Noted;
@@ -49,6 +53,9 @@ pub enum Told {
 
 /// Speaks for the daemon that a face belongs to.
 pub trait Monitor: Draws {
+    /// What it may say on a page that may tell of these keys: a text, and whether the daemon is well.
+    ghost says: { Self → PlainPage → Option Table → List ℕ → PlainTold → Type 0 };
+
     /// Whether its connections are to end.
     fn is_ending(&self) -> bool;
 
@@ -62,10 +69,13 @@ pub trait Monitor: Draws {
         keys: Option<&KeyTable>,
         text: &mut Vec<u8>,
     ) -> Result<Told, AllocError>
-        ensures { result ≡ Ok Told.Unwell → page ≡ Page.Health };
+        ensures says { IfOk result (λ told. (more : List ℕ)
+            × (text.new.items ≡ text.old.items ++ more)
+            × says self.now page (option_copied keys.entry) more told) }
+        ensures unwell { result ≡ Ok Told.Unwell → page ≡ Page.Health };
 
-    /// A request for anything but a page was answered with this status.
-    fn note(&self, noted: Noted<'_>, status: StatusCode);
+    /// A request for anything but a page was answered.
+    fn note(&self, noted: &Noted<'_>);
 }
 
 /// The page that a path names.
@@ -94,7 +104,9 @@ pub(crate) fn tell_page<S: Monitor>(
     response: &mut Response,
 )
     requires { IsBlank response.old }
-    ensures { TellsPage footing.entry.rules.pages page response.new }
+    ensures tells { TellsPage footing.entry.rules.pages page response.new }
+    ensures shows { ShowsIf (has_page footing.entry.rules.pages page) (S.says monitor.now) page
+        (told_keys footing.entry.rules.way footing.entry.keys.now) response.new }
 {
     if !footing.rules.pages.has(page) {
         response.status = StatusCode::NOT_FOUND;
@@ -114,14 +126,23 @@ fn fill_page<S: Monitor>(
     response: &mut Response,
 ) -> Result<(), AllocError>
     requires { IsBlank response.old }
-    ensures { OnOk result (IsText page response.new) }
+    ensures text { OnOk result (IsText page response.new) }
+    ensures shows { OnOk result (Shows (S.says monitor.now) page (option_copied keys.entry)
+        response.new) }
 {
     let mut text = Vec::new(alloc);
-    let status = match monitor.tell(page, keys, &mut text)? {
+    let told = monitor.tell(page, keys, &mut text)?;
+    put_text(told_status(told), text.as_slice(), response)
+}
+
+/// The status of a page that tells that the daemon is well, or isn't.
+fn told_status(told: Told) -> StatusCode
+    ensures { result ≡ told_status told }
+{
+    match told {
         Told::Well => StatusCode::OK,
         Told::Unwell => StatusCode::SERVICE_UNAVAILABLE,
-    };
-    put_text(status, text.as_slice(), response)
+    }
 }
 
 /// Fills a blank response with a text.

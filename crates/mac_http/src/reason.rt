@@ -1,7 +1,7 @@
 //! Why a request that names no page isn't granted or done.
 
 ghost use Rattle.std.specs.Prelude.{◌≡◌};
-ghost use Rattle.mac_http.specs.Reason.{reason_found, reason_of_call};
+ghost use Rattle.mac_http.specs.Reason.{is_signed, judged_by, reason_found, reason_of_call};
 
 use crate::finding::Finding;
 use mac_calls::Outcome;
@@ -17,8 +17,48 @@ pub enum Reason {
     Unsatisfied(u16),
 }
 
+/// What came of a verify, for who counts and logs it.
+#[derive(Clone, Copy, PartialEq, Eq)]
+pub struct Judged {
+    /// Why it isn't granted, where more than the status tells that.
+    pub reason: Option<Reason>,
+    /// Whether a key of its name gives the token's signature. Caveats are looked at behind that,
+    /// and whether the token was taken back.
+    pub is_signed: bool,
+}
+
+impl Judged {
+    /// That of a verify that wasn't judged.
+    pub(crate) const NOTHING: Judged = Judged {
+        reason: None,
+        is_signed: false,
+    };
+}
+
+/// What came of a verify of which this was found.
+pub(crate) fn judged_by(finding: &Finding) -> Judged
+    ensures { result ≡ judged_by finding.now }
+{
+    Judged {
+        reason: reason_found(finding),
+        is_signed: is_signed(finding),
+    }
+}
+
+/// Whether a key of the name gives the signature of the token of which this was found.
+fn is_signed(finding: &Finding) -> bool
+    ensures { result ≡ is_signed finding.now }
+{
+    match finding {
+        Finding::Granted(_, _) | Finding::Unsatisfied(_) => true,
+        Finding::Invalid(_, Refusal::Revoked) => true,
+        Finding::Invalid(_, _) | Finding::NoMoment | Finding::ManyFacts => false,
+        Finding::Unknown | Finding::NoToken | Finding::Fragment | Finding::UnsafePath => false,
+    }
+}
+
 /// The reason in what was found, where it isn't one of the request's form.
-pub(crate) fn reason_found(finding: &Finding) -> Option<Reason>
+fn reason_found(finding: &Finding) -> Option<Reason>
     ensures { result ≡ reason_found finding.now }
 {
     match finding {

@@ -5,14 +5,14 @@ ghost use Rattle.http.specs.Request.{head_of};
 ghost use Rattle.http_header.specs.FieldValue.{plain_value};
 ghost use Rattle.http_server.specs.Response.{IsBlank, fields_of};
 ghost use Rattle.mac_http.specs.Found.{found_of};
-ghost use Rattle.mac_http.specs.Reason.{reason_found};
-ghost use Rattle.mac_http.specs.Saying.{NotesReason};
+ghost use Rattle.mac_http.specs.Reason.{judged_by};
+ghost use Rattle.mac_http.specs.Saying.{NotesJudged};
 ghost use Rattle.mac_http.specs.Saying.{Responds, Tells, body_for, fields_for, status_of, tells_whose, tells_why, unsatisfied_body, unsatisfied_reason};
 
 use crate::escaped::escaped;
 use crate::finding::{Finding, find};
 use crate::footing::Footing;
-use crate::reason::{Reason, reason_found};
+use crate::reason::{Judged, judged_by};
 use crate::rules::Granted;
 use bytes::{BufMut, Bytes};
 use http::header::{CONTENT_TYPE, HeaderName, HeaderValue, HeaderValueError, WWW_AUTHENTICATE};
@@ -27,26 +27,26 @@ const IDENTIFIER: &str = "macaroon-identifier";
 
 const LOCATION: &str = "macaroon-location";
 
-/// Fills a blank response to a request. Where memory is refused it is a 503 without fields. Why the
-/// request isn't granted, where that is told: the response tells all tokens that are refused alike.
+/// Fills a blank response to a request. Where memory is refused it is a 503 without fields. What came
+/// of the request tells more than the response does, which tells all tokens that are refused alike.
 pub fn respond(
     alloc: Global,
     footing: Footing<'_>,
     request: &Request<Bytes>,
     response: &mut Response,
-) -> Option<Reason>
+) -> Judged
     requires { IsBlank response.old }
     ensures told { Responds footing.entry.rules.granted (found_of footing.entry.keys.now
         footing.entry.rules footing.entry.moment (head_of request.now)) response.new }
-    ensures noted { NotesReason (found_of footing.entry.keys.now footing.entry.rules
-        footing.entry.moment (head_of request.now)) response.new result }
+    ensures noted { NotesJudged footing.entry.rules.granted (found_of footing.entry.keys.now
+        footing.entry.rules footing.entry.moment (head_of request.now)) response.new result }
 {
     match fill(alloc, footing, request, response) {
-        Ok(reason) => reason,
+        Ok(judged) => judged,
         Err(_) => {
             response.clear();
             response.status = StatusCode::SERVICE_UNAVAILABLE;
-            None
+            Judged::NOTHING
         }
     }
 }
@@ -56,16 +56,16 @@ fn fill(
     footing: Footing<'_>,
     request: &Request<Bytes>,
     response: &mut Response,
-) -> Result<Option<Reason>, AllocError>
+) -> Result<Judged, AllocError>
     requires { IsBlank response.old }
     ensures told { OnOk result (Tells footing.entry.rules.granted (found_of footing.entry.keys.now
         footing.entry.rules footing.entry.moment (head_of request.now)) response.new) }
-    ensures noted { IfOk result (λ reason. reason ≡ reason_found (found_of
-        footing.entry.keys.now footing.entry.rules footing.entry.moment (head_of request.now))) }
+    ensures noted { IfOk result (λ j. j ≡ judged_by (found_of footing.entry.keys.now
+        footing.entry.rules footing.entry.moment (head_of request.now))) }
 {
     let finding = find(alloc, footing, request)?;
     say(alloc, footing.rules.granted, &finding, response)?;
-    Ok(reason_found(&finding))
+    Ok(judged_by(&finding))
 }
 
 /// Fills a blank response with what was found.

@@ -1,10 +1,11 @@
 -- Fields of which one was cut.
-use Rattle.std.proofs.Common.{◌≡◌, ◌∙◌, ℕ, true, false, cond, List, [], ◌∷◌, ◌++◌, take, refl, sym, ap, append_assoc}
+use Rattle.std.proofs.Common.{◌≡◌, ◌∙◌, ℕ, true, false, cond, ◌||◌, List, [], ◌∷◌, ◌++◌, length, take, refl, sym, ap, append_assoc}
+use Rattle.std.specs.Prelude.{nat_le}
 use Rattle.std.proofs.lemmas.List.{append-nil}
 use Rattle.mac_log.specs.declared.key.Key.{Key}
 use Rattle.mac_log.specs.Key.{key_word}
 use Rattle.mac_log.specs.Value.{escaped}
-use Rattle.mac_log.specs.Fields.{Field, FieldsText, cut_text, field_text, fitting, is_fitting, no_fields, told_fields, value_room, whole_text, with_field, with_fields}
+use Rattle.mac_log.specs.Fields.{Field, FieldsText, cut_text, field_text, fitting, is_fitting, no_fields, told_fields, value_room, whole_text, with_field, with_fields, with_front}
 
 -- the fields with one more that is told as it is, and with one that is cut
 abbrev pub added : FieldsText → Key → List ℕ → FieldsText
@@ -38,6 +39,11 @@ each P fields k value same whole part =
           ] refl
     ] refl
 
+-- the same of one of which a front is told
+pub each-front : (P : FieldsText → Type 0) (fields : FieldsText) (k : Key) (most : ℕ) (value : List ℕ) → P (with_field fields k value) → P (cut fields k (take most value)) → P (with_front fields k most value)
+each-front P fields k most value whole part =
+    elim (nat_le (length value) most || fields.is_cut) as (λ t. P (cond t (with_field fields k value) (cut fields k (take most value)))) [ true ↦ whole | false ↦ part ]
+
 abbrev IsMarked : FieldsText → Type 0
 IsMarked fields = fields.is_cut ≡ true → (front : List ℕ) × (fields.text ≡ front ++ 32 ∷ 46 ∷ 46 ∷ 46 ∷ [])
 
@@ -64,6 +70,14 @@ marked before (f ∷ fields) is =
 
 pub told-marked : (fields : List Field) → (told_fields fields).is_cut ≡ true → (front : List ℕ) × ((told_fields fields).text ≡ front ++ 32 ∷ 46 ∷ 46 ∷ 46 ∷ [])
 told-marked fields = marked no_fields fields (λ bad. not-both bad)
+
+pub front-marked : (fields : List Field) (k : Key) (most : ℕ) (value : List ℕ) → (with_front (told_fields fields) k most value).is_cut ≡ true
+    → (front : List ℕ) × ((with_front (told_fields fields) k most value).text ≡ front ++ 32 ∷ 46 ∷ 46 ∷ 46 ∷ [])
+front-marked fields k most value =
+    let before = told_fields fields in
+    each-front IsMarked before k most value
+    (each IsMarked before k value (told-marked fields) (λ uncut. λ bad. not-both bad) (λ uncut. marked-cut before k value))
+    (marked-cut before k (take most value))
 
 -- fields that were cut stay so
 kept-cut : (before : FieldsText) (fields : List Field) → before.is_cut ≡ true → (with_fields before fields).is_cut ≡ true

@@ -127,6 +127,7 @@ key-short key.Cause = omega arith
 key-short key.Asks = omega arith
 key-short key.Name = omega arith
 key-short key.Identifier = omega arith
+key-short key.Id = omega arith
 key-short key.Verdict = omega arith
 key-short key.Code = omega arith
 key-short key.Caveat = omega arith

@@ -14,10 +14,10 @@ use Rattle.mac_log.specs.declared.kind.Kind.{Kind}
 use Rattle.mac_log.specs.declared.kind.Kind.TheVariants as kind
 use Rattle.mac_log.specs.Key.{key_word}
 use Rattle.mac_log.specs.Value.{escaped, escaped_byte, is_bare, is_bare_byte, is_shown, value_text}
-use Rattle.mac_log.specs.Fields.{Field, FieldsText, cut_text, field_text, fitting, no_fields, told_fields, value_room, whole_text, with_field, with_fields}
+use Rattle.mac_log.specs.Fields.{Field, FieldsText, cut_text, field_text, fitting, no_fields, told_fields, value_room, whole_text, with_field, with_fields, with_front}
 use Rattle.mac_log.specs.Line.{kind_text}
 use Rattle.mac_log.specs.Printed.{IsPrinted}
-use Rattle.mac_log.proofs.CutLemmas.{each, told-whole}
+use Rattle.mac_log.proofs.CutLemmas.{each, each-front, told-whole}
 
 abbrev is_printed : ℕ → Bool
 is_printed byte = nat_le 32 byte && nat_le byte 126
@@ -108,6 +108,7 @@ safe-key key.Cause = refl
 safe-key key.Asks = refl
 safe-key key.Name = refl
 safe-key key.Identifier = refl
+safe-key key.Id = refl
 safe-key key.Verdict = refl
 safe-key key.Code = refl
 safe-key key.Caveat = refl
@@ -186,6 +187,25 @@ all_printed bytes printed =
 pub printed-fields : (fields : List Field) → All (λ field. IsBytes field.1) fields → All IsPrinted (told_fields fields).text
 printed-fields fields bytes = all_printed (told_fields fields).text (printed-behind no_fields fields bytes refl)
 
+bytes-front : (n : ℕ) (value : List ℕ) → IsBytes value → IsBytes (take n value)
+bytes-front zero value bytes i = omega arith
+bytes-front (suc n) [] bytes i = omega arith
+bytes-front (suc n) (b ∷ value) bytes zero = bytes 0
+bytes-front (suc n) (b ∷ value) bytes (suc i) = bytes-front n value (λ j. bytes (suc j)) i
+
+pub printed-front : (fields : List Field) (k : Key) (most : ℕ) (value : List ℕ) → All (λ field. IsBytes field.1) fields → IsBytes value
+    → All IsPrinted (with_front (told_fields fields) k most value).text
+printed-front fields k most value bytes own =
+    let before = told_fields fields in
+    let is = printed-behind no_fields fields bytes refl in
+    let short = take most value in
+    all_printed (with_front before k most value).text
+    (each-front TextPrinted before k most value
+    (each TextPrinted before k value is
+    (λ uncut. printed-append before.text (field_text k value) is (printed-field (k, value) own))
+    (λ uncut. printed-append before.text (cut_text (value_room before.text k) k value) is (printed-cut (value_room before.text k) (k, value) own)))
+    (printed-append before.text (cut_text (value_room before.text k) k short) is (printed-cut (value_room before.text k) (k, short) (bytes-front most value own))))
+
 pub printed-kind : (k : Kind) → All IsPrinted (kind_text k)
 printed-kind k = all_printed (kind_text k) (printed-kind_bytes k)
 
@@ -244,6 +264,18 @@ count-behind n before (f ∷ fields) bytes is =
 
 pub count-told : (fields : List Field) → All (λ field. IsBytes field.1) fields → count_by is_equals (told_fields fields).text ≤ length fields
 count-told fields bytes = let at = count-behind 0 no_fields fields bytes (omega arith) in omega arith
+
+pub count-front : (fields : List Field) (k : Key) (most : ℕ) (value : List ℕ) → All (λ field. IsBytes field.1) fields → IsBytes value
+    → count_by is_equals (with_front (told_fields fields) k most value).text ≤ length fields + 1
+count-front fields k most value bytes own =
+    let before = told_fields fields in
+    let is = count-told fields bytes in
+    let short = take most value in
+    each-front (HasAtMost (length fields + 1)) before k most value
+    (each (HasAtMost (length fields + 1)) before k value (omega arith)
+    (λ uncut. let more = sum_by-append one before.text (field_text k value) in let this = count-field (k, value) own in omega arith)
+    (λ uncut. let more = sum_by-append one before.text (cut_text (value_room before.text k) k value) in let this = count-cut (value_room before.text k) (k, value) own in omega arith))
+    (let more = sum_by-append one before.text (cut_text (value_room before.text k) k short) in let this = count-cut (value_room before.text k) (k, short) (bytes-front most value own) in omega arith)
 
 count-each : (fields : List Field) → All (λ field. IsBytes field.1) fields → count_by is_equals (whole_text fields) ≡ length fields
 count-each [] bytes = refl

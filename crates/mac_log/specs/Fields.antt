@@ -1,5 +1,5 @@
 -- Fields of a line.
-use Rattle.std.specs.Prelude.{ℕ, suc, ◌-◌, ◌==◌, ◌&&◌, nat_lt, Bool, true, false, if◌then◌else◌, List, [], ◌∷◌, ◌++◌, length, take, codes}
+use Rattle.std.specs.Prelude.{ℕ, suc, ◌-◌, ◌==◌, ◌&&◌, ◌||◌, nat_le, nat_lt, Bool, true, false, if◌then◌else◌, List, [], ◌∷◌, ◌++◌, length, take, codes}
 use Rattle.std.specs.List.{flat_map}
 use Rattle.mac_log.specs.declared.fields.TheConstants.{FIELDS_ROOM}
 use Rattle.mac_log.specs.declared.key.Key.{Key}
@@ -48,6 +48,13 @@ with_field fields key value =
     if fields.is_cut then fields
     else (if is_fitting (value_room fields.text key) value then record { text = fields.text ++ field_text key value; is_cut = false }
     else record { text = fields.text ++ cut_text (value_room fields.text key) key value; is_cut = true })
+
+-- One field more, of whose value so many bytes are told at most: a longer one is cut. Behind one
+-- that was cut none is told.
+abbrev pub with_front : FieldsText → Key → ℕ → List ℕ → FieldsText
+with_front fields key most value =
+    if nat_le (length value) most || fields.is_cut then with_field fields key value
+    else record { text = fields.text ++ cut_text (value_room fields.text key) key (take most value); is_cut = true }
 
 -- a field: what it is about, and its value
 abbrev pub Field : Type 0

@@ -2,6 +2,7 @@ pub mod Level
 pub mod Kind
 pub mod Key
 pub mod Name
+pub mod Id
 pub mod Value
 pub mod Fields
 pub mod Moment

@@ -1,8 +1,10 @@
 //! What a line says beyond its kind.
 
-ghost use Rattle.std.specs.Prelude.{◌≡◌, ◌≢◌, ◌≤◌, [], ◌∷◌, ◌++◌, true, length, IfOk, OnOk};
+ghost use Rattle.std.specs.Prelude.{◌≡◌, ◌≢◌, ◌≤◌, ◌||◌, [], ◌∷◌, ◌++◌, false, true, length, IfOk, OnOk};
 ghost use Rattle.std.specs.Fmt.{decimal};
 ghost use Rattle.mac_log.specs.Fields.{cut_field, field_text, fitting, no_fields, value_room, with_field};
+ghost use Rattle.mac_log.specs.Fields.{with_front};
+ghost use Rattle.mac_log.specs.Id.{is_told_id};
 ghost use Rattle.mac_log.specs.Key.{key_word};
 ghost use Rattle.mac_log.specs.Name.{is_told_name};
 
@@ -50,39 +52,79 @@ impl Fields {
         }
     }
 
-    /// These fields and one more, whose value may be any bytes, but for the name of a key. What
-    /// passes their room is cut, and ends in a mark.
+    /// These fields and one more, whose value may be any bytes, but for the name of a key and the id
+    /// of a request. What passes their room is cut, and ends in a mark.
     pub fn with_text(self, key: Key, value: &[u8]) -> Result<Fields, NoMemory>
         requires name { key ≡ Key.Name → is_told_name value.now ≡ true }
+        requires id { key ≡ Key.Id → is_told_id value.now ≡ true }
         ensures { IfOk result (λ fields. fields ≡ with_field self key value.now) }
     {
         if self.is_cut {
             return Ok(self);
         }
-        let Fields {
-            mut text,
-            is_cut: _,
-        } = self;
-        let room = value_room(text.as_slice(), key);
+        let room = value_room(self.text.as_slice(), key);
         let count = fitting(room, value);
         if room > 0 && count == value.len() {
-            append_field(key, value, &mut text)?;
-            return Ok(Fields {
-                text,
-                is_cut: false,
-            });
+            self.whole(key, value)
+        } else {
+            self.cut(key, &value[..count])
         }
-        append_cut(key, &value[..count], &mut text)?;
-        Ok(Fields { text, is_cut: true })
+    }
+
+    /// These fields and one more, of whose value so many bytes are told at most. A longer one is cut,
+    /// and ends in a mark.
+    pub fn with_front(self, key: Key, value: &[u8], most: usize) -> Result<Fields, NoMemory>
+        requires name { key ≢ Key.Name }
+        requires id { key ≢ Key.Id }
+        ensures { IfOk result (λ fields. fields ≡ with_front self key most value.now) }
+    {
+        if value.len() <= most || self.is_cut {
+            return self.with_text(key, value);
+        }
+        let front = &value[..most];
+        let count = fitting(value_room(self.text.as_slice(), key), front);
+        self.cut(key, &front[..count])
     }
 
     /// These fields and one more, a decimal number.
     pub fn with_number(self, alloc: Global, key: Key, value: u64) -> Result<Fields, NoMemory>
         requires name { key ≢ Key.Name }
+        requires id { key ≢ Key.Id }
         ensures { IfOk result (λ fields. fields ≡ with_field self key (decimal value)) }
     {
         let digits = value.to_string(alloc)?;
         self.with_text(key, digits.as_bytes())
+    }
+
+    /// These fields, none of which was cut, and one more that has room as it is.
+    fn whole(self, key: Key, value: &[u8]) -> Result<Fields, NoMemory>
+        requires { length (self.text ++ field_text key value.now) ≤ FIELDS_ROOM }
+        ensures { IfOk result (λ fields. fields
+            ≡ record { text = self.text ++ field_text key value.now; is_cut = false }) }
+    {
+        let Fields {
+            mut text,
+            is_cut: _,
+        } = self;
+        append_field(key, value, &mut text)?;
+        Ok(Fields {
+            text,
+            is_cut: false,
+        })
+    }
+
+    /// These fields, none of which was cut, and one more, of whose value this front has room.
+    fn cut(self, key: Key, front: &[u8]) -> Result<Fields, NoMemory>
+        requires { length (self.text ++ cut_field key front.now) ≤ FIELDS_MAX }
+        ensures { IfOk result (λ fields. fields
+            ≡ record { text = self.text ++ cut_field key front.now; is_cut = true }) }
+    {
+        let Fields {
+            mut text,
+            is_cut: _,
+        } = self;
+        append_cut(key, front, &mut text)?;
+        Ok(Fields { text, is_cut: true })
     }
 
     /// The fields as a line has them.

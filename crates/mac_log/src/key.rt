@@ -44,8 +44,10 @@ pub enum Key {
     Asks,
     /// The name of a key, and never the key, nor a token that stands in its place.
     Name,
-    /// The identifier of a token that was minted.
+    /// The identifier of a token that was minted, or whose signature is right.
     Identifier,
+    /// What a request is told apart by, where who asks says that.
+    Id,
     /// What a request was answered.
     Verdict,
     /// The number of a refusal.
@@ -88,6 +90,7 @@ impl Key {
             Key::Asks => "asks",
             Key::Name => "name",
             Key::Identifier => "identifier",
+            Key::Id => "id",
             Key::Verdict => "verdict",
             Key::Code => "code",
             Key::Caveat => "caveat",

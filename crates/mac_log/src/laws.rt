@@ -4,8 +4,9 @@ ghost use Rattle.std.specs.List.{All};
 ghost use Rattle.hex.specs.Hex.{IsBytes};
 ghost use Rattle.mac_log.specs.declared.quota.Quota.{Quota};
 ghost use Rattle.mac_log.specs.declared.quota.TheConstants.{LINES_MAX, SECOND};
+ghost use Rattle.mac_log.specs.declared.key.Key.{Key};
 ghost use Rattle.mac_log.specs.declared.kind.Kind.{Kind};
-ghost use Rattle.mac_log.specs.Fields.{Field, fitting, told_fields, whole_text};
+ghost use Rattle.mac_log.specs.Fields.{Field, fitting, told_fields, whole_text, with_front};
 ghost use Rattle.mac_log.specs.Line.{kind_text};
 ghost use Rattle.mac_log.specs.Printed.{IsPrinted};
 ghost use Rattle.mac_log.specs.Value.{escaped};
@@ -16,6 +17,9 @@ ghost use Rattle.mac_log.specs.Quota.{after, printed_count, told_count};
 pub fn line_is_one_line()
     ensures fields { (fields : List Field) → All (λ field. IsBytes field.1) fields →
         All IsPrinted (told_fields fields).text }
+    ensures front { (fields : List Field) (key : Key) (most : ℕ) (value : List ℕ) →
+        All (λ field. IsBytes field.1) fields → IsBytes value →
+        All IsPrinted (with_front (told_fields fields) key most value).text }
     ensures words { (kind : Kind) → All IsPrinted (kind_text kind) }
 {}
 
@@ -27,14 +31,22 @@ pub fn no_value_passes_for_a_key()
         count_by (λ byte. byte == 61) (told_fields fields).text ≡ length fields }
     ensures cut { (fields : List Field) → All (λ field. IsBytes field.1) fields →
         count_by (λ byte. byte == 61) (told_fields fields).text ≤ length fields }
+    ensures front { (fields : List Field) (key : Key) (most : ℕ) (value : List ℕ) →
+        All (λ field. IsBytes field.1) fields → IsBytes value →
+        count_by (λ byte. byte == 61) (with_front (told_fields fields) key most value).text
+        ≤ length fields + 1 }
 {}
 
-/// Fields that were cut end in the mark that says so, and others are told as they are.
+/// Fields that were cut end in the mark that says so, and others are told as they are; so does one
+/// of which a front is told, where it was cut.
 pub fn what_is_cut_is_marked()
     ensures cut { (fields : List Field) → (told_fields fields).is_cut ≡ true →
         (front : List ℕ) × ((told_fields fields).text ≡ front ++ codes " ...") }
     ensures whole { (fields : List Field) → (told_fields fields).is_cut ≡ false →
         (told_fields fields).text ≡ whole_text fields }
+    ensures front { (fields : List Field) (key : Key) (most : ℕ) (value : List ℕ) →
+        (with_front (told_fields fields) key most value).is_cut ≡ true → (front : List ℕ)
+        × ((with_front (told_fields fields) key most value).text ≡ front ++ codes " ...") }
 {}
 
 /// Of a value that is cut no byte is left out that fits.

@@ -11,6 +11,7 @@
 mod books;
 mod clock;
 mod fields;
+mod id;
 mod key;
 mod kind;
 pub mod laws;
@@ -25,6 +26,7 @@ mod taken;
 mod value;
 
 pub use fields::{FIELDS_MAX, FIELDS_ROOM, Fields};
+pub use id::{ID_MAX, is_told_id};
 pub use key::Key;
 pub use kind::{KINDS, Kind};
 pub use level::Level;

@@ -6,6 +6,7 @@ use Rattle.mac_decide.proofs.rights.Rights.TheSendSync as rights
 use Rattle.mac_host.proofs.badge.Badge.TheSendSync as badge
 use Rattle.mac_host.proofs.badge.Socket.TheSendSync as socket
 use Rattle.mac_host.proofs.traffic.Traffic.TheSendSync as traffic
+use Rattle.mac_loop.proofs.backlog.Backlog.TheSendSync as backlog
 use Rattle.mac_loop.proofs.batch.Lent.TheSendSync as lent
 use Rattle.mac_loop.proofs.inbox.Stalest.TheSendSync as stalest
 use Rattle.mac_loop.proofs.members.Note.TheSendSync as note
@@ -18,7 +19,9 @@ use Rattle.mac_loop.specs.contracts.inbox.LoopSide as LoopSide
 use Rattle.mac_loop.specs.contracts.inbox.Loops as Loops
 use Rattle.mac_loop.specs.contracts.looping.Loop as Loop
 use Rattle.mac_loop.specs.contracts.members.Member as Member
+use Rattle.mac_loop.specs.contracts.outcomes.Outcomes as Outcomes
 use Rattle.mac_loop.specs.contracts.port.SocketPort as SocketPort
+use Rattle.mac_loop.specs.contracts.roll.Roll as Roll
 use Rattle.mac_plain.proofs.client.Client.TheSendSync as client
 use Rattle.mac_plain.proofs.round.Round.TheSendSync as round
 use Rattle.mac_sockets.proofs.account.Account.TheSendSync as account
@@ -55,8 +58,14 @@ member_sent = search (sendable, crosses, port_sent, client.the_field_send, note.
 pub batch_field_sent : IsSend (Batch.the_field).row
 batch_field_sent = search (sendable, crosses, port_sent, client.the_send, client.the_field_send, lent.the_send) depth 20
 
+pub outcomes_field_sent : IsSend (Outcomes.the_field).row
+outcomes_field_sent = search (sendable, crosses) depth 20
+
+pub roll_field_sent : IsSend (Roll.the_field).row
+roll_field_sent = search (sendable, crosses, member_sent, batch_field_sent, handover_sent, outcomes_field_sent, connections.the_field_send, backlog.the_field_send) depth 20
+
 pub loop_field_sent : IsSend (Loop.the_field).row
-loop_field_sent = search (sendable, crosses, member_sent, batch_field_sent, connections.the_field_send, round.the_field_send, shares.the_field_send, waker.the_send, account.the_field_send) depth 20
+loop_field_sent = search (sendable, crosses, roll_field_sent, round.the_field_send, shares.the_field_send, waker.the_send, account.the_field_send, backlog.the_field_send) depth 20
 
 pub loop_sent : IsSend Loop.the_row
 loop_sent = recorded_send (Loop.the_field).row _ _ (Loop.the_type).to_one loop_field_sent

@@ -1,6 +1,13 @@
 pub mod Alive
 pub mod Asks
+pub mod Backlog
+pub mod Gone
 pub mod Minted
+pub mod Nobody
+pub mod Verified
 pub mod Reason
 pub mod Resting
+pub mod Roll
 pub mod SocketQueues
+pub mod Told
+pub mod Unsent

@@ -5,6 +5,7 @@ ghost use Rattle.std.specs.Prelude.{◌≡◌};
 ghost use Rattle.mac_loop.specs.Asks.{home_of};
 
 use crate::socket_queues::SocketQueues;
+use mac_count::Request;
 use mac_decide::{Job, Macaroons};
 use mac_host::Socket;
 use mac_order::Answer;
@@ -24,6 +25,19 @@ const FOR_EACH_WORKER: usize = 2;
 pub struct Asker {
     pub slot: usize,
     pub number: u64,
+    /// When it did, in microseconds.
+    pub since: u64,
+}
+
+/// What became of what workers gave back to a client.
+#[derive(Clone, Copy)]
+pub enum Delivered {
+    /// The client is gone.
+    Nowhere,
+    /// It has had no answer of its own.
+    Unanswered,
+    /// It has its answer, which is counted so.
+    Answered(Request),
 }
 
 /// What came of a job: the answer, or none for want of memory.

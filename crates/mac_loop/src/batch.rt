@@ -1,12 +1,16 @@
 //! The clients of a turn, out of their slots.
 
-ghost use Rattle.std.specs.Prelude.{All};
+ghost use Rattle.std.specs.Prelude.{◌≡◌, ◌+◌, All, IfNone, IfOk, IsTrue, OnErr, OnOk};
+ghost use Rattle.std.specs.Prelude.{OnSome, sum_by};
 ghost use Rattle.mac_loop.specs.Alive.{IsAlive};
+ghost use Rattle.mac_loop.specs.Backlog.{rounded};
+ghost use Rattle.mac_loop.specs.Unsent.{unsent_on};
 
+use crate::backlog::Backlog;
 use crate::members::{Member, Note};
 use crate::port::SocketPort;
 use mac_board::Outlook;
-use mac_plain::{Client, Round};
+use mac_plain::{Client, Round, RoundTerms};
 use std::alloc::{AllocError, Global};
 use std::thread::Threads;
 
@@ -26,8 +30,12 @@ pub struct Batch {
 }
 
 impl Batch {
+    ghost use Rattle.mac_loop.specs.Roll.{count_batch, unsent_batch};
+
     /// None, with room for so many.
-    pub fn with_capacity(alloc: Global, count: usize) -> Result<Batch, AllocError> {
+    pub fn with_capacity(alloc: Global, count: usize) -> Result<Batch, AllocError>
+        ensures { IfOk result (λ batch. count_batch batch ≡ 0) }
+    {
         Ok(Batch {
             clients: Vec::with_capacity(alloc, count)?,
             lent: Vec::with_capacity(alloc, count)?,
@@ -35,12 +43,24 @@ impl Batch {
     }
 
     /// Whether there are none.
-    pub fn is_empty(&self) -> bool {
-        self.lent.is_empty()
+    pub fn is_empty(&self) -> bool
+        ensures { IsTrue result → count_batch self.now ≡ 0 }
+    {
+        self.clients.is_empty()
+    }
+
+    /// How many bytes are unsent on them.
+    pub fn unsent(&self) -> Backlog
+        ensures { result.bytes ≡ rounded (unsent_batch self.now) }
+    {
+        unsent_on_all(self.clients.as_slice())
     }
 
     /// One more, out of this slot. Without memory it comes back.
-    pub fn push(&mut self, slot: usize, member: Member) -> Result<(), Member> {
+    pub fn push(&mut self, slot: usize, member: Member) -> Result<(), Member>
+        ensures pushed { OnOk result (count_batch self.new ≡ count_batch self.old + 1) }
+        ensures same { OnErr result (count_batch self.new ≡ count_batch self.old) }
+    {
         let Member { client, note } = member;
         if self.lent.push(Lent { slot, note }).is_err() {
             return Err(Member { client, note });
@@ -58,7 +78,10 @@ impl Batch {
     }
 
     /// The last one, and the slot that it is out of.
-    pub fn pop(&mut self) -> Option<(usize, Member)> {
+    pub fn pop(&mut self) -> Option<(usize, Member)>
+        ensures none { IfNone result (count_batch self.new ≡ count_batch self.old) }
+        ensures one { OnSome result (count_batch self.new + 1 ≡ count_batch self.old) }
+    {
         let Lent { slot, note } = self.lent.pop()?;
         let client = self.clients.pop()?;
         Some((slot, Member { client, note }))
@@ -69,11 +92,23 @@ impl Batch {
         &mut self,
         rt: &R,
         round: &mut Round,
-        threads: usize,
+        terms: RoundTerms,
         outlook: &mut K,
-        unsent_max: usize,
-    ) {
+    )
+        ensures { count_batch self.new ≡ count_batch self.old }
+    {
         let clients = self.clients.as_mut_slice();
-        round.serve(rt, threads, outlook, clients, unsent_max);
+        round.serve(rt, terms, outlook, clients);
     }
+}
+
+/// How many bytes are unsent on these clients.
+fn unsent_on_all(clients: &[Client<SocketPort>]) -> Backlog
+    ensures { result.bytes ≡ rounded (sum_by unsent_on clients.now) }
+{
+    let mut all = Backlog::none();
+    for client in clients {
+        all.add(client.unsent());
+    }
+    all
 }

@@ -1,8 +1,12 @@
 //! What loops share: where each gets clients from, how busy each is, and what is unsent on all.
 
+ghost use Rattle.std.specs.Prelude.{◌≡◌, ◌++◌, ◌∷◌, [], IfErr, IfNone, IfSome, OnErr, OnOk};
+
+use crate::backlog::Backlog;
 use crate::handover::Handover;
 use crate::meter::{Meter, Shares};
-use mac_host::Socket;
+use mac_host::{Badge, Socket};
+use mac_mail::History;
 use mac_plain::UNSENT_MAX;
 use mac_sockets::{Inbox, REST_MIN};
 use std::alloc::{AllocError, Global};
@@ -97,6 +101,7 @@ pub struct Loops {
     // How many loops are in a turn.
     busy: AtomicUsize,
     displacing: Displacing,
+    // How many bytes are unsent on all clients: the sum of what each loop has told of its own.
     unsent: AtomicU64,
     // How many bytes may be unsent on all clients before each may have less.
     unsent_all: u64,
@@ -136,17 +141,31 @@ impl Loops {
         self.sides.len()
     }
 
-    /// Hands a client to a loop. Without memory it comes back.
-    pub fn hand<R: Wait>(&self, rt: &R, number: usize, client: Handover) -> Result<(), Handover> {
+    /// Hands a client to a loop, and notes that. Without memory it comes back.
+    pub fn hand<R: Wait>(
+        &self,
+        rt: &R,
+        number: usize,
+        client: Handover,
+        handed: &mut History<Badge>,
+    ) -> Result<(), Handover>
+        ensures handed { OnOk result (handed.new ≡ handed.old ++ client.badge ∷ []) }
+        ensures same { OnErr result (handed.new ≡ handed.old) }
+        ensures back { IfErr result (λ back. back ≡ client) }
+    {
         let Some(side) = self.sides.get(number) else {
             return Err(client);
         };
+        let badge = client.badge;
         side.waiting.fetch_add(1, SeqCst);
-        let handed = side.inbox.push(rt, client);
-        if handed.is_err() {
-            side.waiting.fetch_sub(1, SeqCst);
+        let pushed = side.inbox.push(rt, client);
+        match pushed {
+            Ok(()) => handed.add(&badge),
+            Err(_) => {
+                side.waiting.fetch_sub(1, SeqCst);
+            }
         }
-        handed
+        pushed
     }
 
     /// Waits while more clients wait for a loop than it takes in between two turns.
@@ -169,7 +188,11 @@ impl Loops {
         rt: &R,
         socket: Socket,
         client: Handover,
-    ) -> Result<(), Handover> {
+        handed: &mut History<Badge>,
+    ) -> Result<(), Handover>
+        ensures handed { OnOk result (handed.new ≡ handed.old ++ client.badge ∷ []) }
+        ensures same { OnErr result (handed.new ≡ handed.old) }
+    {
         let (number, since) = self.stalest(socket);
         let is_own = client.badge.socket == socket;
         if is_own && client.since.saturating_sub(since) < REST_MIN {
@@ -182,17 +205,26 @@ impl Loops {
         }
         let mut client = client;
         client.displaces = Some(socket);
-        let handed = self.hand(rt, number, client);
-        if handed.is_err() {
+        let left = self.hand(rt, number, client, handed);
+        if left.is_err() {
             displacing.fetch_sub(1, SeqCst);
         }
-        handed
+        left
     }
 
-    /// The next client that was handed to a loop.
-    pub fn take<R: Wait>(&self, rt: &R, number: usize) -> Option<Handover> {
+    /// The next client that was handed to a loop. That the loop was given it is noted.
+    pub fn take<R: Wait>(
+        &self,
+        rt: &R,
+        number: usize,
+        given: &mut History<Badge>,
+    ) -> Option<Handover>
+        ensures none { IfNone result (given.new ≡ given.old) }
+        ensures one { IfSome result (λ client. given.new ≡ given.old ++ client.badge ∷ []) }
+    {
         let side = self.sides.get(number)?;
         let client = side.inbox.pop(rt)?;
+        given.add(&client.badge);
         side.waiting.fetch_sub(1, SeqCst);
         if client.displaces.is_some() {
             self.displacing.at(client.badge.socket).fetch_sub(1, SeqCst);
@@ -280,12 +312,13 @@ impl Loops {
         }
     }
 
-    /// What is unsent on a client was so much, and is so much now.
-    pub fn count_unsent(&self, before: usize, now: usize) {
-        if now > before {
-            self.unsent.fetch_add((now - before) as u64, SeqCst);
-        } else if before > now {
-            self.unsent.fetch_sub((before - now) as u64, SeqCst);
+    /// A loop that has told so much tells how much is unsent on its clients now.
+    pub fn tell_unsent(&self, told: &mut Backlog, now: Backlog)
+        ensures { told.new ≡ now }
+    {
+        let more = told.replace(now);
+        if more != 0 {
+            self.unsent.fetch_add(more, SeqCst);
         }
     }
 

@@ -6,20 +6,27 @@
 //! `mac_plain`'s. Clients come by a loop's inbox among the [`Loops`], from whoever accepts them and
 //! from other loops: few clients share a loop for as long as it keeps up.
 //!
+//! A loop's clients are in its roll, and none leaves that without an outcome: it is handed on, its
+//! end is told, or it is turned away. An [`EndedLoop`] says so of all that the loop was given.
+//!
 //! A client's value carries its life: a [`Handover`], what the slots and the turns of a loop hold,
 //! and the [`EndedLife`] that a [`Watch`] is told each have a fact on what came and went so far.
 #![tactic(auto)]
 
 mod asks;
+mod backlog;
 mod batch;
 mod ended;
 mod handover;
 mod inbox;
+pub mod laws;
 mod looping;
 mod members;
 mod meter;
+mod outcomes;
 mod port;
 mod resting;
+mod roll;
 mod socket_queues;
 mod transcript;
 mod watch;
@@ -28,6 +35,7 @@ pub use ended::EndedLife;
 pub use handover::Handover;
 pub use inbox::Loops;
 pub use looping::{Loop, LoopTerms, make_loops};
+pub use outcomes::{EndedLoop, Outcomes};
 pub use port::SocketPort;
 pub use transcript::Transcript;
 pub use watch::{PlainFault, Turn, Watch};

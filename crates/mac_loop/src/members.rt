@@ -1,12 +1,16 @@
 //! A client of a loop, and what the loop knows of it.
 
 ghost use Rattle.std.specs.Prelude.{◌≡◌, IsTrue};
+ghost use Rattle.mac_plain.specs.Client.{may_move};
 ghost use Rattle.mac_plain.specs.declared.course.Course.TheVariants as course;
 ghost use Rattle.mac_loop.specs.Alive.{IsAlive};
 
+use crate::ended::EndedLife;
+use crate::handover::Handover;
 use crate::port::SocketPort;
-use crate::watch::Watch;
-use mac_board::Current;
+use crate::watch::{PlainFault, Watch};
+use mac_board::{Current, Outlook};
+use mac_count::Request;
 use mac_decide::{Job, Macaroons};
 use mac_host::{Badge, Life, Traffic};
 use mac_order::Answer;
@@ -140,7 +144,9 @@ impl Member {
 
     /// Notes whether it rests: one doesn't that made progress, or waits for a worker's answer. Since
     /// when it has rested, in microseconds.
-    pub fn note_rest(&mut self, now: u64) -> u64 {
+    pub fn note_rest(&mut self, now: u64) -> u64
+        ensures { self.new.client ≡ self.old.client }
+    {
         if self.client.is_waiting() {
             self.note.since = now;
         }
@@ -164,6 +170,7 @@ impl Member {
     /// reset. What may come further: none once enough was dropped.
     pub fn drop_piece(&mut self, now: u64) -> Came
         requires { self.old.client.course ≡ course.TooLong }
+        ensures { self.new.client.session ≡ self.old.client.session }
     {
         if self.note.dropped == 0 {
             self.client.port().end_writing();
@@ -192,9 +199,20 @@ impl Member {
         let _ = round.recall(&mut self.client, current);
     }
 
-    /// Gives it a worker's answer, which is another's where it doesn't wait for that.
-    pub fn take_answer(&mut self, round: &mut Round, answer: Answer<Macaroons>) {
-        round.deliver(&mut self.client, answer);
+    /// Gives it a worker's answer, which is another's where it doesn't wait for that. There may be
+    /// none for want of memory. What its own is to be counted as.
+    pub fn take_answer(
+        &mut self,
+        round: &mut Round,
+        answer: Option<Answer<Macaroons>>,
+    ) -> Option<Request> {
+        match answer {
+            Some(answer) => round.deliver(&mut self.client, answer),
+            None => {
+                self.client.lose_answer();
+                None
+            }
+        }
     }
 
     /// There is no answer for it, for want of memory.
@@ -203,12 +221,16 @@ impl Member {
     }
 
     /// Something may be left to be read.
-    pub fn wake_reading(&mut self) {
+    pub fn wake_reading(&mut self)
+        ensures { self.new.client.session ≡ self.old.client.session }
+    {
         self.client.wake_reading();
     }
 
     /// Takes nothing more from it than what has come.
-    pub fn end_reading(&mut self) {
+    pub fn end_reading(&mut self)
+        ensures { self.new.client.session ≡ self.old.client.session }
+    {
         self.client.port().end_reading();
         self.client.wake_reading();
     }
@@ -220,6 +242,56 @@ impl Member {
                 return;
             };
             watch.tell(rt, self.note.badge, exchange);
+        }
+    }
+
+    /// Notes what it waits for after its turn.
+    pub fn note_turn(&mut self, now: u64, unsent_max: usize)
+        ensures { self.new.client.session ≡ self.old.client.session }
+    {
+        let _ = self.note_progress(now);
+        // A read that ends within a request may have left some of it.
+        let port = self.client.port();
+        let may_have_left = self.client.has_begun() && port.has_read();
+        let may_have_more = self.note.is_closing || may_have_left || port.is_put_off();
+        if may_have_more && !port.is_full() {
+            self.wake_reading();
+        }
+        self.note.is_deep = self.client.is_busy(unsent_max);
+        self.note.awaits_room = self.client.unsent() > 0;
+    }
+
+    /// It leaves its slot for another loop. It takes along how far the tables were that it was
+    /// answered under here.
+    pub fn part<K: Outlook>(self, outlook: &K) -> Handover
+        requires { IsTrue (may_move self.client.course) }
+        ensures port { result.port ≡ self.client.port }
+        ensures session { result.session ≡ self.client.session }
+        ensures rights { result.rights ≡ self.client.rights }
+        ensures place { result.place ≡ (K.known outlook.now).tables.place }
+    {
+        let Member { client, note } = self;
+        let (port, session, rights) = client.into_parts();
+        Handover {
+            port,
+            session,
+            rights,
+            place: outlook.place(),
+            since: note.since,
+            badge: note.badge,
+            displaces: None,
+        }
+    }
+
+    /// What it had come to once it has ended, by a fault or as it stands. It may have waited for a
+    /// worker's answer.
+    pub fn end<W: Watch>(self, watch: &W, fault: Option<PlainFault>) -> EndedLife {
+        if self.client.is_waiting() {
+            watch.narrow(self.life(), None, 0);
+        }
+        match fault {
+            Some(fault) => EndedLife::by(self, fault),
+            None => EndedLife::of(self),
         }
     }
 
@@ -250,6 +322,10 @@ impl Holds for Member {
 }
 
 impl Wakes for Member {
+    ghost use Rattle.std.specs.Prelude.{length};
+
+    ghost weight = { λ member. length member.client.session.unsent };
+
     fn wake(&mut self, told: Readiness) -> bool {
         if told.reads {
             self.client.wake_reading();

@@ -1,19 +1,21 @@
 //! What a connection is asked and answered, read off the bytes of its socket, for who logs that. No
-//! contract speaks of how they are cut; which token a request minted, once it and its reply are, and
-//! what a reply says of why it wasn't done, are contracts'.
+//! contract speaks of how they are cut; which token a request minted, once it and its reply are, of
+//! which identifier the token is that it verified, and what a reply says of why it wasn't done, are
+//! contracts'.
 
-ghost use Rattle.std.specs.Prelude.{◌≡◌, ◌++◌, ◌<◌, ◌^◌, List, Some, ℕ};
+ghost use Rattle.std.specs.Prelude.{◌≡◌, ◌++◌, ◌<◌, ◌^◌, List, None, Some, IfOk, ℕ};
 ghost use Rattle.std.specs.Int.{to_be_bytes, w16};
 ghost use Rattle.std.specs.Option.{option_copied, option_map};
 ghost use Rattle.mac_wire.specs.Reply.{IsReply, placed_payload};
 ghost use Rattle.mac_wire.specs.declared.reply.Reply.{Reply};
 ghost use Rattle.mac_loop.specs.Minted.{identifier_asked, minted_by};
 ghost use Rattle.mac_loop.specs.Reason.{reason_of, reason_told};
+ghost use Rattle.mac_loop.specs.Verified.{identifier_verified, token_verified, verified_by, verified_in};
 
-use mac_host::{Exchange, LoggedReason, copy_told_identifier, copy_told_name};
+use mac_host::{Exchange, LoggedReason, copy_identifier_of, copy_told_identifier, copy_told_name};
 use mac_wire::{
-    Arrival, Cut, FeedFault, FrameReader, ReplyKind, Request, RequestKind, Version, key_name,
-    next_frame, parse_request, reply_kind, request_kind,
+    Arrival, Cut, FeedFault, FrameReader, Refusal, ReplyKind, Request, RequestKind, Version,
+    key_name, next_frame, parse_request, reply_kind, request_kind,
 };
 use std::alloc::{AllocError, Global};
 use std::cell::RefCell;
@@ -25,7 +27,7 @@ use std::mem;
 pub const NOTES_MAX: usize = 4_096;
 
 /// How many bytes a note takes at most beside its texts.
-const ASKED_ROOM: usize = 160;
+const ASKED_ROOM: usize = 224;
 
 /// A request that has come, and waits for its reply.
 #[derive(Drop)]
@@ -34,14 +36,25 @@ struct Asked {
     name: Vec<u8>,
     // Of the token that it is to mint.
     identifier: Option<Vec<u8>>,
+    // Of the token that it is to verify, where that is logged.
+    verified: Option<Vec<u8>>,
 }
 
 impl Asked {
-    /// How many bytes its name and its identifier have.
+    /// How many bytes its name and its identifiers have.
     fn texts(&self) -> usize {
-        let identifier = self.identifier.as_ref();
-        let length = identifier.map_or(0, |identifier| identifier.capacity());
-        self.name.capacity().saturating_add(length)
+        self.name
+            .capacity()
+            .saturating_add(room_of(&self.identifier))
+            .saturating_add(room_of(&self.verified))
+    }
+}
+
+/// How many bytes of memory an identifier takes, if there is one.
+fn room_of(identifier: &Option<Vec<u8>>) -> usize {
+    match identifier {
+        Some(identifier) => identifier.capacity(),
+        None => 0,
     }
 }
 
@@ -50,6 +63,8 @@ impl Asked {
 #[derive(Drop)]
 pub struct Transcript {
     alloc: Global,
+    // Whether identifiers of tokens that are verified are logged.
+    tells_identifiers: bool,
     reader: FrameReader,
     asked: VecDeque<Asked>,
     // What has gone of a reply's frame that isn't whole.
@@ -63,10 +78,12 @@ pub struct Transcript {
 }
 
 impl Transcript {
-    /// That of a connection that begins.
-    pub fn new(alloc: Global) -> Transcript {
+    /// That of a connection that begins. Where the identifiers of tokens that are verified are
+    /// logged, each of these is read here once more.
+    pub fn new(alloc: Global, tells_identifiers: bool) -> Transcript {
         Transcript {
             alloc,
+            tells_identifiers,
             reader: FrameReader::new(alloc),
             asked: VecDeque::new(alloc),
             begun: Vec::new(alloc),
@@ -132,7 +149,7 @@ impl Transcript {
             Err(FeedFault::NoMemory) => return Err(AllocError),
         };
         for arrival in arrivals {
-            let asked = asked_by(self.alloc, &arrival)?;
+            let asked = asked_by(self.alloc, self.tells_identifiers, &arrival)?;
             self.texts = self.texts.saturating_add(asked.texts());
             self.asked.push_back(asked)?;
         }
@@ -179,7 +196,10 @@ impl Transcript {
 }
 
 /// What an arrival asks for, and under which name where it is a whole request.
-fn asked_by(alloc: Global, arrival: &Arrival) -> Result<Asked, AllocError> {
+fn asked_by(alloc: Global, tells_identifiers: bool, arrival: &Arrival) -> Result<Asked, AllocError>
+    ensures { IfOk result (λ asked. option_map (λ identifier. identifier.items) asked.verified
+        ≡ verified_in tells_identifiers arrival.now) }
+{
     let payload: &[u8] = match arrival {
         Arrival::Payload(payload) => payload.as_slice(),
         Arrival::Oversize => &[],
@@ -202,6 +222,7 @@ fn asked_by(alloc: Global, arrival: &Arrival) -> Result<Asked, AllocError> {
         what,
         name: copy_told_name(alloc, name)?,
         identifier,
+        verified: verified_in(alloc, tells_identifiers, arrival)?,
     })
 }
 
@@ -212,6 +233,57 @@ fn identifier_asked(payload: &[u8]) -> Option<&[u8]>
     match parse_request(payload)? {
         Request::Mint { identifier, .. } => Some(identifier),
         Request::Attenuate { .. } | Request::Verify { .. } | Request::VerifyNow { .. } => None,
+    }
+}
+
+/// What is noted of the identifier of the token that a payload asks to verify, if it brings one.
+fn identifier_verified(alloc: Global, payload: &[u8]) -> Result<Option<Vec<u8>>, AllocError>
+    ensures { IfOk result (λ noted.
+        option_map (λ identifier. identifier.items) noted ≡ identifier_verified payload.now) }
+{
+    match token_verified(payload) {
+        Some(token) => copy_identifier_of(alloc, token),
+        None => Ok(None),
+    }
+}
+
+/// The same of an arrival, where such identifiers are logged.
+fn verified_in(
+    alloc: Global,
+    tells_identifiers: bool,
+    arrival: &Arrival,
+) -> Result<Option<Vec<u8>>, AllocError>
+    ensures { IfOk result (λ noted. option_map (λ identifier. identifier.items) noted
+        ≡ verified_in tells_identifiers arrival.now) }
+{
+    match arrival {
+        Arrival::Payload(payload) if tells_identifiers => {
+            identifier_verified(alloc, payload.as_slice())
+        }
+        _ => Ok(None),
+    }
+}
+
+/// The token that a payload asks to verify, if it asks that.
+fn token_verified(payload: &[u8]) -> Option<&[u8]>
+    ensures { option_copied result ≡ token_verified payload.now }
+{
+    match parse_request(payload)? {
+        Request::Verify { token, .. } | Request::VerifyNow { token, .. } => Some(token),
+        Request::Mint { .. } | Request::Attenuate { .. } => None,
+    }
+}
+
+/// The identifier of the token that was verified, as it is told: where the reply says that a key
+/// gives the token's signature. Of any other token it is what anybody may have written.
+fn verified_by(asked: Option<Vec<u8>>, told: ReplyKind) -> Option<Vec<u8>>
+    ensures { option_map (λ identifier. identifier.items) result
+        ≡ verified_by (option_map (λ identifier. identifier.items) asked) told }
+{
+    match told {
+        ReplyKind::Granted | ReplyKind::Unsatisfied => asked,
+        ReplyKind::Refused(code) if code == Refusal::Revoked.code() => asked,
+        ReplyKind::Refused(_) | ReplyKind::Token => None,
     }
 }
 
@@ -263,7 +335,12 @@ fn last_number(bytes: &[u8]) -> Option<u16>
 
 /// A request with what its reply tells.
 fn answered(asked: Asked, told: ReplyKind, reason: Option<LoggedReason>) -> Exchange
-    ensures { result.reason ≡ reason }
+    ensures reason { result.reason ≡ reason }
+    ensures minted { option_map (λ identifier. identifier.items) result.minted
+        ≡ minted_by (option_map (λ identifier. identifier.items) asked.identifier) told }
+    ensures verified { option_map (λ identifier. identifier.items) result.identifier
+        ≡ verified_by (option_map (λ identifier. identifier.items) asked.verified) told }
+    ensures id { result.id ≡ None }
 {
     let verdict = match told {
         ReplyKind::Granted => "granted",
@@ -275,6 +352,7 @@ fn answered(asked: Asked, told: ReplyKind, reason: Option<LoggedReason>) -> Exch
         what,
         name,
         identifier,
+        verified,
     } = asked;
     Exchange {
         asks: what,
@@ -282,5 +360,7 @@ fn answered(asked: Asked, told: ReplyKind, reason: Option<LoggedReason>) -> Exch
         verdict,
         reason,
         minted: minted_by(identifier, told),
+        id: None,
+        identifier: verified_by(verified, told),
     }
 }

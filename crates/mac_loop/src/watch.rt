@@ -1,12 +1,13 @@
 //! What loops ask of the daemon around them.
 
-ghost use Rattle.std.specs.Prelude.{◌≡◌, None};
+ghost use Rattle.std.specs.Prelude.{◌≡◌, ◌++◌, ◌∷◌, [], None, map, option_to_list};
 ghost use Rattle.mac_loop.specs.Alive.{EndsWell};
 
 use crate::ended::EndedLife;
 use crate::port::SocketPort;
-use mac_count::REQUESTS;
+use mac_count::{REQUESTS, Request};
 use mac_host::{Badge, Exchange, HEAVY, Life, Socket, Traffic};
+use mac_mail::History;
 use mac_plain::{Client, Course, Ended, Fall};
 use std::alloc::AllocError;
 use std::sync::Wait;
@@ -66,7 +67,7 @@ impl PlainFault {
 /// What a turn of a loop came to.
 #[derive(Clone, Copy)]
 pub struct Turn {
-    /// How many requests were answered, each kind at its place.
+    /// How many requests were answered, each kind at its place, but for those that workers answered.
     pub requests: [u64; REQUESTS],
     /// What came from its clients, and went to them.
     pub traffic: Traffic,
@@ -74,11 +75,12 @@ pub struct Turn {
 
 /// Who is told what becomes of the clients of loops.
 pub trait Watch: Send + Sync {
-    /// A client has ended, well or in a fault.
-    fn end<R: Wait + Clock>(&self, rt: &R, ended: EndedLife);
+    /// A client has ended, well or in a fault. That this was told is noted.
+    fn end<R: Wait + Clock>(&self, rt: &R, ended: EndedLife, told: &mut History<Life>)
+        ensures { told.new ≡ told.old ++ ended.life ∷ [] };
 
-    /// A turn has ended.
-    fn count(&self, turn: &Turn);
+    /// A turn has ended, which took so many microseconds from when its loop had waited.
+    fn count(&self, turn: &Turn, micros: u64);
 
     /// A client of this badge was sent the reply to a request, and that is logged; or there was no
     /// memory to note one.
@@ -94,15 +96,18 @@ pub trait Watch: Send + Sync {
     /// no room for that.
     fn gives_way<R: Wait>(&self, rt: &R, comes: Socket) -> Option<Socket>;
 
-    /// A client comes in the place of one that has gone, or of nobody. What it is known by, where
-    /// there is room for it.
+    /// A client comes in the place of one that has ended so, or of nobody. What it is known by, where
+    /// there is room for it. That the other one's end was told is noted.
     fn displace<R: Wait + Clock>(
         &self,
         rt: &R,
         gone: Option<EndedLife>,
         comes: Badge,
-    ) -> Option<Badge>;
+        told: &mut History<Life>,
+    ) -> Option<Badge>
+        ensures { told.new ≡ told.old ++ map (λ ended. ended.life) (option_to_list gone) };
 
-    /// A client waits for a worker no more. Whether it has the answer.
-    fn narrow(&self, life: Life, is_answered: bool);
+    /// A client waits for a worker no more, for which it did so many microseconds. What it has had
+    /// answered then, if anything.
+    fn narrow(&self, life: Life, answered: Option<Request>, micros: u64);
 }

@@ -163,18 +163,18 @@ fn put_guards(response: &mut Response) -> Result<(), AllocError>
     ensures body { response.new.body ≡ response.old.body }
 {
     let policy = HeaderValue::from_static(POLICY);
-    let types = HeaderValue::from_static("nosniff");
-    let referrer = HeaderValue::from_static("no-referrer");
-    let cache = HeaderValue::from_static("no-store");
-    let resource = HeaderName::from_static(RESOURCE_POLICY);
-    let opener = HeaderName::from_static(OPENER_POLICY);
-    let origin = HeaderValue::from_static("same-origin");
-    let alone = HeaderValue::from_static("same-origin");
     response.add_header(CONTENT_SECURITY_POLICY, policy)?;
+    let types = HeaderValue::from_static("nosniff");
     response.add_header(X_CONTENT_TYPE_OPTIONS, types)?;
+    let referrer = HeaderValue::from_static("no-referrer");
     response.add_header(REFERRER_POLICY, referrer)?;
+    let cache = HeaderValue::from_static("no-store");
     response.add_header(CACHE_CONTROL, cache)?;
+    let resource = HeaderName::from_static(RESOURCE_POLICY);
+    let origin = HeaderValue::from_static("same-origin");
     response.add_header(resource, origin)?;
+    let opener = HeaderName::from_static(OPENER_POLICY);
+    let alone = HeaderValue::from_static("same-origin");
     response.add_header(opener, alone)?;
     Ok(())
 }

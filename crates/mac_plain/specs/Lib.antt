@@ -7,6 +7,7 @@ pub mod Dear
 pub mod Pairs
 pub mod Goes
 pub mod Requests
+pub mod RoundView
 pub mod Receiving
 pub mod Rounds
 pub mod Shares

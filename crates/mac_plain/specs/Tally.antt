@@ -1,5 +1,5 @@
 -- Which of the daemon's numbers an answered request is counted in (this project's own).
-use Rattle.std.specs.Prelude.{ℕ, List, [], ◌∷◌, ◌==◌, ◌&&◌, nat_le, if◌then◌else◌}
+use Rattle.std.specs.Prelude.{ℕ, List, [], ◌∷◌, Option, Some, None}
 use Rattle.mac_count.specs.declared.number.Asked.{Asked}
 use Rattle.mac_count.specs.declared.number.Asked.TheVariants as asked
 use Rattle.mac_count.specs.declared.number.Request.{Request}
@@ -9,32 +9,31 @@ use Rattle.mac_decide.specs.declared.job.Job.{Job}
 use Rattle.mac_plain.specs.declared.tally.Tally.{Tally}
 use Rattle.mac_wire.specs.declared.arrival.Arrival.{Arrival}
 use Rattle.mac_wire.specs.declared.arrival.Arrival.TheVariants as arrival
-use Rattle.mac_wire.specs.declared.reply.Refusal.TheVariants as refusal
+use Rattle.mac_wire.specs.Reading.{request_kind_of}
+use Rattle.mac_wire.specs.declared.request.RequestKind.{RequestKind}
+use Rattle.mac_wire.specs.declared.request.RequestKind.TheVariants as kind
 use Rattle.mac_wire.specs.declared.reply.Reply.{Reply}
 use Rattle.mac_wire.specs.declared.reply.Reply.TheVariants as reply
 
--- what a request with this number in front asks for
-abbrev pub asked_as : ℕ → Asked
-asked_as kind =
-    if kind == 1 then asked.Mint
-    else if kind == 2 then asked.Attenuate
-    else if nat_le 3 kind && nat_le kind 5 then asked.Verify
-    else asked.Nothing
+-- what a request of this kind is counted as, or a payload that begins as none
+abbrev pub asked_as : Option RequestKind → Asked
+asked_as (Some kind.Mint) = asked.Mint
+asked_as (Some kind.Attenuate) = asked.Attenuate
+asked_as (Some kind.Verify) = asked.Verify
+asked_as None = asked.Nothing
 
 -- what an arrival asks for
 abbrev pub asked_by : Arrival → Asked
-asked_by (arrival.Payload []) = asked.Nothing
-asked_by (arrival.Payload (kind ∷ rest)) = asked_as kind
+asked_by (arrival.Payload payload) = asked_as (request_kind_of payload)
 asked_by arrival.Oversize = asked.Nothing
 
--- what a reply tells
+-- what a reply tells: of a refusal, its reason
 abbrev pub told_by : Reply → Told
 told_by reply.Granted = told.Granted
 told_by (reply.GrantedTo identifier location) = told.Granted
 told_by (reply.Token bytes) = told.Token
 told_by (reply.Unsatisfied index) = told.Unsatisfied
-told_by (reply.Refused refusal.Revoked) = told.Revoked
-told_by (reply.Refused reason) = told.Refused
+told_by (reply.Refused reason) = told.Refused (Some reason)
 
 -- a job with its reply, as it is counted
 abbrev pub request_of : Job → Reply → Request

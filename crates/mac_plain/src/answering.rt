@@ -1,22 +1,22 @@
 //! The replies to all requests of a round, and whose they are.
 
 ghost use Rattle.std.specs.Prelude.{◌≡◌, ◌≤◌, ◌<◌, ℕ, List, [], ◌∷◌, length, map, slice_get, All, IfOk, IfSome, Some};
-ghost use Rattle.mac_board.specs.Noticed.{Current as PlainCurrent, lent_current};
+ghost use Rattle.mac_board.specs.Noticed.{Current as PlainCurrent};
 ghost use Rattle.mac_wire.specs.Reply.{IsReply};
 ghost use Rattle.mac_decide.specs.Prepared.{reply_to_job};
 ghost use Rattle.mac_decide.specs.Viewed.{viewed};
 ghost use Rattle.mac_plain.specs.declared.request.Request.{Request};
 ghost use Rattle.mac_plain.specs.Goes.{AreAnswered};
-ghost use Rattle.mac_plain.specs.Requests.{AreReplies, AreWithin, asked_of, job_at, jobs_at};
+ghost use Rattle.mac_plain.specs.Requests.{AreReplies, asked_of, job_at, jobs_at};
+ghost use Rattle.mac_plain.specs.RoundView.{LieWithin, LiesIn, asked_in, job_in, jobs_in, up_in};
 
 use crate::NoMemory;
 use crate::client::Client;
 use crate::port::Port;
-use crate::request::Request;
+use crate::request::{Request, RoundView};
 use crate::sharing::answer_shared;
 use crate::tally::Tally;
 use arrayvec::ArrayVec;
-use mac_board::Current;
 use mac_decide::{
     ArrivalView, JobView, RUN, Revocation, Rooms, SeenTokens, Terms, answer_one, answer_run,
     job_view_of,
@@ -31,10 +31,11 @@ const SHARED_MIN: usize = 65_536;
 /// How many threads answer together what a memory tells: for more there is too little to do.
 const TELLERS: usize = 2;
 
-/// What answering keeps from run to run: rooms for tokens, a memory of those that were seen, and a
-/// tally of what was answered.
+/// What answering keeps from run to run: its allocator, rooms for tokens, a memory of those that were
+/// seen, and a tally of what was answered.
 #[derive(Drop)]
 pub struct Bench {
+    pub alloc: Global,
     pub rooms: Rooms,
     pub seen: SeenTokens,
     pub tally: Tally,
@@ -58,25 +59,30 @@ pub fn answer_requests<R: Threads + Sync, P: Port>(
     rt: &R,
     threads: usize,
     bench: &mut Bench,
-    alloc: Global,
-    current: Current<'_>,
-    arena: &[u8],
-    requests: &[Request],
+    round: RoundView<'_>,
     clients: &mut [Client<P>],
 )
-    requires { AreWithin (length arena.now) requests.now }
-    ensures { AreAnswered P.tells P.taken P.written (lent_current current.entry)
-        (λ k. asked_of k arena.now requests.now) clients.old clients.new }
+    requires { LieWithin round }
+    ensures { AreAnswered P.tells P.taken P.written (up_in round.entry) (asked_in round.entry)
+        clients.old clients.new }
 {
     let first = if bench.seen.is_none() {
         0
     } else {
-        requests.len().min(RUN)
+        round.requests.len().min(RUN)
     };
-    let (run, rest) = requests.split_at(first);
-    answer_runs(bench, alloc, current, arena, run, clients);
+    let (run, rest) = round.requests.split_at(first);
+    let run = RoundView {
+        requests: run,
+        ..round
+    };
+    answer_runs(bench, run, clients);
+    let rest = RoundView {
+        requests: rest,
+        ..round
+    };
     let threads = bench.worth(threads);
-    answer_rest(rt, threads, bench, alloc, current, arena, rest, clients);
+    answer_rest(rt, threads, bench, rest, clients);
 }
 
 /// The same of what is left, by so many threads where it is much.
@@ -84,23 +90,19 @@ fn answer_rest<R: Threads + Sync, P: Port>(
     rt: &R,
     threads: usize,
     bench: &mut Bench,
-    alloc: Global,
-    current: Current<'_>,
-    arena: &[u8],
-    requests: &[Request],
+    round: RoundView<'_>,
     clients: &mut [Client<P>],
 )
-    requires { AreWithin (length arena.now) requests.now }
-    ensures { AreAnswered P.tells P.taken P.written (lent_current current.entry)
-        (λ k. asked_of k arena.now requests.now) clients.old clients.new }
+    requires { LieWithin round }
+    ensures { AreAnswered P.tells P.taken P.written (up_in round.entry) (asked_in round.entry)
+        clients.old clients.new }
 {
-    if threads > 1 && span(requests) >= SHARED_MIN {
-        let shared = replies_from(rt, threads, bench, alloc, current, arena, requests, clients);
-        if let Ok(replies) = shared {
-            return hand_out(requests, replies.as_slice(), clients);
+    if threads > 1 && span(round.requests) >= SHARED_MIN {
+        if let Ok(replies) = replies_from(rt, threads, bench, round, clients) {
+            return hand_out(round.requests, replies.as_slice(), clients);
         }
     }
-    answer_runs(bench, alloc, current, arena, requests, clients);
+    answer_runs(bench, round, clients);
 }
 
 /// How many bytes the requests stand in.
@@ -116,20 +118,17 @@ fn replies_from<R: Threads + Sync, P: Port>(
     rt: &R,
     threads: usize,
     bench: &mut Bench,
-    alloc: Global,
-    current: Current<'_>,
-    arena: &[u8],
-    requests: &[Request],
+    round: RoundView<'_>,
     clients: &[Client<P>],
 ) -> Result<Vec<Reply>, NoMemory>
     requires threads { 0 < threads }
-    requires within { AreWithin (length arena.now) requests.now }
+    requires within { LieWithin round }
     ensures replies { IfOk result (λ replies. AreReplies
-        (jobs_at (lent_current current.entry) clients.now arena.now requests.now) replies.items) }
+        (jobs_in round.entry clients.now) replies.items) }
     ensures sendable { IfOk result (λ replies. All IsReply replies.items) }
 {
-    let jobs = jobs_of_all(alloc, current, arena, requests, clients)?;
-    let replies = answer_shared(rt, alloc, &bench.seen, jobs.as_slice(), threads)?;
+    let jobs = jobs_of_all(bench.alloc, round, clients)?;
+    let replies = answer_shared(rt, bench.alloc, &bench.seen, jobs.as_slice(), threads)?;
     bench.tally.count_all(jobs.as_slice(), replies.as_slice());
     Ok(replies)
 }
@@ -137,128 +136,105 @@ fn replies_from<R: Threads + Sync, P: Port>(
 /// The requests, where they lie, with what each is answered on.
 fn jobs_of_all<'a, P: Port>(
     alloc: Global,
-    current: Current<'a>,
-    arena: &'a [u8],
-    requests: &[Request],
+    round: RoundView<'a>,
     clients: &'a [Client<P>],
 ) -> Result<Vec<JobView<'a>>, NoMemory>
-    requires { AreWithin (length arena.now) requests.now }
+    requires { LieWithin round }
     ensures { IfOk result (λ jobs. map viewed jobs.items
-        ≡ jobs_at (lent_current current.entry) clients.now arena.now requests.now) }
+        ≡ jobs_in round.entry clients.now) }
 {
-    let mut jobs = Vec::with_capacity(alloc, requests.len())?;
-    for request in requests {
-        jobs.push_reserved(job_of_request(current, arena, request, clients));
+    let mut jobs = Vec::with_capacity(alloc, round.requests.len())?;
+    for request in round.requests {
+        jobs.push_reserved(job_of_request(round, request, clients));
     }
     Ok(jobs)
 }
 
 /// Answers the requests in runs, and gives each client the replies to its own.
-fn answer_runs<P: Port>(
-    bench: &mut Bench,
-    alloc: Global,
-    current: Current<'_>,
-    arena: &[u8],
-    requests: &[Request],
-    clients: &mut [Client<P>],
-)
-    requires { AreWithin (length arena.now) requests.now }
-    ensures { AreAnswered P.tells P.taken P.written (lent_current current.entry)
-        (λ k. asked_of k arena.now requests.now) clients.old clients.new }
+fn answer_runs<P: Port>(bench: &mut Bench, round: RoundView<'_>, clients: &mut [Client<P>])
+    requires { LieWithin round }
+    ensures { AreAnswered P.tells P.taken P.written (up_in round.entry) (asked_in round.entry)
+        clients.old clients.new }
 {
     let mut at = 0;
-    while at < requests.len() {
-        let end = requests.len().min(at + RUN);
-        answer_some(bench, alloc, current, arena, &requests[at..end], clients);
+    while at < round.requests.len() {
+        let end = round.requests.len().min(at + RUN);
+        let requests = &round.requests[at..end];
+        answer_some(bench, RoundView { requests, ..round }, clients);
         at = end;
     }
 }
 
 /// Answers a run of requests together, or each by itself where memory is refused for all. One alone
 /// asks for no places of a run.
-fn answer_some<P: Port>(
-    bench: &mut Bench,
-    alloc: Global,
-    current: Current<'_>,
-    arena: &[u8],
-    run: &[Request],
-    clients: &mut [Client<P>],
-)
-    requires count { length run.now ≤ RUN }
-    requires within { AreWithin (length arena.now) run.now }
-    ensures { AreAnswered P.tells P.taken P.written (lent_current current.entry)
-        (λ k. asked_of k arena.now run.now) clients.old clients.new }
+fn answer_some<P: Port>(bench: &mut Bench, run: RoundView<'_>, clients: &mut [Client<P>])
+    requires count { length run.requests.now ≤ RUN }
+    requires within { LieWithin run }
+    ensures { AreAnswered P.tells P.taken P.written (up_in run.entry) (asked_in run.entry)
+        clients.old clients.new }
 {
-    if run.len() == 1 {
-        return answer_alone(bench, alloc, current, arena, run, clients);
+    if run.requests.len() == 1 {
+        return answer_alone(bench, run, clients);
     }
-    match replies_to(bench, alloc, current, arena, run, clients) {
-        Ok(replies) => hand_out(run, replies.as_slice(), clients),
-        Err(_) => answer_apart(bench, alloc, current, arena, run, clients),
+    match replies_to(bench, run, clients) {
+        Ok(replies) => hand_out(run.requests, replies.as_slice(), clients),
+        Err(_) => answer_apart(bench, run, clients),
     }
 }
 
 /// The replies to a run of requests, each under the rights of its client.
 fn replies_to<P: Port>(
     bench: &mut Bench,
-    alloc: Global,
-    current: Current<'_>,
-    arena: &[u8],
-    run: &[Request],
+    run: RoundView<'_>,
     clients: &[Client<P>],
 ) -> Result<ArrayVec<Reply, RUN>, NoMemory>
-    requires count { length run.now ≤ RUN }
-    requires within { AreWithin (length arena.now) run.now }
+    requires count { length run.requests.now ≤ RUN }
+    requires within { LieWithin run }
     ensures replies { IfOk result (λ replies. AreReplies
-        (jobs_at (lent_current current.entry) clients.now arena.now run.now) replies.items) }
+        (jobs_in run.entry clients.now) replies.items) }
     ensures sendable { IfOk result (λ replies. All IsReply replies.items) }
 {
-    let jobs = jobs_of_run(current, arena, run, clients);
-    let replies = answer_run(&mut bench.rooms, alloc, jobs.as_slice())?;
+    let jobs = jobs_of_run(run, clients);
+    let replies = answer_run(&mut bench.rooms, bench.alloc, jobs.as_slice())?;
     bench.tally.count_all(jobs.as_slice(), replies.as_slice());
     Ok(replies)
 }
 
 /// The requests of a run, where they lie, with what each is answered on.
 fn jobs_of_run<'a, P: Port>(
-    current: Current<'a>,
-    arena: &'a [u8],
-    run: &[Request],
+    run: RoundView<'a>,
     clients: &'a [Client<P>],
 ) -> ArrayVec<JobView<'a>, RUN>
-    requires count { length run.now ≤ RUN }
-    requires within { AreWithin (length arena.now) run.now }
+    requires count { length run.requests.now ≤ RUN }
+    requires within { LieWithin run }
     ensures { map viewed result.items
-        ≡ jobs_at (lent_current current.entry) clients.now arena.now run.now }
+        ≡ jobs_in run.entry clients.now }
 {
     let mut jobs = ArrayVec::new();
-    for request in run {
-        jobs.push(job_of_request(current, arena, request, clients));
+    for request in run.requests {
+        jobs.push(job_of_request(run, request, clients));
     }
     jobs
 }
 
 /// The job of a request, under the rights of its client; without a client it asks nothing.
 fn job_of_request<'a, P: Port>(
-    current: Current<'a>,
-    arena: &'a [u8],
+    round: RoundView<'a>,
     request: &Request,
     clients: &'a [Client<P>],
 ) -> JobView<'a>
-    requires within { (request.now.start ≤ request.now.end)
-        × (request.now.end ≤ length arena.now) }
-    ensures { viewed result ≡ job_at (lent_current current.entry) arena.now request.now
-        (slice_get clients.now request.now.owner) }
+    requires within { LiesIn round request.now }
+    ensures { viewed result ≡ job_in round.entry clients.now request.now }
 {
     match clients.get(request.owner) {
         Some(client) => {
             let rights = &client.rights;
             let terms = Terms {
-                table: current.table,
+                table: round.current.table,
                 rights,
-                moment: current.moment,
+                moment: round.current.moment,
             };
-            job_view_of(terms, &arena[request.start..request.end])
+            job_view_of(terms, &round.arena[request.start..request.end])
         }
         None => JobView {
             arrival: ArrivalView::Oversize,
@@ -271,62 +247,44 @@ fn job_of_request<'a, P: Port>(
 }
 
 /// Answers each request of a run by itself.
-fn answer_apart<P: Port>(
-    bench: &mut Bench,
-    alloc: Global,
-    current: Current<'_>,
-    arena: &[u8],
-    run: &[Request],
-    clients: &mut [Client<P>],
-)
-    requires { AreWithin (length arena.now) run.now }
-    ensures { AreAnswered P.tells P.taken P.written (lent_current current.entry)
-        (λ k. asked_of k arena.now run.now) clients.old clients.new }
+fn answer_apart<P: Port>(bench: &mut Bench, run: RoundView<'_>, clients: &mut [Client<P>])
+    requires { LieWithin run }
+    ensures { AreAnswered P.tells P.taken P.written (up_in run.entry) (asked_in run.entry)
+        clients.old clients.new }
 {
-    for index in 0..run.len() {
-        let one = &run[index..index + 1];
-        answer_alone(bench, alloc, current, arena, one, clients);
+    for index in 0..run.requests.len() {
+        let requests = &run.requests[index..index + 1];
+        answer_alone(bench, RoundView { requests, ..run }, clients);
     }
 }
 
 /// Answers one request, or lets its client fall where memory is refused for it.
-fn answer_alone<P: Port>(
-    bench: &mut Bench,
-    alloc: Global,
-    current: Current<'_>,
-    arena: &[u8],
-    one: &[Request],
-    clients: &mut [Client<P>],
-)
-    requires one { length one.now ≡ 1 }
-    requires within { AreWithin (length arena.now) one.now }
-    ensures { AreAnswered P.tells P.taken P.written (lent_current current.entry)
-        (λ k. asked_of k arena.now one.now) clients.old clients.new }
+fn answer_alone<P: Port>(bench: &mut Bench, one: RoundView<'_>, clients: &mut [Client<P>])
+    requires one { length one.requests.now ≡ 1 }
+    requires within { LieWithin one }
+    ensures { AreAnswered P.tells P.taken P.written (up_in one.entry) (asked_in one.entry)
+        clients.old clients.new }
 {
-    match reply_to(bench, alloc, current, arena, &one[0], clients) {
-        Ok(reply) => give(one, Some(&reply), clients),
-        Err(_) => give(one, None, clients),
+    match reply_to(bench, one, &one.requests[0], clients) {
+        Ok(reply) => give(one.requests, Some(&reply), clients),
+        Err(_) => give(one.requests, None, clients),
     }
 }
 
 /// The reply to a request, under the rights of its client.
 fn reply_to<P: Port>(
     bench: &mut Bench,
-    alloc: Global,
-    current: Current<'_>,
-    arena: &[u8],
+    round: RoundView<'_>,
     request: &Request,
     clients: &[Client<P>],
 ) -> Result<Reply, NoMemory>
-    requires within { (request.now.start ≤ request.now.end)
-        × (request.now.end ≤ length arena.now) }
-    ensures reply { IfOk result (λ reply. reply ≡ reply_to_job (job_at
-        (lent_current current.entry) arena.now request.now
-        (slice_get clients.now request.now.owner))) }
+    requires within { LiesIn round request.now }
+    ensures reply { IfOk result (λ reply.
+        reply ≡ reply_to_job (job_in round.entry clients.now request.now)) }
     ensures sendable { IfOk result IsReply }
 {
-    let job = job_of_request(current, arena, request, clients);
-    let reply = answer_one(&mut bench.rooms, alloc, &job)?;
+    let job = job_of_request(round, request, clients);
+    let reply = answer_one(&mut bench.rooms, bench.alloc, &job)?;
     bench.tally.count(&job, &reply);
     Ok(reply)
 }

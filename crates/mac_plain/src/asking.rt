@@ -1,6 +1,7 @@
 //! What a loop must not answer: a worker is asked for the answer, and the client waits for that.
 
-ghost use Rattle.std.specs.Prelude.{◌≡◌, ◌≢◌, ◌≤◌, [], ◌∷◌, None, IfOk, IfSome, IfNone, IsTrue, IsFalse, option_to_list};
+ghost use Rattle.std.specs.Prelude.{◌≡◌, ◌≢◌, ◌≤◌, [], ◌∷◌, None, IfOk, IfSome, IfNone, IsTrue};
+ghost use Rattle.std.specs.Prelude.{IsFalse, option_to_list};
 ghost use Rattle.mac_board.specs.Noticed.{lent_current};
 ghost use Rattle.mac_decide.specs.Prepared.{reply_to_job};
 ghost use Rattle.mac_decide.specs.declared.job.Basis.{Basis as Seen};
@@ -22,9 +23,9 @@ use mac_wire::{Arrival, Bytes, Cut, FRAME_MAX, Reply, next_frame};
 use std::alloc::Global;
 
 impl<P: Port> Client<P> {
-    /// The job for a worker, where the client goes on wide: what stands in front of what is carried,
-    /// under this table, at this moment and under the client's rights. From then on it waits for the
-    /// answer, and isn't read. Where there is no memory for the job it has fallen.
+    /// The job for a worker, where the client goes on wide: what stands in front of what is
+    /// carried, under this table, at this moment and under the client's rights. From then on it
+    /// waits for the answer, and isn't read. Where there is no memory for the job it has fallen.
     pub fn ask(&mut self, alloc: Global, current: Current<'_>) -> Option<Job>
         ensures idle { self.old.course ≢ course.Wide → (result ≡ None) × (self.new ≡ self.old) }
         ensures asked { IfSome result (IsAsked (lent_current current.entry) self.old self.new) }
@@ -53,8 +54,8 @@ impl<P: Port> Client<P> {
         Some(job)
     }
 
-    /// Takes an answer, where it is to the job that the client waits for: its reply goes behind what
-    /// is unsent, and what stood in front of what is carried is let go. Another answer changes
+    /// Takes an answer, where it is to the job that the client waits for: its reply goes behind
+    /// what is unsent, and what stood in front of what is carried is let go. Another answer changes
     /// nothing. Whether it is its own.
     pub(crate) fn take_answer(&mut self, job: &Job, reply: &Reply) -> bool
         requires { reply.now ≡ reply_to_job job.now }
@@ -79,10 +80,10 @@ impl<P: Port> Client<P> {
         true
     }
 
-    /// Answers at once what the client goes on wide for, where the reply is known with nothing hashed
-    /// or read as a token: under this table, at this moment and under the client's rights. From then
-    /// on it waits for no worker. Whether it was known.
-    pub(crate) fn recall(&mut self, bench: &mut Bench, alloc: Global, current: Current<'_>) -> bool
+    /// Answers at once what the client goes on wide for, where the reply is known with nothing
+    /// hashed or read as a token: under this table, at this moment and under the client's rights.
+    /// From then on it waits for no worker. Whether it was known.
+    pub(crate) fn recall(&mut self, bench: &mut Bench, current: Current<'_>) -> bool
         ensures takes { IsTrue result
             → Takes (asked_job (lent_current current.entry) self.old) self.old self.new }
         ensures answers { IsTrue result → Answers P.tells P.taken P.written self.old self.new
@@ -90,7 +91,7 @@ impl<P: Port> Client<P> {
         ensures unknown { IsFalse result → self.new ≡ self.old }
         ensures rights { self.new.rights ≡ self.old.rights }
     {
-        match self.known_reply(bench, alloc, current) {
+        match self.known_reply(bench, current) {
             Some(reply) => {
                 self.pass_with(&reply);
                 true
@@ -100,7 +101,7 @@ impl<P: Port> Client<P> {
     }
 
     /// The reply to what the client goes on wide for, which is counted where it is known.
-    fn known_reply(&self, bench: &mut Bench, alloc: Global, current: Current<'_>) -> Option<Reply>
+    fn known_reply(&self, bench: &mut Bench, current: Current<'_>) -> Option<Reply>
         ensures wide { IfSome result (λ _. self.now.course ≡ course.Wide) }
         ensures reply { IfSome result (λ reply.
             reply ≡ reply_to_job (asked_job (lent_current current.entry) self.now)) }
@@ -117,7 +118,7 @@ impl<P: Port> Client<P> {
             moment: current.moment,
         };
         let job = job_view_of(terms, payload);
-        let Ok(Some(reply)) = recall(&bench.seen, alloc, &job) else {
+        let Ok(Some(reply)) = recall(&bench.seen, bench.alloc, &job) else {
             return None;
         };
         bench.tally.count(&job, &reply);

@@ -21,7 +21,7 @@ mod tally;
 pub use client::{Client, UNSENT_MAX};
 pub use course::{Course, Ended, Fall};
 pub use port::{Came, Port, Went};
-pub use round::{PIECE, ROUND_MAX, Round};
+pub use round::{PIECE, ROUND_MAX, Round, RoundTerms};
 
 /// Want of memory.
 pub type NoMemory = std::alloc::AllocError;

@@ -1,6 +1,6 @@
 //! A round of a loop: what has come on many connections is answered together.
 
-ghost use Rattle.std.specs.Prelude.{◌≡◌, ◌≢◌, ◌≤◌, [], ◌∷◌, length, vec_len, IsFalse, IsTrue};
+ghost use Rattle.std.specs.Prelude.{◌≡◌, ◌≢◌, ◌≤◌, [], ◌∷◌, Some, None, length, vec_len, IsFalse, IsTrue};
 ghost use Rattle.mac_board.specs.Noticed.{Current as PlainCurrent, Notices, lent_current};
 ghost use Rattle.mac_count.specs.RequestCounts.{no_counts};
 ghost use Rattle.mac_decide.specs.Prepared.{reply_to_job};
@@ -12,17 +12,17 @@ ghost use Rattle.mac_plain.specs.Rounds.{ServesEach};
 ghost use Rattle.mac_plain.specs.Goes.{AreAnswered, AreRead};
 ghost use Rattle.mac_plain.specs.Receiving.{Receives};
 ghost use Rattle.mac_plain.specs.Requests.{AreWithin, asked_of};
-ghost use Rattle.mac_plain.specs.Tally.{counts_of};
+ghost use Rattle.mac_plain.specs.Tally.{counts_of, request_of};
 
 use crate::NoMemory;
 use crate::answering::{Bench, answer_requests};
 use crate::client::Client;
 use crate::port::Port;
 use crate::receiving::receive;
-use crate::request::Request;
-use crate::tally::Tally;
+use crate::request::{Request, RoundView};
+use crate::tally::{Tally, request_of};
 use mac_board::{Current, Outlook};
-use mac_count::REQUESTS;
+use mac_count::{REQUESTS, Request as Counted};
 use mac_decide::{ArrivalView, JobView, Macaroons, Rooms, SEEN_MAX, SeenTokens, remember_answer};
 use mac_order::Answer;
 use mac_wire::Reply;
@@ -39,13 +39,27 @@ pub const ROUND_MAX: usize = 131_072;
 /// a token is read once more for that, which in JSON may take a millisecond.
 const LEARNED_MAX: usize = 16_384;
 
+/// What a round is held to.
+#[derive(Clone, Copy)]
+pub struct RoundTerms {
+    /// How many threads answer, at most, where much is asked.
+    pub threads: usize,
+    /// With how many bytes unsent a client isn't read.
+    pub unsent_max: usize,
+}
+
+/// What a round has read.
+#[derive(Drop)]
+struct Intake {
+    arena: Vec<u8>,
+    requests: Vec<Request>,
+}
+
 /// What a loop keeps from round to round: room for what it reads, and for what answering asks for.
 #[derive(Drop)]
 pub struct Round {
-    alloc: Global,
     piece: Vec<u8>,
-    arena: Vec<u8>,
-    requests: Vec<Request>,
+    intake: Intake,
     bench: Bench,
     // How many bytes tokens that workers verified have been remembered from since the last round.
     learned: usize,
@@ -57,11 +71,13 @@ impl Round {
         let mut piece = Vec::new(alloc);
         piece.resize(ROUND_MAX, 0)?;
         Ok(Round {
-            alloc,
             piece,
-            arena: Vec::with_capacity(alloc, 2 * ROUND_MAX)?,
-            requests: Vec::new(alloc),
+            intake: Intake {
+                arena: Vec::with_capacity(alloc, 2 * ROUND_MAX)?,
+                requests: Vec::new(alloc),
+            },
             bench: Bench {
+                alloc,
                 rooms: Rooms::new(alloc, seen.share()?),
                 seen,
                 tally: Tally::new(),
@@ -72,42 +88,35 @@ impl Round {
 
     /// Serves each of the clients once: reads it, looks at the tables and the clock, answers all
     /// requests of all clients together under the table that is up and at the moment that is told,
-    /// and writes. A client with `unsent_max` bytes unsent isn't read. Where much is asked, so many
-    /// threads answer it; few clients are read further at a time then.
+    /// and writes. Where several threads answer, few clients are read further at a time.
     pub fn serve<R: Threads + Sync, P: Port, K: Outlook>(
         &mut self,
         rt: &R,
-        threads: usize,
+        terms: RoundTerms,
         outlook: &mut K,
         clients: &mut [Client<P>],
-        unsent_max: usize,
     )
         ensures looks { Notices K.tells (K.known outlook.old) (K.known outlook.new) }
         ensures serves { ServesEach P.tells P.taken P.written (K.known outlook.new)
             clients.old clients.new }
     {
-        self.arena.clear();
-        self.requests.clear();
+        self.intake.arena.clear();
+        self.intake.requests.clear();
         self.learned = 0;
-        let size = piece_size(threads, clients.len()).min(self.piece.len());
+        let size = piece_size(terms.threads, clients.len()).min(self.piece.len());
         receive_all(
             &mut self.piece[..size],
-            &mut self.arena,
-            &mut self.requests,
+            &mut self.intake,
             clients,
-            unsent_max,
+            terms.unsent_max,
         );
         outlook.look();
-        answer_requests(
-            rt,
-            threads,
-            &mut self.bench,
-            self.alloc,
-            outlook.current(),
-            self.arena.as_slice(),
-            self.requests.as_slice(),
-            clients,
-        );
+        let view = RoundView {
+            current: outlook.current(),
+            arena: self.intake.arena.as_slice(),
+            requests: self.intake.requests.as_slice(),
+        };
+        answer_requests(rt, terms.threads, &mut self.bench, view, clients);
         flush_all(clients);
     }
 
@@ -120,16 +129,24 @@ impl Round {
         ensures untold { IsFalse result → client.new ≡ client.old }
         ensures rights { client.new.rights ≡ client.old.rights }
     {
-        if !client.recall(&mut self.bench, self.alloc, current) {
+        if !client.recall(&mut self.bench, current) {
             return false;
         }
         client.flush();
         true
     }
 
-    /// Has a client take a worker's answer, and counts it where it is the one that the client waits
-    /// for. The token of a verify that it grants is remembered.
-    pub fn deliver<P: Port>(&mut self, client: &mut Client<P>, answer: Answer<Macaroons>)
+    /// Has a client take a worker's answer. What it is to be counted as, where it is the one that the
+    /// client waits for. The token of a verify that it grants is remembered.
+    pub fn deliver<P: Port>(
+        &mut self,
+        client: &mut Client<P>,
+        answer: Answer<Macaroons>,
+    ) -> Option<Counted>
+        ensures counted { GoesWide client.old.session.carried.items → IsAwaited answer client.old
+            → result ≡ Some (request_of answer (reply_to_job answer)) }
+        ensures uncounted { GoesWide client.old.session.carried.items
+            → ¬ IsAwaited answer client.old → result ≡ None }
         ensures takes { client.new ≢ client.old → Takes answer client.old client.new }
         ensures own { GoesWide client.old.session.carried.items → IsAwaited answer client.old
             → Takes answer client.old client.new }
@@ -140,10 +157,13 @@ impl Round {
     {
         let (job, reply) = answer.into_parts();
         let view = JobView::of(&job);
-        if client.take_answer(&job, &reply) {
-            self.bench.tally.count(&view, &reply);
-        }
+        let is_own = client.take_answer(&job, &reply);
         self.remember(&view, &reply);
+        if is_own {
+            Some(request_of(&view, &reply))
+        } else {
+            None
+        }
     }
 
     /// Remembers the token of a verify that a worker has granted, unless much was remembered so since
@@ -157,11 +177,12 @@ impl Round {
         if self.learned < LEARNED_MAX {
             let bytes = payload.len().min(SEEN_MAX);
             self.learned = self.learned.saturating_add(bytes);
-            remember_answer(&self.bench.seen, self.alloc, job, reply);
+            remember_answer(&self.bench.seen, self.bench.alloc, job, reply);
         }
     }
 
-    /// How many requests were answered since the last call, each kind at its place.
+    /// How many requests were answered since the last call, each kind at its place, but for those that
+    /// workers answered.
     pub fn take_counts(&mut self) -> [u64; REQUESTS]
         ensures taken { result ≡ counts_of self.old.bench.tally }
         ensures none_left { counts_of self.new.bench.tally ≡ no_counts }
@@ -183,25 +204,18 @@ fn piece_size(threads: usize, clients: usize) -> usize {
 /// Reads each client that is to be read, as long as there is room.
 fn receive_all<P: Port>(
     piece: &mut [u8],
-    arena: &mut Vec<u8>,
-    requests: &mut Vec<Request>,
+    intake: &mut Intake,
     clients: &mut [Client<P>],
     unsent_max: usize,
 )
-    requires { requests.old.items ≡ [] }
-    ensures within { AreWithin (length arena.new.items) requests.new.items }
+    requires { intake.old.requests.items ≡ [] }
+    ensures within { AreWithin (length intake.new.arena.items) intake.new.requests.items }
     ensures read { (current : PlainCurrent) → AreRead P.tells P.taken P.written current
-        (λ k. asked_of k arena.new.items requests.new.items) clients.old clients.new }
+        (λ k. asked_of k intake.new.arena.items intake.new.requests.items)
+        clients.old clients.new }
 {
     for index in 0..clients.len() {
-        visit(
-            &mut clients[index],
-            piece,
-            arena,
-            requests,
-            index,
-            unsent_max,
-        );
+        visit(&mut clients[index], piece, intake, index, unsent_max);
     }
 }
 
@@ -209,24 +223,24 @@ fn receive_all<P: Port>(
 fn visit<P: Port>(
     client: &mut Client<P>,
     piece: &mut [u8],
-    arena: &mut Vec<u8>,
-    requests: &mut Vec<Request>,
+    intake: &mut Intake,
     owner: usize,
     unsent_max: usize,
 )
-    requires { AreWithin (length arena.old.items) requests.old.items }
+    requires { AreWithin (length intake.old.arena.items) intake.old.requests.items }
     ensures receives { (current : PlainCurrent) → Receives P.tells P.taken P.written current
-        owner client.old client.new arena.old.items arena.new.items
-        requests.old.items requests.new.items }
-    ensures within { AreWithin (length arena.new.items) requests.new.items }
+        owner client.old client.new intake.old.arena.items intake.new.arena.items
+        intake.old.requests.items intake.new.requests.items }
+    ensures within { AreWithin (length intake.new.arena.items) intake.new.requests.items }
     ensures unread { unsent_max ≤ length client.old.session.unsent → client.new ≡ client.old }
 {
-    if arena.len() >= ROUND_MAX {
+    if intake.arena.len() >= ROUND_MAX {
         return;
     }
     if !client.may_read(unsent_max) {
         return;
     }
+    let Intake { arena, requests } = intake;
     receive(client, piece, arena, requests, owner);
 }
 

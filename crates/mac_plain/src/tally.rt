@@ -8,7 +8,7 @@ ghost use Rattle.mac_plain.specs.Tally.{told_by};
 
 use mac_count::{Asked, REQUESTS, Request, RequestCounts, Told};
 use mac_decide::{ArrivalView, JobView};
-use mac_wire::{Refusal, Reply};
+use mac_wire::{Reply, RequestKind, request_kind};
 
 /// How many of each kind.
 #[derive(Drop)]
@@ -41,11 +41,7 @@ impl Tally {
         ensures { counts_of self.new ≡ with_counted (counts_of self.old)
             (request_of (viewed job.now) reply.now) }
     {
-        let request = Request {
-            asked: asked_by(&job.arrival),
-            told: told_by(reply),
-        };
-        self.counts.count(request);
+        self.counts.count(request_of(job, reply));
     }
 
     /// The counts since the last call, each kind at its place.
@@ -57,32 +53,39 @@ impl Tally {
     }
 }
 
+/// A job with its reply, as it is counted.
+pub(crate) fn request_of(job: &JobView<'_>, reply: &Reply) -> Request
+    ensures { result ≡ request_of (viewed job.now) reply.now }
+{
+    Request {
+        asked: asked_by(&job.arrival),
+        told: told_by(reply),
+    }
+}
+
 /// What an arrival asks for.
 fn asked_by(arrival: &ArrivalView<'_>) -> Asked
     ensures { result ≡ asked_by (arrival_of arrival.now) }
 {
     match arrival {
-        ArrivalView::Payload([kind, ..]) => asked_as(*kind),
-        ArrivalView::Payload([]) | ArrivalView::Oversize => Asked::Nothing,
+        ArrivalView::Payload(payload) => asked_as(request_kind(payload)),
+        ArrivalView::Oversize => Asked::Nothing,
     }
 }
 
-/// What a request with this number in front asks for.
-fn asked_as(kind: u8) -> Asked
+/// What a request of this kind is counted as, or a payload that begins as none.
+fn asked_as(kind: Option<RequestKind>) -> Asked
     ensures { result ≡ asked_as kind }
 {
-    if kind == 1 {
-        Asked::Mint
-    } else if kind == 2 {
-        Asked::Attenuate
-    } else if 3 <= kind && kind <= 5 {
-        Asked::Verify
-    } else {
-        Asked::Nothing
+    match kind {
+        Some(RequestKind::Mint) => Asked::Mint,
+        Some(RequestKind::Attenuate) => Asked::Attenuate,
+        Some(RequestKind::Verify) => Asked::Verify,
+        None => Asked::Nothing,
     }
 }
 
-/// What a reply tells.
+/// What a reply tells: of a refusal, its reason.
 fn told_by(reply: &Reply) -> Told
     ensures { result ≡ told_by reply.now }
 {
@@ -90,7 +93,6 @@ fn told_by(reply: &Reply) -> Told
         Reply::Granted | Reply::GrantedTo { .. } => Told::Granted,
         Reply::Token(_) => Told::Token,
         Reply::Unsatisfied(_) => Told::Unsatisfied,
-        Reply::Refused(Refusal::Revoked) => Told::Revoked,
-        Reply::Refused(_) => Told::Refused,
+        Reply::Refused(reason) => Told::Refused(Some(*reason)),
     }
 }

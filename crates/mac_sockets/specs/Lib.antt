@@ -1,3 +1,5 @@
 pub mod Budget
+pub mod Connections
 pub mod Entrance
 pub mod Heavy
+pub mod Lends

@@ -1,6 +1,12 @@
 //! The connections of a loop: a thread waits for what its poll tells of them, and takes turns over
 //! those that are ready.
 
+ghost use Rattle.std.specs.Borrow.{sem};
+ghost use Rattle.std.specs.Option.{option_copied_mut};
+ghost use Rattle.std.specs.Prelude.{◌≡◌, ℕ, IfOk};
+ghost use Rattle.mac_slots.specs.Slots.{at, held, no_slots};
+ghost use Rattle.mac_sockets.specs.Connections.{count_held, weighed};
+
 use mac_slots::Slots;
 use mio::{Events, Poll, Registry, Token, Waker};
 use std::alloc::Global;
@@ -39,8 +45,12 @@ impl Readiness {
 
 /// A connection that waits for what comes, or for room to write.
 pub trait Wakes {
+    /// What it weighs: a number of which its loop keeps the sum, and which no event changes.
+    ghost weight: { Self → ℕ } = { λ _. 0 };
+
     /// Notes what may be so of its socket. Whether it is ready for a turn.
-    fn wake(&mut self, told: Readiness) -> bool;
+    fn wake(&mut self, told: Readiness) -> bool
+        ensures { weight self.new ≡ weight self.old };
 }
 
 /// The connections of a loop in their slots, and the poll that tells of them.
@@ -54,8 +64,12 @@ pub struct Connections<C> {
 }
 
 impl<C: Wakes + Drop> Connections<C> {
+    ghost use Rattle.mac_sockets.specs.Lends.{lends_connection};
+
     /// No connections, and what ends the waits for them.
-    pub fn new<R: Net>(rt: &R, alloc: Global) -> io::Result<(Connections<C>, Waker)> {
+    pub fn new<R: Net>(rt: &R, alloc: Global) -> io::Result<(Connections<C>, Waker)>
+        ensures { IfOk result (λ made. made.0.slots ≡ no_slots) }
+    {
         let poll = Poll::new(rt)?;
         let waker = Waker::new(poll.registry(), Token(WAKER))?;
         let connections = Connections {
@@ -84,7 +98,10 @@ impl<C: Wakes + Drop> Connections<C> {
 
     /// Waits until something is told, for so long at most, and lists the slots that are ready then.
     /// Where some are ready still, it only looks.
-    pub fn wait<R: Clock>(&mut self, rt: &R, patience: Option<Duration>) {
+    pub fn wait<R: Clock>(&mut self, rt: &R, patience: Option<Duration>)
+        ensures count { count_held self.new.slots ≡ count_held self.old.slots }
+        ensures weight { weighed C.weight self.new.slots ≡ weighed C.weight self.old.slots }
+    {
         let patience = if self.slots.has_ready() {
             Some(Duration::from_secs(0))
         } else {
@@ -102,14 +119,28 @@ impl<C: Wakes + Drop> Connections<C> {
         }
     }
 
+    /// The connection that a slot holds, to be changed in its place.
+    pub fn get_mut(&mut self, slot: usize) -> Option<&mut C>
+        ensures value { option_copied_mut result ≡ held (at self.old.slots slot) }
+        ensures* changed { sem 𝓛 (lends_connection C.row self.entry slot result) }
+    {
+        self.slots.get_mut(slot)
+    }
+
     /// Has the connection of a slot note what may be so of its socket, and lists the slot where it
     /// is ready.
-    pub fn wake(&mut self, slot: usize, told: Readiness) {
+    pub fn wake(&mut self, slot: usize, told: Readiness)
+        ensures count { count_held self.new.slots ≡ count_held self.old.slots }
+        ensures weight { weighed C.weight self.new.slots ≡ weighed C.weight self.old.slots }
+    {
         wake(&mut self.slots, slot, told);
     }
 }
 
-fn wake<C: Wakes + Drop>(slots: &mut Slots<C>, slot: usize, told: Readiness) {
+fn wake<C: Wakes + Drop>(slots: &mut Slots<C>, slot: usize, told: Readiness)
+    ensures count { count_held slots.new ≡ count_held slots.old }
+    ensures weight { weighed C.weight slots.new ≡ weighed C.weight slots.old }
+{
     let Some(connection) = slots.get_mut(slot) else {
         return;
     };

@@ -1,12 +1,12 @@
-//! The sockets of a server: where it listens, the paths that it listens at, and the streams of those
-//! who connect there.
+//! The sockets of a server: where it listens, the paths that it listens at, and the streams of
+//! those who connect there.
 //!
 //! [`Holdings`] make sockets at paths that nobody else has. Each that listens is a [`Door`], and an
-//! [`Entrance`] waits at all of them, until its [`Shutter`] shuts it. What comes in is a [`Stream`],
-//! over a Unix socket or over TCP, which goes to a thread by that one's [`Inbox`]. That thread has its
-//! [`Connections`] in slots, waits for what a poll tells of them, and takes turns over those that are
-//! ready. The loops have the memory of their connections of one [`SharedBudget`], by an [`Account`]
-//! each. Nothing here knows what is said on a stream.
+//! [`Entrance`] waits at all of them, until its [`Shutter`] shuts it. What comes in is a
+//! [`Stream`], over a Unix socket or over TCP, which goes to a thread by that one's [`Inbox`]. That
+//! thread has its [`Connections`] in slots, waits for what a poll tells of them, and takes turns
+//! over those that are ready. The loops have the memory of their connections of one
+//! [`SharedBudget`], by an [`Account`] each. Nothing here knows what is said on a stream.
 #![tactic(auto)]
 
 mod account;

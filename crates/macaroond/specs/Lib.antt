@@ -4,3 +4,4 @@ pub mod Rights
 pub mod Shape
 pub mod Status
 pub mod Watching
+pub mod Doors

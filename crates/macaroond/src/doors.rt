@@ -1,7 +1,11 @@
 //! Doors over HTTP that are open, and what is answered there.
 
-use crate::http::AddressGroup;
+ghost use Rattle.std.specs.Prelude.{◌≡◌, IfOk};
+ghost use Rattle.macaroond.specs.Doors.{AreOpened};
+
+use crate::http::{AddressGroup, HttpPlan};
 use crate::key_watch::ListenFault;
+use crate::operating::operators_terms;
 use mac_board::Followers;
 use mac_decide::Rights;
 use mac_gate::{Content, HttpServer, HttpTerms, ServerFault, open_door, start_server};
@@ -19,12 +23,49 @@ use std::time::Clock;
 #[derive(Drop)]
 pub(crate) struct OpenDoors {
     pub(crate) doors: Doors<()>,
-    rights: Rights,
-    terms: HttpTerms,
+    pub(crate) rights: Rights,
+    pub(crate) terms: HttpTerms,
+}
+
+/// The doors over HTTP of a daemon, for each kind of peers.
+#[derive(Drop)]
+pub(crate) struct HttpDoors {
+    pub(crate) gateways: OpenDoors,
+    pub(crate) callers: OpenDoors,
+    pub(crate) operators: OpenDoors,
+}
+
+/// Opens the doors of a plan, those of each kind under its own terms and rights.
+pub(crate) fn open_plan<'a, R>(
+    rt: &R,
+    plan: HttpPlan<'a>,
+    holdings: &mut Holdings,
+) -> Result<HttpDoors, ListenFault<'a>>
+where
+    R: Alloc<A = Global> + Files<File = File> + Clock + Wait,
+    R: Net<Listener = TcpListener, Stream = TcpStream>,
+    ensures { IfOk result (AreOpened plan.entry) }
+{
+    let calls_terms = plan.calls_terms();
+    let HttpPlan {
+        gateways,
+        callers,
+        operators,
+        terms,
+        ..
+    } = plan;
+    let gateways = open_doors(rt, gateways, terms, holdings)?;
+    let callers = open_doors(rt, callers, calls_terms, holdings)?;
+    let operators = open_doors(rt, operators, operators_terms(), holdings)?;
+    Ok(HttpDoors {
+        gateways,
+        callers,
+        operators,
+    })
 }
 
 /// Opens doors at a group of addresses, in their order, where these terms hold.
-pub(crate) fn open_doors<'a, R>(
+fn open_doors<'a, R>(
     rt: &R,
     group: AddressGroup<'a>,
     terms: HttpTerms,
@@ -33,6 +74,8 @@ pub(crate) fn open_doors<'a, R>(
 where
     R: Alloc<A = Global> + Files<File = File> + Clock + Wait,
     R: Net<Listener = TcpListener, Stream = TcpStream>,
+    ensures rights { IfOk result (λ opened. opened.rights ≡ group.entry.rights) }
+    ensures terms { IfOk result (λ opened. opened.terms ≡ terms) }
 {
     let AddressGroup {
         addresses,

@@ -329,7 +329,7 @@ fn list_words(alloc: Global, list: &Option<String>) -> Result<Vec<&[u8]>, AllocE
 }
 
 /// The words of a list.
-fn listed_words(alloc: Global, list: &String) -> Result<Vec<&[u8]>, AllocError>
+pub(crate) fn listed_words(alloc: Global, list: &String) -> Result<Vec<&[u8]>, AllocError>
     ensures { IfOk result (λ words.
         map (λ word. word.now) words.items ≡ words_of (Some list.now)) }
 {
@@ -375,7 +375,7 @@ fn is_call(word: &[u8]) -> bool
 }
 
 /// Whether a word is among these.
-fn has_word(words: &[&[u8]], sought: &[u8]) -> bool
+pub(crate) fn has_word(words: &[&[u8]], sought: &[u8]) -> bool
     ensures { result ≡ list_any (λ word. bytes_eq word.now sought.now) words.now }
 {
     words.iter().any(|word| *word == sought)

@@ -3,9 +3,9 @@
 ghost use Rattle.std.specs.Prelude.{IfOk};
 ghost use Rattle.macaroond.specs.Rights.{GiveInOrder};
 
-use crate::doors::{OpenDoors, open_doors};
+use crate::doors::{HttpDoors, OpenDoors, open_plan};
 use crate::http::HttpPlan;
-use crate::operating::{OPERATORS_LOOPS, open_status, operators_terms, warn_of_no_status};
+use crate::operating::{OPERATORS_LOOPS, open_status, warn_of_no_status};
 use crate::watching::{Followed, look_once};
 use mac_board::Editor;
 use mac_commands::{FirstKeys, FirstList, LOOPS_MAX};
@@ -186,17 +186,11 @@ where
 {
     let Sockets { rights, side, http } = sockets;
     let alloc = rt.alloc();
-    let calls_terms = http.calls_terms();
-    let HttpPlan {
+    let HttpDoors {
         gateways,
         callers,
-        operators,
-        terms: gateways_terms,
-        ..
-    } = http;
-    let gateways = open_doors(rt, gateways, gateways_terms, holdings)?;
-    let callers = open_doors(rt, callers, calls_terms, holdings)?;
-    let mut operators = open_doors(rt, operators, operators_terms(), holdings)?;
+        mut operators,
+    } = open_plan(rt, http, holdings)?;
     let status = open_status(rt, alloc, terms.path, &mut operators.doors, holdings);
     let own = open_own(rt, terms, rights, side, handed, holdings)?;
     let followers = editor.followers()?;

@@ -166,8 +166,10 @@ where
         Ok(http) => http,
         Err(fault) => return tell_http(rt, fault),
     };
-    let Some(logged) = read_log(&options.log) else {
-        return tell_log(rt);
+    let logged = match read_log(rt.alloc(), &options.log) {
+        Ok(Some(logged)) => logged,
+        Ok(None) => return tell_log(rt),
+        Err(_) => return tell_fault(rt, Status::NoMemory),
     };
     if let Err(refused) = open_standard(rt) {
         return tell_nowhere(rt, &refused);

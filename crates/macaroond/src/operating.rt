@@ -1,5 +1,8 @@
 //! Where operators ask how a daemon is: a socket beside its own, and addresses of this machine.
 
+ghost use Rattle.std.specs.Prelude.{◌≡◌};
+ghost use Rattle.mac_http.specs.Calling.{no_calls};
+
 use mac_commands::{VERSION, status_path};
 use mac_gate::{DoorFault, HttpTerms};
 use mac_http::{Calls, Granted, Pages, Sources};
@@ -47,7 +50,10 @@ pub(crate) fn warn_of_no_status<R: Eprint>(rt: &R, socket: &str, fault: &DoorFau
 }
 
 /// How the connections of operators are served.
-pub(crate) fn operators_terms() -> HttpTerms {
+pub(crate) fn operators_terms() -> HttpTerms
+    ensures calls { result.calls ≡ no_calls }
+    ensures pages { result.pages ≡ Pages.All }
+{
     HttpTerms {
         sources: Sources {
             header: false,

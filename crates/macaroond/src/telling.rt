@@ -72,7 +72,8 @@ pub fn tell_log<R: Eprint>(rt: &R) -> Status
     ensures { result ≡ Status.BadLine }
 {
     let _ = eprintln!(rt;
-        "error: what is logged besides is requests, mints or both with a comma between them"
+        "error: what is logged besides is requests, mints or identifiers, or several of these \
+        with commas between them"
     );
     Status::BadLine
 }

@@ -1,6 +1,5 @@
 //! A clock that stands still, and a daemon that stays as it is.
 
-use http::StatusCode;
 use http_server::Log;
 use mac_board::Moments;
 use mac_calls::Draws;
@@ -59,6 +58,9 @@ impl Draws for FixedMonitor {
 }
 
 impl Monitor for FixedMonitor {
+    // What the rows of its pages compare is the text itself.
+    ghost says = { λ monitor page keys text told. Unit {0} };
+
     fn is_ending(&self) -> bool {
         self.is_ending
     }
@@ -89,5 +91,5 @@ impl Monitor for FixedMonitor {
         }
     }
 
-    fn note(&self, _noted: Noted<'_>, _status: StatusCode) {}
+    fn note(&self, _noted: &Noted<'_>) {}
 }

@@ -15,9 +15,13 @@ use std::alloc::{Alloc, AllocError, Global};
 use std::io::Write;
 use std::net::Net;
 use std::os::unix::net::UnixStream;
+use std::time::Duration;
 
 /// The greatest number of fields in the head of a response.
 const FIELDS_MAX: usize = 16;
+
+/// How many seconds a daemon may be silent that is asked: one that hangs is told as none.
+const PATIENCE_SECS: u64 = 5;
 
 /// What HTTP calls a response that has what was asked for.
 const OK: u16 = 200;
@@ -83,7 +87,8 @@ where
     let Ok(mut stream) = UnixStream::connect(rt, path.as_str()) else {
         return Err(PersonFault::NoDaemon { socket });
     };
-    if stream.write_all(page.request()).is_err() {
+    let patience = Some(Duration::from_secs(PATIENCE_SECS));
+    if stream.set_read_timeout(patience).is_err() || stream.write_all(page.request()).is_err() {
         return Err(PersonFault::NoDaemon { socket });
     }
     match read_input(rt.alloc(), &mut ReaderSource::new(&stream)) {

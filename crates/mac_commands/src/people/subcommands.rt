@@ -1,17 +1,14 @@
 //! The subcommands for people, as `clap` is told them.
-ghost use Rattle.std.specs.Prelude.{◌≡◌, false, true, IfOk};
-ghost use Rattle.clap.specs.Words.{app_of, rule_of};
-ghost use Rattle.mac_commands.specs.Arguments.{option, required};
+ghost use Rattle.std.specs.Prelude.{◌≡◌, IfOk};
+ghost use Rattle.clap.specs.Words.{app_of};
 ghost use Rattle.mac_commands.specs.People.{attenuate_command, check_command, inspect_command};
-ghost use Rattle.mac_commands.specs.People.{keygen_command, mint_command, repeated, verify_command};
+ghost use Rattle.mac_commands.specs.People.{keygen_command, mint_command, verify_command};
 ghost use Rattle.mac_commands.specs.People.{revoke_command, status_command, with_key, with_people};
-ghost use Rattle.mac_commands.specs.People.{word};
 
 use crate::parts::{
-    KEYS_HELP, add_arg, add_subcommand, build_flag, build_option, build_subcommand,
+    Argument, KEYS_HELP, add_arg, add_arguments, add_subcommand, build_repeated, build_subcommand,
 };
-use clap::builder::ValueParser;
-use clap::{Arg, ArgAction, Command};
+use clap::Command;
 use std::alloc::{AllocError, Global};
 
 /// What the help of `keygen` says below its options.
@@ -65,9 +62,9 @@ Exit status:
 
 /// What the help of `mint` says below its options.
 const MINT_HELP: &str = "\
-Prints a new token, one of form v2 as `hex:` and its digits. Without --identifier the token gets 128
-random bits in hexadecimal, which standard error tells as `identifier DIGITS`. A refusal is told
-there too, and so is a caveat that can hardly hold: one that is nearly a bound of time, a time limit
+Prints a new token, one of form v2-binary as `hex:` and its digits. Without --identifier the token
+gets 128 random bits in hexadecimal, which standard error tells as `identifier DIGITS`. A refusal is
+told there too, and so is a caveat that can hardly hold: one that is nearly a bound of time, a time limit
 that has passed, `path under /a/` with a slash at its end, `method=GET` without its spaces, or one
 that stands there twice.
 
@@ -151,7 +148,7 @@ Example:
 Exit status:
   0  what the daemon told was printed
   2  a bad command line
-  3  no daemon answers there, or standard output failed
+  3  no daemon answers there, or it says nothing for five seconds, or standard output failed
   4  memory ran out";
 
 const STATUS_SOCKET_HELP: &str = "The socket of the daemon";
@@ -184,6 +181,8 @@ const KEY_HELP: &str = "The name of the key";
 
 const TOKEN_HELP: &str = "The token, or - for a line of standard input";
 
+const LOCATION_HELP: &str = "Where the token is for [default: empty]";
+
 const IDENTIFIER_HELP: &str = "What the token is about [default: 32 random digits]";
 
 const CAVEAT_HELP: &str = "A caveat; may be given often";
@@ -191,6 +190,8 @@ const CAVEAT_HELP: &str = "A caveat; may be given often";
 const EXPLAIN_HELP: &str = "Tells which caveats are not satisfied, and why";
 
 const FACT_HELP: &str = "What is known of the request; may be given often";
+
+const MOMENT_HELP: &str = "The moment of the request [default: now]";
 
 const MINT_FORM_HELP: &str = "The form: v1-text, v2-text, v2-binary or v2-json [default: v2-text]";
 
@@ -226,14 +227,14 @@ Exit status:
 pub(crate) fn add_people<'a>(alloc: Global, program: Command<'a>) -> Result<Command<'a>, AllocError>
     ensures { IfOk result (λ whole. app_of whole ≡ with_people (app_of program.entry)) }
 {
-    let program = add_subcommand(program, build_keygen(alloc)?)?;
-    let program = add_subcommand(program, build_check(alloc)?)?;
-    let program = add_subcommand(program, build_mint(alloc)?)?;
-    let program = add_subcommand(program, build_attenuate(alloc)?)?;
-    let program = add_subcommand(program, build_verify(alloc)?)?;
-    let program = add_subcommand(program, build_inspect(alloc)?)?;
-    let program = add_subcommand(program, build_status(alloc)?)?;
-    add_subcommand(program, build_revoke(alloc)?)
+    let program = add_subcommand(program, build_keygen(alloc))?;
+    let program = add_subcommand(program, build_check(alloc))?;
+    let program = add_subcommand(program, build_mint(alloc))?;
+    let program = add_subcommand(program, build_attenuate(alloc))?;
+    let program = add_subcommand(program, build_verify(alloc))?;
+    let program = add_subcommand(program, build_inspect(alloc))?;
+    let program = add_subcommand(program, build_status(alloc))?;
+    add_subcommand(program, build_revoke(alloc))
 }
 
 /// The subcommand `keygen`, with six options and the name of the key.
@@ -246,16 +247,16 @@ fn build_keygen<'a>(alloc: Global) -> Result<Command<'a>, AllocError>
         "Makes a key line with a new secret, or drops an old one",
         KEYGEN_HELP,
     );
-    let command = add_arg(command, build_option(alloc, "into", "FILE", INTO_HELP))?;
-    let command = add_arg(command, build_option(alloc, "above", "FILE", ABOVE_HELP))?;
-    let command = add_arg(command, build_option(alloc, "below", "FILE", BELOW_HELP))?;
-    let command = add_arg(command, build_option(alloc, "raise", "FILE", RAISE_HELP))?;
-    let command = add_arg(command, build_option(alloc, "drop", "FILE", DROP_HELP))?;
-    let command = add_arg(
-        command,
-        build_option(alloc, "drop-first", "FILE", FIRST_HELP),
-    )?;
-    add_arg(command, build_word(alloc, "name", "NAME", KEY_HELP))
+    let arguments = [
+        Argument::Text("into", "FILE", INTO_HELP),
+        Argument::Text("above", "FILE", ABOVE_HELP),
+        Argument::Text("below", "FILE", BELOW_HELP),
+        Argument::Text("raise", "FILE", RAISE_HELP),
+        Argument::Text("drop", "FILE", DROP_HELP),
+        Argument::Text("drop-first", "FILE", FIRST_HELP),
+        Argument::Word("name", "NAME", KEY_HELP),
+    ];
+    add_arguments(alloc, command, &arguments)
 }
 
 /// The subcommand `check`, with the key file and the list.
@@ -263,9 +264,12 @@ fn build_check<'a>(alloc: Global) -> Result<Command<'a>, AllocError>
     ensures { IfOk result (λ whole. app_of whole ≡ check_command) }
 {
     let about = "Tells what a key file holds, and a list of tokens that were taken back";
-    let command = build_subcommand(alloc, "check", about, CHECK_HELP);
-    let command = add_arg(command, build_option(alloc, "keys", "FILE", KEYS_HELP))?;
-    add_arg(command, build_option(alloc, "revoked", "FILE", LIST_HELP))
+    let check = build_subcommand(alloc, "check", about, CHECK_HELP);
+    let arguments = [
+        Argument::Text("keys", "FILE", KEYS_HELP),
+        Argument::Text("revoked", "FILE", LIST_HELP),
+    ];
+    add_arguments(alloc, check, &arguments)
 }
 
 /// The subcommand `mint`: of its six options two have to be given.
@@ -274,17 +278,13 @@ fn build_mint<'a>(alloc: Global) -> Result<Command<'a>, AllocError>
 {
     let command = build_subcommand(alloc, "mint", "Prints a new token", MINT_HELP);
     let command = add_key_options(alloc, command)?;
-    let location = build_option(
-        alloc,
-        "location",
-        "TEXT",
-        "Where the token is for [default: empty]",
-    );
-    let command = add_arg(command, location)?;
-    let identifier = build_option(alloc, "identifier", "TEXT", IDENTIFIER_HELP);
-    let command = add_arg(command, identifier)?;
-    let command = add_arg(command, build_repeated(alloc, "caveat", CAVEAT_HELP))?;
-    add_arg(command, build_option(alloc, "form", "FORM", MINT_FORM_HELP))
+    let arguments = [
+        Argument::Text("location", "TEXT", LOCATION_HELP),
+        Argument::Text("identifier", "TEXT", IDENTIFIER_HELP),
+        Argument::Repeated("caveat", CAVEAT_HELP),
+        Argument::Text("form", "FORM", MINT_FORM_HELP),
+    ];
+    add_arguments(alloc, command, &arguments)
 }
 
 /// The subcommand `attenuate`, which asks for at least one caveat.
@@ -299,8 +299,11 @@ fn build_attenuate<'a>(alloc: Global) -> Result<Command<'a>, AllocError>
     );
     let caveats = build_repeated(alloc, "caveat", CAVEAT_HELP).required(true);
     let command = add_arg(command, caveats)?;
-    let command = add_arg(command, build_option(alloc, "form", "FORM", NEXT_FORM_HELP))?;
-    add_arg(command, build_word(alloc, "token", "TOKEN", TOKEN_HELP))
+    let arguments = [
+        Argument::Text("form", "FORM", NEXT_FORM_HELP),
+        Argument::Word("token", "TOKEN", TOKEN_HELP),
+    ];
+    add_arguments(alloc, command, &arguments)
 }
 
 /// The subcommand `verify`, whose moment is the present where it is left out.
@@ -314,17 +317,14 @@ fn build_verify<'a>(alloc: Global) -> Result<Command<'a>, AllocError>
         VERIFY_HELP,
     );
     let command = add_key_options(alloc, command)?;
-    let command = add_arg(command, build_repeated(alloc, "fact", FACT_HELP))?;
-    let at = build_option(
-        alloc,
-        "at",
-        "MOMENT",
-        "The moment of the request [default: now]",
-    );
-    let command = add_arg(command, at)?;
-    let command = add_arg(command, build_option(alloc, "revoked", "FILE", LIST_HELP))?;
-    let command = add_arg(command, build_flag(alloc, "explain", EXPLAIN_HELP))?;
-    add_arg(command, build_word(alloc, "token", "TOKEN", TOKEN_HELP))
+    let arguments = [
+        Argument::Repeated("fact", FACT_HELP),
+        Argument::Text("at", "MOMENT", MOMENT_HELP),
+        Argument::Text("revoked", "FILE", LIST_HELP),
+        Argument::Flag("explain", EXPLAIN_HELP),
+        Argument::Word("token", "TOKEN", TOKEN_HELP),
+    ];
+    add_arguments(alloc, command, &arguments)
 }
 
 /// The subcommand `inspect`, with the name of a key, and the token.
@@ -332,8 +332,11 @@ fn build_inspect<'a>(alloc: Global) -> Result<Command<'a>, AllocError>
     ensures { IfOk result (λ whole. app_of whole ≡ inspect_command) }
 {
     let command = build_subcommand(alloc, "inspect", "Tells what a token says", INSPECT_HELP);
-    let command = add_arg(command, build_option(alloc, "key", "NAME", LINE_HELP))?;
-    add_arg(command, build_word(alloc, "token", "TOKEN", TOKEN_HELP))
+    let arguments = [
+        Argument::Text("key", "NAME", LINE_HELP),
+        Argument::Word("token", "TOKEN", TOKEN_HELP),
+    ];
+    add_arguments(alloc, command, &arguments)
 }
 
 /// The subcommand `status`, with the socket and two flags.
@@ -341,12 +344,12 @@ fn build_status<'a>(alloc: Global) -> Result<Command<'a>, AllocError>
     ensures { IfOk result (λ whole. app_of whole ≡ status_command) }
 {
     let command = build_subcommand(alloc, "status", "Tells how a daemon is", STATUS_HELP);
-    let command = add_arg(
-        command,
-        build_required(alloc, "socket", "PATH", STATUS_SOCKET_HELP),
-    )?;
-    let command = add_arg(command, build_flag(alloc, "prometheus", PROMETHEUS_HELP))?;
-    add_arg(command, build_flag(alloc, "connections", LISTED_HELP))
+    let arguments = [
+        Argument::Required("socket", "PATH", STATUS_SOCKET_HELP),
+        Argument::Flag("prometheus", PROMETHEUS_HELP),
+        Argument::Flag("connections", LISTED_HELP),
+    ];
+    add_arguments(alloc, command, &arguments)
 }
 
 /// The subcommand `revoke`, with three options, the name of the key, and a token.
@@ -355,67 +358,23 @@ fn build_revoke<'a>(alloc: Global) -> Result<Command<'a>, AllocError>
 {
     let about = "Makes a line that takes a token back";
     let command = build_subcommand(alloc, "revoke", about, REVOKE_HELP);
-    let command = add_arg(
-        command,
-        build_option(alloc, "into", "FILE", REVOKE_INTO_HELP),
-    )?;
-    let command = add_arg(
-        command,
-        build_option(alloc, "drop", "FILE", REVOKE_DROP_HELP),
-    )?;
-    let identifier = "What the token is about";
-    let command = add_arg(
-        command,
-        build_option(alloc, "identifier", "TEXT", identifier),
-    )?;
-    let command = add_arg(command, build_word(alloc, "name", "NAME", KEY_HELP))?;
-    add_arg(
-        command,
-        build_optional_word(alloc, "token", "TOKEN", TOKEN_HELP),
-    )
+    let arguments = [
+        Argument::Text("into", "FILE", REVOKE_INTO_HELP),
+        Argument::Text("drop", "FILE", REVOKE_DROP_HELP),
+        Argument::Text("identifier", "TEXT", "What the token is about"),
+        Argument::Word("name", "NAME", KEY_HELP),
+        Argument::OptionalWord("token", "TOKEN", TOKEN_HELP),
+    ];
+    add_arguments(alloc, command, &arguments)
 }
 
 /// The subcommand with the options `--keys` and `--key`.
 fn add_key_options<'a>(alloc: Global, command: Command<'a>) -> Result<Command<'a>, AllocError>
     ensures { IfOk result (λ whole. app_of whole ≡ with_key (app_of command.entry)) }
 {
-    let command = add_arg(command, build_required(alloc, "keys", "FILE", KEYS_HELP))?;
-    add_arg(command, build_required(alloc, "key", "NAME", KEY_HELP))
-}
-
-/// An option that may be given often, and not as the empty text.
-fn build_repeated<'a>(alloc: Global, name: &'a str, help: &'a str) -> Arg<'a>
-    ensures rule { rule_of result ≡ repeated (option name.entry.now) }
-    ensures local { result.global ≡ false }
-{
-    build_option(alloc, name, "TEXT", help)
-        .action(ArgAction::Append)
-        .value_parser(ValueParser::NonEmptyString)
-}
-
-/// An option that has to be given.
-fn build_required<'a>(alloc: Global, name: &'a str, value: &'a str, help: &'a str) -> Arg<'a>
-    ensures rule { rule_of result ≡ required (option name.entry.now) }
-    ensures local { result.global ≡ false }
-{
-    build_option(alloc, name, value, help).required(true)
-}
-
-/// A word that has to be given, without a name.
-fn build_word<'a>(alloc: Global, name: &'a str, value: &'a str, help: &'a str) -> Arg<'a>
-    ensures rule { rule_of result ≡ required (word name.entry.now) }
-    ensures local { result.global ≡ false }
-{
-    Arg::new(alloc, name)
-        .value_name(value)
-        .required(true)
-        .help(help)
-}
-
-/// A word that may be given, without a name.
-fn build_optional_word<'a>(alloc: Global, name: &'a str, value: &'a str, help: &'a str) -> Arg<'a>
-    ensures rule { rule_of result ≡ word name.entry.now }
-    ensures local { result.global ≡ false }
-{
-    Arg::new(alloc, name).value_name(value).help(help)
+    let arguments = [
+        Argument::Required("keys", "FILE", KEYS_HELP),
+        Argument::Required("key", "NAME", KEY_HELP),
+    ];
+    add_arguments(alloc, command, &arguments)
 }

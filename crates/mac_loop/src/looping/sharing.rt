@@ -59,7 +59,7 @@ impl Loop {
 
     /// Whether it can't keep up.
     fn is_late(&self) -> bool {
-        self.late >= LOOKS || (self.late > 0 && self.members.slots.has_ready())
+        self.late >= LOOKS || (self.late > 0 && self.roll.slots().has_ready())
     }
 
     /// Gives one of so many active clients to another loop.
@@ -73,8 +73,8 @@ impl Loop {
         of: usize,
     ) {
         let mut seen = 0usize;
-        for slot in 0..self.members.slots.bound() {
-            let member = self.members.slots.get(slot);
+        for slot in 0..self.roll.slots().bound() {
+            let member = self.roll.slots().get(slot);
             if member.is_some_and(|member| member.is_active(self.looks)) {
                 seen = seen.saturating_add(1);
                 if seen % of.max(1) == 0 {
@@ -95,18 +95,15 @@ impl Loop {
         number: usize,
         slot: usize,
     ) {
-        let Some(member) = self.members.slots.take(slot) else {
-            return;
-        };
-        if !member.client.may_move() {
-            let _ = self.members.slots.put(slot, member);
+        let member = self.roll.slots().get(slot);
+        if !member.is_some_and(|member| member.client.may_move()) {
             return;
         }
-        loops.count_unsent(member.client.unsent(), 0);
-        self.count_left(&member);
-        let client = self.part(slot, member, outlook);
-        if let Err(client) = loops.hand(rt, number, client) {
-            self.receive(rt, client, loops, outlook, watch);
+        let _ = self.roll.note_rest(slot, self.now);
+        self.count_out(slot);
+        self.roll.hand_on(rt, loops, number, slot, outlook);
+        if self.roll.newcomer().is_some() {
+            self.receive(rt, loops, outlook, watch);
         }
     }
 }

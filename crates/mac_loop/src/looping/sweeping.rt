@@ -2,7 +2,7 @@
 //! owed something is looked at again, whether or not an event told of it.
 
 use crate::inbox::Loops;
-use crate::looping::{Loop, end_member};
+use crate::looping::Loop;
 use crate::members::Progress;
 use crate::watch::{PlainFault, Watch};
 use mac_sockets::Readiness;
@@ -31,14 +31,14 @@ impl Loop {
         }
         self.swept = self.now;
         self.is_owing = false;
-        for slot in 0..self.members.slots.bound() {
+        for slot in 0..self.roll.slots().bound() {
             if self.has_parted(slot) {
-                self.end(rt, loops, watch, slot, None);
+                self.end(rt, watch, slot, None);
             } else if self.is_idle(slot) {
-                self.end(rt, loops, watch, slot, Some(PlainFault::Idle));
+                self.end(rt, watch, slot, Some(PlainFault::Idle));
             } else if self.is_owed(slot) {
                 self.is_owing = true;
-                self.members.wake(slot, Readiness::UNTOLD);
+                self.roll.wake(slot, Readiness::UNTOLD);
             }
         }
         self.tell_stalest(loops);
@@ -48,21 +48,17 @@ impl Loop {
     pub(super) fn end<R: Wait + Clock, W: Watch>(
         &mut self,
         rt: &R,
-        loops: &Loops,
         watch: &W,
         slot: usize,
         fault: Option<PlainFault>,
     ) {
-        if let Some(member) = self.members.slots.release(slot) {
-            loops.count_unsent(member.client.unsent(), 0);
-            self.count_left(&member);
-            end_member(rt, watch, member, fault);
-        }
+        self.count_out(slot);
+        self.roll.end(rt, watch, slot, fault);
     }
 
     /// Whether the peer of the client of a slot has had the time to end.
     fn has_parted(&self, slot: usize) -> bool {
-        let member = self.members.slots.get(slot);
+        let member = self.roll.slots().get(slot);
         member.is_some_and(|member| member.has_parted(self.now))
     }
 
@@ -88,7 +84,7 @@ impl Loop {
 
     /// Whether the client of a slot is owed something.
     fn is_owed(&self, slot: usize) -> bool {
-        let member = self.members.slots.get(slot);
+        let member = self.roll.slots().get(slot);
         member.is_some_and(|member| member.is_owed())
     }
 
@@ -96,11 +92,14 @@ impl Loop {
     /// the loop and no worker's answer is due to it. A request that has begun has to be whole in
     /// that time, also of who sends a byte for each turn.
     fn is_idle(&mut self, slot: usize) -> bool {
-        let is_listed = self.members.slots.is_listed(slot);
-        let Some(member) = self.members.slots.get_mut(slot) else {
+        let is_listed = self.roll.slots().is_listed(slot);
+        let Some(since) = self.roll.note_rest(slot, self.now) else {
             return false;
         };
-        let waited = self.now.saturating_sub(member.note_rest(self.now));
+        let Some(member) = self.roll.slots().get(slot) else {
+            return false;
+        };
+        let waited = self.now.saturating_sub(since);
         let progress = member.note.progress;
         let is_due = is_listed && !progress.has_begun;
         !is_due

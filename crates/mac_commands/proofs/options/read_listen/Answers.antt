@@ -25,6 +25,6 @@ returns c = (
     c.read_flag-2.ensures,
     c.in_ok-read_optional_text-5.ensures,
     c.read_flag-3.ensures,
-    c.in_ok-http.ensures,
+    c.in_ok-read_http.ensures,
   ),
 )

@@ -1,6 +1,10 @@
+use Rattle.std.proofs.Common.{◌≡◌, ap, ◌∙◌}
+use Rattle.mac_loop.specs.Asks.{Home}
+use Rattle.mac_queue.specs.Putting.{pass_of}
+use Rattle.mac_daemon.proofs.HomeLemmas.{home_more, home_still}
 use denote.Exit.{no}
 use denote.Param.Send.{arg_send, copied_send, param_send}
-use Rattle.std.proofs.Crossing.{Arc-send}
+use Rattle.std.proofs.Crossing.{Arc-send, Box-send}
 use Rattle.mac_board.proofs.Sent.{follower_sent}
 use Rattle.mac_daemon.proofs.Sent.{desk_sent}
 use Rattle.mac_daemon.proofs.quay.Quay.TheSendSync as quay
@@ -9,4 +13,9 @@ use Rattle.mac_sockets.proofs.Sent.{six_sent}
 use Rattle.mac_daemon.proofs.fleet.start_loop.Goals as goal
 
 pub spawn_with-requires-send-F : goal.spawn_with-requires-send-F
-spawn_with-requires-send-F g c κs within = param_send _ _ (arg_send _ no _ (six_sent _ _ _ _ _ _ _ (copied_send _ _ c.type_bounds.send-R) loop_sent (Arc-send _ loops_sent loops_shared) follower_sent (Arc-send _ quay.the_send quay.the_sync) desk_sent))
+spawn_with-requires-send-F g c κs within = param_send _ _ (arg_send _ no _ (six_sent _ _ _ _ _ _ _ (Box-send _ loop_sent) follower_sent desk_sent (copied_send _ _ c.type_bounds.send-R) (Arc-send _ loops_sent loops_shared) (Arc-send _ quay.the_send quay.the_sync)))
+
+pub returns-in-Err-clause-home : goal.returns-in-Err-clause-home
+returns-in-Err-clause-home g c =
+    let same : c.work.result.putter.number ≡ c.in_ok-desk.desk.putter.number = ap (λ (h : Home). h.number) c.work.ensures ∙ ap (λ f. f.2.putter.number) c.in-Err.ensures.err in
+    home_more c.args.pool.now c.desk.new.self c.desk.new.self c.home.new.self (pass_of c.in_ok-desk.desk.putter) (pass_of c.work.result.putter) c.in_ok-desk.ensures.desk.0 (home_still _) same c.home.ensures

@@ -1,5 +1,4 @@
-use Rattle.std.proofs.Common.{◌≡◌, ◌++◌, map, All}
-use Rattle.mac_wire.specs.Reply.{IsReply}
+use Rattle.std.proofs.Common.{◌≡◌, ◌++◌, map}
 use Rattle.mac_decide.specs.Prepared.{reply_to_job}
 use Rattle.mac_decide.specs.Viewed.{viewed}
 use Rattle.mac_decide.proofs.side_by_side.answer_views.Given as goal
@@ -8,6 +7,5 @@ use Rattle.mac_decide.proofs.side_by_side.answer_views.Given as goal
 abbrev pub invariant-loop-run : goal.invariant-loop-run
 invariant-loop-run l = record {
   replies : l.replies.items ++ map reply_to_job (map viewed l.run-iterator.rest.now) ≡ map reply_to_job (map viewed l.jobs);
-  sendable : All IsReply l.replies.items;
   size : l.run-iterator.size ≡ 32;
 }

@@ -6,4 +6,4 @@ use Rattle.mac_plain.proofs.answering.answer_apart.Given as goal
 
 abbrev pub invariant-loop-index : goal.invariant-loop-index
 invariant-loop-index g l =
-    AreAnswered g.P.Port.tells g.P.Port.taken g.P.Port.written (lent_current l.current) (λ k. asked_of k l.arena (take l.index l.run)) l.initial.clients l.clients
+    AreAnswered g.P.Port.tells g.P.Port.taken g.P.Port.written (lent_current l.run.current) (λ k. asked_of k l.run.arena.now (take l.index l.run.requests.now)) l.initial.clients l.clients

@@ -6,5 +6,5 @@ use Rattle.mac_plain.proofs.answering.answer_rest.Goals as goal
 
 pub returns-in-Ok : goal.returns-in-Ok
 returns-in-Ok g c =
-    c.hand_out.ensures (lent_current c.args.current) c.args.arena.now
-    (subst (λ (l : List Reply). AreReplies (jobs_at (lent_current c.args.current) c.args.clients.now c.args.arena.now c.args.requests.now) l) (sym c.as_slice.ensures.value) c.in-Ok.ensures.replies)
+    c.hand_out.ensures (lent_current c.args.round.current) c.args.round.arena.now
+    (subst (λ (l : List Reply). AreReplies (jobs_at (lent_current c.args.round.current) c.args.clients.now c.args.round.arena.now c.args.round.requests.now) l) (sym c.as_slice.ensures.value) c.in-Ok.ensures.replies)

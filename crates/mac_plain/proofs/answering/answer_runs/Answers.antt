@@ -7,22 +7,22 @@ use Rattle.mac_plain.proofs.Pairs.{more_answered, nobody_goes, run_more}
 use Rattle.mac_plain.proofs.answering.answer_runs.Goals as goal
 
 pub loop-at-init : goal.loop-at-init
-loop-at-init g c = record { inside = omega arith; answered = nobody_goes g.P.Port.tells g.P.Port.taken g.P.Port.written (lent_current c.args.current) c.args.clients.now }
+loop-at-init g c = record { inside = omega arith; answered = nobody_goes g.P.Port.tells g.P.Port.taken g.P.Port.written (lent_current c.args.round.current) c.args.clients.now }
 
 pub loop-at-preserved : goal.loop-at-preserved
 loop-at-preserved g c =
     let at = c.loop-at.at in
     let end = c.min-end.result in
-    let requests = c.args.requests.now in
+    let requests = c.args.round.requests.now in
     record {
       inside = omega (arith, c.min-end.ensures);
-      answered = subst (λ (l : List Request). AreAnswered g.P.Port.tells g.P.Port.taken g.P.Port.written (lent_current c.args.current) (λ k. asked_of k c.args.arena.now l) c.args.clients.now
+      answered = subst (λ (l : List Request). AreAnswered g.P.Port.tells g.P.Port.taken g.P.Port.written (lent_current c.args.round.current) (λ k. asked_of k c.args.round.arena.now l) c.args.clients.now
           c.answer_some.new.clients) (run_more at end requests (omega (arith, c.min-end.ensures, c.loop-at.invariant.inside)))
-          (more_answered g.P.Port.tells g.P.Port.taken g.P.Port.written (lent_current c.args.current) c.args.arena.now (take at requests) (take (end - at) (drop at requests)) c.args.clients.now c.loop-at.clients
+          (more_answered g.P.Port.tells g.P.Port.taken g.P.Port.written (lent_current c.args.round.current) c.args.round.arena.now (take at requests) (take (end - at) (drop at requests)) c.args.clients.now c.loop-at.clients
           c.answer_some.new.clients (search rules) c.loop-at.invariant.answered c.answer_some.ensures);
     }
 
 pub returns : goal.returns
 returns g c =
-    subst (λ (l : List Request). AreAnswered g.P.Port.tells g.P.Port.taken g.P.Port.written (lent_current c.args.current) (λ k. asked_of k c.args.arena.now l) c.args.clients.now c.loop-at.clients)
-    (take_all c.loop-at.at c.args.requests.now (omega (arith, c.loop-at-test.false))) c.loop-at.invariant.answered
+    subst (λ (l : List Request). AreAnswered g.P.Port.tells g.P.Port.taken g.P.Port.written (lent_current c.args.round.current) (λ k. asked_of k c.args.round.arena.now l) c.args.clients.now c.loop-at.clients)
+    (take_all c.loop-at.at c.args.round.requests.now (omega (arith, c.loop-at-test.false))) c.loop-at.invariant.answered

@@ -6,9 +6,9 @@ use Rattle.mac_plain.proofs.answering.answer_runs.Given as goal
 
 abbrev pub invariant-loop-at : goal.invariant-loop-at
 invariant-loop-at g l = record {
-  inside : l.at ≤ length l.requests;
-  answered : AreAnswered g.P.Port.tells g.P.Port.taken g.P.Port.written (lent_current l.current) (λ k. asked_of k l.arena (take l.at l.requests)) l.initial.clients l.clients;
+  inside : l.at ≤ length l.round.requests.now;
+  answered : AreAnswered g.P.Port.tells g.P.Port.taken g.P.Port.written (lent_current l.round.current) (λ k. asked_of k l.round.arena.now (take l.at l.round.requests.now)) l.initial.clients l.clients;
 }
 
 abbrev pub decreases-loop-at : goal.decreases-loop-at
-decreases-loop-at g l = length l.requests - l.at
+decreases-loop-at g l = length l.round.requests.now - l.at

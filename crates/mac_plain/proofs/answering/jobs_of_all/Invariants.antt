@@ -7,7 +7,7 @@ use Rattle.mac_plain.proofs.answering.jobs_of_all.Given as goal
 
 abbrev pub invariant-loop-request : goal.invariant-loop-request
 invariant-loop-request g l = record {
-  jobs : map viewed l.jobs.items ≡ jobs_at (lent_current l.current) l.clients l.arena (take l.request-index l.requests);
+  jobs : map viewed l.jobs.items ≡ jobs_at (lent_current l.round.current) l.clients l.round.arena.now (take l.request-index l.round.requests.now);
   count : length l.jobs.items ≡ l.request-index;
-  room : length l.requests ≤ vec_capacity l.jobs;
+  room : length l.round.requests.now ≤ vec_capacity l.jobs;
 }

@@ -6,6 +6,6 @@ use Rattle.mac_plain.proofs.answering.jobs_of_run.Given as goal
 
 abbrev pub invariant-loop-request : goal.invariant-loop-request
 invariant-loop-request g l = record {
-  jobs : map viewed l.jobs.items ≡ jobs_at (lent_current l.current) l.clients l.arena (take l.request-index l.run);
+  jobs : map viewed l.jobs.items ≡ jobs_at (lent_current l.run.current) l.clients l.run.arena.now (take l.request-index l.run.requests.now);
   count : length l.jobs.items ≡ l.request-index;
 }

@@ -9,8 +9,8 @@ use Rattle.mac_plain.proofs.round.receive_all.Goals as goal
 
 pub loop-index-init : goal.loop-index-init
 loop-index-init g c = record {
-  within = subst (AreWithin (length c.args.arena.now.items)) (sym c.requires) (All-nil (λ (r : Request). (r.start ≤ r.end) × (r.end ≤ length c.args.arena.now.items)));
-  read = λ current. still_read g.P.Port.tells g.P.Port.taken g.P.Port.written current c.args.arena.now.items c.args.requests.now.items c.args.clients.now c.requires;
+  within = subst (AreWithin (length c.args.intake.now.arena.items)) (sym c.requires) (All-nil (λ (r : Request). (r.start ≤ r.end) × (r.end ≤ length c.args.intake.now.arena.items)));
+  read = λ current. still_read g.P.Port.tells g.P.Port.taken g.P.Port.written current c.args.intake.now.arena.items c.args.intake.now.requests.items c.args.clients.now c.requires;
 }
 
 pub loop-index-preserved : goal.loop-index-preserved
@@ -22,7 +22,7 @@ loop-index-preserved g c =
       within = c.visit.ensures.within;
       read = λ current.
           one_read g.P.Port.tells g.P.Port.taken g.P.Port.written current c.args.clients.now c.loop-index.clients i now c.visit.new.client
-          c.loop-index.arena.items c.visit.new.arena.items c.loop-index.requests.items c.visit.new.requests.items there c.loop-index.invariant.within
-          (subst (λ (x : Client g.row.P.Denot). Receives g.P.Port.tells g.P.Port.taken g.P.Port.written current i x c.visit.new.client c.loop-index.arena.items c.visit.new.arena.items
-          c.loop-index.requests.items c.visit.new.requests.items) (sym c.index-clients-index.is) (c.visit.ensures.receives current)) (c.loop-index.invariant.read current);
+          c.loop-index.intake.arena.items c.visit.new.intake.arena.items c.loop-index.intake.requests.items c.visit.new.intake.requests.items there c.loop-index.invariant.within
+          (subst (λ (x : Client g.row.P.Denot). Receives g.P.Port.tells g.P.Port.taken g.P.Port.written current i x c.visit.new.client c.loop-index.intake.arena.items c.visit.new.intake.arena.items
+          c.loop-index.intake.requests.items c.visit.new.intake.requests.items) (sym c.index-clients-index.is) (c.visit.ensures.receives current)) (c.loop-index.invariant.read current);
     }

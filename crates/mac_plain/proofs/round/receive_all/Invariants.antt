@@ -6,6 +6,6 @@ use Rattle.mac_plain.proofs.round.receive_all.Given as goal
 
 abbrev pub invariant-loop-index : goal.invariant-loop-index
 invariant-loop-index g l = record {
-  within : AreWithin (length l.arena.items) l.requests.items;
-  read : (current : Current) → AreRead g.P.Port.tells g.P.Port.taken g.P.Port.written current (λ k. asked_of k l.arena.items l.requests.items) l.initial.clients l.clients;
+  within : AreWithin (length l.intake.arena.items) l.intake.requests.items;
+  read : (current : Current) → AreRead g.P.Port.tells g.P.Port.taken g.P.Port.written current (λ k. asked_of k l.intake.arena.items l.intake.requests.items) l.initial.clients l.clients;
 }

@@ -1,7 +1,6 @@
 -- The others keep their turns, and nobody has another.
-use Rattle.std.proofs.Common.{rules, ◌≡◌}
+use Rattle.std.proofs.Common.{rules}
 use Rattle.std.proofs.lemmas.Fn.{filter_same}
-use Rattle.mac_gate.specs.Turns.{without_turn}
 use Rattle.mac_gate.proofs.TurnLemmas.{once-left}
 use Rattle.mac_gate.proofs.turns.Turns.leave.Goals as goal
 

@@ -5,3 +5,8 @@ pub invariant_of-self : goal.invariant_of-self
 invariant_of-self c = record {
   lives = keeps-still c.args.self.now.client c.deliver.new.client c.deliver.ensures.rights c.deliver.ensures.answers c.args.self.now.lives;
 }
+
+pub invariant_of-self-in-None : goal.invariant_of-self-in-None
+invariant_of-self-in-None c = record {
+  lives = keeps-still c.args.self.now.client c.lose_answer.new.self c.lose_answer.ensures.rights c.lose_answer.ensures.answers c.args.self.now.lives;
+}

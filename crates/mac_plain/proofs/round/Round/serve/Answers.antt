@@ -8,8 +8,8 @@ use Rattle.mac_plain.proofs.round.Round.serve.Goals as goal
 
 pub returns-clause-serves : goal.returns-clause-serves
 returns-clause-serves g c =
-    let arena = c.receive_all.new.arena.items in
-    let requests = c.receive_all.new.requests.items in
+    let arena = c.receive_all.new.intake.arena.items in
+    let requests = c.receive_all.new.intake.requests.items in
     let current = lent_current c.current.result in
     let each = all_served g.P.Port.tells g.P.Port.taken g.P.Port.written current (λ k. asked_of k arena requests) c.args.clients.now c.receive_all.new.clients
     c.answer_requests.new.clients c.flush_all.new.clients (search rules) (search rules) (c.receive_all.ensures.read current)

@@ -1,4 +1,4 @@
-use Rattle.std.proofs.Common.{◌≡◌, List, ℕ, ◌+◌, map, drop, ap, sym, ◌∙◌, arith}
+use Rattle.std.proofs.Common.{List, ℕ, ◌+◌, map, drop, ap, sym, ◌∙◌, arith}
 use Rattle.mac_count.specs.RequestCounts.{with_all_counted}
 use Rattle.mac_decide.specs.Viewed.{viewed}
 use Rattle.mac_plain.specs.Tally.{counts_of, requests_of}

@@ -1,0 +1,6 @@
+use Rattle.std.proofs.Common.{◌≡◌, take}
+use Rattle.std.specs.Prelude.{min, sum}
+use Rattle.mac_count.proofs.snapshot.sum_of.Given as goal
+
+abbrev pub invariant-loop-count : goal.invariant-loop-count
+invariant-loop-count l = l.total ≡ min (sum (take l.count-index l.counts)) 18_446_744_073_709_551_615

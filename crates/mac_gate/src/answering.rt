@@ -1,0 +1,124 @@
+//! Who answers the connections of a loop.
+
+ghost use Rattle.mac_gate.specs.Lives.{IsOffered, IsTurnBy};
+ghost use Rattle.mac_page.specs.Told.{Responds};
+
+use crate::daemon::OwnDaemon;
+use crate::devices::Spoken;
+use crate::draws::SystemDraws;
+use crate::offer::{AddressTerms, Offer};
+use crate::shared::Shared;
+use http_server::Connection;
+use mac_board::{Follower, Tables};
+use mac_http::{Face, Way, take_turn};
+use mac_keys::KeyTable;
+use mac_page::{PageFace, Site};
+use mac_system::SystemMoments;
+use std::alloc::Global;
+use std::io;
+use std::io::ErrorKind;
+use std::random::RandomSource;
+use std::sync::Wait;
+use std::time::Clock;
+
+/// What a loop answers its connections with.
+#[derive(Drop)]
+pub struct Answering<'a, R> {
+    pub rt: &'a R,
+    pub alloc: Global,
+    pub server: &'a Shared,
+    /// Follows the key tables, where a daemon answers.
+    pub keys: Option<Follower>,
+    /// Since when what is answered next has been there, in microseconds.
+    pub since: u64,
+}
+
+/// Tables that are lent.
+#[derive(Drop)]
+struct LentTables<'a, K>(&'a mut K);
+
+impl<'a, K: Tables> Tables for LentTables<'a, K> {
+    ghost tells = { K.tells };
+
+    ghost known = { λ lent. K.known lent.0.now };
+
+    fn look(&mut self) {
+        self.0.look();
+    }
+
+    fn reach(&mut self, place: u64) -> bool {
+        self.0.reach(place)
+    }
+
+    fn place(&self) -> u64 {
+        self.0.place()
+    }
+
+    fn table(&self) -> &KeyTable {
+        self.0.table()
+    }
+}
+
+impl<'a, R: Wait + Clock + RandomSource> Answering<'a, R> {
+    /// Takes a turn of a connection, whose peer comes by this way, by what its address offers: what
+    /// was heard is answered, and as much as may be is written.
+    pub fn take_turn(
+        &mut self,
+        offer: &Offer,
+        way: Way,
+        connection: &mut Connection,
+        heard: &mut &[u8],
+        spoken: &mut Spoken<'_>,
+    ) -> io::Result<usize>
+        ensures { IsTurnBy (IsOffered offer.now way) heard.old.now heard.new.now
+            spoken.old.went.bytes spoken.new.went.bytes connection.old connection.new }
+    {
+        match offer {
+            Offer::Daemon(own) => self.take_face_turn(own, way, connection, heard, spoken),
+            Offer::Site(site) => self.take_page_turn(site, connection, heard, spoken),
+        }
+    }
+
+    /// The same by a daemon's face. Without tables to follow it can't answer.
+    fn take_face_turn(
+        &mut self,
+        own: &AddressTerms,
+        way: Way,
+        connection: &mut Connection,
+        heard: &mut &[u8],
+        spoken: &mut Spoken<'_>,
+    ) -> io::Result<usize>
+        ensures { IsTurnBy (IsOffered (Offer.Daemon own.now) way) heard.old.now heard.new.now
+            spoken.old.went.bytes spoken.new.went.bytes connection.old connection.new }
+    {
+        let Some(keys) = &mut self.keys else {
+            return Err(ErrorKind::Unsupported.into());
+        };
+        let daemon = OwnDaemon {
+            rt: self.rt,
+            alloc: self.alloc,
+            server: self.server,
+            version: own.terms.version,
+            since: self.since,
+        };
+        let rules = own.terms.rules(&own.rights, way);
+        let moments = SystemMoments::new(self.rt);
+        let mut face = Face::new(self.alloc, LentTables(keys), rules, moments, daemon);
+        take_turn(connection, &mut face, heard, spoken)
+    }
+
+    /// The same by the face of a site.
+    fn take_page_turn(
+        &mut self,
+        site: &Site,
+        connection: &mut Connection,
+        heard: &mut &[u8],
+        spoken: &mut Spoken<'_>,
+    ) -> io::Result<usize>
+        ensures { IsTurnBy (λ call. Responds site.now call.0 call.1) heard.old.now heard.new.now
+            spoken.old.went.bytes spoken.new.went.bytes connection.old connection.new }
+    {
+        let mut face = PageFace::new(self.alloc, site, SystemDraws(self.rt));
+        take_turn(connection, &mut face, heard, spoken)
+    }
+}

@@ -1,0 +1,61 @@
+-- What is noted of a request, for who counts and logs it (this project's own).
+use Rattle.std.specs.Prelude.{◌≡◌, ℕ, Bool, if◌then◌else◌, List, [], codes, Option, Some, None, option_map, Ok}
+use Rattle.http.specs.declared.request.Parts.{Parts}
+use Rattle.http_header.specs.HeaderMap.{get_all}
+use Rattle.http_uri.specs.Uri.{uri_path}
+use Rattle.mac_calls.specs.declared.call.Call.{Call}
+use Rattle.mac_calls.specs.declared.call.Call.TheVariants as call
+use Rattle.mac_decide.specs.Answer.{keys_of}
+use Rattle.mac_decide.specs.Minted.{Minted}
+use Rattle.mac_keys.specs.KeyTable.{Table}
+use Rattle.mac_keys.specs.Keys.{listed}
+use Rattle.mac_keys.specs.declared.keys.Keys.{Keys}
+use Rattle.mac_token.specs.RawToken.{TokenParts}
+use Rattle.mac_token.specs.Read.{read_of}
+use Rattle.mac_http.specs.declared.authorization.Scheme.{Scheme}
+use Rattle.mac_http.specs.declared.noted.Asks.{Asks}
+use Rattle.mac_http.specs.declared.noted.Asks.TheVariants as asks
+use Rattle.mac_http.specs.declared.rules.Rules.{Rules}
+use Rattle.mac_http.specs.Authorization.{credentials_in, only}
+use Rattle.mac_http.specs.Found.{terms_of}
+use Rattle.mac_http.specs.Target.{target_in}
+
+-- what a call asks for
+abbrev pub asks_of : Call → Asks
+asks_of call.Mint = asks.Mint
+asks_of call.Attenuate = asks.Attenuate
+asks_of call.Inspect = asks.Inspect
+asks_of call.Check = asks.Check
+asks_of call.Verify = asks.Verify
+
+-- the name of a target, or none
+abbrev pub named : Option (List ℕ × List ℕ) → List ℕ
+named None = []
+named (Some target) = target.0
+
+-- the name that a path says, or none
+abbrev pub name_in : List ℕ → List ℕ
+name_in path = named (target_in path)
+
+-- what tells a request apart: its one field `X-Request-Id`
+abbrev pub id_in : Parts → Option (List ℕ)
+id_in head = option_map (λ v. v.bytes) (only (get_all head.headers (codes "x-request-id")))
+
+-- the token that a request brings, where a key gives its signature
+abbrev pub signed_in : Bool → Parts → Option (List ℕ)
+signed_in is_signed head =
+    if is_signed then option_map (λ c. c.1) (credentials_in head.headers) else None
+
+-- a request brings this token, and a key of the name in its path gives the signature
+pub record IsSignedBy (table : Table) (rules : Rules) (moment : Option ℕ) (head : Parts)
+    (bytes : List ℕ) : Type 0 where
+  pub name : List ℕ
+  pub behind : List ℕ
+  pub named : target_in (uri_path head.uri) ≡ Some (name, behind)
+  pub scheme : Scheme
+  pub brought : credentials_in head.headers ≡ Some (scheme, bytes)
+  pub keys : Keys
+  pub has_keys : keys_of (terms_of table rules moment) name ≡ Some keys
+  pub token : TokenParts
+  pub is_read : read_of bytes ≡ Ok token
+  pub minted : Minted (listed keys) token

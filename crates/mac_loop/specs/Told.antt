@@ -1,0 +1,10 @@
+-- What other loops know of a loop.
+use Rattle.std.specs.Prelude.{◌≡◌}
+use Rattle.mac_loop.specs.Backlog.{rounded}
+use Rattle.mac_loop.specs.Roll.{unsent_there}
+use Rattle.mac_loop.specs.declared.looping.Loop.{Loop}
+
+-- it has told them how many bytes are unsent on its clients
+abbrev pub HasTold : Loop → Type 0
+HasTold loop = loop.told.bytes
+    ≡ rounded (unsent_there loop.roll.connections.slots loop.roll.batch loop.roll.newcomer)
