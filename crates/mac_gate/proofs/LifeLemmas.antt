@@ -1,10 +1,10 @@
 -- How the life of a connection begins, goes on, and is told.
-use Rattle.std.proofs.Common.{◌≡◌, ◌==◌, ℕ, Bool, true, false, List, [], ◌++◌, length, inl, inr, Option, Some, sym, subst, ap, ◌∙◌, append-nil, append_assoc}
+use Rattle.std.proofs.Common.{◌≡◌, ◌==◌, ℕ, Bool, true, false, List, [], ◌++◌, length, inl, inr, Some, sym, subst, ap, ◌∙◌, append-nil, append_assoc}
 use Rattle.std.specs.Prelude.{All}
 use Rattle.std.proofs.Math.Logic.{∥∥₁_map}
 use Rattle.std.proofs.lemmas.Bool.Decides.{eqb_tells}
 use Rattle.std.proofs.lemmas.List.{nil_from_length}
-use Rattle.std.proofs.lemmas.List.Elements.{All-append, All-nil, All-weaker}
+use Rattle.std.proofs.lemmas.List.Elements.{All-append, All-nil}
 use Rattle.http.specs.declared.request.Request.{Request}
 use Rattle.http_server.specs.declared.connection.Connection.{Connection}
 use Rattle.http_server.specs.declared.response.Response.{Response}
@@ -14,17 +14,12 @@ use Rattle.http_server.specs.Exchange.{Call}
 use Rattle.http_server.specs.History.{History, IsDone, IsServed, new_history}
 use Rattle.http_server.proofs.Theorems.{always_served}
 use Rattle.mac_http.specs.declared.attending.TheConstants.{CONFIG}
-use Rattle.mac_http.specs.declared.rules.Rules.{Rules}
 use Rattle.mac_http.specs.declared.rules.Way.{Way}
-use Rattle.mac_http.specs.Faced.{IsRight}
 use Rattle.mac_http.specs.Turn.{IsTurn}
-use Rattle.mac_keys.specs.KeyTable.{Table}
 use Rattle.mac_page.proofs.PageLemmas.{right_all}
 use Rattle.mac_gate.specs.declared.flow.Flow.{Flow}
-use Rattle.mac_gate.specs.declared.offer.AddressTerms.{AddressTerms}
 use Rattle.mac_gate.specs.declared.offer.Offer.{Offer}
-use Rattle.mac_gate.specs.declared.offer.Offer.TheVariants.{Daemon}
-use Rattle.mac_gate.specs.Lives.{Adds, AreRules, IsOffered, IsTurnBy, Lives, Said, SaidAll}
+use Rattle.mac_gate.specs.Lives.{Adds, IsOffered, IsTurnBy, Lives, Said, SaidAll}
 
 -- a connection on which nothing has come
 pub starts : (offer : Offer) (by : Way) (flow : Flow) (connection : Connection) → flow.gathered.bytes.items ≡ [] → flow.came.bytes ≡ [] → flow.went.bytes ≡ []
@@ -51,7 +46,7 @@ hears offer by old new heard connection adds same lives = ∥∥₁_map lives mo
 
 -- what was heard is answered
 pub turned : (offer : Offer) (by : Way) (old new : Flow) (heard left : List ℕ) (a b : Connection) → new.came.bytes ≡ old.came.bytes
-    → new.gathered.bytes.items ≡ old.gathered.bytes.items → left ≡ [] → IsTurnBy (IsOffered offer by) heard left old.went.bytes new.went.bytes a b
+    → new.gathered.bytes.items ≡ old.gathered.bytes.items → left ≡ [] → IsTurnBy (All (IsOffered offer by)) heard left old.went.bytes new.went.bytes a b
     → ∥ Lives offer by old heard a ∥₁ → ∥ Lives offer by new [] b ∥₁
 turned offer by old new heard left a b came_is gathered_is none t lives = ∥∥₁_map lives on where
   on : Lives offer by old heard a → Lives offer by new [] b
@@ -72,31 +67,13 @@ turned offer by old new heard left a b came_is gathered_is none t lives = ∥∥
 pub turn_by : {S X : Type 0} (u v x y : List ℕ) (first last : S) (a b : Connection) (answers : S → Request (List ℕ) → Response → S → Type 0)
     → IsTurn answers (Some u) (Some v) (Some x) (Some y) first last a b → (of : S → X) (Right : X → Call → Type 0)
     → ((s : S) (q : Request (List ℕ)) (r : Response) (t : S) → answers s q r t → (of t ≡ of s) × Right (of s) (q, r))
-    → IsTurnBy (Right (of first)) u v x y a b
+    → IsTurnBy (All (Right (of first))) u v x y a b
 turn_by u v x y first last a b answers t of Right each = record {
   read = (t.read.0, t.read.1, t.read.2);
   written = (t.written.0, t.written.1, t.written.2);
   called = (t.calls.0, t.calls.1, right_all answers of Right each t.calls.0 first last t.calls.2);
   config = t.config;
 }
-
--- the response is right under some table and at some moment
-abbrev pub RightOnce : Rules → Call → Type 0
-RightOnce rules call = (under : Table × Option ℕ) × IsRight rules under call
-
--- a turn of a face under the rules of an address
-pub face_turn : {S : Type 0} (u v x y : List ℕ) (first last : S) (a b : Connection) (answers : S → Request (List ℕ) → Response → S → Type 0)
-    → IsTurn answers (Some u) (Some v) (Some x) (Some y) first last a b → (rules : S → Rules)
-    → ((s : S) (q : Request (List ℕ)) (r : Response) (t : S) → answers s q r t → (rules t ≡ rules s) × RightOnce (rules s) (q, r))
-    → (own : AddressTerms) (by : Way) → AreRules own by (rules first) → IsTurnBy (IsOffered (Daemon own) by) u v x y a b
-face_turn u v x y first last a b answers turn rules each own by are =
-    let t = turn_by u v x y first last a b answers turn rules RightOnce each in
-    record {
-      read = t.read;
-      written = t.written;
-      called = (t.called.0, t.called.1, All-weaker (RightOnce (rules first)) (IsOffered (Daemon own) by) (λ call right. (rules first, are, right)) t.called.0 t.called.2);
-      config = t.config;
-    }
 
 -- nothing is left where a slice is empty
 pub none_left : (left : List ℕ) (is : Bool) → is ≡ (length left == 0) → is ≡ true → left ≡ []

@@ -9,5 +9,7 @@ pub mod Weight
 pub mod Load
 pub mod Health
 pub mod Lives
+pub mod Going
+pub mod Answered
 pub mod Numbers
 pub mod Pages

@@ -55,15 +55,15 @@ IsOffered (Daemon own) by call = (rules : Rules) × AreRules own by rules
 IsOffered (Site site) by call = Responds site call.0 call.1
 
 -- Between two states of a connection these bytes were taken of those that were heard, these were
--- written, and each response is right.
-pub record IsTurnBy (Right : Call → Type 0) (heard left before after : List ℕ)
+-- written, and these requests were answered, as they are to be.
+pub record IsTurnBy (AreRight : List Call → Type 0) (heard left before after : List ℕ)
     (old new : Connection) : Type 0 where
   pub read : (more : List ℕ) × (heard ≡ more ++ left)
       × ((history new).received ≡ (history old).received ++ more)
   pub written : (more : List ℕ) × (after ≡ before ++ more)
       × ((history new).sent ≡ (history old).sent ++ more)
   pub called : (calls : List Call) × ((history new).calls ≡ (history old).calls ++ calls)
-      × All Right calls
+      × AreRight calls
   pub config : config_of new ≡ config_of old
 
 -- What came is what HTTP was given, then what was heard and isn't answered yet, and then what is

@@ -1,6 +1,8 @@
 //! Who answers the connections of a loop.
 
-ghost use Rattle.mac_gate.specs.Lives.{IsOffered, IsTurnBy};
+ghost use Rattle.std.specs.Prelude.{All, true};
+ghost use Rattle.mac_gate.specs.Answered.{AreAnswered, known_of, known_to, lent_known};
+ghost use Rattle.mac_gate.specs.Lives.{IsTurnBy};
 ghost use Rattle.mac_page.specs.Told.{Responds};
 
 use crate::daemon::OwnDaemon;
@@ -33,14 +35,14 @@ pub struct Answering<'a, R> {
     pub since: u64,
 }
 
-/// Tables that are lent.
+/// What follows the tables, lent for a turn.
 #[derive(Drop)]
-struct LentTables<'a, K>(&'a mut K);
+struct LentTables<'a>(&'a mut Follower);
 
-impl<'a, K: Tables> Tables for LentTables<'a, K> {
-    ghost tells = { K.tells };
+impl<'a> Tables for LentTables<'a> {
+    ghost tells = { true };
 
-    ghost known = { λ lent. K.known lent.0.now };
+    ghost known = { λ lent. lent_known lent.0.ghost_name (known_of lent.0.now) };
 
     fn look(&mut self) {
         self.0.look();
@@ -61,7 +63,7 @@ impl<'a, K: Tables> Tables for LentTables<'a, K> {
 
 impl<'a, R: Wait + Clock + RandomSource> Answering<'a, R> {
     /// Takes a turn of a connection, whose peer comes by this way, by what its address offers: what
-    /// was heard is answered, and as much as may be is written.
+    /// was heard is answered, and as much as may be is written. What follows the tables goes on.
     pub fn take_turn(
         &mut self,
         offer: &Offer,
@@ -70,7 +72,9 @@ impl<'a, R: Wait + Clock + RandomSource> Answering<'a, R> {
         heard: &mut &[u8],
         spoken: &mut Spoken<'_>,
     ) -> io::Result<usize>
-        ensures { IsTurnBy (IsOffered offer.now way) heard.old.now heard.new.now
+        ensures { IsTurnBy
+            (AreAnswered offer.now way (known_to self.old.keys) (known_to self.new.keys))
+            heard.old.now heard.new.now
             spoken.old.went.bytes spoken.new.went.bytes connection.old connection.new }
     {
         match offer {
@@ -88,7 +92,8 @@ impl<'a, R: Wait + Clock + RandomSource> Answering<'a, R> {
         heard: &mut &[u8],
         spoken: &mut Spoken<'_>,
     ) -> io::Result<usize>
-        ensures { IsTurnBy (IsOffered (Offer.Daemon own.now) way) heard.old.now heard.new.now
+        ensures { IsTurnBy (AreAnswered (Offer.Daemon own.now) way
+            (known_to self.old.keys) (known_to self.new.keys)) heard.old.now heard.new.now
             spoken.old.went.bytes spoken.new.went.bytes connection.old connection.new }
     {
         let Some(keys) = &mut self.keys else {
@@ -109,13 +114,14 @@ impl<'a, R: Wait + Clock + RandomSource> Answering<'a, R> {
 
     /// The same by the face of a site.
     fn take_page_turn(
-        &mut self,
+        &self,
         site: &Site,
         connection: &mut Connection,
         heard: &mut &[u8],
         spoken: &mut Spoken<'_>,
     ) -> io::Result<usize>
-        ensures { IsTurnBy (λ call. Responds site.now call.0 call.1) heard.old.now heard.new.now
+        ensures { IsTurnBy (All (λ call. Responds site.now call.0 call.1))
+            heard.old.now heard.new.now
             spoken.old.went.bytes spoken.new.went.bytes connection.old connection.new }
     {
         let mut face = PageFace::new(self.alloc, site, SystemDraws(self.rt));

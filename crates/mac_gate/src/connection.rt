@@ -1,6 +1,6 @@
 //! A connection of a loop: how far it is answered, and what it waits for.
 
-ghost use Rattle.std.specs.Prelude.{◌≡◌, [], IsSome, None};
+ghost use Rattle.std.specs.Prelude.{◌≡◌, [], IfSome, IsSome, None, option_map};
 ghost use Rattle.http_server.specs.Connection.{config_of, history};
 ghost use Rattle.http_server.specs.History.{IsDone, new_history};
 ghost use Rattle.mac_gate.specs.Lives.{Lives, way_of};
@@ -48,6 +48,9 @@ pub struct HttpConnection {
 }
 
 impl HttpConnection {
+    ghost use Rattle.mac_gate.specs.Answered.{TakesTurn, known_to};
+    ghost use Rattle.mac_gate.specs.Going.{GoesOn, past_of};
+
     /// A connection that begins now, by this machine of HTTP, which has done nothing.
     pub fn new(
         alloc: Global,
@@ -76,7 +79,9 @@ impl HttpConnection {
     }
 
     /// Has a poll tell of room to write too, while that is waited for.
-    pub fn update(&mut self, registry: &Registry, token: Token) -> io::Result<()> {
+    pub fn update(&mut self, registry: &Registry, token: Token) -> io::Result<()>
+        ensures { past_of self.new ≡ past_of self.old }
+    {
         let awaits = self.connection.wants_write() && !self.note.has_room;
         if awaits == self.note.awaits_room {
             return Ok(());
@@ -106,19 +111,25 @@ impl HttpConnection {
     }
 
     /// It waits for a turn among those with a dear request, since now unless it does already.
-    pub fn begin_wait(&mut self, now: u64) {
+    pub fn begin_wait(&mut self, now: u64)
+        ensures { past_of self.new ≡ past_of self.old }
+    {
         if self.note.waits_since.is_none() {
             self.note.waits_since = Some(now);
         }
     }
 
     /// It waits for a turn no more. Since when it did, in microseconds.
-    pub fn end_wait(&mut self) -> Option<u64> {
+    pub fn end_wait(&mut self) -> Option<u64>
+        ensures { past_of self.new ≡ past_of self.old }
+    {
         self.note.waits_since.take()
     }
 
     /// Takes nothing more from the peer than what has come, where the connection is idle.
-    pub fn end_if_idle(&mut self) {
+    pub fn end_if_idle(&mut self)
+        ensures { past_of self.new ≡ past_of self.old }
+    {
         if self.note.weight.is_idle() && !self.note.is_closing && self.note.parting.is_none() {
             self.stream.shut(Shutdown::Read);
             self.note.is_closing = true;
@@ -137,7 +148,9 @@ impl HttpConnection {
 
     /// In how many microseconds what came in small pieces is looked at, where something is put off
     /// and no look at it is noted. From then on one is.
-    pub fn put_off(&mut self) -> Option<u64> {
+    pub fn put_off(&mut self) -> Option<u64>
+        ensures { past_of self.new ≡ past_of self.old }
+    {
         if self.note.is_put_off {
             return None;
         }
@@ -158,7 +171,11 @@ impl HttpConnection {
         answering: &mut Answering<'_, R>,
         now: u64,
         piece: &mut [u8],
-    ) -> Option<HttpConnection> {
+    ) -> Option<HttpConnection>
+        ensures goes_on { IfSome result (λ after. GoesOn (past_of self) (past_of after)) }
+        ensures turn { TakesTurn (past_of self) (option_map past_of result)
+            (known_to answering.old.keys) (known_to answering.new.keys) }
+    {
         if self.note.parting.is_none() {
             return self.answer(answering, now, piece);
         }
@@ -178,6 +195,9 @@ impl HttpConnection {
         piece: &mut [u8],
     ) -> Option<HttpConnection>
         requires { self.note.parting ≡ None }
+        ensures goes_on { IfSome result (λ after. GoesOn (past_of self) (past_of after)) }
+        ensures turn { TakesTurn (past_of self) (option_map past_of result)
+            (known_to answering.old.keys) (known_to answering.new.keys) }
     {
         let HttpConnection {
             stream,
@@ -213,7 +233,9 @@ impl HttpConnection {
     }
 
     /// Drops what has come behind the last response. It ends after some reads.
-    fn drop_piece(&mut self, now: u64, piece: &mut [u8]) -> bool {
+    fn drop_piece(&mut self, now: u64, piece: &mut [u8]) -> bool
+        ensures { past_of self.new ≡ past_of self.old }
+    {
         let Some(left) = self.note.parting else {
             return false;
         };

@@ -7,6 +7,8 @@ ghost use Rattle.http_server.specs.History.{IsDone};
 ghost use Rattle.http_server.specs.Response.{IsResponse};
 ghost use Rattle.http_server.specs.declared.connection.Connection.{Connection};
 ghost use Rattle.http_uri.specs.Uri.{uri_path};
+ghost use Rattle.mac_board.specs.Follows.{Known};
+ghost use Rattle.mac_gate.specs.Answered.{AreTurns, KeepOrder, Turn};
 ghost use Rattle.mac_gate.specs.Lives.{AsksToMint, IsDenied, IsGuarded, IsNoPage, Lives, Said};
 ghost use Rattle.mac_gate.specs.Lives.{SaidAll};
 ghost use Rattle.mac_gate.specs.Noting.{AreNotedAlike, IsExchangeOf};
@@ -32,6 +34,13 @@ pub fn lives_are_told()
     ensures all { (offer : PlainOffer) (by : PlainWay) (flow : PlainFlow) (heard : List ℕ)
         (connection : Connection) → Lives offer by flow heard connection
         → IsDone (history connection) → SaidAll offer by flow.came.bytes flow.went.bytes }
+{}
+
+/// Over the turns of one loop, whosever they are, no request is answered under an older table than a
+/// request of an earlier turn, or one before it in the same turn.
+pub fn turns_keep_their_tables()
+    ensures { (was is : Known) (turns : List Turn) → AreTurns (Some was) (Some is) turns
+        → KeepOrder was is turns }
 {}
 
 /// At an address that may not mint, or where that call isn't answered, no token is minted over the

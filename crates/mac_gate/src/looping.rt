@@ -1,5 +1,8 @@
 //! A loop: a thread's turns over its connections.
 
+ghost use Rattle.mac_gate.specs.Answered.{GoesByTurns, known_to};
+ghost use Rattle.mac_gate.specs.Going.{StayInPlace};
+
 use crate::answering::Answering;
 use crate::connection::{HttpConnection, PIECE};
 use crate::content::Content;
@@ -76,7 +79,9 @@ impl HttpLoop {
         rt: &R,
         offer: &Arc<Offer, Global>,
         answering: &mut Answering<'_, R>,
-    ) {
+    )
+        ensures { GoesByTurns (known_to answering.old.keys) (known_to answering.new.keys) }
+    {
         let (alloc, server) = (answering.alloc, answering.server);
         for _ in rt.forever() {
             self.connections.wait(rt);
@@ -86,7 +91,8 @@ impl HttpLoop {
             self.advance_ready(rt, server, answering);
             self.sweep(rt, server);
             self.settle(rt, server);
-            if is_closed && self.connections.count() == 0 {
+            let is_over = is_closed && self.connections.count() == 0;
+            if is_over {
                 return;
             }
         }
@@ -157,7 +163,9 @@ impl HttpLoop {
         rt: &R,
         server: &Shared,
         answering: &mut Answering<'_, R>,
-    ) {
+    )
+        ensures { GoesByTurns (known_to answering.old.keys) (known_to answering.new.keys) }
+    {
         if server.is_ending() {
             self.connections.end_idle();
         }
@@ -166,15 +174,29 @@ impl HttpLoop {
             if !self.connections.has_room(rt) {
                 break;
             }
-            let next = if turn < ready {
-                self.connections.next_ready()
-            } else {
-                self.connections.next_dear()
-            };
-            if let Some(slot) = next {
-                self.advance(rt, server, answering, slot);
-            }
+            self.advance_next(rt, server, answering, turn < ready);
         }
+    }
+
+    /// Has the next one that is ready do what it can, or the next one with a dear request.
+    fn advance_next<R: Wait + Clock + RandomSource>(
+        &mut self,
+        rt: &R,
+        server: &Shared,
+        answering: &mut Answering<'_, R>,
+        is_ready: bool,
+    )
+        ensures { GoesByTurns (known_to answering.old.keys) (known_to answering.new.keys) }
+    {
+        let next = if is_ready {
+            self.connections.next_ready()
+        } else {
+            self.connections.next_dear()
+        };
+        let Some(slot) = next else {
+            return;
+        };
+        self.advance(rt, server, answering, slot);
     }
 
     /// Gives back what turns haven't taken, and what those had who have left. Where some loop lacks
@@ -203,12 +225,17 @@ impl HttpLoop {
         server: &Shared,
         answering: &mut Answering<'_, R>,
         slot: usize,
-    ) {
+    )
+        ensures stay { StayInPlace self.old.connections.connections.slots
+            self.new.connections.connections.slots }
+        ensures turns { GoesByTurns (known_to answering.old.keys) (known_to answering.new.keys) }
+    {
         let is_ending = server.is_ending();
         let piece = self.piece.as_mut_slice();
-        if self.connections.advance(slot, answering, is_ending, piece) {
-            server.leave(rt, self.number);
+        if !self.connections.advance(slot, answering, is_ending, piece) {
+            return;
         }
+        server.leave(rt, self.number);
     }
 
     /// Looks at all connections, where it is time for that, and lets those go whose peers have

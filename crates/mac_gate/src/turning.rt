@@ -1,6 +1,6 @@
 //! A connection in its turn.
 
-ghost use Rattle.std.specs.Prelude.{◌≡◌, [], IsSome, None};
+ghost use Rattle.std.specs.Prelude.{◌≡◌, [], IfSome, IsSome, None, option_map};
 ghost use Rattle.http_server.specs.Connection.{history};
 ghost use Rattle.http_server.specs.History.{IsDone};
 ghost use Rattle.mac_gate.specs.Lives.{Lives, way_of};
@@ -33,6 +33,9 @@ pub struct InTurn {
 }
 
 impl InTurn {
+    ghost use Rattle.mac_gate.specs.Answered.{TakesTurn, known_to};
+    ghost use Rattle.mac_gate.specs.Going.{GoesOn, past_in_turn, past_of};
+
     /// Answers what was heard, and writes once. A fault ends the connection. Behind the last response
     /// no more is written: what still comes is read and dropped, so that the peer reads that response
     /// and no reset.
@@ -45,6 +48,9 @@ impl InTurn {
         requires goes_on { self.note.parting ≡ None }
         requires lives { ∥ Lives self.offer.value (way_of self.stream) self.flow heard.now
             self.connection.value ∥₁ }
+        ensures goes_on { IfSome result (λ after. GoesOn (past_in_turn self) (past_of after)) }
+        ensures turn { TakesTurn (past_in_turn self) (option_map past_of result)
+            (known_to answering.old.keys) (known_to answering.new.keys) }
     {
         let InTurn {
             stream,
@@ -62,7 +68,10 @@ impl InTurn {
         let mut spoken = Spoken::new(&stream, went, note.has_room);
         let way = way_of(&stream);
         let turned = answering.take_turn(&offer, way, &mut *connection, &mut left, &mut spoken);
-        if !left.is_empty() || !goes_on(&turned) {
+        if !left.is_empty() {
+            return None;
+        }
+        if !goes_on(&turned) {
             return None;
         }
         note.speak(&spoken, now);
@@ -94,6 +103,7 @@ impl InTurn {
         requires lives { ∥ Lives self.offer.value (way_of self.stream) self.flow []
             self.connection.value ∥₁ }
         requires all { IsSome self.note.parting → ∥ IsDone (history self.connection.value) ∥₁ }
+        ensures { past_of result ≡ past_in_turn self }
     {
         let InTurn {
             stream,

@@ -1,5 +1,10 @@
 //! The connections of a loop, which of them are ready, and when one has taken too long.
 
+ghost use Rattle.std.specs.Prelude.{◌≡◌, ◌≢◌, ℕ, false, true};
+ghost use Rattle.mac_gate.specs.Answered.{HasTurn, known_to};
+ghost use Rattle.mac_gate.specs.Going.{KeepTheirs, StayInPlace, past_at, past_of};
+ghost use Rattle.mac_slots.specs.Slots.{Lent, at};
+
 use crate::answering::Answering;
 use crate::connection::HttpConnection;
 use crate::turns::Turns;
@@ -131,7 +136,9 @@ impl Waiting {
 
     /// Has the connection of a slot looked at so long from now; or all, where there is no memory to
     /// note one.
-    fn look_later(&mut self, slot: usize, left: u64) {
+    fn look_later(&mut self, slot: usize, left: u64)
+        ensures { self.new.connections.slots ≡ self.old.connections.slots }
+    {
         let at = self.now().saturating_add(left);
         if self.put_off.push_back(PutOff { slot, at }).is_err() {
             self.expect(left);
@@ -154,7 +161,9 @@ impl Waiting {
     }
 
     /// Somebody has to be looked at so long from now.
-    fn expect(&mut self, left: u64) {
+    fn expect(&mut self, left: u64)
+        ensures { self.new.connections.slots ≡ self.old.connections.slots }
+    {
         let then = self.now().saturating_add(left);
         let is_sooner = match self.due {
             Some(due) => then < due,
@@ -166,11 +175,14 @@ impl Waiting {
     }
 
     /// Lists a slot as ready, where its connection is.
-    fn list(&mut self, slot: usize) {
+    fn list(&mut self, slot: usize)
+        ensures { KeepTheirs self.old.connections.slots self.new.connections.slots }
+    {
         let one = self.connections.slots.get(slot);
-        if one.is_some_and(|one| one.is_ready()) {
-            self.connections.slots.list(slot);
+        if !one.is_some_and(|one| one.is_ready()) {
+            return;
         }
+        self.connections.slots.list(slot);
     }
 
     /// Lets the connection go to which nothing was sent for longest, where that is for long enough.
@@ -185,7 +197,9 @@ impl Waiting {
     }
 
     /// Lets the connection of a slot go. Whether there is one.
-    fn release(&mut self, slot: usize) -> bool {
+    fn release(&mut self, slot: usize) -> bool
+        ensures { StayInPlace self.old.connections.slots self.new.connections.slots }
+    {
         self.dear.leave(slot);
         let Some(one) = self.connections.slots.release(slot) else {
             return false;
@@ -259,10 +273,13 @@ impl Waiting {
     }
 
     /// The same of one of them.
-    fn end_if_idle(&mut self, slot: usize) {
-        if let Some(one) = self.connections.slots.get_mut(slot) {
-            one.end_if_idle();
-        }
+    fn end_if_idle(&mut self, slot: usize)
+        ensures { KeepTheirs self.old.connections.slots self.new.connections.slots }
+    {
+        let Some(one) = self.connections.slots.get_mut(slot) else {
+            return;
+        };
+        one.end_if_idle();
         self.list(slot);
     }
 
@@ -299,56 +316,105 @@ impl Waiting {
         answering: &mut Answering<'_, R>,
         is_ending: bool,
         piece: &mut [u8],
-    ) -> bool {
+    ) -> bool
+        ensures stay { StayInPlace self.old.connections.slots self.new.connections.slots }
+        ensures turn { HasTurn (past_at self.old.connections.slots slot)
+            (past_at self.new.connections.slots slot)
+            (known_to answering.old.keys) (known_to answering.new.keys) }
+    {
         let Some(mut one) = self.connections.slots.take(slot) else {
             return false;
         };
         let before = one.held();
         let now = self.now();
         answering.since = one.end_wait().unwrap_or(now);
-        let Some(mut one) = one.advance(answering, now, piece) else {
+        let Some(next) = one.advance(answering, now, piece) else {
             return self.end(slot, before);
         };
-        if one
-            .update(self.connections.registry(), Token(slot))
-            .is_err()
-        {
+        if !self.put_back(slot, next, before) {
             return self.end(slot, before);
         }
-        self.account.count(before, one.held());
-        let _ = self.connections.slots.put(slot, one);
+        self.go_on(slot, is_ending);
+        false
+    }
+
+    /// Notes until when one that goes on has to be looked at. Where the server ends, it takes nothing
+    /// more than what has come, if it is idle.
+    fn go_on(&mut self, slot: usize, is_ending: bool)
+        ensures { KeepTheirs self.old.connections.slots self.new.connections.slots }
+    {
         if is_ending {
             self.end_if_idle(slot);
         }
         self.stay(slot);
-        false
+    }
+
+    /// Puts a connection back into its slot behind a turn, which was counted for so many bytes.
+    /// Whether it goes on.
+    fn put_back(&mut self, slot: usize, mut one: HttpConnection, before: u64) -> bool
+        requires { at self.old.connections.slots slot ≡ Lent }
+        ensures there { result ≡ true
+            → past_at self.new.connections.slots slot ≡ Some (past_of one) }
+        ensures left { result ≡ false → past_at self.new.connections.slots slot ≡ None }
+        ensures others { (other : ℕ) → other ≢ slot
+            → at self.new.connections.slots other ≡ at self.old.connections.slots other }
+    {
+        if one
+            .update(self.connections.registry(), Token(slot))
+            .is_err()
+        {
+            return false;
+        }
+        self.account.count(before, one.held());
+        let _ = self.connections.slots.put(slot, one);
+        true
     }
 
     /// The connection of a slot has ended, which was counted for so many bytes.
-    fn end(&mut self, slot: usize, held: u64) -> bool {
+    fn end(&mut self, slot: usize, held: u64) -> bool
+        ensures { StayInPlace self.old.connections.slots self.new.connections.slots }
+    {
         self.account.count(held, 0);
         let _ = self.release(slot);
         true
     }
 
-    /// Notes until when one that goes on has to be looked at.
-    fn stay(&mut self, slot: usize) {
+    /// The same, whether the server ends or not.
+    fn stay(&mut self, slot: usize)
+        ensures { KeepTheirs self.old.connections.slots self.new.connections.slots }
+    {
         let now = self.now();
         let Some(one) = self.connections.slots.get_mut(slot) else {
             return;
         };
         let (left, is_owed) = (one.left(self.patience, now), one.is_owed());
         let due_in = one.put_off();
-        if let Some(left) = left {
-            self.expect(left);
-        }
-        if let Some(micros) = due_in {
-            self.look_later(slot, micros);
-        }
-        if is_owed {
-            self.expect(OWED);
-        }
+        self.expect_within(left, is_owed);
+        self.look_within(slot, due_in);
         self.list(slot);
+    }
+
+    /// Somebody has to be looked at so long from now, if at all, and soon where he is owed something.
+    fn expect_within(&mut self, left: Option<u64>, is_owed: bool)
+        ensures { self.new.connections.slots ≡ self.old.connections.slots }
+    {
+        let owed = if is_owed { Some(OWED) } else { None };
+        match (left, owed) {
+            (Some(left), Some(owed)) => self.expect(left.min(owed)),
+            (Some(left), None) => self.expect(left),
+            (None, Some(owed)) => self.expect(owed),
+            (None, None) => {}
+        }
+    }
+
+    /// Has the connection of a slot looked at so long from now, if at all.
+    fn look_within(&mut self, slot: usize, due_in: Option<u64>)
+        ensures { self.new.connections.slots ≡ self.old.connections.slots }
+    {
+        match due_in {
+            Some(micros) => self.look_later(slot, micros),
+            None => {}
+        }
     }
 
     /// Whether it is time to look at all of them, which begins then.
