@@ -7,3 +7,7 @@ loop-turn-init g c = by_no_turn (known_to c.args.answering.now.keys)
 
 pub loop-turn-preserved : goal.loop-turn-preserved
 loop-turn-preserved g c = by_turns_then (known_to c.args.answering.now.keys) (known_to c.loop-turn.answering.keys) (known_to c.advance_next.new.answering.keys) c.loop-turn.invariant c.advance_next.ensures
+
+pub returns-else-not-has_room : goal.returns-else-not-has_room
+returns-else-not-has_room g c =
+    by_turns_then (known_to c.args.answering.now.keys) (known_to c.loop-turn.answering.keys) (known_to c.advance_next.new.answering.keys) c.loop-turn.invariant c.advance_next.ensures
