@@ -47,29 +47,48 @@ key_word Refused = codes "none"
 abbrev pub use_value : NameCounts → KeyUse → ℕ
 use_value counts used = slice_index counts.counts (use_place used)
 
--- a line, unless its value is 0
-abbrev pub unless_none : ℕ → List ℕ → List ℕ
-unless_none value line = if value == 0 then [] else line
+-- the words for a use, and the same as labels
+abbrev pub use_words : KeyUse → List ℕ
+use_words used = asked_word used ++ 32 ∷ (told_word used ++ 32 ∷ key_word used)
 
--- `key_requests NAME ASKED TOLD KEY VALUE`
-unfoldable pub use_line : NameCounts → KeyUse → List ℕ
-use_line counts used =
-    codes "key_requests " ++ (counts.name.items ++ 32 ∷ (asked_word used ++ 32 ∷ (told_word used
-    ++ 32 ∷ (key_word used ++ 32 ∷ value_text (use_value counts used)))))
+abbrev pub use_labels : KeyUse → List ℕ
+use_labels used =
+    codes "asked=\"" ++ (asked_word used ++ (codes "\",told=\"" ++ (told_word used
+    ++ (codes "\",key=\"" ++ (key_word used ++ codes "\"")))))
+
+-- `key_requests NAME ASKED TOLD KEY `, and its value
+abbrev pub use_front : NameCounts → KeyUse → List ℕ
+use_front counts used = codes "key_requests " ++ (counts.name.items ++ 32 ∷ (use_words used ++ 32 ∷ []))
+
+abbrev pub use_line : NameCounts → KeyUse → List ℕ
+use_line counts used = use_front counts used ++ value_text (use_value counts used)
 
 -- the same in Prometheus's text form
-unfoldable pub use_metric : NameCounts → KeyUse → List ℕ
-use_metric counts used =
-    codes "macaroond_key_requests_total{name=\"" ++ (counts.name.items ++ (codes "\",asked=\""
-    ++ (asked_word used ++ (codes "\",told=\"" ++ (told_word used ++ (codes "\",key=\""
-    ++ (key_word used ++ (codes "\"} " ++ value_text (use_value counts used)))))))))
+abbrev pub metric_begin : List ℕ
+metric_begin = codes "macaroond_key_requests_total{name=\""
+
+abbrev pub labels_rest : NameCounts → KeyUse → List ℕ
+labels_rest counts used = counts.name.items ++ (codes "\"," ++ (use_labels used ++ codes "} "))
+
+abbrev pub metric_front : NameCounts → KeyUse → List ℕ
+metric_front counts used = metric_begin ++ labels_rest counts used
+
+abbrev pub use_metric : NameCounts → KeyUse → List ℕ
+use_metric counts used = metric_front counts used ++ value_text (use_value counts used)
+
+-- the line of a use, if there was any
+abbrev pub line_if_used : NameCounts → KeyUse → List ℕ
+line_if_used counts used = if use_value counts used == 0 then [] else use_line counts used
+
+abbrev pub metric_if_used : NameCounts → KeyUse → List ℕ
+metric_if_used counts used = if use_value counts used == 0 then [] else use_metric counts used
 
 -- the lines of a name
-abbrev pub lines_of : NameCounts → List ℕ
-lines_of counts = flat_map (λ used. unless_none (use_value counts used) (use_line counts used)) all_uses
+unfoldable pub lines_of : NameCounts → List ℕ
+lines_of counts = flat_map (line_if_used counts) all_uses
 
-abbrev pub metrics_of : NameCounts → List ℕ
-metrics_of counts = flat_map (λ used. unless_none (use_value counts used) (use_metric counts used)) all_uses
+unfoldable pub metrics_of : NameCounts → List ℕ
+metrics_of counts = flat_map (metric_if_used counts) all_uses
 
 -- those of all names
 abbrev pub use_lines : List NameCounts → List ℕ

@@ -3,9 +3,11 @@
 ghost use Rattle.std.specs.Prelude.{◌≡◌, ◌++◌, OnOk};
 ghost use Rattle.std.specs.List.{flat_map};
 ghost use Rattle.mac_count.specs.Texts.{value_text};
-ghost use Rattle.mac_gate.specs.KeyUses.{asked_word, key_word, lines_of, metrics_of, signer_word};
-ghost use Rattle.mac_gate.specs.KeyUses.{told_word, unless_none, use_line, use_lines, use_metric};
-ghost use Rattle.mac_gate.specs.KeyUses.{use_value, uses_text};
+ghost use Rattle.mac_gate.specs.KeyUses.{asked_word, key_word, line_if_used, lines_of};
+ghost use Rattle.mac_gate.specs.KeyUses.{metric_if_used, metrics_of, signer_word, told_word};
+ghost use Rattle.mac_gate.specs.KeyUses.{labels_rest, metric_begin, metric_front, use_front, use_labels};
+ghost use Rattle.mac_gate.specs.KeyUses.{use_line, use_lines, use_metric, use_words};
+ghost use Rattle.mac_gate.specs.KeyUses.{uses_text};
 
 use mac_decide::{KeyUse, NameCounts, Signer};
 use std::alloc::{AllocError, Global};
@@ -19,9 +21,21 @@ pub(crate) fn append_use_lines(
     ensures { OnOk result (out.new.items ≡ out.old.items ++ use_lines uses.now) }
 {
     for counts in uses {
-        append_lines_of(alloc, counts, &KeyUse::ALL, out)?;
+        append_lines_of_name(alloc, counts, out)?;
     }
     Ok(())
+}
+
+/// Appends the lines of all uses of a name.
+#[tactic(auto, unfolding(crate::specs::KeyUses::lines_of))]
+fn append_lines_of_name(
+    alloc: Global,
+    counts: &NameCounts,
+    out: &mut Vec<u8>,
+) -> Result<(), AllocError>
+    ensures { OnOk result (out.new.items ≡ out.old.items ++ lines_of counts.now) }
+{
+    append_lines_of(alloc, counts, &KeyUse::ALL, out)
 }
 
 /// Appends the same in Prometheus's text form.
@@ -41,9 +55,21 @@ fn append_metrics(alloc: Global, uses: &[NameCounts], out: &mut Vec<u8>) -> Resu
     ensures { OnOk result (out.new.items ≡ out.old.items ++ flat_map metrics_of uses.now) }
 {
     for counts in uses {
-        append_metrics_of(alloc, counts, &KeyUse::ALL, out)?;
+        append_metrics_of_name(alloc, counts, out)?;
     }
     Ok(())
+}
+
+/// Appends the metrics of all uses of a name.
+#[tactic(auto, unfolding(crate::specs::KeyUses::metrics_of))]
+fn append_metrics_of_name(
+    alloc: Global,
+    counts: &NameCounts,
+    out: &mut Vec<u8>,
+) -> Result<(), AllocError>
+    ensures { OnOk result (out.new.items ≡ out.old.items ++ metrics_of counts.now) }
+{
+    append_metrics_of(alloc, counts, &KeyUse::ALL, out)
 }
 
 /// Appends the lines of a name's uses.
@@ -53,8 +79,8 @@ fn append_lines_of(
     uses: &[KeyUse],
     out: &mut Vec<u8>,
 ) -> Result<(), AllocError>
-    ensures { OnOk result (out.new.items ≡ out.old.items ++ flat_map
-        (λ used. unless_none (use_value counts.now used) (use_line counts.now used)) uses.now) }
+    ensures { OnOk result
+        (out.new.items ≡ out.old.items ++ flat_map (line_if_used counts.now) uses.now) }
 {
     for used in uses {
         append_if_used(alloc, counts, *used, out)?;
@@ -69,8 +95,7 @@ fn append_if_used(
     used: KeyUse,
     out: &mut Vec<u8>,
 ) -> Result<(), AllocError>
-    ensures { OnOk result (out.new.items ≡ out.old.items
-        ++ unless_none (use_value counts.now used) (use_line counts.now used)) }
+    ensures { OnOk result (out.new.items ≡ out.old.items ++ line_if_used counts.now used) }
 {
     if counts.count(used) == 0 {
         return Ok(());
@@ -79,7 +104,6 @@ fn append_if_used(
 }
 
 /// Appends the line of a use.
-#[tactic(auto, unfolding(crate::specs::KeyUses::use_line))]
 fn append_line(
     alloc: Global,
     counts: &NameCounts,
@@ -88,16 +112,30 @@ fn append_line(
 ) -> Result<(), AllocError>
     ensures { OnOk result (out.new.items ≡ out.old.items ++ use_line counts.now used) }
 {
+    append_line_front(counts, used, out)?;
+    append_value(alloc, counts.count(used), out)
+}
+
+/// Appends what stands in front of a line's value.
+fn append_line_front(counts: &NameCounts, used: KeyUse, out: &mut Vec<u8>) -> Result<(), AllocError>
+    ensures { OnOk result (out.new.items ≡ out.old.items ++ use_front counts.now used) }
+{
     out.extend_from_slice(b"key_requests ")?;
     out.extend_from_slice(counts.name.as_slice())?;
     out.extend_from_slice(b" ")?;
+    append_words(used, out)?;
+    out.extend_from_slice(b" ")
+}
+
+/// Appends the words for a use.
+fn append_words(used: KeyUse, out: &mut Vec<u8>) -> Result<(), AllocError>
+    ensures { OnOk result (out.new.items ≡ out.old.items ++ use_words used) }
+{
     out.extend_from_slice(asked_word(used).as_bytes())?;
     out.extend_from_slice(b" ")?;
     out.extend_from_slice(told_word(used).as_bytes())?;
     out.extend_from_slice(b" ")?;
-    out.extend_from_slice(key_word(used).as_bytes())?;
-    out.extend_from_slice(b" ")?;
-    append_value(alloc, counts.count(used), out)
+    out.extend_from_slice(key_word(used).as_bytes())
 }
 
 /// Appends the metrics of a name's uses.
@@ -107,8 +145,8 @@ fn append_metrics_of(
     uses: &[KeyUse],
     out: &mut Vec<u8>,
 ) -> Result<(), AllocError>
-    ensures { OnOk result (out.new.items ≡ out.old.items ++ flat_map
-        (λ used. unless_none (use_value counts.now used) (use_metric counts.now used)) uses.now) }
+    ensures { OnOk result
+        (out.new.items ≡ out.old.items ++ flat_map (metric_if_used counts.now) uses.now) }
 {
     for used in uses {
         append_metric_if_used(alloc, counts, *used, out)?;
@@ -123,8 +161,7 @@ fn append_metric_if_used(
     used: KeyUse,
     out: &mut Vec<u8>,
 ) -> Result<(), AllocError>
-    ensures { OnOk result (out.new.items ≡ out.old.items
-        ++ unless_none (use_value counts.now used) (use_metric counts.now used)) }
+    ensures { OnOk result (out.new.items ≡ out.old.items ++ metric_if_used counts.now used) }
 {
     if counts.count(used) == 0 {
         return Ok(());
@@ -133,7 +170,6 @@ fn append_metric_if_used(
 }
 
 /// Appends the metric of a use.
-#[tactic(auto, unfolding(crate::specs::KeyUses::use_metric))]
 fn append_metric(
     alloc: Global,
     counts: &NameCounts,
@@ -142,16 +178,54 @@ fn append_metric(
 ) -> Result<(), AllocError>
     ensures { OnOk result (out.new.items ≡ out.old.items ++ use_metric counts.now used) }
 {
-    out.extend_from_slice(b"macaroond_key_requests_total{name=\"")?;
+    append_metric_front(counts, used, out)?;
+    append_value(alloc, counts.count(used), out)
+}
+
+/// Appends what stands in front of a metric's value.
+fn append_metric_front(
+    counts: &NameCounts,
+    used: KeyUse,
+    out: &mut Vec<u8>,
+) -> Result<(), AllocError>
+    ensures { OnOk result (out.new.items ≡ out.old.items ++ metric_front counts.now used) }
+{
+    append_metric_begin(out)?;
+    append_labels_rest(counts, used, out)
+}
+
+/// Appends the begin of a metric, up to the name.
+fn append_metric_begin(out: &mut Vec<u8>) -> Result<(), AllocError>
+    ensures { OnOk result (out.new.items ≡ out.old.items ++ metric_begin) }
+{
+    out.extend_from_slice(b"macaroond_key_requests_total{name=\"")
+}
+
+/// Appends its name and the other labels.
+fn append_labels_rest(
+    counts: &NameCounts,
+    used: KeyUse,
+    out: &mut Vec<u8>,
+) -> Result<(), AllocError>
+    ensures { OnOk result (out.new.items ≡ out.old.items ++ labels_rest counts.now used) }
+{
     out.extend_from_slice(counts.name.as_slice())?;
-    out.extend_from_slice(b"\",asked=\"")?;
+    out.extend_from_slice(b"\",")?;
+    append_labels(used, out)?;
+    out.extend_from_slice(b"} ")
+}
+
+/// Appends the labels of a use.
+fn append_labels(used: KeyUse, out: &mut Vec<u8>) -> Result<(), AllocError>
+    ensures { OnOk result (out.new.items ≡ out.old.items ++ use_labels used) }
+{
+    out.extend_from_slice(b"asked=\"")?;
     out.extend_from_slice(asked_word(used).as_bytes())?;
     out.extend_from_slice(b"\",told=\"")?;
     out.extend_from_slice(told_word(used).as_bytes())?;
     out.extend_from_slice(b"\",key=\"")?;
     out.extend_from_slice(key_word(used).as_bytes())?;
-    out.extend_from_slice(b"\"} ")?;
-    append_value(alloc, counts.count(used), out)
+    out.extend_from_slice(b"\"")
 }
 
 /// Appends a value and the end of its line.

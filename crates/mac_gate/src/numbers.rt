@@ -1,6 +1,8 @@
 //! What operators are told of numbers.
 
 ghost use Rattle.std.specs.Prelude.{◌≡◌, ◌++◌, OnOk, option_copied};
+ghost use Rattle.mac_gate.specs.KeyLines.{told_lines};
+ghost use Rattle.mac_gate.specs.KeyUses.{use_lines};
 ghost use Rattle.mac_gate.specs.Numbers.{numbers_text, status_page, version_back, version_front};
 ghost use Rattle.mac_gate.specs.Numbers.{version_metric};
 
@@ -47,7 +49,20 @@ pub(crate) fn append_status_page(
 {
     append_version(version, text)?;
     append_status(alloc, shown.numbers, text)?;
-    append_use_lines(alloc, shown.uses, text)?;
+    append_of_keys(alloc, shown.uses, keys, text)
+}
+
+/// Appends how keys are used, and the keys that may be told.
+fn append_of_keys(
+    alloc: Global,
+    uses: &[NameCounts],
+    keys: Option<&KeyTable>,
+    text: &mut Vec<u8>,
+) -> Result<(), AllocError>
+    ensures { OnOk result (text.new.items
+        ≡ text.old.items ++ (use_lines uses.now ++ told_lines (option_copied keys.entry))) }
+{
+    append_use_lines(alloc, uses, text)?;
     append_told_keys(alloc, keys, text)
 }
 
