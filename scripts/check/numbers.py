@@ -216,7 +216,8 @@ def keys(daemon):
 
 
 def page(daemon):
-    told = {name.split("{")[0] for name in numbers(daemon)}
+    # How keys are used is told at a page of its own.
+    told = {name.split("{")[0] for name in numbers(daemon)} | {"key_requests_total"}
     section = PAGE.read_text().split("## Numbers")[1].split("\n## ")[0]
     rows = [line.split("|")[1] for line in section.splitlines() if line.startswith("| `")]
     listed = {name for row in rows for name in re.findall(r"`([a-z_]+)[`{]", row)}

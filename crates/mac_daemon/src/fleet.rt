@@ -121,7 +121,7 @@ impl Idlers {
 fn make_memory<R: RandomSource>(rt: &R, alloc: Global, shape: Shape) -> Option<SeenTokens> {
     let remembered = shape.tokens_memory();
     if remembered == 0 {
-        return Some(SeenTokens::none());
+        return SeenTokens::without_memory(alloc).ok();
     }
     let hashes = RandomState::new(rt).ok()?;
     SeenTokens::new(alloc, hashes, remembered as usize).ok()

@@ -21,3 +21,4 @@ pub mod DoubtLemmas
 pub mod LackLemmas
 pub mod DraftingLemmas
 pub mod SeenLemmas
+pub mod SignerLemmas

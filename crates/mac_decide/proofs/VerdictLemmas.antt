@@ -101,7 +101,7 @@ minted-tested (key ∷ keys) t e =
       | inr later ↦ Any-later key keys (minted-tested keys t later)
     ]
 
-tested-minted : (keys : List (List ℕ)) (t : TokenParts) → Minted keys t → is_minted keys t ≡ true
+pub tested-minted : (keys : List (List ℕ)) (t : TokenParts) → Minted keys t → is_minted keys t ≡ true
 tested-minted [] t minted = absurd (Any-none minted)
 tested-minted (key ∷ keys) t minted =
     elim (Any-cases key keys minted) [

@@ -13,6 +13,7 @@ pub mod Seen
 pub mod Telling
 pub mod Terms
 pub mod Time
+pub mod Uses
 pub mod Verdict
 pub mod Viewed
 pub mod World

@@ -11,7 +11,7 @@ use crate::asking::Asking;
 use crate::job_view::JobView;
 use crate::looking::{Sight, look_at, look_at_job};
 use crate::preparing::prepare;
-use crate::remembering::remember;
+use crate::remembering::note;
 use crate::rooms::{RUN, Rooms};
 use crate::seen::SeenTokens;
 use arrayvec::ArrayVec;
@@ -77,7 +77,7 @@ fn reply_by_sight(
         Sight::Told(reply) => Ok(reply),
         Sight::Asked(asking) => {
             let reply = prepare(room, alloc, &asking)?.into_reply(alloc)?;
-            remember(seen, alloc, &asking, &reply);
+            note(seen, alloc, &asking, &reply);
             Ok(reply)
         }
     }

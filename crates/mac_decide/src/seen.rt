@@ -7,37 +7,28 @@
 //! told: a guess is compared with nothing that is kept. A token is kept once it comes again, so
 //! that those that come once cost next to nothing and push out none.
 
-ghost use Rattle.std.specs.Prelude.{◌≡◌, IfOk, IfSome, IsTrue, Ok, true};
-ghost use Rattle.mac_keys.specs.Filter.{hash_of};
+ghost use Rattle.std.specs.Prelude.{◌≡◌, IfOk, IfSome, true};
 ghost use Rattle.mac_keys.specs.Keys.{listed};
-ghost use Rattle.mac_token.specs.Read.{read_of};
 ghost use Rattle.mac_decide.specs.Reading.{is_minted, verdict_of};
-ghost use Rattle.mac_decide.specs.Seen.{IsFound, is_minted_text};
 ghost use Rattle.mac_decide.specs.Telling.{verdict_told, verify_told};
+ghost use Rattle.mac_decide.specs.Uses.{IsMintedText};
 
 use crate::context::Context;
+use crate::part::{MintedText, Part, SeenToken};
 use crate::reply::verdict_reply;
 use crate::revocation::Telling;
+use crate::uses::{KeyUse, KeyUses, NameCounts, NameUses};
 use crate::verdict::{found_verdict, unsatisfied_of};
-use lru::LruCache;
-use mac_keys::{Keys, hash_identifier};
-use mac_token::{Token, TokenFault, read};
+use mac_keys::Keys;
 use mac_wire::{NoMemory, Reply};
 use std::alloc::Global;
 use std::hash::{BuildHasher, Hasher, RandomState};
+use std::sync::atomic::AtomicU32;
 use std::sync::atomic::Ordering::SeqCst;
-use std::sync::atomic::{AtomicBool, AtomicU32};
-use std::sync::{Arc, RwLock, RwLockReadGuard, RwLockWriteGuard};
+use std::sync::{Arc, RwLock, RwLockReadGuard, RwLockWriteGuard, Wait};
 
 /// The longest text of a token that is remembered, in bytes.
 pub const SEEN_MAX: usize = 8_192;
-
-/// What a token takes beside its text and what that spells, about: its keys, its place among
-/// others, and what an allocator adds.
-const ASIDE: usize = 448;
-
-/// What each of its caveats takes beside its bytes, about.
-const CAVEAT_ASIDE: usize = 48;
 
 /// How many parts a memory has. A thread takes one at a time.
 const PARTS: usize = 64;
@@ -48,158 +39,6 @@ const ONCE: usize = 65_536;
 /// How many bytes at the end of a text its mark is made of: all of a signature stands in them. It
 /// has 32, and in base64, with what may follow it, 47 at most.
 const END: usize = 48;
-
-/// Where others have to give way, one token in so many is kept: where more come again and again
-/// than there is room for, keeping each would cost more than it saves.
-const ONE_IN: u32 = 8;
-
-/// A token that was found to be minted under one of these keys, as it was read from its text.
-#[derive(Drop)]
-struct SeenToken {
-    keys: Keys,
-    text: Vec<u8>,
-    token: Token,
-    /// The hash of its identifier, by which a list is asked whether it was taken back.
-    hash: u64,
-    /// Whether it was found since it last would have given way.
-    is_used: AtomicBool,
-    ghost spelled: { read_of text.items ≡ Ok token },
-    ghost minted: { is_minted (listed keys) token ≡ true },
-    ghost hashed: { hash ≡ hash_of token.identifier },
-}
-
-impl SeenToken {
-    /// The token that the text spells.
-    fn of(alloc: Global, keys: &Keys, text: &[u8]) -> Result<SeenToken, TokenFault>
-        requires { is_minted_text keys.now text.now ≡ true }
-    {
-        let token = read(alloc, text)?;
-        let text = Vec::from_slice(alloc, text)?;
-        let hash = hash_identifier(token.identifier());
-        Ok(SeenToken {
-            keys: *keys,
-            text,
-            token,
-            hash,
-            is_used: AtomicBool::new(false),
-        })
-    }
-
-    /// Whether it is the token of this text, found under these keys.
-    fn is(&self, keys: &Keys, text: &[u8]) -> bool
-        ensures { IsTrue result → IsFound keys.now text.now self.now.token }
-    {
-        self.keys == *keys && self.text.as_slice() == text
-    }
-
-    /// Notes that it is used. Who finds that noted writes nothing: threads that use one token don't
-    /// wait for one another's writes.
-    fn note_use(&self) {
-        if !self.is_used.load(SeqCst) {
-            self.is_used.store(true, SeqCst);
-        }
-    }
-
-    /// How many bytes it takes.
-    fn size(&self) -> usize {
-        let caveats = self.token.caveat_list().len();
-        least_size(self.text.as_slice()).saturating_add(caveats.saturating_mul(CAVEAT_ASIDE))
-    }
-}
-
-/// How many bytes the token of a text takes, if it has no caveat.
-fn least_size(text: &[u8]) -> usize {
-    text.len().saturating_mul(2).saturating_add(ASIDE)
-}
-
-/// A part of a memory: tokens by their marks. Those stand first that came last, or were used when
-/// they would have given way.
-#[derive(Drop)]
-struct Part {
-    tokens: LruCache<u64, SeenToken>,
-    /// How many bytes they take.
-    taken: usize,
-    /// How many they may take.
-    most: usize,
-    /// How many came for which others would have had to give way.
-    waited: u32,
-}
-
-impl Part {
-    fn new(alloc: Global, most: usize) -> Result<Part, NoMemory> {
-        Ok(Part {
-            tokens: LruCache::unbounded(alloc)?,
-            taken: 0,
-            most,
-            waited: 0,
-        })
-    }
-
-    /// The token of this text, if it was found under these keys. Its use is noted.
-    fn find(&self, mark: u64, keys: &Keys, text: &[u8]) -> Option<&SeenToken>
-        ensures { IfSome result (λ seen. IsFound keys.now text.now seen.now.token) }
-    {
-        match self.tokens.peek(&mark) {
-            Some(seen) if seen.is(keys, text) => {
-                seen.note_use();
-                Some(seen)
-            }
-            _ => None,
-        }
-    }
-
-    /// Whether a further token is kept, whose text this is.
-    fn admits(&mut self, text: &[u8]) -> bool {
-        if self.taken.saturating_add(least_size(text)) <= self.most {
-            return true;
-        }
-        self.waited = self.waited.wrapping_add(1);
-        self.waited % ONE_IN == 0
-    }
-
-    /// Keeps a token. Those that came first and weren't used since give way to it.
-    fn keep(&mut self, mark: u64, seen: SeenToken) {
-        let size = seen.size();
-        if size > self.most {
-            return;
-        }
-        self.make_room(size);
-        if let Ok(replaced) = self.tokens.push(mark, seen) {
-            let freed = replaced.map_or(0, |(_, other)| other.size());
-            self.taken = self.taken.saturating_add(size).saturating_sub(freed);
-        }
-    }
-
-    /// Lets go of tokens until so many bytes are free. Each that was used is passed over once.
-    fn make_room(&mut self, size: usize) {
-        for _ in 0..self.tokens.len().saturating_mul(2) {
-            if self.taken.saturating_add(size) <= self.most {
-                return;
-            }
-            match self.last_used() {
-                Some(mark) => {
-                    self.tokens.promote(&mark);
-                }
-                None => self.let_go(),
-            }
-        }
-    }
-
-    /// The mark of the last token, if it was used. That it was is noted no more.
-    fn last_used(&self) -> Option<u64> {
-        match self.tokens.peek_lru() {
-            Some((mark, seen)) if seen.is_used.swap(false, SeqCst) => Some(*mark),
-            _ => None,
-        }
-    }
-
-    /// Lets go of the last token.
-    fn let_go(&mut self) {
-        if let Some((_, other)) = self.tokens.pop_lru() {
-            self.taken = self.taken.saturating_sub(other.size());
-        }
-    }
-}
 
 /// What threads share of a memory.
 #[derive(Drop)]
@@ -266,6 +105,14 @@ fn around_signature(text: &[u8]) -> &[u8] {
     }
 }
 
+/// The same once more, for another thread, where there is any.
+fn share<T>(shared: &Option<Arc<T, Global>>) -> Result<Option<Arc<T, Global>>, NoMemory> {
+    match shared {
+        Some(shared) => Ok(Some(Arc::try_clone(shared)?)),
+        None => Ok(None),
+    }
+}
+
 /// The reply to a verify of a token that is minted under one of the keys.
 fn reply_to(
     alloc: Global,
@@ -286,23 +133,43 @@ fn reply_to(
 }
 
 /// A memory of tokens that were found to be minted, each with the keys under which it was; or none.
+/// Beside it the uses of keys are counted, by all who share it.
 #[derive(Drop)]
 pub struct SeenTokens {
     shared: Option<Arc<Shared, Global>>,
+    uses: Option<Arc<KeyUses, Global>>,
+    /// The lane in which uses are counted here.
+    lane: usize,
 }
 
 impl SeenTokens {
-    /// No memory: nothing is remembered.
+    /// No memory: nothing is remembered, and nothing counted.
     pub fn none() -> SeenTokens {
-        SeenTokens { shared: None }
+        SeenTokens {
+            shared: None,
+            uses: None,
+            lane: 0,
+        }
+    }
+
+    /// No memory, but uses are counted.
+    pub fn without_memory(alloc: Global) -> Result<SeenTokens, NoMemory> {
+        Ok(SeenTokens {
+            shared: None,
+            uses: Some(Arc::new(alloc, KeyUses::new(alloc)?)?),
+            lane: 0,
+        })
     }
 
     /// A memory of so many bytes at most for tokens, which it takes as it fills, and 256 KiB for
     /// what it notes of those that came once.
     pub fn new(alloc: Global, hashes: RandomState, most: usize) -> Result<SeenTokens, NoMemory> {
         let shared = Arc::new(alloc, Shared::new(alloc, hashes, most)?)?;
+        let uses = Arc::new(alloc, KeyUses::new(alloc)?)?;
         Ok(SeenTokens {
             shared: Some(shared),
+            uses: Some(uses),
+            lane: 0,
         })
     }
 
@@ -311,13 +178,48 @@ impl SeenTokens {
         self.shared.is_none()
     }
 
-    /// The same memory, for another thread.
+    /// The same memory, for another thread, which counts in a lane of its own as far as there are.
     pub fn share(&self) -> Result<SeenTokens, NoMemory> {
-        match &self.shared {
-            Some(shared) => Ok(SeenTokens {
-                shared: Some(Arc::try_clone(shared)?),
-            }),
-            None => Ok(SeenTokens::none()),
+        let lane = self.uses.as_ref().map_or(0, |uses| uses.next_lane());
+        Ok(SeenTokens {
+            shared: share(&self.shared)?,
+            uses: share(&self.uses)?,
+            lane,
+        })
+    }
+
+    /// How often the keys of each name were used, in the order of the names; and last of all names
+    /// beyond those that are counted apart.
+    pub fn uses<R: Wait>(&self, rt: &R, alloc: Global) -> Result<Vec<NameCounts>, NoMemory> {
+        match &self.uses {
+            Some(uses) => uses.counts(rt, alloc),
+            None => Ok(Vec::new(alloc)),
+        }
+    }
+
+    /// Whether nothing is remembered or counted.
+    pub(crate) fn is_idle(&self) -> bool {
+        self.shared.is_none() && self.uses.is_none()
+    }
+
+    /// The counters of a name, where uses are counted and there is memory for them.
+    fn uses_of(&self, alloc: Global, name: &[u8]) -> Option<Arc<NameUses, Global>> {
+        self.uses.as_ref()?.of(alloc, name).ok()
+    }
+
+    /// Counts a use of a name's keys.
+    pub(crate) fn count(&self, alloc: Global, name: &[u8], used: KeyUse) {
+        if let Some(uses) = self.uses_of(alloc, name) {
+            uses.count(self.lane, used);
+        }
+    }
+
+    /// Counts a verify of a token that is there.
+    fn count_seen(&self, alloc: Global, name: &[u8], seen: &SeenToken, reply: &Reply) {
+        let used = KeyUse::of_verify(reply, seen.signer);
+        match &seen.uses {
+            Some(uses) if uses.is_of(name) => uses.count(self.lane, used),
+            _ => self.count(alloc, name, used),
         }
     }
 
@@ -341,7 +243,8 @@ impl SeenTokens {
         self.shared.as_ref()?.part(mark)?.try_write()
     }
 
-    /// The reply to a verify of a text that is there, found to be minted under one of these keys.
+    /// The reply to a verify of a text that is there, found to be minted under one of these keys. It
+    /// is counted.
     pub(crate) fn reply(
         &self,
         alloc: Global,
@@ -361,19 +264,22 @@ impl SeenTokens {
         };
         let part = &*guard;
         match part.find(mark, keys, text) {
-            Some(seen) => Ok(Some(reply_to(alloc, keys, seen, telling, context)?)),
+            Some(seen) => {
+                let reply = reply_to(alloc, keys, seen, telling, context)?;
+                self.count_seen(alloc, telling.name, seen, &reply);
+                Ok(Some(reply))
+            }
             None => Ok(None),
         }
     }
 
-    /// Notes that a text came which was found to be minted under one of these keys. Where it came
-    /// before it is kept.
-    pub(crate) fn note(&self, alloc: Global, keys: &Keys, text: &[u8])
-        requires { is_minted_text keys.now text.now ≡ true }
+    /// Notes that a text came which was found to be minted. Where it came before it is kept.
+    pub(crate) fn note(&self, alloc: Global, found: &MintedText<'_>)
+        requires { IsMintedText found.now }
     {
-        if let Some(mark) = self.mark(text) {
+        if let Some(mark) = self.mark(found.text) {
             if self.is_again(mark) {
-                self.keep(alloc, mark, keys, text);
+                self.keep(alloc, mark, found);
             }
         }
     }
@@ -387,16 +293,16 @@ impl SeenTokens {
         }
     }
 
-    /// Keeps the token of a text of this mark, which was found to be minted under one of these
-    /// keys. It isn't kept where there is no memory for it or its part is taken; where others would
-    /// have to give way, one in eight is.
-    fn keep(&self, alloc: Global, mark: u64, keys: &Keys, text: &[u8])
-        requires { is_minted_text keys.now text.now ≡ true }
+    /// Keeps the token of a text of this mark. It isn't kept where there is no memory for it or its
+    /// part is taken; where others would have to give way, one in eight is.
+    fn keep(&self, alloc: Global, mark: u64, found: &MintedText<'_>)
+        requires { IsMintedText found.now }
     {
         if let Some(mut guard) = self.write_part(mark) {
             let part = &mut *guard;
-            if part.admits(text) {
-                if let Ok(seen) = SeenToken::of(alloc, keys, text) {
+            if part.admits(found.text) {
+                let uses = self.uses_of(alloc, found.name);
+                if let Ok(seen) = SeenToken::of(alloc, found, uses) {
                     part.keep(mark, seen);
                 }
             }

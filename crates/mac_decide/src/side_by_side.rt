@@ -14,7 +14,7 @@ use crate::looking::{Sight, count_asked, look_at_all, look_at_job};
 use crate::one_by_one::replies_one_by_one;
 use crate::prepared::Prepared;
 use crate::preparing::prepare;
-use crate::remembering::remember;
+use crate::remembering::note;
 use crate::rooms::{RUN, Rooms};
 use crate::seen::SeenTokens;
 use arrayvec::ArrayVec;
@@ -227,7 +227,7 @@ fn reply_when_ready(
         Sight::Told(reply) => Ok(reply),
         Sight::Asked(asking) => {
             let reply = prepared.into_reply(alloc)?;
-            remember(seen, alloc, &asking, &reply);
+            note(seen, alloc, &asking, &reply);
             Ok(reply)
         }
     }

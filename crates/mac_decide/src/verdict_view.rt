@@ -22,7 +22,7 @@ fn second_signs(second: Option<RootKey>, token: &TokenView<'_>) -> bool
 }
 
 /// Whether the key gives the token's signature.
-fn signs_view(key: &RootKey, token: &TokenView<'_>) -> bool
+pub(crate) fn signs_view(key: &RootKey, token: &TokenView<'_>) -> bool
     ensures { IsTrue result ↔ Signs key.now token.now }
 {
     let signature = Folding::of_token(*key, token).finish();

@@ -1,6 +1,7 @@
 pub mod Address
 pub mod Noting
 pub mod KeyLines
+pub mod KeyUses
 pub mod Patience
 pub mod Pace
 pub mod Turns

@@ -3,11 +3,12 @@
 ghost use Rattle.std.specs.Prelude.{◌≡◌, ◌++◌, IfOk, OnOk, option_copied};
 ghost use Rattle.mac_gate.specs.Health.{health_of, health_text};
 ghost use Rattle.mac_gate.specs.Pages.{Adds, Tells, TellsConnections, TellsHealth, TellsNumbers};
-ghost use Rattle.mac_gate.specs.Pages.{TellsStatus};
+ghost use Rattle.mac_gate.specs.Pages.{TellsStatus, TellsUses};
 
 use crate::draws::SystemDraws;
+use crate::key_uses::append_uses;
 use crate::noting::{exchange_of, request_of};
-use crate::numbers::{append_numbers, append_status_page};
+use crate::numbers::{Shown, append_numbers, append_status_page};
 use crate::shared::Shared;
 use mac_calls::Draws;
 use mac_count::Number;
@@ -61,7 +62,21 @@ impl<'a, R: Wait + Clock> OwnDaemon<'a, R> {
             text.old.items text.new.items) }
     {
         let numbers = self.host().numbers().snapshot();
-        append_status_page(self.alloc, self.version, &numbers, keys, text)?;
+        let uses = self.host().seen().uses(self.rt, self.alloc)?;
+        let shown = Shown {
+            numbers: &numbers,
+            uses: uses.as_slice(),
+        };
+        append_status_page(self.alloc, self.version, &shown, keys, text)?;
+        Ok(Told::Well)
+    }
+
+    /// Tells how the keys of each name are used, as Prometheus reads it.
+    fn tell_uses(&self, text: &mut Vec<u8>) -> Result<Told, AllocError>
+        ensures { IfOk result (Adds TellsUses text.old.items text.new.items) }
+    {
+        let uses = self.host().seen().uses(self.rt, self.alloc)?;
+        append_uses(self.alloc, uses.as_slice(), text)?;
         Ok(Told::Well)
     }
 
@@ -116,6 +131,7 @@ impl<'a, R: Wait + Clock + RandomSource> Monitor for OwnDaemon<'a, R> {
             Page::Numbers => self.tell_numbers(text),
             Page::Status => self.tell_status(keys, text),
             Page::Connections => self.tell_connections(text),
+            Page::Uses => self.tell_uses(text),
         }
     }
 

@@ -19,6 +19,7 @@ mod draws;
 mod flow;
 mod gathering;
 mod key_lines;
+mod key_uses;
 pub mod laws;
 mod limit;
 mod load;

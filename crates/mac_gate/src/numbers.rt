@@ -1,11 +1,15 @@
 //! What operators are told of numbers.
 
 ghost use Rattle.std.specs.Prelude.{◌≡◌, ◌++◌, OnOk, option_copied};
+ghost use Rattle.mac_gate.specs.KeyLines.{told_lines};
+ghost use Rattle.mac_gate.specs.KeyUses.{use_lines};
 ghost use Rattle.mac_gate.specs.Numbers.{numbers_text, status_page, version_back, version_front};
 ghost use Rattle.mac_gate.specs.Numbers.{version_metric};
 
 use crate::key_lines::append_told_keys;
+use crate::key_uses::append_use_lines;
 use mac_count::{Snapshot, append_metrics, append_status, append_version};
+use mac_decide::NameCounts;
 use mac_keys::KeyTable;
 use std::alloc::{AllocError, Global};
 
@@ -23,19 +27,42 @@ pub(crate) fn append_numbers(
     append_metrics(alloc, numbers, text)
 }
 
+/// What a daemon has counted.
+#[derive(Clone, Copy)]
+pub(crate) struct Shown<'a> {
+    /// Its numbers.
+    pub numbers: &'a Snapshot,
+    /// How the keys of each name are used.
+    pub uses: &'a [NameCounts],
+}
+
 /// Appends the page of a daemon's status, which may tell of these keys.
 pub(crate) fn append_status_page(
     alloc: Global,
     version: &str,
-    numbers: &Snapshot,
+    shown: &Shown<'_>,
+    keys: Option<&KeyTable>,
+    text: &mut Vec<u8>,
+) -> Result<(), AllocError>
+    ensures { OnOk result (text.new.items ≡ text.old.items ++ status_page version.now
+        shown.now.numbers.now shown.now.uses.now (option_copied keys.entry)) }
+{
+    append_version(version, text)?;
+    append_status(alloc, shown.numbers, text)?;
+    append_of_keys(alloc, shown.uses, keys, text)
+}
+
+/// Appends how keys are used, and the keys that may be told.
+fn append_of_keys(
+    alloc: Global,
+    uses: &[NameCounts],
     keys: Option<&KeyTable>,
     text: &mut Vec<u8>,
 ) -> Result<(), AllocError>
     ensures { OnOk result (text.new.items
-        ≡ text.old.items ++ status_page version.now numbers.now (option_copied keys.entry)) }
+        ≡ text.old.items ++ (use_lines uses.now ++ told_lines (option_copied keys.entry))) }
 {
-    append_version(version, text)?;
-    append_status(alloc, numbers, text)?;
+    append_use_lines(alloc, uses, text)?;
     append_told_keys(alloc, keys, text)
 }
 

@@ -4,7 +4,7 @@ use Rattle.http1.specs.Fields.{Header}
 use Rattle.http_server.specs.declared.response.Response.{Response}
 use Rattle.http_server.specs.Response.{IsResponse}
 use Rattle.mac_http.specs.declared.page.Page.{Page}
-use Rattle.mac_http.specs.declared.page.Page.TheVariants.{Connections, Health, Numbers, Status}
+use Rattle.mac_http.specs.declared.page.Page.TheVariants.{Connections, Health, Numbers, Status, Uses}
 use Rattle.mac_http.specs.declared.page.Told.{Told}
 use Rattle.mac_http.specs.declared.page.Told.TheVariants.{Unwell, Well}
 use Rattle.mac_keys.specs.KeyTable.{Table}
@@ -19,19 +19,22 @@ abbrev pub page_in : List ℕ → Option Page
 page_in path = if bytes_eq path (codes "/healthz") then Some Health
     else (if bytes_eq path (codes "/metrics") then Some Numbers
     else (if bytes_eq path (codes "/status") then Some Status
-    else (if bytes_eq path (codes "/connections") then Some Connections else None)))
+    else (if bytes_eq path (codes "/connections") then Some Connections
+    else (if bytes_eq path (codes "/metrics/keys") then Some Uses else None))))
 
 -- the field of a text
 abbrev pub is_text : List Header
 is_text = (codes "content-type", codes "text/plain; charset=utf-8") ∷ []
 
--- whether a face that has these pages has this one: its status and its connections are not public
+-- whether a face that has these pages has this one: its status, its connections and the uses of its
+-- keys are not public
 abbrev pub has_page : Pages → Page → Bool
 has_page pages.Nothing page = false
 has_page pages.Public Health = true
 has_page pages.Public Numbers = true
 has_page pages.Public Status = false
 has_page pages.Public Connections = false
+has_page pages.Public Uses = false
 has_page pages.All page = true
 
 -- the table of whose keys a page may tell: at a port, where every user of the machine may ask, none

@@ -29,6 +29,8 @@ const STATUS: &[u8] = b"/status";
 
 const CONNECTIONS: &[u8] = b"/connections";
 
+const USES: &[u8] = b"/metrics/keys";
+
 /// A page that tells of the daemon.
 #[derive(Clone, Copy, Debug, PartialEq, Eq)]
 pub enum Page {
@@ -40,6 +42,8 @@ pub enum Page {
     Status,
     /// The connections that it has, a line for each.
     Connections,
+    /// How the keys of each name are used, as Prometheus reads it.
+    Uses,
 }
 
 /// What a page tells.
@@ -90,6 +94,8 @@ pub(crate) fn page_in(path: &[u8]) -> Option<Page>
         Some(Page::Status)
     } else if path == CONNECTIONS {
         Some(Page::Connections)
+    } else if path == USES {
+        Some(Page::Uses)
     } else {
         None
     }

@@ -23,7 +23,9 @@ use crate::request::{Request, RoundView};
 use crate::tally::{Tally, request_of};
 use mac_board::{Current, Outlook};
 use mac_count::{REQUESTS, Request as Counted};
-use mac_decide::{ArrivalView, JobView, Macaroons, Rooms, SEEN_MAX, SeenTokens, remember_answer};
+use mac_decide::{
+    ArrivalView, JobView, Macaroons, Rooms, SEEN_MAX, SeenTokens, count_answer, remember_answer,
+};
 use mac_order::Answer;
 use mac_wire::Reply;
 use std::alloc::Global;
@@ -160,6 +162,7 @@ impl Round {
         let is_own = client.take_answer(&job, &reply);
         self.remember(&view, &reply);
         if is_own {
+            count_answer(&self.bench.seen, self.bench.alloc, &view, &reply);
             Some(request_of(&view, &reply))
         } else {
             None

@@ -76,7 +76,7 @@ impl Monitor for FixedMonitor {
         text: &mut Vec<u8>,
     ) -> Result<Told, AllocError> {
         match page {
-            Page::Numbers | Page::Status | Page::Connections => {
+            Page::Numbers | Page::Status | Page::Connections | Page::Uses => {
                 text.extend_from_slice(b"told\n")?;
                 Ok(Told::Well)
             }
