@@ -1,7 +1,7 @@
 //! The threads of a daemon: its loops, its workers, and who accepts.
 ghost use denote.Param.Send.{IsSend, IsSync};
 ghost use Rattle.std.specs.Prelude.{◌≡◌, ◌-◌, IfOk, OnErr};
-ghost use Rattle.mac_daemon.specs.Day.{MeetsCount};
+ghost use Rattle.mac_daemon.specs.Day.{IsDay};
 ghost use Rattle.mac_daemon.specs.Homes.{AreHome};
 ghost use Rattle.mac_daemon.specs.Memory.{tokens_memory};
 ghost use Rattle.mac_loop.specs.Asks.{home_of};
@@ -9,6 +9,7 @@ ghost use Rattle.mac_pool.specs.Pool.{IsGiven};
 ghost use Rattle.mac_queue.specs.Putting.{pass_of};
 
 use crate::accepting::accept_to_end;
+use crate::day::Day;
 use crate::door::Gift;
 use crate::fault::DaemonFault;
 use crate::quay::Quay;
@@ -82,15 +83,6 @@ impl Shape {
             memory: self.connections_memory(),
         }
     }
-}
-
-/// What a daemon did.
-#[derive(Clone, Copy, Debug, PartialEq, Eq)]
-pub struct Day {
-    /// The connections that were accepted.
-    pub served: u64,
-    /// Those of them that ended in a fault, or were not served.
-    pub faults: u64,
 }
 
 /// Loops that have no threads yet.
@@ -190,7 +182,7 @@ pub fn run_fleet<R>(
 ) -> Result<Day, DaemonFault>
 where
     R: Threads + Wait + Clock + Sync + Copy + Send + 'static,
-    ensures { IfOk result (λ day. MeetsCount parts.count day.served) }
+    ensures { IfOk result (IsDay parts.count parts.entrance) }
 {
     let FleetParts {
         workers,
@@ -208,14 +200,13 @@ where
         ending,
         count,
     };
-    let served = run_loops(rt, alloc, &mut pool, made, &mut entrance, fleet);
+    let day = run_loops(rt, alloc, &mut pool, made, &mut entrance, fleet);
     let Ok(_books) = pool.stop(rt) else {
         unreachable!()
     };
-    Ok(Day {
-        served: served?,
-        faults: quay.faults(),
-    })
+    let mut day = day?;
+    day.faults = quay.faults();
+    Ok(day)
 }
 
 /// Runs these loops, each in a thread at a desk of the pool, while connections come in. Each desk
@@ -227,17 +218,17 @@ fn run_loops<R>(
     mut made: Vec<Box<Loop>>,
     entrance: &mut Entrance<Gift>,
     fleet: Fleet<'_>,
-) -> Result<u64, DaemonFault>
+) -> Result<Day, DaemonFault>
 where
     R: Threads + Wait + Clock + Sync + Copy + Send + 'static,
-    ensures served { IfOk result (λ served. MeetsCount fleet.entry.count served) }
+    ensures day { IfOk result (IsDay fleet.entry.count entrance.old) }
     ensures home { AreHome pool.old pool.new }
 {
     let Some(one) = made.pop() else {
         fleet.ending.begin(rt);
-        let served = accept_to_end(rt, alloc, entrance, fleet.loops, fleet.quay, fleet.count);
+        let day = accept_to_end(rt, alloc, entrance, fleet.loops, fleet.quay, fleet.count);
         fleet.loops.close();
-        return served;
+        return day;
     };
     let thread = match start_loop(*rt, alloc, pool, one, fleet) {
         Ok(thread) => thread,
@@ -246,9 +237,9 @@ where
             return Err(fault);
         }
     };
-    let served = run_loops(rt, alloc, pool, made, entrance, fleet);
+    let day = run_loops(rt, alloc, pool, made, entrance, fleet);
     pool.home(thread.join(rt));
-    served
+    day
 }
 
 /// Starts the thread of a loop, at a desk of the pool. Where the system gives none, all loops are
