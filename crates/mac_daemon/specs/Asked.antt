@@ -12,6 +12,10 @@ use Rattle.mac_daemon.specs.declared.listening.Daemon.{Daemon}
 abbrev pub count_of : Daemon → Option ℕ
 count_of daemon = daemon.serving.promise.count
 
+-- how many loops answer them
+abbrev pub loops_of : Daemon → ℕ
+loops_of daemon = daemon.serving.promise.loops
+
 -- where its connections come in, as that was opened
 abbrev pub entrance_of : Daemon → Entrance (Arc Rights Global)
 entrance_of daemon = daemon.serving.promise.entrance.value

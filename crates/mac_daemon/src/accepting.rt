@@ -50,7 +50,7 @@ pub fn accept_to_end<R>(
 ) -> Result<Day, DaemonFault>
 where
     R: Wait + Clock,
-    ensures day { IfOk result (IsDay count entrance.old) }
+    ensures day { IfOk result (IsDay count 0 entrance.old) }
     ensures taken { IfOk result (λ day. day.served ≡ taken_of entrance.new) }
 {
     let day = accept_each(rt, alloc, entrance, loops, quay, count);
@@ -87,7 +87,7 @@ fn accept_each<R>(
 ) -> Result<Day, DaemonFault>
 where
     R: Wait + Clock,
-    ensures day { IfOk result (IsDay count entrance.old) }
+    ensures day { IfOk result (IsDay count 0 entrance.old) }
     ensures taken { IfOk result (λ day. day.served ≡ taken_of entrance.new) }
 {
     let mut arrivals = Arrivals::none();

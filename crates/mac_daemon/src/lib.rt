@@ -10,6 +10,7 @@ mod arrivals;
 mod day;
 mod descriptors;
 mod door;
+mod ended_loops;
 mod fault;
 mod fleet;
 mod handed;

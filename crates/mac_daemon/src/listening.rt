@@ -1,7 +1,7 @@
 //! The daemon: its assembly, from its sockets to its end.
 
-ghost use Rattle.std.specs.Prelude.{◌≡◌, IfOk};
-ghost use Rattle.mac_daemon.specs.Asked.{count_of, daemon_doors, entrance_of};
+ghost use Rattle.std.specs.Prelude.{◌≡◌, IfOk, length};
+ghost use Rattle.mac_daemon.specs.Asked.{count_of, daemon_doors, entrance_of, loops_of};
 ghost use Rattle.mac_daemon.specs.Day.{IsDay};
 ghost use Rattle.mac_sockets.specs.Entrance.{opened, taken_of};
 
@@ -151,7 +151,7 @@ impl Daemon {
     /// Waits until all connections have ended of a daemon that ends by itself, and tells what it
     /// did.
     pub fn await_day<R: Threads>(self, rt: &R) -> Result<Day, DaemonFault>
-        ensures { IfOk result (IsDay (count_of self) (entrance_of self)) }
+        ensures { IfOk result (IsDay (count_of self) (loops_of self) (entrance_of self)) }
     {
         self.serving.join(rt)
     }
@@ -239,15 +239,19 @@ fn start_serving<R>(
 where
     R: Threads + Wait + Clock + Sync + Copy + Send + 'static,
     ensures count { IfOk result (λ serving. serving.promise.count ≡ service.count) }
+    ensures loops { IfOk result (λ serving. serving.promise.loops
+        ≡ length service.idlers.made.items) }
     ensures entrance { IfOk result (λ serving. serving.promise.entrance.value ≡ service.entrance) }
 {
     let ending = Arc::try_clone(ending)?;
     let admission = Admission {
         count: service.count,
+        loops: service.idlers.count(),
         entrance: Snapshot::of(&service.entrance),
     };
     let work = move || -> Result<Day, DaemonFault>
-        ensures { IfOk result (IsDay service.count service.entrance) }
+        ensures { IfOk result
+            (IsDay service.count (length service.idlers.made.items) service.entrance) }
     {
         let outcome = run_fleet(&rt, alloc, service, &followers, &ending);
         ending.finish(&rt);
