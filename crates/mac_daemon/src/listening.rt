@@ -3,7 +3,7 @@
 ghost use Rattle.std.specs.Prelude.{◌≡◌, IfOk, length};
 ghost use Rattle.mac_daemon.specs.Asked.{count_of, daemon_doors, entrance_of, loops_of};
 ghost use Rattle.mac_daemon.specs.Day.{IsDay};
-ghost use Rattle.mac_sockets.specs.Entrance.{opened, taken_of};
+ghost use Rattle.mac_sockets.specs.Entrance.{doors_of, opened, taken_of};
 
 use crate::day::{Admission, Day};
 use crate::descriptors::most_connections;
@@ -241,7 +241,10 @@ where
     ensures count { IfOk result (λ serving. serving.promise.count ≡ service.count) }
     ensures loops { IfOk result (λ serving. serving.promise.loops
         ≡ length service.idlers.made.items) }
-    ensures entrance { IfOk result (λ serving. serving.promise.entrance.value ≡ service.entrance) }
+    ensures doors { IfOk result (λ serving. doors_of serving.promise.entrance.value
+        ≡ doors_of service.entrance) }
+    ensures taken { IfOk result (λ serving. taken_of serving.promise.entrance.value
+        ≡ taken_of service.entrance) }
 {
     let ending = Arc::try_clone(ending)?;
     let admission = Admission {
