@@ -20,5 +20,5 @@ spawn_with-requires-send-T g c κs within = param_send _ _ (arg_send _ no _ ende
 
 pub returns-in-Err-clause-home : goal.returns-in-Err-clause-home
 returns-in-Err-clause-home g c =
-    let same : c.work.result.desk.putter.number ≡ c.in_ok-desk.desk.putter.number = ap (λ (h : Home). h.number) c.work.ensures ∙ ap (λ f. f.2.putter.number) c.in-Err.ensures.err in
-    home_more c.args.pool.now c.desk.new.self c.desk.new.self c.home.new.self (pass_of c.in_ok-desk.desk.putter) (pass_of c.work.result.desk.putter) c.in_ok-desk.ensures.desk.0 (home_still _) same c.home.ensures
+    let same : c.work-unused.result.desk.putter.number ≡ c.in_ok-desk.desk.putter.number = ap (λ (h : Home). h.number) c.work-unused.ensures ∙ ap (λ f. f.2.putter.number) c.in-Err.ensures.err in
+    home_more c.args.pool.now c.desk.new.self c.desk.new.self c.home.new.self (pass_of c.in_ok-desk.desk.putter) (pass_of c.work-unused.result.desk.putter) c.in_ok-desk.ensures.desk.0 (home_still _) same c.home.ensures
