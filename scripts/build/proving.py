@@ -94,6 +94,8 @@ def prove(name, jobs):
     with rooms.room(name) as room:
         status, said = room.rt("check" if crates.is_program(name) else "lib", "--jobs", str(jobs))
         if status != 0 or rooms.ENDING.is_set():
+            # What was proved of it up to there needs no second proof once the rest is mended.
+            room.bring_back(rooms.INCREMENTAL)
             stop(name, status, said)
         room.bring_back(*rooms.KEPT)
         (TOP / "crates" / name / "out" / SEEN).write_text(f"{rests_on} {built_of(name)}\n")

@@ -2,7 +2,8 @@
 
 The command `rt` shuts the folders of a crate and of all that it stands on while it works. So each run gets a
 room: a tree of its own with these crates, whose files are further names of those here, and with what was
-proved of them. What it leaves is brought back once it has ended well.
+proved of them. What it leaves is brought back once it has ended well; of a crate that was refused, or whose
+run was ended, what was proved of it.
 """
 import contextlib
 import fcntl
@@ -18,8 +19,9 @@ from common import TOP, crates
 
 # Where rooms are, beside the files that they share: Git looks at nothing there, nor does the toolchain.
 PLACE = TOP / ".git"
-# What a run leaves that later ones take over.
-KEPT = ("incremental", "rlib")
+# What was proved of a crate, and what a run leaves that later ones take over.
+INCREMENTAL = "incremental"
+KEPT = (INCREMENTAL, "rlib")
 ENDING = threading.Event()
 RUNS = set()
 

@@ -70,6 +70,8 @@ def main():
     print(f"{os.cpu_count()} processors, on which {os.getloadavg()[0]:.1f} processes wanted to run in the last minute\n")
     print(f"| on {given.cores} cores | minutes | processor minutes | its end | stolen |\n|---|---|---|---|---|", flush=True)
     with tempfile.TemporaryDirectory() as folder:
+        # Some tests run what is built there as another user.
+        os.chmod(folder, 0o755)
         clone = pathlib.Path(folder) / "clone"
         subprocess.run(["git", "clone", "--quiet", TOP, clone], check=True)
         for command in given.commands or COMMANDS:

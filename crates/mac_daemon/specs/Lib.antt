@@ -1,6 +1,10 @@
 pub mod Arrivals
+pub mod Asked
 pub mod Day
+pub mod EndedLoops
 pub mod Gift
+pub mod Given
+pub mod Handed
 pub mod Homes
 pub mod Memory
 pub mod Room

@@ -1,20 +1,22 @@
 //! The loop that accepts the connections of sockets: so many of them, or until it is shut.
-ghost use Rattle.std.specs.Prelude.{◌≡◌, ◌+◌, ◌<◌, length, IfOk, IfSome, IsFalse, IsTrue, Some};
-ghost use Rattle.mac_daemon.specs.Arrivals.{AreAccepted};
-ghost use Rattle.mac_daemon.specs.Day.{MeetsCount};
+ghost use Rattle.std.specs.Prelude.{◌≡◌, ◌<◌, length, IfOk, IfSome, IsFalse, IsTrue, Some};
+ghost use Rattle.mac_daemon.specs.Arrivals.{IsHandedOn};
+ghost use Rattle.mac_daemon.specs.Day.{IsDay, MeetsCount};
 ghost use Rattle.mac_daemon.specs.Gift.{GivesAt};
+ghost use Rattle.mac_daemon.specs.Handed.{clients_of};
 ghost use Rattle.mac_host.specs.Badge.{socket_of_door};
 ghost use Rattle.mac_sockets.specs.Entrance.{doors_of, taken_of};
 
 use crate::arrivals::Arrivals;
+use crate::day::Day;
 use crate::door::Gift;
 use crate::fault::DaemonFault;
+use crate::handed::{FIRST_LOOP, Handed};
 use crate::notice::Notice;
 use crate::quay::Quay;
 use crate::room::Entry;
 use mac_host::{Badge, Life, Socket};
 use mac_loop::{Handover, Loops};
-use mac_mail::History;
 use mac_sockets::{Arrived, Entrance, Fresh};
 use std::alloc::Global;
 use std::io::ErrorKind;
@@ -24,9 +26,6 @@ use std::{io, thread};
 
 /// How many milliseconds to wait where the system accepts no connection, for want of descriptors.
 const PAUSE_MILLIS: u64 = 100;
-
-/// The loop that a connection begins in. From there it goes to others where that is busy.
-const FIRST_LOOP: usize = 0;
 
 /// A connection that came in.
 #[derive(Drop)]
@@ -38,11 +37,7 @@ pub(crate) struct Newcomer {
     pub(crate) badge: Badge,
 }
 
-/// So many connections are accepted as were asked for.
-#[derive(Drop)]
-pub struct AsAsked(pub Option<u64>);
-
-/// Accepts so many connections, where a count is given, and waits until all have ended. The number
+/// Accepts so many connections, where a count is given, and waits until all have ended. What became
 /// of those that were accepted is told. Without a count, connections are read no further than what
 /// has come once the entrance is shut.
 pub fn accept_to_end<R>(
@@ -52,21 +47,20 @@ pub fn accept_to_end<R>(
     loops: &Loops,
     quay: &Quay,
     count: Option<u64>,
-) -> Result<u64, DaemonFault>
+) -> Result<Day, DaemonFault>
 where
     R: Wait + Clock,
-    ensures { IfOk result (λ served. MeetsCount count served
-        × (served ≡ taken_of entrance.new)) }
+    ensures day { IfOk result (IsDay count 0 entrance.old) }
+    ensures taken { IfOk result (λ day. day.served ≡ taken_of entrance.new) }
 {
-    let mut arrivals = Arrivals::none(alloc);
-    let served = accept_each(rt, entrance, &mut arrivals, loops, quay, count);
+    let day = accept_each(rt, alloc, entrance, loops, quay, count);
     entrance.close();
     if count.is_none() {
         quay.say_left(rt);
         loops.drain();
     }
     quay.await_end(rt);
-    served
+    day
 }
 
 /// Whether as many were served as are asked for.
@@ -80,37 +74,37 @@ fn has_met(count: Option<u64>, served: u64) -> bool
 }
 
 /// Accepts so many connections, where a count is given, and hands each to a loop. Some may not have
-/// ended yet where it returns the number of those that were accepted. With a count, a socket that
+/// ended yet where it returns what became of those that were accepted. With a count, a socket that
 /// accepts nothing is an error; without one, it is asked again after a pause, until the entrance is
 /// shut and nobody waits there.
 fn accept_each<R>(
     rt: &R,
+    alloc: Global,
     entrance: &mut Entrance<Gift>,
-    arrivals: &mut Arrivals,
     loops: &Loops,
     quay: &Quay,
     count: Option<u64>,
-) -> Result<u64, DaemonFault>
+) -> Result<Day, DaemonFault>
 where
     R: Wait + Clock,
-    ensures served { IfOk result (λ served. MeetsCount count served
-        × (served ≡ taken_of entrance.new)) }
-    ensures accepted { AreAccepted arrivals.old arrivals.new (taken_of entrance.old) (taken_of entrance.new) }
+    ensures day { IfOk result (IsDay count 0 entrance.old) }
+    ensures taken { IfOk result (λ day. day.served ≡ taken_of entrance.new) }
 {
+    let mut arrivals = Arrivals::none();
     for _ in rt.forever() {
         let served = entrance.taken();
         if has_met(count, served) {
-            return Ok(served);
+            return Ok(Day::of(served, arrivals));
         }
         loops.await_taken(rt, FIRST_LOOP);
         match entrance.accept(rt) {
             Some(Ok(arrived)) => {
                 let newcomer = receive(rt, entrance, arrived, quay);
-                arrivals.enter(rt, newcomer, loops, quay);
+                arrivals.enter(rt, alloc, newcomer, loops, quay);
             }
             Some(Err(fault)) if count.is_some() => return Err(DaemonFault::System(fault)),
-            Some(Err(fault)) => pause(rt, arrivals.alloc, fault, quay),
-            None if count.is_none() => return Ok(served),
+            Some(Err(fault)) => pause(rt, alloc, fault, quay),
+            None if count.is_none() => return Ok(Day::of(served, arrivals)),
             None => return Err(DaemonFault::System(ErrorKind::ConnectionAborted.into())),
         }
     }
@@ -150,10 +144,10 @@ pub(crate) fn enter<R: Wait + Clock>(
     newcomer: Newcomer,
     loops: &Loops,
     quay: &Quay,
-    handed: &mut History<Badge>,
+    handed: &mut Handed,
 ) -> bool
-    ensures handed { IsTrue result → length handed.new ≡ length handed.old + 1 }
-    ensures closed { IsFalse result → handed.new ≡ handed.old }
+    ensures handed { IsTrue result → IsHandedOn newcomer handed.old handed.new }
+    ensures closed { IsFalse result → clients_of handed.new ≡ clients_of handed.old }
 {
     let badge = newcomer.badge;
     let gives_way = match quay.enter(rt, badge.socket) {
@@ -166,7 +160,7 @@ pub(crate) fn enter<R: Wait + Clock>(
         Entry::Full(socket) => socket,
     };
     match meet(alloc, newcomer, quay) {
-        Ok(client) => loops.hand_displacing(rt, gives_way, client, handed).is_ok(),
+        Ok(client) => handed.hand(rt, loops, Some(gives_way), client),
         Err(_) => false,
     }
 }
@@ -179,20 +173,22 @@ fn begin<R: Wait + Clock>(
     newcomer: Newcomer,
     loops: &Loops,
     quay: &Quay,
-    handed: &mut History<Badge>,
+    handed: &mut Handed,
 ) -> bool
-    ensures handed { IsTrue result → length handed.new ≡ length handed.old + 1 }
-    ensures closed { IsFalse result → handed.new ≡ handed.old }
+    ensures handed { IsTrue result → IsHandedOn newcomer handed.old handed.new }
+    ensures closed { IsFalse result → clients_of handed.new ≡ clients_of handed.old }
 {
     let life = Life {
         badge: newcomer.badge,
         answered: 0,
     };
     let notice = match meet(alloc, newcomer, quay) {
-        Ok(client) => match loops.hand(rt, FIRST_LOOP, client, handed) {
-            Ok(()) => return true,
-            Err(_) => Notice::NoMemory,
-        },
+        Ok(client) => {
+            if handed.hand(rt, loops, None, client) {
+                return true;
+            }
+            Notice::NoMemory
+        }
         Err(notice) => notice,
     };
     quay.refuse(rt, life, notice);

@@ -3,6 +3,7 @@
 ghost use Rattle.std.specs.Prelude.{◌≡◌, ◌+◌, length};
 
 use crate::accepting::{Newcomer, enter};
+use crate::handed::Handed;
 use crate::quay::Quay;
 use mac_host::Badge;
 use mac_loop::Loops;
@@ -15,23 +16,23 @@ use std::time::Clock;
 /// which: the lists take no room.
 #[derive(Drop)]
 pub(crate) struct Arrivals {
-    /// Where they have their memory.
-    pub(crate) alloc: Global,
     accepted: History<Badge>,
-    handed: History<Badge>,
+    handed: Handed,
     closed: History<Badge>,
-    ghost accounted: { length accepted ≡ length handed + length closed },
+    ghost accounted: { length accepted ≡ length handed.clients + length closed },
 }
 
 impl Arrivals {
-    ghost use Rattle.mac_daemon.specs.Arrivals.{count_accepted};
+    ghost use Rattle.mac_daemon.specs.Arrivals.{AdmitsAt, AreAdmitted, count_accepted, DaemonDoors};
 
     /// No connection was accepted.
-    pub(crate) fn none(alloc: Global) -> Arrivals {
+    pub(crate) fn none() -> Arrivals
+        ensures accepted { count_accepted result ≡ 0 }
+        ensures admitted { (doors : DaemonDoors) → AreAdmitted doors result }
+    {
         Arrivals {
-            alloc,
             accepted: History::new(),
-            handed: History::new(),
+            handed: Handed::none(),
             closed: History::new(),
         }
     }
@@ -40,15 +41,17 @@ impl Arrivals {
     pub(crate) fn enter<R: Wait + Clock>(
         &mut self,
         rt: &R,
+        alloc: Global,
         newcomer: Newcomer,
         loops: &Loops,
         quay: &Quay,
     )
-        ensures { count_accepted self.new ≡ count_accepted self.old + 1 }
+        ensures accepted { count_accepted self.new ≡ count_accepted self.old + 1 }
+        ensures admitted { AdmitsAt newcomer self.old self.new }
     {
         let badge = newcomer.badge;
         self.accepted.add(&badge);
-        if !enter(rt, self.alloc, newcomer, loops, quay, &mut self.handed) {
+        if !enter(rt, alloc, newcomer, loops, quay, &mut self.handed) {
             self.closed.add(&badge);
         }
     }

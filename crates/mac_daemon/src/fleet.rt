@@ -1,7 +1,7 @@
 //! The threads of a daemon: its loops, its workers, and who accepts.
 ghost use denote.Param.Send.{IsSend, IsSync};
-ghost use Rattle.std.specs.Prelude.{◌≡◌, ◌-◌, IfOk, OnErr};
-ghost use Rattle.mac_daemon.specs.Day.{MeetsCount};
+ghost use Rattle.std.specs.Prelude.{◌≡◌, ◌-◌, IfOk, OnErr, length};
+ghost use Rattle.mac_daemon.specs.Day.{IsDay};
 ghost use Rattle.mac_daemon.specs.Homes.{AreHome};
 ghost use Rattle.mac_daemon.specs.Memory.{tokens_memory};
 ghost use Rattle.mac_loop.specs.Asks.{home_of};
@@ -9,6 +9,7 @@ ghost use Rattle.mac_pool.specs.Pool.{IsGiven};
 ghost use Rattle.mac_queue.specs.Putting.{pass_of};
 
 use crate::accepting::accept_to_end;
+use crate::day::{Day, with_loop};
 use crate::door::Gift;
 use crate::fault::DaemonFault;
 use crate::quay::Quay;
@@ -84,15 +85,6 @@ impl Shape {
     }
 }
 
-/// What a daemon did.
-#[derive(Clone, Copy, Debug, PartialEq, Eq)]
-pub struct Day {
-    /// The connections that were accepted.
-    pub served: u64,
-    /// Those of them that ended in a fault, or were not served.
-    pub faults: u64,
-}
-
 /// Loops that have no threads yet.
 #[derive(Drop)]
 pub struct Idlers {
@@ -113,6 +105,13 @@ impl Idlers {
         let terms = shape.loop_terms(has_roomy_stacks());
         let (loops, made) = make_loops(rt, alloc, terms, seen, budget)?;
         Ok(Idlers { loops, made })
+    }
+
+    /// How many loops there are.
+    pub fn count(&self) -> usize
+        ensures { result ≡ length self.now.made.items }
+    {
+        self.made.len()
     }
 }
 
@@ -170,14 +169,14 @@ struct Fleet<'a> {
 #[derive(Drop)]
 struct SameDesk(Snapshot<Desk<Macaroons>>);
 
-impl Promise<Desk<Macaroons>> for SameDesk {
+impl Promise<EndedLoop> for SameDesk {
     ghost use Rattle.std.specs.Prelude.{◌≡◌};
     ghost use Rattle.mac_loop.specs.Asks.{home_of};
 
-    ghost kept_by = { λ p desk. home_of desk ≡ home_of p.0.value };
+    ghost kept_by = { λ p ended. home_of ended.desk ≡ home_of p.0.value };
 }
 
-type LoopThread = PromisedHandle<Desk<Macaroons>, SameDesk>;
+type LoopThread = PromisedHandle<EndedLoop, SameDesk>;
 
 /// Starts the workers and the loops, serves the connections that come in, so many where a count is
 /// given, and ends the threads once all connections have ended.
@@ -190,7 +189,7 @@ pub fn run_fleet<R>(
 ) -> Result<Day, DaemonFault>
 where
     R: Threads + Wait + Clock + Sync + Copy + Send + 'static,
-    ensures { IfOk result (λ day. MeetsCount parts.count day.served) }
+    ensures { IfOk result (IsDay parts.count (length parts.idlers.made.items) parts.entrance) }
 {
     let FleetParts {
         workers,
@@ -208,18 +207,18 @@ where
         ending,
         count,
     };
-    let served = run_loops(rt, alloc, &mut pool, made, &mut entrance, fleet);
+    let day = run_loops(rt, alloc, &mut pool, made, &mut entrance, fleet);
     let Ok(_books) = pool.stop(rt) else {
         unreachable!()
     };
-    Ok(Day {
-        served: served?,
-        faults: quay.faults(),
-    })
+    let mut day = day?;
+    day.faults = quay.faults();
+    Ok(day)
 }
 
 /// Runs these loops, each in a thread at a desk of the pool, while connections come in. Each desk
-/// goes home, whether there is a thread for each loop or not.
+/// goes home, whether there is a thread for each loop or not. What became of the connections of each
+/// loop is told with the day.
 fn run_loops<R>(
     rt: &R,
     alloc: Global,
@@ -227,17 +226,17 @@ fn run_loops<R>(
     mut made: Vec<Box<Loop>>,
     entrance: &mut Entrance<Gift>,
     fleet: Fleet<'_>,
-) -> Result<u64, DaemonFault>
+) -> Result<Day, DaemonFault>
 where
     R: Threads + Wait + Clock + Sync + Copy + Send + 'static,
-    ensures served { IfOk result (λ served. MeetsCount fleet.entry.count served) }
+    ensures day { IfOk result (IsDay fleet.entry.count (length made.items) entrance.old) }
     ensures home { AreHome pool.old pool.new }
 {
     let Some(one) = made.pop() else {
         fleet.ending.begin(rt);
-        let served = accept_to_end(rt, alloc, entrance, fleet.loops, fleet.quay, fleet.count);
+        let day = accept_to_end(rt, alloc, entrance, fleet.loops, fleet.quay, fleet.count);
         fleet.loops.close();
-        return served;
+        return day;
     };
     let thread = match start_loop(*rt, alloc, pool, one, fleet) {
         Ok(thread) => thread,
@@ -246,9 +245,12 @@ where
             return Err(fault);
         }
     };
-    let served = run_loops(rt, alloc, pool, made, entrance, fleet);
-    pool.home(thread.join(rt));
-    served
+    let day = run_loops(rt, alloc, pool, made, entrance, fleet);
+    let ended = thread.join(rt);
+    let day = with_loop(day, &ended);
+    let EndedLoop { desk, outcomes: _ } = ended;
+    pool.home(desk);
+    day
 }
 
 /// Starts the thread of a loop, at a desk of the pool. Where the system gives none, all loops are
@@ -271,9 +273,9 @@ where
     let loops = Arc::try_clone(fleet.loops)?;
     let desk = pool.desk(alloc)?;
     let promise = SameDesk(Snapshot::of(&desk));
-    let work = move || -> Desk<Macaroons>
+    let work = move || -> EndedLoop
         requires { IsSend R.row × IsSync R.row }
-        ensures { home_of result ≡ home_of desk }
+        ensures { home_of result.desk ≡ home_of desk }
     {
         let (one, keys, desk) = (one, keys, desk);
         run_loop(&rt, one, &loops, keys, &quay, desk)
@@ -285,13 +287,17 @@ where
         Ok(thread) => Ok(thread),
         Err(refused) => {
             fleet.loops.close();
-            pool.home((refused.value)());
+            let EndedLoop {
+                desk: unused,
+                outcomes: _,
+            } = (refused.value)();
+            pool.home(unused);
             Err(DaemonFault::NoThread)
         }
     }
 }
 
-/// Runs a loop to its end, at this desk, which comes back.
+/// Runs a loop to its end, at this desk, which comes back with what became of its connections.
 fn run_loop<R>(
     rt: &R,
     one: Box<Loop>,
@@ -299,13 +305,12 @@ fn run_loop<R>(
     keys: Follower,
     quay: &Quay,
     desk: Desk<Macaroons>,
-) -> Desk<Macaroons>
+) -> EndedLoop
 where
     R: Threads + Wait + Clock + Sync,
-    ensures { home_of result ≡ home_of desk }
+    ensures { home_of result.desk ≡ home_of desk }
 {
     let mut outlook = TimedTables::new(keys, SystemMoments::new(rt));
     let one = Box::into_inner(one);
-    let EndedLoop { desk, outcomes: _ } = one.run(rt, loops, &mut outlook, quay, desk);
-    desk
+    one.run(rt, loops, &mut outlook, quay, desk)
 }

@@ -7,10 +7,13 @@
 
 mod accepting;
 mod arrivals;
+mod day;
 mod descriptors;
 mod door;
+mod ended_loops;
 mod fault;
 mod fleet;
+mod handed;
 mod listening;
 mod notice;
 mod quay;
@@ -18,8 +21,9 @@ mod room;
 mod stop;
 mod surroundings;
 
+pub use day::Day;
 pub use door::{Gift, SideSocket, give};
 pub use fault::DaemonFault;
-pub use fleet::{Day, FOLLOWERS_MAX, Shape};
+pub use fleet::{FOLLOWERS_MAX, Shape};
 pub use listening::{Daemon, DaemonTerms, listen};
 pub use surroundings::Surroundings;

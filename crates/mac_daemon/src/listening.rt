@@ -1,13 +1,15 @@
 //! The daemon: its assembly, from its sockets to its end.
 
-ghost use Rattle.std.specs.Prelude.{◌≡◌, IfOk};
-ghost use Rattle.mac_daemon.specs.Day.{MeetsCount, count_of};
+ghost use Rattle.std.specs.Prelude.{◌≡◌, IfOk, length};
+ghost use Rattle.mac_daemon.specs.Asked.{count_of, daemon_doors, entrance_of, loops_of};
+ghost use Rattle.mac_daemon.specs.Day.{IsDay};
+ghost use Rattle.mac_sockets.specs.Entrance.{doors_of, opened, taken_of};
 
-use crate::accepting::AsAsked;
+use crate::day::{Admission, Day};
 use crate::descriptors::most_connections;
 use crate::door::Gift;
 use crate::fault::DaemonFault;
-use crate::fleet::{Day, FleetParts, Idlers, Shape, make_seen, run_fleet};
+use crate::fleet::{FleetParts, Idlers, Shape, make_seen, run_fleet};
 use crate::quay::Quay;
 use crate::room::Most;
 use crate::stop::Stop;
@@ -20,8 +22,9 @@ use std::alloc::{AllocError, Global};
 use std::fs::Files;
 use std::net::Net;
 use std::random::RandomSource;
+use std::snapshot::Snapshot;
 use std::sync::{Arc, Wait};
-use std::thread::{Builder, Promise, PromisedHandle, Threads};
+use std::thread::{Builder, PromisedHandle, Threads};
 use std::time::Clock;
 
 /// What a daemon is told of what it serves.
@@ -60,15 +63,8 @@ pub struct Daemon {
     serving: Serving,
 }
 
-impl Promise<Result<Day, DaemonFault>> for AsAsked {
-    ghost use Rattle.std.specs.Prelude.{IfOk};
-    ghost use Rattle.mac_daemon.specs.Day.{MeetsCount};
-
-    ghost kept_by = { λ p outcome. IfOk outcome (λ day. MeetsCount p.0 day.served) };
-}
-
 /// The thread that serves, to the end of the last connection.
-type Serving = PromisedHandle<Result<Day, DaemonFault>, AsAsked>;
+type Serving = PromisedHandle<Result<Day, DaemonFault>, Admission>;
 
 /// Starts a daemon that serves the connections of these doors, in threads of its own.
 pub fn listen<R>(
@@ -82,7 +78,9 @@ pub fn listen<R>(
 where
     R: Net + Threads + Wait + Clock + RandomSource + Eprint,
     R: Sync + Copy + Send + 'static,
-    ensures { IfOk result (λ daemon. count_of daemon ≡ terms.entry.accept) }
+    ensures count { IfOk result (λ daemon. count_of daemon ≡ terms.entry.accept) }
+    ensures doors { IfOk result (λ daemon. daemon_doors daemon ≡ opened doors) }
+    ensures taken { IfOk result (λ daemon. taken_of (entrance_of daemon) ≡ 0) }
 {
     let Surroundings {
         signals,
@@ -153,7 +151,7 @@ impl Daemon {
     /// Waits until all connections have ended of a daemon that ends by itself, and tells what it
     /// did.
     pub fn await_day<R: Threads>(self, rt: &R) -> Result<Day, DaemonFault>
-        ensures { IfOk result (λ day. MeetsCount (count_of self) day.served) }
+        ensures { IfOk result (IsDay (count_of self) (loops_of self) (entrance_of self)) }
     {
         self.serving.join(rt)
     }
@@ -240,12 +238,23 @@ fn start_serving<R>(
 ) -> Result<Serving, DaemonFault>
 where
     R: Threads + Wait + Clock + Sync + Copy + Send + 'static,
-    ensures { IfOk result (λ serving. serving.promise.0 ≡ service.count) }
+    ensures count { IfOk result (λ serving. serving.promise.count ≡ service.count) }
+    ensures loops { IfOk result (λ serving. serving.promise.loops
+        ≡ length service.idlers.made.items) }
+    ensures doors { IfOk result (λ serving. doors_of serving.promise.entrance.value
+        ≡ doors_of service.entrance) }
+    ensures taken { IfOk result (λ serving. taken_of serving.promise.entrance.value
+        ≡ taken_of service.entrance) }
 {
     let ending = Arc::try_clone(ending)?;
-    let count = service.count;
+    let admission = Admission {
+        count: service.count,
+        loops: service.idlers.count(),
+        entrance: Snapshot::of(&service.entrance),
+    };
     let work = move || -> Result<Day, DaemonFault>
-        ensures { IfOk result (λ day. MeetsCount service.count day.served) }
+        ensures { IfOk result
+            (IsDay service.count (length service.idlers.made.items) service.entrance) }
     {
         let outcome = run_fleet(&rt, alloc, service, &followers, &ending);
         ending.finish(&rt);
@@ -253,7 +262,7 @@ where
     };
     match Builder::new()
         .stack_size(STACK)
-        .spawn_with(&rt, AsAsked(count), work)
+        .spawn_with(&rt, admission, work)
     {
         Ok(serving) => Ok(serving),
         Err(_) => Err(DaemonFault::NoThread),

@@ -9,8 +9,8 @@ use Rattle.mac_daemon.specs.declared.door.SideSocket.{SideSocket}
 use Rattle.mac_decide.specs.declared.rights.Rights.{Rights}
 use Rattle.mac_commands.specs.CommandLine.{permissions}
 use Rattle.mac_commands.specs.declared.choices.ListenOptions.{ListenOptions}
-use Rattle.mac_sockets.specs.Entrance.{gifts_of}
-use Rattle.mac_sockets.specs.declared.doors.Doors.{Doors}
+use Rattle.mac_sockets.specs.Entrance.{gift_of}
+use Rattle.mac_sockets.specs.declared.door.Door.{Door}
 
 abbrev pub is_comma : ℕ → Bool
 is_comma b = b == 44
@@ -43,5 +43,5 @@ side_rights None = []
 side_rights (Some side) = side.rights ∷ []
 
 -- the connections of each door are given what is allowed at its socket: the daemon's own comes first
-abbrev pub GiveInOrder : {Z : Type 0} → Rights → Option SideSocket → Doors (Arc Rights Z) → Type 0
-GiveInOrder rights side doors = map arc_value (gifts_of doors) ≡ rights ∷ side_rights side
+abbrev pub GiveInOrder : {Z : Type 0} → Rights → Option SideSocket → List (Door (Arc Rights Z)) → Type 0
+GiveInOrder rights side doors = map arc_value (map gift_of doors) ≡ rights ∷ side_rights side

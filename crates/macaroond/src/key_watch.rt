@@ -1,6 +1,8 @@
 //! The daemon whose keys follow its key file.
 
 ghost use Rattle.std.specs.Prelude.{IfOk};
+ghost use Rattle.mac_daemon.specs.Asked.{daemon_doors};
+ghost use Rattle.mac_sockets.specs.Entrance.{opened};
 ghost use Rattle.macaroond.specs.Rights.{GiveInOrder};
 
 use crate::doors::{HttpDoors, OpenDoors, open_plan};
@@ -169,8 +171,8 @@ struct Started {
     operators: Option<HttpServer>,
 }
 
-/// Makes the sockets of a daemon and starts the threads that serve them. Nobody can reach a Unix
-/// socket yet.
+/// Makes the sockets of a daemon and starts the threads that serve them: what comes in at a socket of
+/// its own has the rights that are allowed there. Nobody can reach a Unix socket yet.
 fn start_all<'a, R>(
     rt: &R,
     terms: DaemonTerms<'_>,
@@ -183,6 +185,8 @@ where
     R: Env + Alloc<A = Global> + Eprint + Files<File = File> + Clock + RandomSource,
     R: Net<Listener = TcpListener, Stream = TcpStream>,
     R: Threads + Wait + Sync + Copy + Send + 'static,
+    ensures { IfOk result (λ started. GiveInOrder sockets.entry.rights sockets.entry.side
+        (daemon_doors started.daemon)) }
 {
     let Sockets { rights, side, http } = sockets;
     let alloc = rt.alloc();
@@ -222,7 +226,7 @@ fn open_own<R>(
 ) -> Result<Doors<Gift>, DaemonFault>
 where
     R: Alloc<A = Global> + Files<File = File> + Net + Clock + Wait,
-    ensures { IfOk result (GiveInOrder rights side.entry) }
+    ensures { IfOk result (λ doors. GiveInOrder rights side.entry (opened doors)) }
 {
     let mut doors = Doors::new(rt.alloc());
     let gift = give(rt.alloc(), rights)?;

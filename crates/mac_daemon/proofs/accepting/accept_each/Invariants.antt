@@ -1,6 +1,11 @@
-use Rattle.mac_daemon.specs.Arrivals.{AreAccepted}
-use Rattle.mac_sockets.specs.Entrance.{taken_of}
+use Rattle.std.proofs.Common.{◌≡◌, ◌+◌, ◌<◌, ◌^◌}
+use Rattle.mac_daemon.specs.Arrivals.{AreAdmitted, count_accepted}
+use Rattle.mac_sockets.specs.Entrance.{doors_of, taken_of}
 use Rattle.mac_daemon.proofs.accepting.accept_each.Given as goal
 
 abbrev pub invariant-loop : goal.invariant-loop
-invariant-loop g l = AreAccepted l.fn.arrivals l.arrivals (taken_of l.fn.entrance) (taken_of l.entrance)
+invariant-loop g l = record {
+  counted : taken_of l.fn.entrance + count_accepted l.arrivals < 2 ^ 64 → taken_of l.entrance ≡ taken_of l.fn.entrance + count_accepted l.arrivals;
+  doors : doors_of l.entrance ≡ doors_of l.fn.entrance;
+  admitted : AreAdmitted (doors_of l.fn.entrance) l.arrivals;
+}

@@ -3,5 +3,5 @@ use Rattle.std.proofs.Crossing.{crosses}
 use Rattle.mac_board.proofs.Sent.{follower_sent, follower_field_sent}
 use Rattle.mac_daemon.proofs.fleet.run_loop.Goals as goal
 
-pub run-desk-requires-send-K : goal.run-desk-requires-send-K
-run-desk-requires-send-K g c κs within = search (sendable, crosses, c.type_bounds.sync-R, follower_sent, follower_field_sent) depth 20
+pub run-requires-send-K : goal.run-requires-send-K
+run-requires-send-K g c κs within = search (sendable, crosses, c.type_bounds.sync-R, follower_sent, follower_field_sent) depth 20

@@ -29,7 +29,7 @@ returns g c =
     same_loan own c.args.way first.keys.0.ghost_name last.keys.0.ghost_name (known_of first.keys.0.now) (known_of last.keys.0.now) turn.called.0 turn.called.2 in
     let lent = c.new-face.ensures.keys in
     let name = sym (loan ∙ ap (λ tables. tables.0.ghost_name) lent) in
-    let back : c.self-2-1.given ≡ last.keys.0.now = search (rules, name) in
+    let back : c.self-2-1.given.0 ≡ last.keys.0.now = search (rules, name) in
     loan_turn own c.args.way first.keys.0.ghost_name last.keys.0.ghost_name (known_of first.keys.0.now) (known_of last.keys.0.now) _ _
     (ap (λ keys. known_to keys) c.in-Some.is ∙ ap (λ tables. Some (known_of tables.0.now)) (sym lent)) (ap (λ follower. known_of follower) back)
     c.args.heard.now.now c.take_turn.new.reader.now c.args.spoken.now.went.bytes c.take_turn.new.writer.went.bytes c.args.connection.now c.take_turn.new.connection turn

@@ -1,0 +1,74 @@
+//! What a daemon is asked for, and what it did.
+
+ghost use Rattle.mac_daemon.specs.Day.{OneLoopMore};
+
+use crate::arrivals::Arrivals;
+use crate::door::Gift;
+use crate::ended_loops::EndedLoops;
+use crate::fault::DaemonFault;
+use mac_loop::EndedLoop;
+use mac_sockets::Entrance;
+use std::snapshot::Snapshot;
+use std::thread::Promise;
+
+/// What a daemon did.
+#[derive(Drop)]
+pub struct Day {
+    /// The connections that were accepted.
+    pub served: u64,
+    /// Those of them that ended in a fault, or were not served.
+    pub faults: u64,
+    /// What became of each that was accepted.
+    pub(crate) arrivals: Arrivals,
+    /// What became of those that each of its loops was given.
+    pub(crate) loops: EndedLoops,
+}
+
+impl Day {
+    ghost use Rattle.std.specs.Prelude.{◌≡◌, []};
+    ghost use Rattle.mac_daemon.specs.EndedLoops.{outcomes_of};
+
+    /// So many connections were accepted, and this became of them. No loop has ended.
+    pub(crate) fn of(served: u64, arrivals: Arrivals) -> Day
+        ensures served { result.served ≡ served }
+        ensures arrivals { result.arrivals ≡ arrivals }
+        ensures loops { outcomes_of result.loops ≡ [] }
+    {
+        Day {
+            served,
+            faults: 0,
+            arrivals,
+            loops: EndedLoops::none(),
+        }
+    }
+}
+
+/// What a daemon did, with one more of its loops that has ended.
+pub(crate) fn with_loop(
+    day: Result<Day, DaemonFault>,
+    ended: &EndedLoop,
+) -> Result<Day, DaemonFault>
+    ensures { OneLoopMore day result }
+{
+    let mut day = day?;
+    day.loops.add(ended);
+    Ok(day)
+}
+
+/// Whom a daemon is asked to admit.
+#[derive(Drop)]
+pub struct Admission {
+    /// How many connections: without a number, one after another until the entrance is shut.
+    pub count: Option<u64>,
+    /// How many loops answer them.
+    pub loops: usize,
+    /// Where they come in, as that was opened.
+    pub entrance: Snapshot<Entrance<Gift>>,
+}
+
+impl Promise<Result<Day, DaemonFault>> for Admission {
+    ghost use Rattle.std.specs.Prelude.{IfOk};
+    ghost use Rattle.mac_daemon.specs.Day.{IsDay};
+
+    ghost kept_by = { λ p outcome. IfOk outcome (IsDay p.count p.loops p.entrance.value) };
+}
