@@ -25,7 +25,7 @@ use Rattle.mac_http.specs.declared.rules.Rules.{Rules}
 use Rattle.mac_http.specs.declared.rules.Sources.{Sources}
 use Rattle.mac_http.specs.Authorization.{credentials_in}
 use Rattle.mac_http.specs.Facts.{facts_of, tells_fragment, tells_unsafe}
-use Rattle.mac_http.specs.Found.{IsHeld, found_at, found_by, found_few, found_in, found_of, found_under, found_with, terms_of}
+use Rattle.mac_http.specs.Found.{IsHeld, found_at, found_by, found_in, found_of, found_under, terms_of}
 use Rattle.mac_http.specs.Saying.{AreToldAlike}
 use Rattle.mac_http.specs.Target.{target_in}
 
