@@ -12,10 +12,9 @@ use Rattle.mac_wire.specs.declared.reply.Refusal.{Refusal}
 use Rattle.mac_wire.specs.declared.reply.Refusal.TheVariants as refusal
 use Rattle.mac_wire.specs.declared.reply.Reply.{Reply}
 use Rattle.mac_wire.specs.declared.reply.Reply.TheVariants as reply
-use Rattle.mac_wire.specs.declared.request.Grant.TheVariants as grant
 use Rattle.mac_wire.specs.declared.request.Request.{Request}
 use Rattle.mac_wire.specs.declared.request.Request.TheVariants as request
-use Rattle.mac_decide.specs.Answer.{asked_reply, refused, request_reply, tells_minted, told, unless_revoked, with_owner}
+use Rattle.mac_decide.specs.Answer.{asked_reply, refused, request_reply, tells_minted, unless_revoked, with_owner}
 use Rattle.mac_decide.specs.Asking.{asking_reply}
 use Rattle.mac_decide.specs.Revocation.{asked_revoked, is_listed_read, request_revoked}
 use Rattle.mac_decide.specs.declared.asking.Asking.{Asking}

@@ -5,7 +5,7 @@ use Rattle.std.specs.FinMap as map
 use Rattle.http.specs.declared.request.Parts.{Parts}
 use Rattle.http_uri.specs.Uri.{uri_path}
 use Rattle.mac_calls.specs.Counted.{are_few}
-use Rattle.mac_decide.specs.Answer.{answer_to, keyed, keys_of, refused, timed, unless_revoked, verify_reply}
+use Rattle.mac_decide.specs.Answer.{answer_to, keyed, keys_of, timed, unless_revoked, verify_reply}
 use Rattle.mac_decide.specs.Revocation.{is_listed_read}
 use Rattle.mac_decide.specs.Terms.{Terms, is_allowed}
 use Rattle.mac_keys.specs.KeyTable.{Table}

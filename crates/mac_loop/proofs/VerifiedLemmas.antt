@@ -22,7 +22,6 @@ use Rattle.mac_token.specs.Read.{read_of}
 use Rattle.mac_token.specs.declared.fault.TokenRefusal.{TokenRefusal}
 use Rattle.mac_token.specs.declared.fault.TokenRefusal.TheVariants as token
 use Rattle.mac_wire.proofs.Asking.{request_of-asks}
-use Rattle.mac_wire.specs.Reading.{request_of}
 use Rattle.mac_wire.specs.Reply.{kind_of, refusal_code}
 use Rattle.mac_wire.specs.Request.{Asked, Asks, key_of, mint, attenuate, verify, verify_now}
 use Rattle.mac_wire.specs.declared.arrival.Arrival.TheVariants.{Payload}
